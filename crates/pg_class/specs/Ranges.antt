@@ -1,0 +1,48 @@
+-- Ranges of characters. A class is a list of them that ascends, with a character left out between each two.
+use Rattle.std.specs.Prelude.{◌≡◌, ℕ, ◌+◌, ◌≤◌, Bool, true, ◌&&◌, nat_lt, nat_le, if◌then◌else◌, min, max, List, [], ◌∷◌}
+use Rattle.std.specs.List.{list_any}
+use Rattle.std.specs.Char.{IsScalar, scalar_index}
+
+-- a first and a last character
+abbrev pub Range : Type 0
+Range = ℕ × ℕ
+
+-- whether a range has a character
+abbrev pub in_range : ℕ → Range → Bool
+in_range c r = nat_le r.0 c && nat_le c r.1
+
+-- whether one of the ranges has a character
+abbrev pub has : List Range → ℕ → Bool
+has ranges c = list_any (in_range c) ranges
+
+-- two lists of ranges have the same characters; surrogates, which are none, may be within one alone
+abbrev pub SameCharacters : List Range → List Range → Type 0
+SameCharacters ranges others = (c : ℕ) → IsScalar c → has ranges c ≡ has others c
+
+-- whether a character stands between two ranges, the first below the second; surrogates are no characters
+abbrev pub apart : Range → Range → Bool
+apart low high = nat_lt (scalar_index low.1 + 1) (scalar_index high.0)
+
+-- a range of characters that doesn't descend
+pub record IsRange (r : Range) : Type 0 where
+  pub ascends : r.0 ≤ r.1
+  pub first : IsScalar r.0
+  pub last : IsScalar r.1
+
+-- a character stands between a range and each of those behind it
+abbrev pub AllApart : Range → List Range → Type 0
+AllApart r [] = Unit {0}
+AllApart r (s ∷ rs) = (apart r s ≡ true) × AllApart r rs
+
+-- ranges of characters with a character left out between each two
+abbrev pub IsClass : List Range → Type 0
+IsClass [] = Unit {0}
+IsClass (r ∷ rs) = IsRange r × AllApart r rs × IsClass rs
+
+-- the ranges with one more, joined with each from which it isn't apart
+abbrev pub with_range : Range → List Range → List Range
+with_range r [] = r ∷ []
+with_range r (s ∷ rs) =
+    if apart s r then s ∷ with_range r rs else
+    if apart r s then r ∷ s ∷ rs else
+    with_range (min r.0 s.0, max r.1 s.1) rs

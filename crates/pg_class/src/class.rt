@@ -1,0 +1,89 @@
+//! The type of a set of characters, and its public calls.
+//!
+//! Callers see a class as the list of its ranges. The invariant, `IsClass`, is made by `ranges.rt` and
+//! never broken, since nothing writes a class once it is made; the printed form of a grammar and the
+//! comparison of classes rely on it.
+ghost use Rattle.std.specs.Prelude.{◌≡◌, ◌<◌, ◌↔◌, ◌||◌, ℕ, List, Any, IfOk, IsErrOf};
+ghost use Rattle.std.specs.Char.{IsScalar};
+ghost use Rattle.pg_class.specs.Ranges.{Range, IsClass, SameCharacters, has};
+
+use crate::ranges::{joined, united};
+use std::alloc::{AllocError, Global};
+use std::marker::Model;
+use thiserror::Error;
+
+/// A set of characters, in memory of its own.
+#[derive(Debug, Drop)]
+pub struct Class {
+    ranges: Vec<(char, char)>,
+}
+
+impl Model for Class {
+    ghost use Rattle.std.specs.Prelude.{List};
+    ghost use Rattle.pg_class.specs.Ranges.{Range, IsClass};
+
+    ghost Value = { List Range };
+
+    ghost view = { λ c. c.ranges.items };
+
+    ghost invariant = { λ c. IsClass c.ranges.items };
+}
+
+/// Why ranges are no class.
+#[derive(Debug, Drop, Error)]
+pub enum ClassFault {
+    /// The first character of a range is above its last.
+    #[error("K1 range descends")]
+    Descends,
+    /// No range descends, but there was no memory for the class.
+    #[error("out of memory")]
+    Memory,
+}
+
+impl Class {
+    /// The class of the characters in any of these ranges. They may overlap, touch and come in any
+    /// order; no ranges make the empty class. That none descends is judged before memory is asked for.
+    pub fn from_ranges(alloc: Global, ranges: &[(char, char)]) -> Result<Class, ClassFault>
+        ensures members { IfOk result (λ class.
+            (c : ℕ) → IsScalar c → has class c ≡ has ranges.now c) }
+        ensures descends { IsErrOf result ClassFault.Descends ↔
+            Any (λ range. range.1 < range.0) ranges.now }
+    {
+        if ranges.iter().any(|range| range.1 < range.0) {
+            return Err(ClassFault::Descends);
+        }
+        let ranges = joined(alloc, ranges).map_err(|_| ClassFault::Memory)?;
+        Ok(Class { ranges })
+    }
+
+    /// The class of the characters that are in this class or in the other.
+    pub fn union(&self, alloc: Global, other: &Class) -> Result<Class, AllocError>
+        ensures members { IfOk result (λ class.
+            (c : ℕ) → IsScalar c → has class c ≡ (has self.now c || has other.now c)) }
+    {
+        let ranges = united(alloc, self.ranges(), other.ranges())?;
+        Ok(Class { ranges })
+    }
+
+    /// Whether the character is in the class.
+    pub fn has(&self, c: char) -> bool
+        ensures { result ≡ has self.now c }
+    {
+        self.ranges.iter().any(|range| range.0 <= c && c <= range.1)
+    }
+
+    /// The ranges from the lowest up, each with its first and its last character.
+    pub fn ranges(&self) -> &[(char, char)]
+        ensures same { result.now ≡ self.now }
+        ensures class { IsClass self.now }
+    {
+        self.ranges.as_slice()
+    }
+}
+
+/// The law that a class has one list of ranges: two lists that are classes are equal if they
+/// have the same characters, so classes may be compared by their lists. It does nothing when it runs.
+pub fn ranges_are_unique()
+    ensures { (one other : List Range) → IsClass one → IsClass other →
+        SameCharacters one other → one ≡ other }
+{}

@@ -1,0 +1,49 @@
+//! What no clause says: that calls succeed, the printed texts, and joined lists from outside.
+use super::*;
+use std::test::Fail;
+
+#[test]
+fn refuses_descending(rt: HostRuntime) -> Result<(), Fail> {
+    let class = Class::from_ranges(rt.alloc(), &[('a', 'z'), ('b', 'a')]);
+    assert!(rt; matches!(class, Err(ClassFault::Descends)));
+    Ok(())
+}
+
+#[test]
+fn joins(rt: HostRuntime) -> Result<(), Fail> {
+    let empty = Class::from_ranges(rt.alloc(), &[])?;
+    assert!(rt; empty.ranges().is_empty());
+    let unordered = [('x', 'z'), ('a', 'c'), ('b', 'e'), ('f', 'f'), ('h', 'h')];
+    let letters = Class::from_ranges(rt.alloc(), &unordered)?;
+    let wanted = [('a', 'f'), ('h', 'h'), ('x', 'z')];
+    assert_eq!(rt; letters.ranges(), wanted.as_slice());
+    let parted = [('\u{e000}', '\u{10ffff}'), ('\u{0}', '\u{d7ff}')];
+    let all = Class::from_ranges(rt.alloc(), &parted)?;
+    assert_eq!(rt; all.ranges(), [('\u{0}', '\u{10ffff}')].as_slice());
+    Ok(())
+}
+
+#[test]
+fn has_and_unites(rt: HostRuntime) -> Result<(), Fail> {
+    let low = Class::from_ranges(rt.alloc(), &[('a', 'c'), ('g', 'h')])?;
+    let high = Class::from_ranges(rt.alloc(), &[('d', 'e'), ('k', 'k')])?;
+    for (c, wanted) in [('a', true), ('c', true), ('d', false), ('h', true)] {
+        assert_eq!(rt; low.has(c), wanted, "{c}");
+    }
+    let both = low.union(rt.alloc(), &high)?;
+    let wanted = [('a', 'e'), ('g', 'h'), ('k', 'k')];
+    assert_eq!(rt; both.ranges(), wanted.as_slice());
+    ranges_are_unique();
+    Ok(())
+}
+
+#[test]
+fn prints(rt: HostRuntime) -> Result<(), Fail> {
+    for (fault, wanted) in [
+        (ClassFault::Descends, "K1 range descends"),
+        (ClassFault::Memory, "out of memory"),
+    ] {
+        assert_eq!(rt; format!(in rt.alloc(); "{fault}")?.as_str(), wanted);
+    }
+    Ok(())
+}

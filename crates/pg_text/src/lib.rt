@@ -1,0 +1,16 @@
+//! Texts of characters, and the positions of places in them.
+//!
+//! A text is at most `LIMIT` characters, decoded from UTF-8 once and then only read. `Characters` is an
+//! owned list of characters of any length, for the names and literals of a grammar file. Places count
+//! characters from 0; lines and columns count from 1.
+#![tactic(auto)]
+
+mod characters;
+mod position;
+#[cfg(test)]
+mod tests;
+mod text;
+
+pub use characters::Characters;
+pub use position::{Pos, position_in};
+pub use text::{LIMIT, Text, TextFault};

@@ -1,0 +1,52 @@
+//! Lines and columns, as an editor of the text shows them.
+//!
+//! The rule is Text.Parsec.Pos's: a line feed begins the next line, a tab goes on to the next column
+//! that is one more than a multiple of 8, and every other character takes one column. Places become
+//! positions only where a message is made, so the text is gone through from its start each time.
+ghost use Rattle.std.specs.Prelude.{◌≡◌, ◌+◌, ◌^◌, ◌<◌, ◌≤◌, length};
+ghost use Rattle.pg_text.specs.Position.{advance, position_of};
+
+/// A line and a column, both counted from 1. The column counts characters, and a tab as several.
+#[derive(Clone, Copy, Debug, PartialEq, Eq)]
+pub struct Pos {
+    pub line: u32,
+    pub column: u32,
+}
+
+/// The position of a place: where the next character would stand once those before it are written.
+/// A place behind the last character is allowed, and is where an early end of input is reported.
+pub fn position_in(characters: &[char], place: usize) -> Pos
+    requires within { place ≤ length characters.now }
+    requires fits { place < 2 ^ 28 }
+    ensures { result ≡ position_of characters.now place }
+{
+    let mut position = Pos { line: 1, column: 1 };
+    for c in &characters[..place] {
+        position = advanced(position, *c);
+    }
+    position
+}
+
+fn advanced(position: Pos, c: char) -> Pos
+    requires line { position.line < 2 ^ 31 }
+    requires column { position.column < 2 ^ 31 }
+    ensures value { result ≡ advance position c }
+    ensures line { result.line ≤ position.line + 1 }
+    ensures column { result.column ≤ position.column + 8 }
+{
+    let Pos { line, column } = position;
+    match c {
+        '\n' => Pos {
+            line: line + 1,
+            column: 1,
+        },
+        '\t' => Pos {
+            line,
+            column: column + 8 - column.saturating_sub(1) % 8,
+        },
+        _ => Pos {
+            line,
+            column: column + 1,
+        },
+    }
+}

@@ -1,0 +1,67 @@
+//! What no clause says: that calls succeed, and the printed texts.
+use super::*;
+use std::test::Fail;
+
+#[test]
+fn decodes(rt: HostRuntime) -> Result<(), Fail> {
+    let text = Text::from_bytes(rt.alloc(), b"1\xc3\xa9\xe2\x82\xac\xf0\x9f\x98\x80")?;
+    assert_eq!(rt; text.len(), 4);
+    assert!(rt; !text.is_empty());
+    assert_eq!(rt; text.characters(), ['1', 'é', '€', '😀'].as_slice());
+    assert_eq!(rt; text.char_at(3), Some('😀'));
+    assert_eq!(rt; text.char_at(4), None);
+    let empty = Text::from_bytes(rt.alloc(), b"")?;
+    assert!(rt; empty.is_empty());
+    Ok(())
+}
+
+#[test]
+fn refuses(rt: HostRuntime) -> Result<(), Fail> {
+    let cut = Text::from_bytes(rt.alloc(), b"1\xe2\x82");
+    assert!(rt; matches!(cut, Err(TextFault::NotUtf8)));
+    let long = Text::from_bytes(rt.alloc(), &[b'7'; 4097]);
+    assert!(rt; matches!(long, Err(TextFault::TooLong)));
+    let full = Text::from_bytes(rt.alloc(), &[b'7'; 4096])?;
+    assert_eq!(rt; full.len(), LIMIT);
+    Ok(())
+}
+
+#[test]
+fn places(rt: HostRuntime) -> Result<(), Fail> {
+    let text = Text::from_bytes(rt.alloc(), b"\t1\n\t+")?;
+    let wanted = [(1, 1), (1, 9), (1, 10), (2, 1), (2, 9), (2, 10)];
+    for (place, (line, column)) in wanted.into_iter().enumerate() {
+        assert!(rt; place <= text.len());
+        assert_eq!(rt; text.position(place), Pos { line, column }, "at {place}");
+    }
+    assert_eq!(rt;
+        position_in(&['a', '\t', 'b'], 2),
+        Pos { line: 1, column: 9 }
+    );
+    Ok(())
+}
+
+#[test]
+fn prints(rt: HostRuntime) -> Result<(), Fail> {
+    let faults = [
+        (TextFault::NotUtf8, "P1 not UTF-8"),
+        (TextFault::TooLong, "P2 text too long"),
+        (TextFault::Memory, "out of memory"),
+    ];
+    for (fault, wanted) in faults {
+        assert_eq!(rt; format!(in rt.alloc(); "{fault}")?.as_str(), wanted);
+    }
+    let name = Characters::new(vec![in rt.alloc(); 'a', 'é']?);
+    assert_eq!(rt; format!(in rt.alloc(); "{name}")?.as_str(), "aé");
+    Ok(())
+}
+
+#[test]
+fn keeps_characters(rt: HostRuntime) -> Result<(), Fail> {
+    let name = Characters::new(vec![in rt.alloc(); '€', 'x']?);
+    assert_eq!(rt; name.len(), 2);
+    assert!(rt; !name.is_empty());
+    assert_eq!(rt; name.as_slice(), ['€', 'x'].as_slice());
+    assert_eq!(rt; name.into_vec().as_slice(), ['€', 'x'].as_slice());
+    Ok(())
+}

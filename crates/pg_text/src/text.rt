@@ -1,0 +1,122 @@
+//! Texts to be parsed.
+//!
+//! A text is decoded from UTF-8 once; callers see it as the list of its characters. It has at most
+//! `LIMIT` of them, each a Unicode scalar value, and nothing writes it. Whatever reads a text names its
+//! characters by their places, and relies on the limit where it counts with them.
+ghost use Rattle.std.specs.Prelude.{◌≡◌, ◌==◌, ◌<◌, ◌≤◌, ◌↔◌, length, slice_get, IfOk, IsErrOf, true};
+ghost use Rattle.std.specs.Str.{chars, IsUtf8, all_scalars};
+
+use crate::position::{Pos, position_in};
+use std::alloc::{AllocError, Global};
+use std::marker::Model;
+use thiserror::Error;
+
+/// The most characters that a text has.
+pub const LIMIT: usize = 4096;
+
+/// Why bytes are no text.
+#[derive(Debug, Drop, Error)]
+pub enum TextFault {
+    /// The bytes are not UTF-8, whatever their number.
+    #[error("P1 not UTF-8")]
+    NotUtf8,
+    /// They are UTF-8, of more than `LIMIT` characters.
+    #[error("P2 text too long")]
+    TooLong,
+    /// They are a text, but there was no memory for it.
+    #[error("out of memory")]
+    Memory,
+}
+
+/// A text to be parsed, in memory of its own.
+#[derive(Debug, Drop)]
+pub struct Text {
+    characters: Vec<char>,
+}
+
+impl Model for Text {
+    ghost use Rattle.std.specs.Prelude.{◌≡◌, ◌≤◌, List, ℕ, length, true};
+    ghost use Rattle.std.specs.Str.{all_scalars};
+    ghost use Rattle.pg_text.specs.declared.text.TheConstants.{LIMIT};
+
+    ghost Value = { List ℕ };
+
+    ghost view = { λ t. t.characters.items };
+
+    ghost invariant = { λ t. (length t.characters.items ≤ LIMIT) × (all_scalars t.characters.items ≡ true) };
+}
+
+impl Text {
+    ghost use Rattle.pg_text.specs.Position.{position_of};
+
+    /// The text that the bytes spell. That they are UTF-8 is judged first, and both that and the
+    /// limit before any memory is asked for; a byte order mark is a character as any other.
+    pub fn from_bytes(alloc: Global, bytes: &[u8]) -> Result<Text, TextFault>
+        ensures ok { IfOk result (λ t. IsUtf8 bytes.now × (t ≡ chars bytes.now)) }
+        ensures scalars { IfOk result (λ t. all_scalars t ≡ true) }
+        ensures not_utf8 { IsErrOf result TextFault.NotUtf8 ↔ ¬ (IsUtf8 bytes.now) }
+        ensures too_long { IsErrOf result TextFault.TooLong ↔
+            (IsUtf8 bytes.now × (LIMIT < length (chars bytes.now))) }
+    {
+        let Ok(text) = std::str::from_utf8(bytes) else {
+            return Err(TextFault::NotUtf8);
+        };
+        if count_of(text) > LIMIT {
+            return Err(TextFault::TooLong);
+        }
+        let characters = characters_of(alloc, text).map_err(|_| TextFault::Memory)?;
+        Ok(Text { characters })
+    }
+
+    /// How many characters it has.
+    pub fn len(&self) -> usize
+        ensures count { result ≡ length self.now }
+        ensures limit { length self.now ≤ LIMIT }
+    {
+        self.characters.len()
+    }
+
+    /// Whether it has no character.
+    pub fn is_empty(&self) -> bool
+        ensures { result ≡ (length self.now == 0) }
+    {
+        self.characters.is_empty()
+    }
+
+    /// The character at a place, or `None` behind the last one.
+    pub fn char_at(&self, place: usize) -> Option<char>
+        ensures { result ≡ slice_get self.now place }
+    {
+        self.characters.get(place).copied()
+    }
+
+    /// All its characters, to be read in place.
+    pub fn characters(&self) -> &[char]
+        ensures same { result.now ≡ self.now }
+        ensures limit { length self.now ≤ LIMIT }
+        ensures scalars { all_scalars self.now ≡ true }
+    {
+        self.characters.as_slice()
+    }
+
+    /// The line and column of a place, by the rule of `position_in`.
+    pub fn position(&self, place: usize) -> Pos
+        requires { place ≤ length self.now }
+        ensures { result ≡ position_of self.now place }
+    {
+        position_in(self.characters(), place)
+    }
+}
+
+fn count_of(text: &str) -> usize
+    ensures { result ≡ length (chars text.now) }
+{
+    text.chars().count()
+}
+
+fn characters_of(alloc: Global, text: &str) -> Result<Vec<char>, AllocError>
+    ensures value { IfOk result (λ v. v.items ≡ chars text.now) }
+    ensures scalars { IfOk result (λ v. all_scalars v.items ≡ true) }
+{
+    text.chars().collect(alloc)
+}

@@ -1,0 +1,7 @@
+pub mod Trees
+pub mod Marks
+pub mod Shown
+pub mod Falls
+pub mod Json
+pub mod Meter
+pub mod Bytes

@@ -1,0 +1,28 @@
+-- Trees as contracts see them: a leaf with a text, or a node with a label and its kids in order. Texts and labels are
+-- the bytes of UTF-8.
+use Rattle.std.specs.Prelude.{◌+◌, ℕ, List, [], ◌∷◌}
+
+-- a tree, and the kids of a node from the first to the last
+mutual
+  pub data Tree : Type 0 where
+    leaf : List ℕ → Tree
+    node : List ℕ → Trees → Tree
+
+  pub data Trees : Type 0 where
+    no_trees : Trees
+    tree : Tree → Trees → Trees
+
+-- the trees of a list, as the kids of a node
+abbrev pub kids_of : List Tree → Trees
+kids_of [] = no_trees
+kids_of (t ∷ ts) = tree t (kids_of ts)
+
+-- how many leaves and nodes stand in a tree, or in several
+abbrev mutual
+  pub tree_size : Tree → ℕ
+  tree_size (leaf text) = 1
+  tree_size (node label kids) = 1 + trees_size kids
+
+  pub trees_size : Trees → ℕ
+  trees_size no_trees = 0
+  trees_size (tree t ts) = tree_size t + trees_size ts

@@ -1,0 +1,61 @@
+//! A list of trees, as a parser's results in order.
+//!
+//! Contracts see a forest as the list of its trees. No clause names how it is stored. A call that
+//! runs out of memory leaves the forest as it was, which the parsers that collect results rely on.
+
+ghost use Rattle.std.specs.Prelude.{◌≡◌, [], ◌∷◌, ◌++◌, OnErr, OnOk};
+
+use crate::tree::Tree;
+use std::alloc::{AllocError, Global};
+use std::marker::Model;
+
+/// A list of trees, in the order in which they were put in (ours: what the parsers of a sequence
+/// gave).
+#[derive(Drop)]
+pub struct Forest {
+    pub(crate) trees: Vec<Tree>,
+}
+
+impl Model for Forest {
+    ghost use Rattle.std.specs.Prelude.{List};
+    ghost use Rattle.std.specs.Coded.{coded_list};
+    ghost use Rattle.pg_tree.specs.Trees.{Tree as Shape};
+    ghost use Rattle.pg_tree.specs.Marks.{tree_code};
+
+    ghost Value = { List Shape };
+
+    ghost coded = { coded_list tree_code };
+
+    ghost view = { λ f. f.trees.items };
+}
+
+impl Forest {
+    /// The forest with no tree, which takes no memory.
+    pub fn new(alloc: Global) -> Forest
+        ensures { result ≡ [] }
+    {
+        Forest {
+            trees: Vec::new(alloc),
+        }
+    }
+
+    /// Puts a tree at the end. The only error is that memory ran out; the tree is then gone.
+    pub fn push(&mut self, tree: Tree) -> Result<(), AllocError>
+        ensures ok { OnOk result (self.new ≡ self.old ++ tree ∷ []) }
+        ensures err { OnErr result (self.new ≡ self.old) }
+    {
+        self.trees.push(tree)?;
+        Ok(())
+    }
+
+    /// Puts the trees of another forest at the end, in their order. The only error is that memory
+    /// ran out; those trees are then gone.
+    pub fn append(&mut self, other: Forest) -> Result<(), AllocError>
+        ensures ok { OnOk result (self.new ≡ self.old ++ other) }
+        ensures err { OnErr result (self.new ≡ self.old) }
+    {
+        let Forest { mut trees } = other;
+        self.trees.append(&mut trees)?;
+        Ok(())
+    }
+}
