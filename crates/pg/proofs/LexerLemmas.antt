@@ -1,0 +1,8 @@
+-- What the lexer's proofs share.
+pub mod Hex
+pub mod Runs
+pub mod Turns
+pub mod Fronts
+pub mod Sound
+pub mod Complete
+pub mod Places

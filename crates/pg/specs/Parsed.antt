@@ -1,0 +1,131 @@
+-- What is told by a run from bytes to bytes.
+use Rattle.std.specs.Prelude.{◌≤◌, ◌<◌, ℕ, List, [], ◌∷◌, ◌++◌, length, Option}
+use Rattle.std.specs.Str.{chars, IsUtf8}
+use Rattle.std.specs.Io.KnownBytes.{Appends, Consumes, IsAtEnd}
+use Rattle.pg_text.specs.declared.text.TheConstants.{LIMIT}
+use Rattle.pg_tree.specs.Trees.{Tree}
+use Rattle.pg_tree.specs.Json.{json}
+use Rattle.pg_tree.specs.Bytes.{AppendsFront}
+use Rattle.pg_grammar.specs.Grammar.{Grammar}
+use Rattle.pg_grammar.specs.Derives.{Item, DerivesText}
+use Rattle.pg.specs.Spells.{Spells}
+use Rattle.pg.specs.declared.fault.BenchFault.{BenchFault}
+use Rattle.pg.specs.declared.fault.BenchFault.TheVariants.{File, Reader, NotUtf8, TooLong, NoParse, Writer, Memory}
+
+-- the bytes are a text, not too long, that the grammar derives to this forest
+pub record IsTextOf (g : Grammar) (bytes : List ℕ) (forest : List Tree) : Type 0 where
+  pub utf8 : IsUtf8 bytes
+  pub within : length (chars bytes) ≤ LIMIT
+  pub trail : List Item
+  pub derived : DerivesText g (chars bytes) (tt {0}) (tt {0}) forest trail
+
+-- the file spells a grammar that derives the reader's whole bytes to this forest
+pub record IsForestOf (file : List ℕ) (reader left : Option (List ℕ)) (forest : List Tree) : Type 0 where
+  pub grammar : Grammar
+  pub spelled : Spells file grammar
+  pub bytes : List ℕ
+  pub read : Consumes reader left bytes
+  pub end : IsAtEnd left
+  pub text : IsTextOf grammar bytes forest
+
+-- and the forest's JSON and a line feed were written
+pub record IsParsed (file : List ℕ) (reader left writer held : Option (List ℕ)) : Type 0 where
+  pub forest : List Tree
+  pub parsed : IsForestOf file reader left forest
+  pub written : Appends writer held (json forest ++ 10 ∷ [])
+
+-- or a front of them
+pub record IsPartlyWritten (file : List ℕ) (reader left writer held : Option (List ℕ)) : Type 0 where
+  pub forest : List Tree
+  pub parsed : IsForestOf file reader left forest
+  pub written : AppendsFront writer held (json forest ++ 10 ∷ [])
+
+-- the file spells some grammar
+abbrev pub IsSpelled : List ℕ → Type 0
+IsSpelled file = (g : Grammar) × Spells file g
+
+-- the reader's whole bytes have this property
+abbrev pub ReadsText : Option (List ℕ) → Option (List ℕ) → (List ℕ → Type 0) → Type 0
+ReadsText reader left Is = (bytes : List ℕ) × Consumes reader left bytes × IsAtEnd left × Is bytes
+
+-- ---- which step refuses with which fault
+
+-- a fault of the grammar file
+abbrev pub IsFileFault : BenchFault → Type 0
+IsFileFault (File fault) = Unit {0}
+IsFileFault Reader = ⊥
+IsFileFault NotUtf8 = ⊥
+IsFileFault TooLong = ⊥
+IsFileFault NoParse = ⊥
+IsFileFault Writer = ⊥
+IsFileFault Memory = ⊥
+
+-- a fault that is judged once the grammar file is read
+abbrev pub IsBehindFile : BenchFault → Type 0
+IsBehindFile (File fault) = ⊥
+IsBehindFile Reader = Unit {0}
+IsBehindFile NotUtf8 = Unit {0}
+IsBehindFile TooLong = Unit {0}
+IsBehindFile NoParse = Unit {0}
+IsBehindFile Writer = Unit {0}
+IsBehindFile Memory = ⊥
+
+-- a fault that is judged once the text is read
+abbrev pub IsBehindReader : BenchFault → Type 0
+IsBehindReader (File fault) = ⊥
+IsBehindReader Reader = ⊥
+IsBehindReader NotUtf8 = Unit {0}
+IsBehindReader TooLong = Unit {0}
+IsBehindReader NoParse = Unit {0}
+IsBehindReader Writer = Unit {0}
+IsBehindReader Memory = ⊥
+
+-- a fault before the first byte is written
+abbrev pub ComesBeforeWriting : BenchFault → Type 0
+ComesBeforeWriting (File fault) = Unit {0}
+ComesBeforeWriting Reader = Unit {0}
+ComesBeforeWriting NotUtf8 = Unit {0}
+ComesBeforeWriting TooLong = Unit {0}
+ComesBeforeWriting NoParse = Unit {0}
+ComesBeforeWriting Writer = ⊥
+ComesBeforeWriting Memory = Unit {0}
+
+-- what reading the grammar file refuses with
+abbrev pub IsFileRefusal : BenchFault → Type 0
+IsFileRefusal (File fault) = Unit {0}
+IsFileRefusal Reader = ⊥
+IsFileRefusal NotUtf8 = ⊥
+IsFileRefusal TooLong = ⊥
+IsFileRefusal NoParse = ⊥
+IsFileRefusal Writer = ⊥
+IsFileRefusal Memory = Unit {0}
+
+-- what reading the text refuses with
+abbrev pub IsReadRefusal : BenchFault → Type 0
+IsReadRefusal (File fault) = ⊥
+IsReadRefusal Reader = Unit {0}
+IsReadRefusal NotUtf8 = ⊥
+IsReadRefusal TooLong = ⊥
+IsReadRefusal NoParse = ⊥
+IsReadRefusal Writer = ⊥
+IsReadRefusal Memory = Unit {0}
+
+-- what parsing these bytes refuses with, and why
+abbrev pub IsTextRefusal : List ℕ → BenchFault → Type 0
+IsTextRefusal bytes (File fault) = ⊥
+IsTextRefusal bytes Reader = ⊥
+IsTextRefusal bytes NotUtf8 = ¬ (IsUtf8 bytes)
+IsTextRefusal bytes TooLong = IsUtf8 bytes × (LIMIT < length (chars bytes))
+IsTextRefusal bytes NoParse = IsUtf8 bytes × (length (chars bytes) ≤ LIMIT)
+IsTextRefusal bytes Writer = ⊥
+IsTextRefusal bytes Memory = Unit {0}
+
+-- what writing refuses with
+abbrev pub IsWriteRefusal : BenchFault → Type 0
+IsWriteRefusal (File fault) = ⊥
+IsWriteRefusal Reader = ⊥
+IsWriteRefusal NotUtf8 = ⊥
+IsWriteRefusal TooLong = ⊥
+IsWriteRefusal NoParse = ⊥
+IsWriteRefusal Writer = Unit {0}
+IsWriteRefusal Memory = Unit {0}

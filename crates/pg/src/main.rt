@@ -1,0 +1,148 @@
+//! The program `pgw`.
+//!
+//! The files are opened in the order of the words, and only then read. Results go to standard
+//! output, and everything else to standard error, one line a fault. The exit status is 0 for a
+//! result, 1 for a text that doesn't parse, 2 for words or files that can't be used, and 3 for
+//! memory; if standard error takes nothing, it stays what it was.
+#![tactic(auto)]
+
+mod fault;
+mod grammar_file;
+mod parse;
+mod reader;
+mod report;
+mod reporting;
+mod request;
+mod runner;
+#[cfg(test)]
+mod tests;
+
+use clap::error::ErrorKind;
+use fault::BenchFault;
+use parse::parse_bytes;
+use pg_tree::{Meter, ReadFault, read_bytes};
+use request::{Request, command, request_of};
+use std::alloc::AllocError;
+use std::fmt::Display;
+use std::process::ExitCode;
+use std::rt::{Env, Files};
+use std::{env, fs, io};
+
+/// The most bytes of a grammar file that are read.
+const READ_LIMIT: usize = 67_108_864;
+
+/// The exit status where words or files can't be used.
+const UNUSABLE: u8 = 2;
+
+/// The exit status where memory runs out.
+const NO_MEMORY: u8 = 3;
+
+fn main(rt: HostRuntime) -> ExitCode {
+    ExitCode::from(status(&rt))
+}
+
+/// The exit status of the run.
+fn status<R: AllocGlobal + Env + Files + Print + Eprint>(rt: &R) -> u8 {
+    match run(rt) {
+        Ok(status) => status,
+        Err(_) => {
+            say(rt, "out of memory");
+            NO_MEMORY
+        }
+    }
+}
+
+/// Reads the words and does what they ask.
+fn run<R: AllocGlobal + Env + Files + Print + Eprint>(rt: &R) -> Result<u8, AllocError> {
+    let words = match env::args(rt) {
+        Ok(words) => words.collect::<Vec<String>>(rt.alloc())?,
+        Err(error) if error.kind() == io::ErrorKind::OutOfMemory => return Err(AllocError),
+        Err(_) => return Ok(refuse(rt, "pgw: an argument is not UTF-8")),
+    };
+    match command(rt.alloc())?.try_get_matches_from(words.as_slice()) {
+        Ok(matches) => match request_of(&matches) {
+            Some(request) => answer(rt, request),
+            None => Ok(refuse(rt, "pgw: no such command")),
+        },
+        Err(error) => tell(rt, &error),
+    }
+}
+
+/// Prints why words were refused, or the help or version that they asked for.
+fn tell<R: Print + Eprint>(rt: &R, error: &clap::Error) -> Result<u8, AllocError> {
+    if error.kind() == ErrorKind::OutOfMemory {
+        return Err(AllocError);
+    }
+    let printed = error.print(rt);
+    if error.use_stderr() {
+        Ok(UNUSABLE)
+    } else if printed.is_err() {
+        Ok(refuse(rt, BenchFault::Writer))
+    } else {
+        Ok(0)
+    }
+}
+
+fn answer<R: AllocGlobal + Files + Print + Eprint>(
+    rt: &R,
+    request: Request,
+) -> Result<u8, AllocError> {
+    match request {
+        Request::Parse { grammar, text } => parse_files(rt, grammar, text),
+    }
+}
+
+/// Parses the text in a file by the grammar in another.
+fn parse_files<R: AllocGlobal + Files + Print + Eprint>(
+    rt: &R,
+    grammar: &str,
+    text: &str,
+) -> Result<u8, AllocError> {
+    let Ok(grammar_file) = fs::open(rt, grammar) else {
+        return Ok(cannot_read(rt, grammar));
+    };
+    let Ok(text_file) = fs::open(rt, text) else {
+        return Ok(cannot_read(rt, text));
+    };
+    let bytes = match read_bytes(rt.alloc(), &mut Meter::new(grammar_file), READ_LIMIT) {
+        Ok(bytes) => bytes,
+        Err(ReadFault::Memory) => return Err(AllocError),
+        Err(ReadFault::Reader | ReadFault::TooLong) => return Ok(cannot_read(rt, grammar)),
+    };
+    let mut reader = Meter::new(text_file);
+    let mut writer = Meter::new(io::writer(rt));
+    match parse_bytes(rt.alloc(), bytes.as_slice(), &mut reader, &mut writer) {
+        Ok(()) => Ok(0),
+        Err(fault) => print_report(rt, &fault, grammar, text),
+    }
+}
+
+/// Prints the report of a fault, and gives its status.
+fn print_report<R: AllocGlobal + Eprint>(
+    rt: &R,
+    fault: &BenchFault,
+    grammar: &str,
+    text: &str,
+) -> Result<u8, AllocError> {
+    let told = reporting::report(rt.alloc(), fault, grammar, text)?;
+    for line in &told.lines {
+        say(rt, line);
+    }
+    Ok(told.status)
+}
+
+/// Says that a file can't be read, and gives the status.
+fn cannot_read<R: Eprint>(rt: &R, name: &str) -> u8 {
+    refuse(rt, format_args!("{name}: cannot read"))
+}
+
+/// Says why nothing can be done, and gives the status.
+fn refuse<R: Eprint, M: Display + Drop>(rt: &R, message: M) -> u8 {
+    say(rt, message);
+    UNUSABLE
+}
+
+/// Prints a line to standard error, as far as that takes it.
+fn say<R: Eprint, M: Display + Drop>(rt: &R, message: M) {
+    let _ = rt.eprintln(message);
+}

@@ -1,0 +1,141 @@
+//! From the bytes of a grammar file and of a text to the bytes of the text's forest.
+//!
+//! The steps come one after another: the grammar file is read, then the text, then the text is parsed, and only then
+//! the forest is written. So a refusal by an earlier step has neither read nor written what a later one would have.
+
+ghost use Rattle.std.specs.Prelude.{◌≡◌, ◌≤◌, ◌<◌, ◌+◌, ◌*◌, ◌⊎◌, [], ◌∷◌, ◌++◌, false, true, length, IfOk, IfErr, OnOk, IsErrOf};
+ghost use Rattle.std.specs.Str.{chars, IsUtf8};
+ghost use Rattle.std.specs.Io.KnownBytes.{Appends, Consumes, IsAtEnd};
+ghost use Rattle.pg_tree.specs.Json.{json};
+ghost use Rattle.pg_tree.specs.Meter.{saturating_sum};
+ghost use Rattle.pg_tree.specs.Bytes.{AppendsFront};
+ghost use Rattle.pg.specs.Parsed.{IsTextOf, IsParsed, IsSpelled, ReadsText, IsReadRefusal, IsTextRefusal, IsWriteRefusal, IsBehindFile, IsBehindReader, IsFileFault, IsPartlyWritten, ComesBeforeWriting};
+
+use crate::fault::BenchFault;
+use crate::grammar_file::read_grammar;
+use crate::runner::run;
+use pg_grammar::Grammar;
+use pg_text::{LIMIT, Text, TextFault};
+use pg_tree::{Forest, Meter, ReadFault, WriteFault, read_bytes, write_bytes, write_json};
+use std::alloc::Global;
+use std::io::{Read, Write};
+
+/// The most bytes of a text: a character has at most four.
+const TEXT_BYTES: usize = 4 * LIMIT;
+
+/// Parses the text that a reader gives by the grammar that a file spells, and writes the forest's JSON and a line feed.
+///
+/// Both meters have to be fresh of failures. The faults come in the order of [`BenchFault`]: a fault of the file before
+/// the reader is asked at all, then the reader's, then those of its bytes, `NoParse` where the grammar's start rule
+/// doesn't parse the whole text, and the writer's. Up to `NoParse`, and where memory runs out, nothing is written. A
+/// text of over 16,384 bytes can't be one of 4,096 characters, so no more is read of it.
+pub fn parse_bytes<R: Read, W: Write>(
+    alloc: Global,
+    grammar: &[u8],
+    reader: &mut Meter<R>,
+    writer: &mut Meter<W>,
+) -> Result<(), BenchFault>
+    requires reader { reader.old.failed ≡ false }
+    requires writer { writer.old.failed ≡ false }
+
+    // The whole of the reader's bytes is a text that the grammar derives, and its forest was written.
+    ensures ok { OnOk result (IsParsed grammar.now (R.remaining reader.old.inner) (R.remaining reader.new.inner)
+        (W.contents writer.old.inner) (W.contents writer.new.inner)) }
+
+    // A fault of the file comes first, and every other one only where the file spells a grammar.
+    ensures file { IfErr result (λ fault. IsFileFault fault → reader.new ≡ reader.old) }
+    ensures spelled { IfErr result (λ fault. IsBehindFile fault → IsSpelled grammar.now) }
+
+    // The reader failed, or gave more than the limit.
+    ensures reader { IsErrOf result BenchFault.Reader →
+        (reader.new.failed ≡ true) ⊎ (saturating_sum reader.old.bytes (4 * LIMIT + 1) ≤ reader.new.bytes) }
+
+    // What is wrong with the bytes that the reader gave, in this order.
+    ensures not_utf8 { IsErrOf result BenchFault.NotUtf8 →
+        ReadsText (R.remaining reader.old.inner) (R.remaining reader.new.inner) (λ bytes. ¬ (IsUtf8 bytes)) }
+    ensures too_long { IsErrOf result BenchFault.TooLong →
+        ReadsText (R.remaining reader.old.inner) (R.remaining reader.new.inner) (λ bytes. IsUtf8 bytes × (LIMIT < length (chars bytes))) }
+    ensures no_parse { IsErrOf result BenchFault.NoParse →
+        ReadsText (R.remaining reader.old.inner) (R.remaining reader.new.inner) (λ bytes. IsUtf8 bytes × (length (chars bytes) ≤ LIMIT)) }
+
+    // In every other case the reader didn't fail.
+    ensures reader_stays { OnOk result (reader.new.failed ≡ false) }
+    ensures reader_well { IfErr result (λ fault. IsBehindReader fault → reader.new.failed ≡ false) }
+
+    // The writer failed behind a front of what it was to be given, and in every other case was given nothing.
+    ensures writer { IsErrOf result BenchFault.Writer → writer.new.failed ≡ true }
+    ensures front { IsErrOf result BenchFault.Writer → IsPartlyWritten grammar.now (R.remaining reader.old.inner) (R.remaining reader.new.inner)
+        (W.contents writer.old.inner) (W.contents writer.new.inner) }
+    ensures writer_stays { OnOk result (writer.new.failed ≡ false) }
+    ensures unwritten { IfErr result (λ fault. ComesBeforeWriting fault → writer.new ≡ writer.old) }
+
+    ensures asked { reader.new.calls ≤ saturating_sum reader.old.calls (4 * LIMIT + 1) }
+{
+    let grammar = read_grammar(alloc, grammar)?;
+    let bytes = read_text(alloc, reader)?;
+    let forest = forest_of(alloc, &grammar, bytes.as_slice())?;
+    write_line(alloc, &forest, writer)
+}
+
+/// All that the reader gives.
+fn read_text<R: Read>(alloc: Global, reader: &mut Meter<R>) -> Result<Vec<u8>, BenchFault>
+    requires { reader.old.failed ≡ false }
+    ensures ok { IfOk result (λ read. Consumes (R.remaining reader.old.inner) (R.remaining reader.new.inner) read.items) }
+    ensures end { OnOk result (IsAtEnd (R.remaining reader.new.inner)) }
+    ensures stays { OnOk result (reader.new.failed ≡ false) }
+    ensures err { IfErr result IsReadRefusal }
+    ensures reader { IsErrOf result BenchFault.Reader →
+        (reader.new.failed ≡ true) ⊎ (saturating_sum reader.old.bytes (4 * LIMIT + 1) ≤ reader.new.bytes) }
+    ensures asked { reader.new.calls ≤ saturating_sum reader.old.calls (4 * LIMIT + 1) }
+{
+    match read_bytes(alloc, reader, TEXT_BYTES) {
+        Ok(bytes) => Ok(bytes),
+        Err(ReadFault::Reader | ReadFault::TooLong) => Err(BenchFault::Reader),
+        Err(ReadFault::Memory) => Err(BenchFault::Memory),
+    }
+}
+
+/// The forest of the text that bytes spell.
+fn forest_of(alloc: Global, grammar: &Grammar, bytes: &[u8]) -> Result<Forest, BenchFault>
+    ensures ok { IfOk result (IsTextOf grammar.now bytes.now) }
+    ensures err { IfErr result (IsTextRefusal bytes.now) }
+{
+    let text = match Text::from_bytes(alloc, bytes) {
+        Ok(text) => text,
+        Err(TextFault::NotUtf8) => return Err(BenchFault::NotUtf8),
+        Err(TextFault::TooLong) => return Err(BenchFault::TooLong),
+        Err(TextFault::Memory) => return Err(BenchFault::Memory),
+    };
+    match run(alloc, grammar, &text) {
+        Ok(Some(forest)) => Ok(forest),
+        Ok(None) => Err(BenchFault::NoParse),
+        Err(_) => Err(BenchFault::Memory),
+    }
+}
+
+/// Writes the forest's JSON and a line feed.
+fn write_line<W: Write>(
+    alloc: Global,
+    forest: &Forest,
+    writer: &mut Meter<W>,
+) -> Result<(), BenchFault>
+    requires { writer.old.failed ≡ false }
+    ensures ok { OnOk result (Appends (W.contents writer.old.inner) (W.contents writer.new.inner) (json forest.now ++ 10 ∷ [])) }
+    ensures stays { OnOk result (writer.new.failed ≡ false) }
+    ensures err { IfErr result IsWriteRefusal }
+    ensures failed { IsErrOf result BenchFault.Writer → writer.new.failed ≡ true }
+    ensures front { IsErrOf result BenchFault.Writer →
+        AppendsFront (W.contents writer.old.inner) (W.contents writer.new.inner) (json forest.now ++ 10 ∷ []) }
+    ensures memory { IsErrOf result BenchFault.Memory → writer.new ≡ writer.old }
+{
+    match write_json(alloc, forest, writer) {
+        Ok(()) => {}
+        Err(WriteFault::Writer) => return Err(BenchFault::Writer),
+        Err(WriteFault::Memory) => return Err(BenchFault::Memory),
+    }
+    match write_bytes(b"\n", writer) {
+        Ok(()) => Ok(()),
+        Err(WriteFault::Writer) => Err(BenchFault::Writer),
+        Err(WriteFault::Memory) => Err(BenchFault::Memory),
+    }
+}

@@ -1,0 +1,52 @@
+//! The command line: which words the program takes, and what they ask.
+//!
+//! Words that are no request are refused by `clap`, with its text and the status 2. The names of
+//! files are kept as they were given, since reports begin with them.
+
+use clap::{Arg, ArgAction, ArgMatches, Command};
+use std::alloc::{AllocError, Global};
+
+/// What is asked. The names of files are relative to the caller's folder.
+#[derive(Clone, Copy, Debug, PartialEq, Eq)]
+pub enum Request<'a> {
+    /// Parse the text by the grammar, and print the forest.
+    Parse { grammar: &'a str, text: &'a str },
+}
+
+/// The program's command line. Its texts call the program `pgw`, whatever its file is called.
+pub fn command<'a>(alloc: Global) -> Result<Command<'a>, AllocError> {
+    Command::new(alloc, "pgw")
+        .bin_name("pgw")?
+        .version("0.1.0")
+        .about("Runs grammars of parser combinators on texts")
+        .subcommand_required(true)
+        .arg_required_else_help(true)
+        .subcommand(parse_command(alloc)?)
+}
+
+fn parse_command<'a>(alloc: Global) -> Result<Command<'a>, AllocError> {
+    Command::new(alloc, "parse")
+        .about("Parses a text by a grammar and prints the trees as JSON")
+        .arg(file(alloc, "grammar", "The grammar file"))?
+        .arg(file(alloc, "text", "The file with the text, in UTF-8"))
+}
+
+/// A word that names a file, and that can't be left out.
+fn file<'a>(alloc: Global, id: &'a str, help: &'a str) -> Arg<'a> {
+    Arg::new(alloc, id)
+        .required(true)
+        .action(ArgAction::Set)
+        .help(help)
+}
+
+/// What a command line asks that `command` has taken.
+pub fn request_of<'a>(matches: &ArgMatches<'a>) -> Option<Request<'a>> {
+    let (name, found) = matches.subcommand()?;
+    match name {
+        "parse" => Some(Request::Parse {
+            grammar: found.get_str("grammar")?,
+            text: found.get_str("text")?,
+        }),
+        _ => None,
+    }
+}

@@ -1,0 +1,146 @@
+-- The nodes of whole forms are those forms in preorder, with numbers for parts and names.
+use Rattle.std.proofs.Common.{◌≡◌, ℕ, zero, suc, ◌+◌, ◌<◌, Bool, true, false, not, ◌||◌, List, [], ◌∷◌, length, map, take, Some, slice_get, refl, sym, ap, subst, arith}
+use Rattle.std.specs.List.{AllByRecursion, list_any}
+use Rattle.pg_grammar.specs.Preorder.{SpellForms, roots}
+use Rattle.pg_grammar.specs.Names.{Name, has_name}
+use Rattle.pg_grammar.specs.Forms.{part_count, parts_of, node_part_count, form_of, has_unknown_name, InPreorder, NamesRule}
+use Rattle.pg_grammar.specs.Follows.{PartsFollow, BodiesAreNodes}
+use Rattle.pg_grammar.specs.Grammar.{rule_body}
+use Rattle.pg_grammar.specs.declared.grammar.Rule.{Rule}
+use Rattle.pg_grammar.specs.Numbering.{node_of, nodes_from}
+use Rattle.pg_grammar.specs.declared.form.BaseForm.{BaseForm}
+use Rattle.pg_grammar.specs.declared.form.BaseForm.TheVariants as base
+use Rattle.pg_grammar.specs.declared.form.Node.{Node}
+use Rattle.pg_grammar.proofs.Each.{all-take, all-weaker, all-map}
+use Rattle.pg_grammar.proofs.Lookup.{number_is_found}
+use Rattle.pg_grammar.proofs.Preorder.{length-parts, roots_within}
+
+-- ---- one node
+
+-- a node has as many parts as its form counts
+node_count : (names : List Name) (form : BaseForm) (parts : List ℕ) → length parts ≡ part_count form → node_part_count (node_of names form parts) ≡ part_count form
+node_count names (base.Satisfy class) parts h = refl
+node_count names (base.String text) parts h = refl
+node_count names (base.Seq n) parts h = h
+node_count names (base.Choice n) parts h = h
+node_count names (base.Rule name) parts h = refl
+
+-- the parts of a node are the next of those behind it
+node_parts : (names : List Name) (form : BaseForm) (behind : List ℕ) → length (take (part_count form) behind) ≡ part_count form
+    → let n = node_of names form (take (part_count form) behind) in parts_of n ≡ take (node_part_count n) behind
+node_parts names (base.Satisfy class) behind h = refl
+node_parts names (base.String text) behind h = refl
+node_parts names (base.Seq n) behind h = ap (λ k. take k behind) (sym h)
+node_parts names (base.Choice n) behind h = ap (λ k. take k behind) (sym h)
+node_parts names (base.Rule name) behind h = refl
+
+-- not false is true
+not-not : (b : Bool) → not b ≡ false → b ≡ true
+not-not true h = refl
+not-not false h = absurd cc
+
+-- the base form of the node of a form is that form
+node_form : (names : List Name) (form : BaseForm) (parts : List ℕ) → length parts ≡ part_count form → has_unknown_name names form ≡ false
+    → form_of names (node_of names form parts) ≡ form
+node_form names (base.Satisfy class) parts h k = refl
+node_form names (base.String text) parts h k = refl
+node_form names (base.Seq n) parts h k = ap base.Seq h
+node_form names (base.Choice n) parts h k = ap base.Choice h
+node_form names (base.Rule name) parts h k = ap base.Rule (number_is_found names name (not-not (has_name names name) k)).named
+
+-- the rule that the node of a form names is there
+node_named : (names : List Name) (form : BaseForm) (parts : List ℕ) → has_unknown_name names form ≡ false
+    → NamesRule (length names) (node_of names form parts)
+node_named names (base.Satisfy class) parts k = tt
+node_named names (base.String text) parts k = tt
+node_named names (base.Seq n) parts k = tt
+node_named names (base.Choice n) parts k = tt
+node_named names (base.Rule name) parts k = (number_is_found names name (not-not (has_name names name) k)).below
+
+-- ---- all nodes
+
+-- neither of two is true
+or_parts : (a b : Bool) → (a || b) ≡ false → (a ≡ false) × (b ≡ false)
+or_parts true b h = absurd cc
+or_parts false b h = (refl, h)
+
+-- the nodes have as many parts as the forms count
+pub counts-nodes_from : (names : List Name) (i k : ℕ) (forms : List BaseForm) → SpellForms k (map part_count forms)
+    → map node_part_count (nodes_from names i forms) ≡ map part_count forms
+counts-nodes_from names i k [] h = refl
+counts-nodes_from names i zero (form ∷ forms) h = absurd h
+counts-nodes_from names i (suc k) (form ∷ forms) h =
+    let one = node_count names form _ (length-parts (suc i) k (part_count form) (map part_count forms) h) in
+    let others = counts-nodes_from names (suc i) (part_count form + k) forms h in
+    cc (one, others)
+
+-- the nodes stand in preorder, as the forms do
+pub preorder-nodes_from : (names : List Name) (i k : ℕ) (forms : List BaseForm) → SpellForms k (map part_count forms)
+    → InPreorder i (nodes_from names i forms)
+preorder-nodes_from names i k [] h = tt
+preorder-nodes_from names i zero (form ∷ forms) h = absurd h
+preorder-nodes_from names i (suc k) (form ∷ forms) h =
+    let parts = node_parts names form _ (length-parts (suc i) k (part_count form) (map part_count forms) h) in
+    let counts = counts-nodes_from names (suc i) (part_count form + k) forms h in
+    (rw counts parts, preorder-nodes_from names (suc i) (part_count form + k) forms h)
+
+-- the base forms of the nodes are the forms
+pub forms-nodes_from : (names : List Name) (i k : ℕ) (forms : List BaseForm) → SpellForms k (map part_count forms)
+    → list_any (has_unknown_name names) forms ≡ false → map (form_of names) (nodes_from names i forms) ≡ forms
+forms-nodes_from names i k [] h e = refl
+forms-nodes_from names i zero (form ∷ forms) h e = absurd h
+forms-nodes_from names i (suc k) (form ∷ forms) h e =
+    let known = or_parts (has_unknown_name names form) (list_any (has_unknown_name names) forms) e in
+    let one = node_form names form _ (length-parts (suc i) k (part_count form) (map part_count forms) h) known.0 in
+    let others = forms-nodes_from names (suc i) (part_count form + k) forms h known.1 in
+    cc (one, others)
+
+-- the rules that the nodes name are there
+pub named-nodes_from : (names : List Name) (i : ℕ) (forms : List BaseForm) → list_any (has_unknown_name names) forms ≡ false
+    → AllByRecursion (NamesRule (length names)) (nodes_from names i forms)
+named-nodes_from names i [] e = tt
+named-nodes_from names i (form ∷ forms) e =
+    let known = or_parts (has_unknown_name names form) (list_any (has_unknown_name names) forms) e in
+    (node_named names form _ known.0, named-nodes_from names (suc i) forms known.1)
+
+-- there are as many nodes as forms
+pub length-nodes_from : (names : List Name) (i : ℕ) (forms : List BaseForm) → length (nodes_from names i forms) ≡ length forms
+length-nodes_from names i [] = refl
+length-nodes_from names i (form ∷ forms) = ap suc (length-nodes_from names (suc i) forms)
+
+-- ---- where parts lie
+
+-- a list has as many images as elements
+length-map : {X Y : Type 0} (f : X → Y) (xs : List X) → length (map f xs) ≡ length xs
+length-map f [] = refl
+length-map f (x ∷ xs) = ap suc (length-map f xs)
+
+-- the parts of a node stand behind it
+pub parts_follow : (i : ℕ) (nodes : List Node) (k : ℕ) (n : Node) → InPreorder i nodes → slice_get nodes k ≡ Some n
+    → PartsFollow (i + k) (i + length nodes) (parts_of n)
+parts_follow i [] zero n h e = absurd cc
+parts_follow i [] (suc k) n h e = absurd cc
+parts_follow i (m ∷ nodes) zero n h e =
+    let same : m ≡ n = cc in
+    let counts = length-map node_part_count nodes in
+    let behind = all-take _ (node_part_count m) _ (roots_within (suc i) (map node_part_count nodes)) in
+    let parts = subst (AllByRecursion _) (sym h.0) behind in
+    subst (λ x. PartsFollow (i + 0) (i + suc (length nodes)) (parts_of x)) same
+    (all-weaker _ _ (λ q w. (omega (arith, w.0), omega (arith, w.1, counts))) _ parts)
+parts_follow i (m ∷ nodes) (suc k) n h e =
+    let behind = parts_follow (suc i) nodes k n h.1 e in
+    all-weaker _ _ (λ q w. (omega (arith, w.0), omega (arith, w.1))) _ behind
+
+-- the same, the first node having the number 0
+pub parts_are_behind : (nodes : List Node) (k : ℕ) (n : Node) → InPreorder 0 nodes → slice_get nodes k ≡ Some n
+    → PartsFollow k (length nodes) (parts_of n)
+parts_are_behind nodes k n h e =
+    all-weaker _ _ (λ q w. (omega (arith, w.0), omega (arith, w.1))) _ (parts_follow 0 nodes k n h e)
+
+-- the bodies of rules are nodes
+pub bodies_are_nodes : (rules : List Rule) (nodes : List Node) → map rule_body rules ≡ roots 0 (map node_part_count nodes)
+    → BodiesAreNodes (length nodes) rules
+bodies_are_nodes rules nodes e =
+    let counts = length-map node_part_count nodes in
+    let within = all-weaker _ (λ q. q < length nodes) (λ q w. omega (arith, w.1, counts)) _ (roots_within 0 (map node_part_count nodes)) in
+    all-map (λ q. q < length nodes) rule_body rules (subst (AllByRecursion _) (sym e) within)

@@ -1,0 +1,146 @@
+-- What was made says which grammar it is.
+use Rattle.std.proofs.Common.{◌≡◌, ℕ, zero, suc, ◌<◌, Bool, true, false, ◌||◌, List, [], ◌∷◌, length, map, take, Some, refl, sym, ap, subst, arith, ◌∙◌}
+use Rattle.std.proofs.lemmas.List.{length-map}
+use Rattle.std.proofs.lemmas.Slice.Eq.{bytes_eq-Decides}
+use Rattle.std.specs.Str.{bytes_eq}
+use Rattle.std.specs.List.{AllByRecursion}
+use Rattle.pg_grammar.specs.Preorder.{roots}
+use Rattle.pg_grammar.specs.Names.{Name, has_name, number_of, name_at, AreDistinct}
+use Rattle.pg_grammar.specs.Forms.{part_count, parts_of, node_part_count, form_of, InPreorder, NamesRule}
+use Rattle.pg_grammar.specs.Grammar.{Grammar, IsGrammar, rule_name, rule_body, rule_names}
+use Rattle.pg_grammar.specs.Made.{Made, Says}
+use Rattle.pg_grammar.specs.Numbering.{node_of, nodes_from}
+use Rattle.pg_grammar.specs.declared.form.Node.{Node}
+use Rattle.pg_grammar.specs.declared.form.Node.TheVariants as node
+use Rattle.pg_grammar.specs.declared.grammar.Rule.{Rule}
+use Rattle.pg_grammar.proofs.Lookup.{number_is_found}
+
+-- ---- numbers of names
+
+-- what is so of each name is so of the name with a number
+all-name_at : (P : Name → Type 0) (names : List Name) (r : ℕ) → AllByRecursion P names → r < length names → P (name_at names r)
+all-name_at P [] r h below = absurd (omega arith)
+all-name_at P (name ∷ names) zero h below = h.0
+all-name_at P (name ∷ names) (suc r) h below = let fewer : r < length names = omega arith in all-name_at P names r h.1 fewer
+
+-- distinct names have different numbers
+same_number : (names : List Name) (r s : ℕ) → AreDistinct names → r < length names → s < length names → name_at names r ≡ name_at names s → r ≡ s
+same_number [] r s d below under e = absurd (omega arith)
+same_number (name ∷ names) zero zero d below under e = refl
+same_number (name ∷ names) zero (suc s) d below under e =
+    let fewer : s < length names = omega arith in
+    let differs = all-name_at (λ other. bytes_eq name other ≡ false) names s d.0 fewer in
+    let equal : bytes_eq name (name_at names s) ≡ true = (bytes_eq-Decides name (name_at names s)).1 e in
+    absurd cc
+same_number (name ∷ names) (suc r) zero d below under e =
+    let fewer : r < length names = omega arith in
+    let differs = all-name_at (λ other. bytes_eq name other ≡ false) names r d.0 fewer in
+    let equal : bytes_eq name (name_at names r) ≡ true = (bytes_eq-Decides name (name_at names r)).1 (sym e) in
+    absurd cc
+same_number (name ∷ names) (suc r) (suc s) d below under e =
+    let fewer : r < length names = omega arith in
+    let lower : s < length names = omega arith in
+    ap suc (same_number names r s d.1 fewer lower e)
+
+-- one of two is true
+or_second : (a b : Bool) → b ≡ true → (a || b) ≡ true
+or_second true b h = refl
+or_second false b h = h
+
+-- the name with a number is among the names
+has_name_at : (names : List Name) (r : ℕ) → r < length names → has_name names (name_at names r) ≡ true
+has_name_at [] r below = absurd (omega arith)
+has_name_at (name ∷ names) zero below = rw ((bytes_eq-Decides name name).1 refl) refl
+has_name_at (name ∷ names) (suc r) below =
+    let fewer : r < length names = omega arith in
+    or_second (bytes_eq name (name_at names r)) _ (has_name_at names r fewer)
+
+-- the number of the name with a number is that number
+number_of-name_at : (names : List Name) (r : ℕ) → AreDistinct names → r < length names → number_of names (name_at names r) ≡ r
+number_of-name_at names r d below =
+    let found = number_is_found names (name_at names r) (has_name_at names r below) in
+    same_number names (number_of names (name_at names r)) r d found.below below found.named
+
+-- ---- nodes
+
+-- a form has as many parts as its node
+part_count-form_of : (names : List Name) (n : Node) → part_count (form_of names n) ≡ node_part_count n
+part_count-form_of names (node.Satisfy class) = refl
+part_count-form_of names (node.String text) = refl
+part_count-form_of names (node.Seq parts) = refl
+part_count-form_of names (node.Choice parts) = refl
+part_count-form_of names (node.Rule rule) = refl
+
+-- the forms have as many parts as their nodes
+part_counts : (names : List Name) (nodes : List Node) → map part_count (map (form_of names) nodes) ≡ map node_part_count nodes
+part_counts names [] = refl
+part_counts names (n ∷ nodes) = cc (part_count-form_of names n, part_counts names nodes)
+
+-- a node is the one of its form and its parts
+node_of-form_of : (names : List Name) (n : Node) → AreDistinct names → NamesRule (length names) n → node_of names (form_of names n) (parts_of n) ≡ n
+node_of-form_of names (node.Satisfy class) d named = refl
+node_of-form_of names (node.String text) d named = refl
+node_of-form_of names (node.Seq parts) d named = refl
+node_of-form_of names (node.Choice parts) d named = refl
+node_of-form_of names (node.Rule rule) d named = ap node.Rule (number_of-name_at names rule d named)
+
+-- nodes in preorder are those of their forms
+nodes_from-forms : (names : List Name) (i : ℕ) (nodes : List Node) → AreDistinct names → AllByRecursion (NamesRule (length names)) nodes
+    → InPreorder i nodes → nodes_from names i (map (form_of names) nodes) ≡ nodes
+nodes_from-forms names i [] d named preorder = refl
+nodes_from-forms names i (n ∷ nodes) d named preorder =
+    let one = node_of-form_of names n d named.0 in
+    let parts : parts_of n ≡ take (node_part_count n) (roots (suc i) (map node_part_count nodes)) = preorder.0 in
+    let others = nodes_from-forms names (suc i) nodes d named.1 preorder.1 in
+    rw (part_count-form_of names n, part_counts names nodes, ← parts, one, others) refl
+
+-- ---- rules
+
+-- a rule is its name and its body
+abbrev rule_with : Name → ℕ → Rule
+rule_with name body = record { name = name; body = body }
+
+-- rules with the same names and bodies are the same
+same_rules : (rules others : List Rule) → map rule_name rules ≡ map rule_name others → map rule_body rules ≡ map rule_body others → rules ≡ others
+same_rules [] [] names bodies = refl
+same_rules [] (other ∷ others) names bodies = absurd cc
+same_rules (rule ∷ rules) [] names bodies = absurd cc
+same_rules (rule ∷ rules) (other ∷ others) names bodies =
+    let name : rule.name ≡ other.name = cc in
+    let body : rule.body ≡ other.body = cc in
+    let same : rule ≡ other = ap (λ n. rule_with n rule.body) name ∙ ap (rule_with other.name) body in
+    let names_behind : map rule_name rules ≡ map rule_name others = cc in
+    let bodies_behind : map rule_body rules ≡ map rule_body others = cc in
+    let behind = same_rules rules others names_behind bodies_behind in
+    cc (same, behind)
+
+-- ---- the grammar
+
+-- the nodes of a grammar are those of what it says
+nodes_of_made : (made : Made) (g : Grammar) → IsGrammar g → Says made g → g.nodes ≡ nodes_from made.names 0 made.forms
+nodes_of_made made g is says =
+    let count : length g.rules ≡ length (rule_names g) = sym (length-map g.rules rule_name) in
+    let named = subst (λ k. AllByRecursion (NamesRule k) g.nodes) count is.named in
+    rw (says.names, says.forms) (sym (nodes_from-forms (rule_names g) 0 g.nodes is.distinct named is.preorder))
+
+-- a grammar is its nodes, its rules and its start
+abbrev grammar_of : List Node → List Rule → ℕ → Grammar
+grammar_of nodes rules start = record { nodes = nodes; rules = rules; start = start }
+
+-- two grammars that say what was made are the same
+pub same_grammar : (made : Made) (one other : Grammar) → Says made one → Says made other → one ≡ other
+same_grammar made one other says repeats =
+    let is = says.sound in
+    let also = repeats.sound in
+    let nodes : one.nodes ≡ other.nodes = nodes_of_made made one is says ∙ sym (nodes_of_made made other also repeats) in
+    let names : rule_names one ≡ rule_names other = sym says.names ∙ repeats.names in
+    let counts : roots 0 (map node_part_count one.nodes) ≡ roots 0 (map node_part_count other.nodes) = ap (λ ns. roots 0 (map node_part_count ns)) nodes in
+    let bodies : map rule_body one.rules ≡ map rule_body other.rules = is.bodies ∙ (counts ∙ sym also.bodies) in
+    let rules = same_rules one.rules other.rules names bodies in
+    let named : Some (name_at (rule_names one) one.start) ≡ Some (name_at (rule_names one) other.start) =
+    sym says.start ∙ subst (λ ns. made.start ≡ Some (name_at ns other.start)) (sym names) repeats.start in
+    let called : name_at (rule_names one) one.start ≡ name_at (rule_names one) other.start = cc in
+    let below : one.start < length (rule_names one) = let h = is.start in omega (arith, length-map one.rules rule_name) in
+    let under : other.start < length (rule_names one) = let h = also.start in omega (arith, ap length rules, length-map one.rules rule_name) in
+    let start = same_number (rule_names one) one.start other.start is.distinct below under called in
+    ap (λ ns. grammar_of ns one.rules one.start) nodes ∙ (ap (λ rs. grammar_of other.nodes rs one.start) rules ∙ ap (grammar_of other.nodes other.rules) start)

@@ -1,0 +1,44 @@
+-- A grammar as the definitions see it.
+use Rattle.std.specs.Prelude.{◌≡◌, ◌<◌, ◌≤◌, ℕ, false, List, length, map}
+use Rattle.std.specs.List.{AllByRecursion, list_any}
+use Rattle.pg_grammar.specs.Preorder.{roots}
+use Rattle.pg_grammar.specs.Names.{Name, AreDistinct}
+use Rattle.pg_grammar.specs.Forms.{node_part_count, form_of, has_bad_literal, lacks_alternative, InPreorder, NamesRule}
+use Rattle.pg_grammar.specs.declared.form.BaseForm.{BaseForm}
+use Rattle.pg_grammar.specs.declared.form.Node.{Node}
+use Rattle.pg_grammar.specs.declared.grammar.Rule.{Rule}
+
+-- nodes and rules, each in file order, and the number of the rule to start with
+pub record Grammar : Type 0 where
+  pub nodes : List Node
+  pub rules : List Rule
+  pub start : ℕ
+
+-- the name of a rule
+abbrev pub rule_name : Rule → Name
+rule_name rule = rule.name
+
+-- the number of the node that is its body
+abbrev pub rule_body : Rule → ℕ
+rule_body rule = rule.body
+
+-- the names of the rules, in file order
+abbrev pub rule_names : Grammar → List Name
+rule_names g = map rule_name g.rules
+
+-- the base forms of the nodes, with names in place of numbers
+abbrev pub forms_of : Grammar → List BaseForm
+forms_of g = map (form_of (rule_names g)) g.nodes
+
+-- every number names something, and what stands there is what a file may say
+pub record IsGrammar (g : Grammar) : Type 0 where
+  -- the parts of a node are the whole forms behind it, and the forms that are no part are the rules' bodies
+  pub preorder : InPreorder 0 g.nodes
+  pub bodies : map rule_body g.rules ≡ roots 0 (map node_part_count g.nodes)
+  pub named : AllByRecursion (NamesRule (length g.rules)) g.nodes
+  pub start : g.start < length g.rules
+  pub distinct : AreDistinct (rule_names g)
+  pub literals : list_any has_bad_literal (forms_of g) ≡ false
+  pub alternatives : list_any lacks_alternative (forms_of g) ≡ false
+  pub few_rules : length g.rules ≤ 512
+  pub few_nodes : length g.nodes ≤ 8192

@@ -1,0 +1,9 @@
+pub mod Preorder
+pub mod Names
+pub mod Classes
+pub mod Forms
+pub mod Grammar
+pub mod Follows
+pub mod Made
+pub mod Numbering
+pub mod Derives

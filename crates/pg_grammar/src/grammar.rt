@@ -1,0 +1,109 @@
+//! The grammar value: rules in file order over one list of nodes in preorder, and the rule to start with.
+//!
+//! The invariant says that every number names something: a node's parts are the whole forms next behind it, the
+//! nodes that are no part of another are the rules' bodies, a named rule is there, rules have different names, a
+//! string isn't empty, a choice has an alternative and no range descends. [`Maker`](crate::Maker) establishes it.
+
+ghost use Rattle.std.specs.Prelude.{◌≡◌, ◌<◌, length, position, slice_get, Some, false};
+ghost use Rattle.pg_grammar.specs.Forms.{parts_of, form_of, has_bad_literal, lacks_alternative, NamesRule};
+ghost use Rattle.pg_grammar.specs.Follows.{PartsFollow, BodiesAreNodes};
+ghost use Rattle.std.specs.Str.{bytes_eq};
+
+use crate::form::Node;
+use crate::number::{NodeId, RuleId};
+use pg_text::Characters;
+use std::marker::Model;
+
+/// A rule: its name, and the node that is its body.
+#[derive(Debug, Drop)]
+pub struct Rule {
+    /// Its name, which no other rule of its grammar has.
+    pub name: Characters,
+    /// The node that is its body, which is no part of another node.
+    pub body: NodeId,
+}
+
+/// A grammar, seen as its nodes, its rules and its start.
+#[derive(Debug, Drop)]
+pub struct Grammar {
+    nodes: Vec<Node>,
+    rules: Vec<Rule>,
+    start: RuleId,
+}
+
+impl Model for Grammar {
+    ghost use Rattle.pg_grammar.specs.Grammar.{Grammar as Parts, IsGrammar};
+
+    ghost Value = { Parts };
+
+    ghost view = { λ g. record { nodes = g.nodes.items; rules = g.rules.items; start = g.start } };
+
+    ghost invariant = { λ g. IsGrammar (record { nodes = g.nodes.items; rules = g.rules.items; start = g.start }) };
+}
+
+impl Grammar {
+    ghost use Rattle.pg_grammar.specs.Grammar.{IsGrammar, rule_names};
+
+    /// The grammar of these parts, which the caller owes to be one.
+    pub(crate) fn new(nodes: Vec<Node>, rules: Vec<Rule>, start: RuleId) -> Grammar
+        requires { IsGrammar (record { nodes = nodes.items; rules = rules.items; start = start }) }
+        ensures { result ≡ record { nodes = nodes.items; rules = rules.items; start = start } }
+    {
+        Grammar {
+            nodes,
+            rules,
+            start,
+        }
+    }
+
+    /// All nodes, in file order: those of the first rule in preorder, then those of the second, and so on.
+    pub fn nodes(&self) -> &[Node]
+        ensures all { result.now ≡ self.now.nodes }
+        ensures grammar { IsGrammar self.now }
+    {
+        self.nodes.as_slice()
+    }
+
+    /// The rules, in file order. The number of a rule is its place here, counted from 0.
+    pub fn rules(&self) -> &[Rule]
+        ensures all { result.now ≡ self.now.rules }
+        ensures bodies { BodiesAreNodes (length self.now.nodes) result.now }
+    {
+        self.rules.as_slice()
+    }
+
+    /// The rule that a text is derived from.
+    pub fn start_rule(&self) -> RuleId
+        ensures start { result ≡ self.now.start }
+        ensures rule { result < length self.now.rules }
+    {
+        self.start
+    }
+
+    /// The node with this number. Its parts stand behind it, so whoever goes from nodes to parts ends, unless
+    /// rules lead back. A string has a character, a choice an alternative, and no range descends.
+    pub fn node(&self, id: NodeId) -> &Node
+        requires { id < length self.now.nodes }
+        ensures node { slice_get self.now.nodes id ≡ Some result.now }
+        ensures parts { PartsFollow id (length self.now.nodes) (parts_of result.now) }
+        ensures rule { NamesRule (length self.now.rules) result.now }
+        ensures proper { has_bad_literal (form_of (rule_names self.now) result.now) ≡ false }
+        ensures alternative { lacks_alternative (form_of (rule_names self.now) result.now) ≡ false }
+    {
+        &self.nodes[id.index()]
+    }
+
+    /// The number of the rule with this name, if there is one.
+    pub fn rule(&self, name: &[char]) -> Option<RuleId>
+        ensures { result ≡ position (λ rule. bytes_eq rule.name name.now) self.now.rules }
+    {
+        place_of_rule(self.rules.as_slice(), name).map(RuleId::new)
+    }
+}
+
+/// How many rules stand before the one with this name, if there is one.
+fn place_of_rule(rules: &[Rule], name: &[char]) -> Option<usize>
+    ensures { result ≡ position (λ rule. bytes_eq rule.name name.now) rules.now }
+{
+    rules.iter().position(|rule| rule.name.as_slice() == name)
+}

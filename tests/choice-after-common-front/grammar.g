@@ -1,0 +1,3 @@
+start a;
+b = choice(string("et"), string("ambda"));
+a = seq(string("l"), b);

@@ -1,0 +1,2 @@
+start a;
+seq = string("x");

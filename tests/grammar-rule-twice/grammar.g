@@ -1,0 +1,3 @@
+start a;
+a = string("x");
+a = string("y");

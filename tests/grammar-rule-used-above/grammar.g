@@ -1,0 +1,3 @@
+start a;
+a = b;
+b = string("x");

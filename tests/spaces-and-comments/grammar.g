@@ -1,0 +1,5 @@
+# a comment at once
+	start
+ a # between tokens
+;a=string(	"x"
+)  ;# and at the end
