@@ -1,8 +1,11 @@
 //! Runs from bytes to bytes, over readers and writers that are slow or fail.
 
+ghost use Rattle.std.specs.Prelude.{◌≡◌, false};
+
 use crate::fault::BenchFault;
 use crate::parse::parse_bytes;
 use pg_tree::Meter;
+use std::alloc::{AllocError, Global};
 use std::io;
 use std::io::{ErrorKind, Read, Write};
 use std::test::Fail;
@@ -63,11 +66,27 @@ impl Write for Narrow {
     }
 }
 
+/// The outcome of a run; want of memory ends the test as its error, so that what is asserted is some other answer.
+fn parsed<R: Read, W: Write>(
+    alloc: Global,
+    grammar: &[u8],
+    reader: &mut Meter<R>,
+    writer: &mut Meter<W>,
+) -> Result<Result<(), BenchFault>, AllocError>
+    requires reader { reader.old.failed ≡ false }
+    requires writer { writer.old.failed ≡ false }
+{
+    match parse_bytes(alloc, grammar, reader, writer) {
+        Err(BenchFault::Memory) => Err(AllocError),
+        outcome => Ok(outcome),
+    }
+}
+
 #[test]
 fn writes_the_forest_of_a_text(rt: HostRuntime) -> Result<(), Fail> {
     let mut reader = Meter::new(b"(7)".as_slice());
     let mut writer = Meter::new(Vec::<u8>::new(rt.alloc()));
-    let outcome = parse_bytes(rt.alloc(), GRAMMAR, &mut reader, &mut writer);
+    let outcome = parsed(rt.alloc(), GRAMMAR, &mut reader, &mut writer)?;
     assert!(rt; outcome.is_ok());
     assert!(rt; writer.into_inner().as_slice() == FOREST);
     Ok(())
@@ -80,7 +99,7 @@ fn does_not_ask_the_reader_where_the_file_is_at_fault(rt: HostRuntime) -> Result
         fails_at: 1,
     });
     let mut writer = Meter::new(Vec::<u8>::new(rt.alloc()));
-    let outcome = parse_bytes(rt.alloc(), b"start a;", &mut reader, &mut writer);
+    let outcome = parsed(rt.alloc(), b"start a;", &mut reader, &mut writer)?;
     assert!(rt; matches!(outcome, Err(BenchFault::File(_))));
     assert_eq!(rt; reader.into_inner().calls, 0);
     assert!(rt; writer.into_inner().is_empty());
@@ -92,7 +111,7 @@ fn writes_nothing_where_the_reader_fails(rt: HostRuntime) -> Result<(), Fail> {
     for fails_at in 1..6 {
         let mut reader = Meter::new(Drips { calls: 0, fails_at });
         let mut writer = Meter::new(Vec::<u8>::new(rt.alloc()));
-        let outcome = parse_bytes(rt.alloc(), GRAMMAR, &mut reader, &mut writer);
+        let outcome = parsed(rt.alloc(), GRAMMAR, &mut reader, &mut writer)?;
         let written = writer.into_inner();
         if fails_at < 5 {
             assert!(rt;
@@ -119,7 +138,7 @@ fn writes_a_front_where_the_writer_fails(rt: HostRuntime) -> Result<(), Fail> {
                 most,
                 errs,
             });
-            let outcome = parse_bytes(rt.alloc(), GRAMMAR, &mut reader, &mut writer);
+            let outcome = parsed(rt.alloc(), GRAMMAR, &mut reader, &mut writer)?;
             if most < 14 {
                 assert!(rt; matches!(outcome, Err(BenchFault::Writer)), "after {most}");
             } else {

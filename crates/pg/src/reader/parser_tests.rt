@@ -99,10 +99,12 @@ fn shown_items(alloc: Global, text: &str) -> Result<String, ReadError> {
     Ok(shown)
 }
 
-fn fault(alloc: Global, text: &str) -> Option<(FaultKind, Option<usize>)> {
+/// The fault of a text, if it has one. Want of memory is no answer, and ends the test.
+fn fault(alloc: Global, text: &str) -> Result<Option<(FaultKind, Option<usize>)>, AllocError> {
     match shown_items(alloc, text) {
-        Ok(_) | Err(ReadError::Memory) => None,
-        Err(ReadError::Fault(kind, place)) => Some((kind, place)),
+        Ok(_) => Ok(None),
+        Err(ReadError::Memory) => Err(AllocError),
+        Err(ReadError::Fault(kind, place)) => Ok(Some((kind, place))),
     }
 }
 
@@ -147,7 +149,7 @@ fn reads_items(rt: HostRuntime) -> Result<(), ReadError> {
 }
 
 #[test]
-fn finds_the_first_fault(rt: HostRuntime) {
+fn finds_the_first_fault(rt: HostRuntime) -> Result<(), AllocError> {
     let table = [
         ("a = ?;", FaultKind::BadToken, Some(4)),
         ("?", FaultKind::BadToken, Some(0)),
@@ -204,8 +206,9 @@ fn finds_the_first_fault(rt: HostRuntime) {
         ),
     ];
     for (text, kind, place) in table {
-        assert_eq!(rt; fault(rt.alloc(), text), Some((kind, place)), "at {text}");
+        assert_eq!(rt; fault(rt.alloc(), text)?, Some((kind, place)), "at {text}");
     }
+    Ok(())
 }
 
 #[test]
@@ -260,7 +263,7 @@ fn keeps_the_limits(rt: HostRuntime) -> Result<(), AllocError> {
     for (front, text, count, behind, want) in table {
         let whole = repeated(rt.alloc(), front, text, count, behind)?;
         assert_eq!(rt;
-            fault(rt.alloc(), whole.as_str()),
+            fault(rt.alloc(), whole.as_str())?,
             want,
             "at {front}{text}{behind} with {count}"
         );
