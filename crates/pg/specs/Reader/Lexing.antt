@@ -1,4 +1,5 @@
--- Reading characters from left to right, as functions.
+-- Reading characters from left to right, as functions. The lexer's code is held to them, and proofs lead from them to
+-- Lexical, which says what a file's characters mean.
 use Rattle.std.specs.Prelude.{ℕ, zero, suc, ◌==◌, if◌then◌else◌, List, [], ◌∷◌, take, drop, length, Option, Some, None}
 use Rattle.std.specs.List.{prefix_len}
 use Rattle.std.specs.Char.{is_ascii_alphabetic, is_ascii_digit}

@@ -1,4 +1,5 @@
--- Reading tokens from left to right, as functions: what was read and the tokens behind it, or None at a fault.
+-- Reading tokens from left to right, as functions: what was read and the tokens behind it, or None at a fault. The parser's
+-- code is held to them, and proofs lead from them to Syntax, which says what a file's tokens mean.
 use Rattle.std.specs.Prelude.{ℕ, zero, suc, Bool, false, ◌==◌, nat_le, if◌then◌else◌, List, [], ◌∷◌, length, Option, Some, None}
 use Rattle.std.specs.Str.{bytes_eq}
 use Rattle.pg_grammar.specs.declared.class.ClassPart.{ClassPart}
