@@ -1,2 +1,4 @@
+pub mod Equal
+pub mod Gaps
 pub mod Joins
 pub mod Unique

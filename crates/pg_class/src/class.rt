@@ -1,12 +1,13 @@
 //! The type of a set of characters, and its public calls.
 //!
 //! Callers see a class as the list of its ranges. The invariant, `IsClass`, is made by `ranges.rt` and
-//! never broken, since nothing writes a class once it is made; the printed form of a grammar and the
-//! comparison of classes rely on it.
-ghost use Rattle.std.specs.Prelude.{◌≡◌, ◌<◌, ◌↔◌, ◌||◌, ℕ, List, Any, IfOk, IsErrOf};
+//! `complement.rt` and never broken, since nothing writes a class once it is made; the printed form of a
+//! grammar and the comparison of classes rely on it.
+ghost use Rattle.std.specs.Prelude.{◌≡◌, ◌<◌, ◌↔◌, ◌||◌, ℕ, not, List, Any, IfOk, IsErrOf, IsTrue};
 ghost use Rattle.std.specs.Char.{IsScalar};
 ghost use Rattle.pg_class.specs.Ranges.{Range, IsClass, SameCharacters, has};
 
+use crate::complement::complemented;
 use crate::ranges::{joined, united};
 use std::alloc::{AllocError, Global};
 use std::marker::Model;
@@ -63,6 +64,30 @@ impl Class {
     {
         let ranges = united(alloc, self.ranges(), other.ranges())?;
         Ok(Class { ranges })
+    }
+
+    /// The class of the characters that aren't in this class.
+    pub fn complement(&self, alloc: Global) -> Result<Class, AllocError>
+        ensures members { IfOk result (λ class.
+            (c : ℕ) → IsScalar c → has class c ≡ not (has self.now c)) }
+    {
+        let ranges = complemented(alloc, self.ranges())?;
+        Ok(Class { ranges })
+    }
+
+    /// An equal class in memory of its own.
+    pub fn copy(&self, alloc: Global) -> Result<Class, AllocError>
+        ensures { IfOk result (λ class. class ≡ self.now) }
+    {
+        let ranges = Vec::from_slice(alloc, self.ranges())?;
+        Ok(Class { ranges })
+    }
+
+    /// Whether the other class is equal, which it is if it has the same characters (`ranges_are_unique`).
+    pub fn equals(&self, other: &Class) -> bool
+        ensures { IsTrue result ↔ (self.now ≡ other.now) }
+    {
+        self.ranges() == other.ranges()
     }
 
     /// Whether the character is in the class.

@@ -38,6 +38,63 @@ fn has_and_unites(rt: HostRuntime) -> Result<(), Fail> {
 }
 
 #[test]
+fn complements(rt: HostRuntime) -> Result<(), Fail> {
+    let alloc = rt.alloc();
+    for (ranges, wanted) in [
+        ([].as_slice(), [('\u{0}', '\u{10ffff}')].as_slice()),
+        ([('\u{0}', '\u{10ffff}')].as_slice(), [].as_slice()),
+        (
+            [('a', 'z')].as_slice(),
+            [('\u{0}', '`'), ('{', '\u{10ffff}')].as_slice(),
+        ),
+        (
+            [('\u{0}', '\u{d7ff}')].as_slice(),
+            [('\u{e000}', '\u{10ffff}')].as_slice(),
+        ),
+        (
+            [('\u{e000}', '\u{10ffff}')].as_slice(),
+            [('\u{0}', '\u{d7ff}')].as_slice(),
+        ),
+        (
+            [
+                ('\u{0}', '\u{0}'),
+                ('\u{d7fe}', '\u{d7fe}'),
+                ('\u{e001}', '\u{10fffe}'),
+            ]
+            .as_slice(),
+            [
+                ('\u{1}', '\u{d7fd}'),
+                ('\u{d7ff}', '\u{e000}'),
+                ('\u{10ffff}', '\u{10ffff}'),
+            ]
+            .as_slice(),
+        ),
+    ] {
+        let class = Class::from_ranges(alloc, ranges)?;
+        let others = class.complement(alloc)?;
+        assert_eq!(rt; others.ranges(), wanted);
+        assert!(rt; others.complement(alloc)?.equals(&class));
+    }
+    Ok(())
+}
+
+#[test]
+fn copies_and_compares(rt: HostRuntime) -> Result<(), Fail> {
+    let alloc = rt.alloc();
+    let letters = Class::from_ranges(alloc, &[('a', 'f'), ('A', 'F')])?;
+    assert!(rt; letters.copy(alloc)?.equals(&letters));
+    for ranges in [
+        [].as_slice(),
+        [('a', 'f')].as_slice(),
+        [('A', 'F'), ('a', 'g')].as_slice(),
+        [('A', 'F'), ('a', 'f'), ('h', 'h')].as_slice(),
+    ] {
+        assert!(rt; !letters.equals(&Class::from_ranges(alloc, ranges)?));
+    }
+    Ok(())
+}
+
+#[test]
 fn prints(rt: HostRuntime) -> Result<(), Fail> {
     for (fault, wanted) in [
         (ClassFault::Descends, "K1 range descends"),

@@ -3,5 +3,6 @@ pub mod Marks
 pub mod Shown
 pub mod Falls
 pub mod Json
+pub mod Built
 pub mod Meter
 pub mod Bytes

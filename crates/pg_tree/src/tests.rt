@@ -1,9 +1,10 @@
 //! What no clause says: the escapes of a text in JSON, that each call succeeds with ample memory,
-//! the printed faults, and readers and writers that fail in the middle.
+//! the tree of each shape, the printed faults, and readers and writers that fail in the middle.
 //!
 //! The expected JSON is what Python's json module writes of the same values, with sorted keys and
 //! no spaces.
 
+use super::json::json_text;
 use super::*;
 use std::alloc::{AllocError, Global};
 use std::io;
@@ -98,6 +99,96 @@ fn escaped_forest(alloc: Global) -> Result<Forest, AllocError> {
 const ESCAPED_JSON: &str = "[\"plain\",\
     {\"kids\":[\"say \\\"hi\\\"\",{\"kids\":[],\"node\":\"back\\\\slash\"},\"a/b\",\
     {\"kids\":[\"\\u0000\\b\\t\\n\\u000b\\f\\r\\u001b\\u001f\u{7f}\",\"é ∀ 😀\"],\"node\":\"\"}],\"node\":\"sum\"},\"\"]";
+
+/// A leaf, a node `sum` with a node of its own label among its kids, a node `neg` with such a node,
+/// and a leaf.
+fn nested_kids(alloc: Global) -> Result<Forest, AllocError> {
+    let mut kids = Forest::new(alloc);
+    kids.push(Tree::leaf(alloc, "a")?)?;
+    kids.push(around_a_sum(alloc, "sum", "b")?)?;
+    kids.push(around_a_sum(alloc, "neg", "c")?)?;
+    kids.push(Tree::leaf(alloc, "é")?)?;
+    Ok(kids)
+}
+
+/// A node of a leaf and of a node `sum` with a leaf.
+fn around_a_sum(alloc: Global, label: &str, text: &str) -> Result<Tree, AllocError> {
+    let mut inner = Forest::new(alloc);
+    inner.push(Tree::leaf(alloc, "+")?)?;
+    let mut kids = Forest::new(alloc);
+    kids.push(Tree::leaf(alloc, text)?)?;
+    kids.push(Tree::node(alloc, "sum", inner)?)?;
+    Tree::node(alloc, label, kids)
+}
+
+/// The label with a copy of this text.
+fn label(alloc: Global, text: &str) -> Result<Label, AllocError> {
+    Ok(Label::new(String::from_str(alloc, text)?))
+}
+
+/// The text in JSON of what a shape makes of these kids and of the symbol `list`.
+fn built_json(alloc: Global, shape: &Shape, kids: Forest) -> Result<Vec<u8>, AllocError> {
+    let mut forest = Forest::new(alloc);
+    forest.push(built(alloc, shape, "list", kids)?)?;
+    json_text(alloc, &forest)
+}
+
+/// The text of the node `sum` of `nested_kids`.
+const NODE_JSON: &str =
+    "[{\"kids\":[\"a\",{\"kids\":[\"b\",{\"kids\":[\"+\"],\"node\":\"sum\"}],\"node\":\"sum\"},\
+    {\"kids\":[\"c\",{\"kids\":[\"+\"],\"node\":\"sum\"}],\"node\":\"neg\"},\"é\"],\"node\":\"sum\"}]";
+
+/// The text of the node `list` of `nested_kids`.
+const SYMBOL_JSON: &str =
+    "[{\"kids\":[\"a\",{\"kids\":[\"b\",{\"kids\":[\"+\"],\"node\":\"sum\"}],\"node\":\"sum\"},\
+    {\"kids\":[\"c\",{\"kids\":[\"+\"],\"node\":\"sum\"}],\"node\":\"neg\"},\"é\"],\"node\":\"list\"}]";
+
+/// The text of the node `sum` of `nested_kids` once flattened: a node `sum` further down stays.
+const FLAT_JSON: &str = "[{\"kids\":[\"a\",\"b\",{\"kids\":[\"+\"],\"node\":\"sum\"},\
+    {\"kids\":[\"c\",{\"kids\":[\"+\"],\"node\":\"sum\"}],\"node\":\"neg\"},\"é\"],\"node\":\"sum\"}]";
+
+#[test]
+fn builds_each_shape(rt: HostRuntime) -> Result<(), Fail> {
+    let alloc = rt.alloc();
+    let node = Shape::Node(label(alloc, "sum")?);
+    let flat = Shape::Flat(label(alloc, "sum")?);
+    for (shape, expected, empty) in [
+        (&node, NODE_JSON, "[{\"kids\":[],\"node\":\"sum\"}]"),
+        (
+            &Shape::Symbol,
+            SYMBOL_JSON,
+            "[{\"kids\":[],\"node\":\"list\"}]",
+        ),
+        (&Shape::Join, "[\"ab+c+é\"]", "[\"\"]"),
+        (&flat, FLAT_JSON, "[{\"kids\":[],\"node\":\"sum\"}]"),
+    ] {
+        let text = built_json(alloc, shape, nested_kids(alloc)?)?;
+        assert!(rt; text.as_slice() == expected.as_bytes(), "{expected}");
+        let text = built_json(alloc, shape, Forest::new(alloc))?;
+        assert!(rt; text.as_slice() == empty.as_bytes(), "{empty}");
+    }
+    Ok(())
+}
+
+#[test]
+fn copies_and_compares_shapes(rt: HostRuntime) -> Result<(), Fail> {
+    let alloc = rt.alloc();
+    let shapes = [
+        Shape::Node(label(alloc, "sum")?),
+        Shape::Node(label(alloc, "neg")?),
+        Shape::Symbol,
+        Shape::Join,
+        Shape::Flat(label(alloc, "sum")?),
+        Shape::Flat(label(alloc, "neg")?),
+    ];
+    for (i, shape) in shapes.iter().enumerate() {
+        for (j, other) in shapes.iter().enumerate() {
+            assert_eq!(rt; shape.copy(alloc)?.equals(other), i == j, "{i} and {j}");
+        }
+    }
+    assert_eq!(rt; label(alloc, "é")?.copy(alloc)?.as_str(), "é");
+    Ok(())
+}
 
 #[test]
 fn writes_json(rt: HostRuntime) -> Result<(), Fail> {

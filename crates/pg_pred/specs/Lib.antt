@@ -1,0 +1,4 @@
+pub mod Tells
+pub mod Makes
+pub mod Names
+pub mod Offer

@@ -1,0 +1,74 @@
+//! How a builder makes a tree of what its parser gave.
+//!
+//! A shape is part of a grammar, beside the builder's name: what a grammar derives is told by it. The functions that
+//! builders store are held to `built`, and so is the function of this name.
+
+ghost use Rattle.std.specs.Prelude.{◌≡◌, ◌↔◌, IfOk, IsTrue};
+ghost use Rattle.pg_tree.specs.Built.{built};
+
+use crate::forest::Forest;
+use crate::kids::{flattened, joined};
+use crate::label::Label;
+use crate::tree::{Kind, Tree};
+use std::alloc::{AllocError, Global};
+
+/// How a tree is made of kids and a symbol (ours).
+#[derive(Debug, Drop)]
+pub enum Shape {
+    /// A node with this label and the kids.
+    Node(Label),
+    /// A node with the kids, labelled by the symbol.
+    Symbol,
+    /// A leaf with the texts of all leaves among the kids and below them, joined in order.
+    Join,
+    /// A node with this label and the kids, where each kid that is a node with the same label gives way to its kids.
+    Flat(Label),
+}
+
+impl Shape {
+    /// An equal shape in memory of its own. The only error is that memory ran out.
+    pub fn copy(&self, alloc: Global) -> Result<Shape, AllocError>
+        ensures { IfOk result (λ shape. shape ≡ self.now) }
+    {
+        match self {
+            Shape::Node(label) => Ok(Shape::Node(label.copy(alloc)?)),
+            Shape::Symbol => Ok(Shape::Symbol),
+            Shape::Join => Ok(Shape::Join),
+            Shape::Flat(label) => Ok(Shape::Flat(label.copy(alloc)?)),
+        }
+    }
+
+    /// Whether the other shape is equal.
+    pub fn equals(&self, other: &Shape) -> bool
+        ensures { IsTrue result ↔ (self.now ≡ other.now) }
+    {
+        match (self, other) {
+            (Shape::Node(label), Shape::Node(same)) => label.equals(same),
+            (Shape::Symbol, Shape::Symbol) => true,
+            (Shape::Join, Shape::Join) => true,
+            (Shape::Flat(label), Shape::Flat(same)) => label.equals(same),
+            (Shape::Node(_) | Shape::Symbol | Shape::Join | Shape::Flat(_), _) => false,
+        }
+    }
+}
+
+/// The tree that a shape makes of a symbol and kids. The only error is that memory ran out; the kids
+/// are then gone.
+pub fn built(alloc: Global, shape: &Shape, symbol: &str, kids: Forest) -> Result<Tree, AllocError>
+    ensures { IfOk result (λ tree. tree ≡ built shape.now symbol.now kids) }
+{
+    match shape {
+        Shape::Node(label) => Tree::node(alloc, label.as_str(), kids),
+        Shape::Symbol => Tree::node(alloc, symbol, kids),
+        Shape::Join => {
+            let text = joined(alloc, &kids)?;
+            Ok(Tree {
+                kind: Kind::Leaf(text),
+            })
+        }
+        Shape::Flat(label) => {
+            let kids = flattened(alloc, label.as_str(), kids)?;
+            Tree::node(alloc, label.as_str(), kids)
+        }
+    }
+}
