@@ -1,5 +1,4 @@
-pub mod LexerLemmas
-pub mod ParserLemmas
-pub mod Written
 pub mod Spans
 pub mod Fronts
+pub mod Sets
+pub mod Offered

@@ -1,6 +1,9 @@
+pub mod Running
 pub mod Outcomes
-pub mod Reader
-pub mod Spells
 pub mod Parsed
 pub mod Status
 pub mod Texts
+pub mod Categories
+pub mod Kinds
+pub mod Builders
+pub mod ProgramOffer

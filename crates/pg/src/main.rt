@@ -6,21 +6,32 @@
 //! memory; if standard error takes nothing, it stays what it was.
 #![tactic(auto)]
 
+mod categories;
 mod fault;
-mod grammar_file;
+mod kind;
+#[cfg(test)]
+mod kind_tests;
 mod parse;
-mod reader;
+mod registry;
 mod report;
 mod reporting;
 mod request;
 mod runner;
+mod running;
+mod shapes;
 #[cfg(test)]
 mod tests;
+mod utf8;
+
+ghost use Rattle.pg_pred.specs.Offer.{offer_of};
+ghost use Rattle.pg.specs.ProgramOffer.{IsProgramOffer};
 
 use clap::error::ErrorKind;
 use fault::BenchFault;
 use parse::parse_bytes;
+use pg_pred::Registry;
 use pg_tree::{Meter, ReadFault, read_bytes};
+use registry::with_registry;
 use request::{Request, command, request_of};
 use std::alloc::AllocError;
 use std::fmt::Display;
@@ -61,7 +72,7 @@ fn run<R: AllocGlobal + Env + Files + Print + Eprint>(rt: &R) -> Result<u8, Allo
     };
     match command(rt.alloc())?.try_get_matches_from(words.as_slice()) {
         Ok(matches) => match request_of(&matches) {
-            Some(request) => answer(rt, request),
+            Some(request) => with_registry(rt, request),
             None => Ok(refuse(rt, "pgw: no such command")),
         },
         Err(error) => tell(rt, &error),
@@ -83,12 +94,16 @@ fn tell<R: Print + Eprint>(rt: &R, error: &clap::Error) -> Result<u8, AllocError
     }
 }
 
+/// Does what is asked, with the predicates and builders of the registry.
 fn answer<R: AllocGlobal + Files + Print + Eprint>(
     rt: &R,
     request: Request,
-) -> Result<u8, AllocError> {
+    registry: &Registry,
+) -> Result<u8, AllocError>
+    requires { IsProgramOffer (offer_of registry.now) }
+{
     match request {
-        Request::Parse { grammar, text } => parse_files(rt, grammar, text),
+        Request::Parse { grammar, text } => parse_files(rt, grammar, text, registry),
     }
 }
 
@@ -97,6 +112,7 @@ fn parse_files<R: AllocGlobal + Files + Print + Eprint>(
     rt: &R,
     grammar: &str,
     text: &str,
+    registry: &Registry,
 ) -> Result<u8, AllocError> {
     let Ok(grammar_file) = fs::open(rt, grammar) else {
         return Ok(cannot_read(rt, grammar));
@@ -111,7 +127,13 @@ fn parse_files<R: AllocGlobal + Files + Print + Eprint>(
     };
     let mut reader = Meter::new(text_file);
     let mut writer = Meter::new(io::writer(rt));
-    match parse_bytes(rt.alloc(), bytes.as_slice(), &mut reader, &mut writer) {
+    match parse_bytes(
+        rt.alloc(),
+        bytes.as_slice(),
+        registry,
+        &mut reader,
+        &mut writer,
+    ) {
         Ok(()) => Ok(0),
         Err(fault) => print_report(rt, &fault, grammar, text),
     }

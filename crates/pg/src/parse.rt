@@ -6,15 +6,20 @@
 ghost use Rattle.std.specs.Prelude.{◌≡◌, ◌≤◌, ◌<◌, ◌+◌, ◌*◌, ◌⊎◌, [], ◌∷◌, ◌++◌, false, true, length, IfOk, IfErr, OnOk, IsErrOf};
 ghost use Rattle.std.specs.Str.{chars, IsUtf8};
 ghost use Rattle.std.specs.Io.KnownBytes.{Appends, Consumes, IsAtEnd};
+ghost use Rattle.pg_pred.specs.Offer.{offer_of};
+ghost use Rattle.pg_grammar.specs.Fits.{Fits};
 ghost use Rattle.pg_tree.specs.Json.{json};
 ghost use Rattle.pg_tree.specs.Meter.{saturating_sum};
 ghost use Rattle.pg_tree.specs.Bytes.{AppendsFront};
-ghost use Rattle.pg.specs.Parsed.{IsTextOf, IsParsed, IsSpelled, ReadsText, IsReadRefusal, IsTextRefusal, IsWriteRefusal, IsBehindFile, IsBehindReader, IsFileFault, IsPartlyWritten, ComesBeforeWriting};
+ghost use Rattle.pg_file.specs.Spells.{SpellsWithinLimits};
+ghost use Rattle.pg.specs.Parsed.{IsFileRefusal, IsTextOf, IsParsed, SpellsNone, IsRunnable, IsNotRun, ReadsText, IsReadRefusal, IsTextRefusal, IsWriteRefusal, IsBehindFile, IsBehindReader, IsFileFault, IsPartlyWritten, ComesBeforeWriting};
 
 use crate::fault::BenchFault;
-use crate::grammar_file::read_grammar;
 use crate::runner::run;
+use crate::running::runs;
+use pg_file::FileError;
 use pg_grammar::Grammar;
+use pg_pred::Registry;
 use pg_text::{LIMIT, Text, TextFault};
 use pg_tree::{Forest, Meter, ReadFault, WriteFault, read_bytes, write_bytes, write_json};
 use std::alloc::Global;
@@ -24,14 +29,17 @@ use std::io::{Read, Write};
 const TEXT_BYTES: usize = 4 * LIMIT;
 
 /// Parses the text that a reader gives by the grammar that a file spells, and writes the forest's JSON and a line feed.
+/// The registry has the predicates and builders that the file may name.
 ///
-/// Both meters have to be fresh of failures. The faults come in the order of [`BenchFault`]: a fault of the file before
-/// the reader is asked at all, then the reader's, then those of its bytes, `NoParse` where the grammar's start rule
-/// doesn't parse the whole text, and the writer's. Up to `NoParse`, and where memory runs out, nothing is written. A
-/// text of over 16,384 bytes can't be one of 4,096 characters, so no more is read of it.
+/// Both meters have to be fresh of failures. The faults come in the order of [`BenchFault`]: a fault of the file, and
+/// `NotRun` where its grammar holds what isn't run yet, before the reader is asked at all; then the reader's, then those
+/// of its bytes, `NoParse` where the grammar's start rule doesn't parse the whole text, and the writer's. Up to `NoParse`,
+/// and where memory runs out, nothing is written. A text of over 16,384 bytes can't be one of 4,096 characters, so no
+/// more is read of it.
 pub fn parse_bytes<R: Read, W: Write>(
     alloc: Global,
     grammar: &[u8],
+    registry: &Registry,
     reader: &mut Meter<R>,
     writer: &mut Meter<W>,
 ) -> Result<(), BenchFault>
@@ -39,12 +47,17 @@ pub fn parse_bytes<R: Read, W: Write>(
     requires writer { writer.old.failed ≡ false }
 
     // The whole of the reader's bytes is a text that the grammar derives, and its forest was written.
-    ensures ok { OnOk result (IsParsed grammar.now (R.remaining reader.old.inner) (R.remaining reader.new.inner)
+    ensures ok { OnOk result (IsParsed (offer_of registry.now) grammar.now (R.remaining reader.old.inner) (R.remaining reader.new.inner)
         (W.contents writer.old.inner) (W.contents writer.new.inner)) }
 
     // A fault of the file comes first, and every other one only where the file spells a grammar.
-    ensures file { IfErr result (λ fault. IsFileFault fault → reader.new ≡ reader.old) }
-    ensures spelled { IfErr result (λ fault. IsBehindFile fault → IsSpelled grammar.now) }
+    ensures file { IfErr result (λ fault. IsFileFault fault → SpellsNone (offer_of registry.now) grammar.now) }
+    ensures unread { IfErr result (λ fault. IsFileFault fault → reader.new ≡ reader.old) }
+    ensures runnable { IfErr result (λ fault. IsBehindFile fault → IsRunnable (offer_of registry.now) grammar.now) }
+
+    // The file spells a grammar, and not all of it is run.
+    ensures not_run { IsErrOf result BenchFault.NotRun → IsNotRun (offer_of registry.now) grammar.now }
+    ensures unasked { IsErrOf result BenchFault.NotRun → reader.new ≡ reader.old }
 
     // The reader failed, or gave more than the limit.
     ensures reader { IsErrOf result BenchFault.Reader →
@@ -64,17 +77,34 @@ pub fn parse_bytes<R: Read, W: Write>(
 
     // The writer failed behind a front of what it was to be given, and in every other case was given nothing.
     ensures writer { IsErrOf result BenchFault.Writer → writer.new.failed ≡ true }
-    ensures front { IsErrOf result BenchFault.Writer → IsPartlyWritten grammar.now (R.remaining reader.old.inner) (R.remaining reader.new.inner)
+    ensures front { IsErrOf result BenchFault.Writer → IsPartlyWritten (offer_of registry.now) grammar.now (R.remaining reader.old.inner) (R.remaining reader.new.inner)
         (W.contents writer.old.inner) (W.contents writer.new.inner) }
     ensures writer_stays { OnOk result (writer.new.failed ≡ false) }
     ensures unwritten { IfErr result (λ fault. ComesBeforeWriting fault → writer.new ≡ writer.old) }
 
     ensures asked { reader.new.calls ≤ saturating_sum reader.old.calls (4 * LIMIT + 1) }
 {
-    let grammar = read_grammar(alloc, grammar)?;
+    let grammar = grammar_of(alloc, grammar, registry)?;
+    if !runs(&grammar) {
+        return Err(BenchFault::NotRun);
+    }
     let bytes = read_text(alloc, reader)?;
-    let forest = forest_of(alloc, &grammar, bytes.as_slice())?;
+    let forest = forest_of(alloc, &grammar, registry, bytes.as_slice())?;
     write_line(alloc, &forest, writer)
+}
+
+/// The grammar that the bytes of a file spell.
+fn grammar_of(alloc: Global, bytes: &[u8], registry: &Registry) -> Result<Grammar, BenchFault>
+    ensures ok { IfOk result (SpellsWithinLimits (offer_of registry.now) bytes.now) }
+    ensures fits { IfOk result (Fits (offer_of registry.now)) }
+    ensures err { IfErr result IsFileRefusal }
+    ensures none { IfErr result (λ fault. IsFileFault fault → SpellsNone (offer_of registry.now) bytes.now) }
+{
+    match pg_file::read(alloc, bytes, registry) {
+        Ok(grammar) => Ok(grammar),
+        Err(FileError::Fault(fault)) => Err(BenchFault::File(fault)),
+        Err(FileError::Memory) => Err(BenchFault::Memory),
+    }
 }
 
 /// All that the reader gives.
@@ -96,7 +126,13 @@ fn read_text<R: Read>(alloc: Global, reader: &mut Meter<R>) -> Result<Vec<u8>, B
 }
 
 /// The forest of the text that bytes spell.
-fn forest_of(alloc: Global, grammar: &Grammar, bytes: &[u8]) -> Result<Forest, BenchFault>
+fn forest_of(
+    alloc: Global,
+    grammar: &Grammar,
+    registry: &Registry,
+    bytes: &[u8],
+) -> Result<Forest, BenchFault>
+    requires { Fits (offer_of registry.now) grammar.now }
     ensures ok { IfOk result (IsTextOf grammar.now bytes.now) }
     ensures err { IfErr result (IsTextRefusal bytes.now) }
 {
@@ -106,7 +142,7 @@ fn forest_of(alloc: Global, grammar: &Grammar, bytes: &[u8]) -> Result<Forest, B
         Err(TextFault::TooLong) => return Err(BenchFault::TooLong),
         Err(TextFault::Memory) => return Err(BenchFault::Memory),
     };
-    match run(alloc, grammar, &text) {
+    match run(alloc, grammar, registry, &text) {
         Ok(Some(forest)) => Ok(forest),
         Ok(None) => Err(BenchFault::NoParse),
         Err(_) => Err(BenchFault::Memory),

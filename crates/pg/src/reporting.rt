@@ -36,6 +36,7 @@ fn status(fault: &BenchFault) -> u8
     match fault {
         BenchFault::NoParse => 1,
         BenchFault::File(_)
+        | BenchFault::NotRun
         | BenchFault::Reader
         | BenchFault::NotUtf8
         | BenchFault::TooLong
@@ -59,6 +60,7 @@ fn front<'a>(fault: &BenchFault, grammar: &'a str, text: &'a str) -> (&'a str, &
 {
     match fault {
         BenchFault::File(_) => (grammar, ":"),
+        BenchFault::NotRun => (grammar, ": "),
         BenchFault::Reader | BenchFault::NotUtf8 | BenchFault::TooLong => (text, ": "),
         BenchFault::NoParse | BenchFault::Writer | BenchFault::Memory => ("", ""),
     }
@@ -67,7 +69,7 @@ fn front<'a>(fault: &BenchFault, grammar: &'a str, text: &'a str) -> (&'a str, &
 #[cfg(test)]
 mod tests {
     use super::*;
-    use crate::fault::{FaultKind, FileFault};
+    use pg_file::{FaultKind, FileFault};
     use pg_text::Pos;
     use std::test::Fail;
 

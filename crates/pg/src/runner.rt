@@ -2,17 +2,20 @@
 //!
 //! A choice commits to an alternative that has consumed: the next one is tried only after a failure that consumed
 //! nothing. Proved is that whatever it calls parsed is derived by the grammar, on which the rest of the program relies;
-//! which texts it refuses is tested. It recurses once for each form that stands in another.
+//! which texts it refuses is tested. It recurses once for each form that stands in another; what doesn't recurse is kept
+//! out of that function when it is compiled, so that little of the stack is taken each time.
 
-ghost use Rattle.std.specs.Prelude.{◌≡◌, ◌≤◌, ◌<◌, ◌+◌, [], ◌∷◌, length, take, drop, IfOk, string_bytes};
-ghost use Rattle.std.specs.Str.{encode_utf8_all};
-ghost use Rattle.pg_grammar.specs.Follows.{PartsFollow};
-ghost use Rattle.pg_grammar.specs.Derives.{leaf_of};
-ghost use Rattle.pg.specs.Outcomes.{RuleSpans, NodeSpans, PartsSpan, AlternativeSpans, SatisfySpans, StringSpans, TextIsDerived};
+ghost use Rattle.std.specs.Prelude.{◌≡◌, ◌≤◌, ◌<◌, ◌+◌, [], ◌∷◌, length, take, drop, Some, IfOk};
+ghost use Rattle.pg_pred.specs.Offer.{offer_of, builder_shape};
+ghost use Rattle.pg_grammar.specs.Fits.{NodeFits, Fits, IsClassIn};
+ghost use Rattle.pg_table.specs.Derives.{leaf_of};
+ghost use Rattle.pg.specs.Outcomes.{NodeSpans, SatisfySpans, StringSpans, TextIsDerived, IsWithin, with_forest, text_forest, no_forest, built_forest, forest_around};
 
-use pg_grammar::{ClassExpression, Grammar, Node, NodeId, RuleId};
+use crate::utf8::utf8;
+use pg_grammar::{BuilderUse, ClassExpression, Grammar, Node, NodeId};
+use pg_pred::Registry;
 use pg_text::Text;
-use pg_tree::{Forest, Tree};
+use pg_tree::{Forest, Label, Tree};
 use std::alloc::{AllocError, Global};
 
 /// How a form answered at a place.
@@ -25,141 +28,214 @@ pub enum Outcome {
 }
 
 /// The forest of a whole text, by the grammar's start rule, or nothing if the start rule fails or leaves text over.
-pub fn run(alloc: Global, grammar: &Grammar, text: &Text) -> Result<Option<Forest>, AllocError>
+pub fn run(
+    alloc: Global,
+    grammar: &Grammar,
+    registry: &Registry,
+    text: &Text,
+) -> Result<Option<Forest>, AllocError>
+    requires { Fits (offer_of registry.now) grammar.now }
     ensures { IfOk result (TextIsDerived grammar.now text.now) }
 {
-    let start = grammar.start_rule();
-    let rules = grammar.rules().len();
-    match run_rule(alloc, grammar, text, rules, start, 0)? {
+    let start = grammar.start_rule().index();
+    let body = grammar.rules()[start].body;
+    match run_node(alloc, grammar, registry, text, start, body, 0)? {
         Outcome::Parsed(place, forest) if place == text.len() => Ok(Some(forest)),
         Outcome::Parsed(_, _) | Outcome::Failed { .. } => Ok(None),
     }
 }
 
-/// Runs a rule's body, if the rule is one of the first `below`. The reader lets a rule name only rules above it, so
-/// none is ever refused here; the test is what shows that the run ends.
-#[cycle(run)]
-fn run_rule(
-    alloc: Global,
-    grammar: &Grammar,
-    text: &Text,
-    below: usize,
-    rule: RuleId,
-    place: usize,
-) -> Result<Outcome, AllocError>
-    requires rule { rule < length grammar.now.rules }
-    requires place { place ≤ length text.now }
-    ensures { IfOk result (RuleSpans grammar.now text.now rule place) }
-{
-    if rule.index() >= below {
-        return Ok(Outcome::Failed { consumed: false });
-    }
-    let body = grammar.rules()[rule.index()].body;
-    run_node(alloc, grammar, text, rule.index(), body, place)
-}
-
-/// Runs a node at a place.
-#[cycle(run)]
+/// Runs a node at a place, in the body of the rule with the number `below`.
+///
+/// The reader makes no other forms yet than those that are run here, so the others fail. It lets a rule name only rules above it, so each rule that is named is one of the first `below`; asking for
+/// it is what shows that the run ends. The recursion is one function, since the toolchain has no theorem for several
+/// functions that call one another and lend a stored function.
 fn run_node(
     alloc: Global,
     grammar: &Grammar,
+    registry: &Registry,
     text: &Text,
     below: usize,
     node: NodeId,
     place: usize,
 ) -> Result<Outcome, AllocError>
+    requires fits { Fits (offer_of registry.now) grammar.now }
     requires node { node < length grammar.now.nodes }
     requires place { place ≤ length text.now }
     ensures { IfOk result (NodeSpans grammar.now text.now node place) }
 {
     match grammar.node(node) {
-        Node::Satisfy(class) => satisfy(alloc, text, class, place),
+        Node::Satisfy(class) => satisfy(alloc, grammar, registry, text, class, place),
         Node::String(characters) => string(alloc, text, characters.as_slice(), place),
-        Node::Seq(parts) => run_parts(alloc, grammar, text, below, node, parts.as_slice(), place),
+        Node::Seq(parts) => {
+            let mut reached = place;
+            let mut forest = Forest::new(alloc);
+            for part in parts.as_slice() {
+                match run_node(alloc, grammar, registry, text, below, *part, reached)? {
+                    Outcome::Parsed(next, trees) => {
+                        reached = next;
+                        forest.append(trees)?;
+                    }
+                    Outcome::Failed { consumed } => {
+                        let consumed = consumed || reached > place;
+                        return Ok(Outcome::Failed { consumed });
+                    }
+                }
+            }
+            Ok(Outcome::Parsed(reached, forest))
+        }
         Node::Choice(parts) => {
-            run_alternatives(alloc, grammar, text, below, node, parts.as_slice(), place)
+            for alternative in parts.as_slice() {
+                match run_node(alloc, grammar, registry, text, below, *alternative, place)? {
+                    Outcome::Failed { consumed: false } => {}
+                    Outcome::Failed { consumed: true } => {
+                        return Ok(Outcome::Failed { consumed: true });
+                    }
+                    Outcome::Parsed(end, forest) => return Ok(Outcome::Parsed(end, forest)),
+                }
+            }
+            Ok(Outcome::Failed { consumed: false })
         }
-        Node::Rule(rule) => run_rule(alloc, grammar, text, below, *rule, place),
+        Node::Text(part) | Node::Skip(part) | Node::Build(_, _, part) => {
+            let outcome = run_node(alloc, grammar, registry, text, below, *part, place)?;
+            around(alloc, registry, text, grammar.node(node), place, outcome)
+        }
+        Node::Rule(rule) if rule.index() < below => {
+            let body = grammar.rules()[rule.index()].body;
+            let outcome = run_node(alloc, grammar, registry, text, rule.index(), body, place)?;
+            Ok(outcome)
+        }
+        Node::Rule(_)
+        | Node::Many(_)
+        | Node::ChainLeft(_, _, _)
+        | Node::ChainRight(_, _, _)
+        | Node::Try(_)
+        | Node::NotFollowedBy(_)
+        | Node::EndOfText
+        | Node::Word(_)
+        | Node::Expression(_, _)
+        | Node::Declare(_)
+        | Node::Label(_, _) => Ok(Outcome::Failed { consumed: false }),
     }
 }
 
-/// Runs the parts of a node one after another.
-#[cycle(run)]
-fn run_parts(
+/// What a form around one part makes of the part's outcome from a place on.
+#[inline(never)]
+fn around(
     alloc: Global,
-    grammar: &Grammar,
+    registry: &Registry,
     text: &Text,
-    below: usize,
-    node: NodeId,
-    parts: &[NodeId],
+    node: &Node,
     place: usize,
+    outcome: Outcome,
 ) -> Result<Outcome, AllocError>
-    requires parts { PartsFollow node (length grammar.now.nodes) parts.now }
-    requires place { place ≤ length text.now }
-    ensures { IfOk result (PartsSpan grammar.now text.now parts.now place) }
+    requires fits { NodeFits (offer_of registry.now) node.now }
+    requires within { IsWithin text.now place outcome }
+    ensures { IfOk result (λ o. o ≡ with_forest (forest_around node.now text.now place) outcome) }
 {
-    let mut reached = place;
-    let mut forest = Forest::new(alloc);
-    for part in parts {
-        match run_node(alloc, grammar, text, below, *part, reached)? {
-            Outcome::Parsed(next, trees) => {
-                reached = next;
-                forest.append(trees)?;
-            }
-            Outcome::Failed { consumed } => {
-                let consumed = consumed || reached > place;
-                return Ok(Outcome::Failed { consumed });
-            }
-        }
+    match node {
+        Node::Text(_) => with_text(alloc, text, place, outcome),
+        Node::Skip(_) => Ok(without_forest(alloc, outcome)),
+        Node::Build(used, symbol, _) => with_tree(alloc, registry, used, symbol, outcome),
+        Node::Satisfy(_)
+        | Node::String(_)
+        | Node::Seq(_)
+        | Node::Choice(_)
+        | Node::Rule(_)
+        | Node::Many(_)
+        | Node::ChainLeft(_, _, _)
+        | Node::ChainRight(_, _, _)
+        | Node::Try(_)
+        | Node::NotFollowedBy(_)
+        | Node::EndOfText
+        | Node::Word(_)
+        | Node::Expression(_, _)
+        | Node::Declare(_)
+        | Node::Label(_, _) => Ok(outcome),
     }
-    Ok(Outcome::Parsed(reached, forest))
 }
 
-/// Runs the alternatives of a node, up to the first that doesn't fail without consuming.
-#[cycle(run)]
-fn run_alternatives(
+/// The outcome from a place on, with one leaf of the text that was parsed.
+fn with_text(
     alloc: Global,
-    grammar: &Grammar,
     text: &Text,
-    below: usize,
-    node: NodeId,
-    alternatives: &[NodeId],
     place: usize,
+    outcome: Outcome,
 ) -> Result<Outcome, AllocError>
-    requires parts { PartsFollow node (length grammar.now.nodes) alternatives.now }
-    requires place { place ≤ length text.now }
-    ensures { IfOk result (AlternativeSpans grammar.now text.now alternatives.now place) }
+    requires { IsWithin text.now place outcome }
+    ensures { IfOk result (λ o. o ≡ with_forest (text_forest text.now place) outcome) }
 {
-    for alternative in alternatives {
-        match run_node(alloc, grammar, text, below, *alternative, place)? {
-            Outcome::Failed { consumed: false } => {}
-            Outcome::Failed { consumed: true } => return Ok(Outcome::Failed { consumed: true }),
-            Outcome::Parsed(end, forest) => return Ok(Outcome::Parsed(end, forest)),
+    match outcome {
+        Outcome::Parsed(end, _) => {
+            let forest = leaf(alloc, &text.characters()[place..end])?;
+            Ok(Outcome::Parsed(end, forest))
         }
+        Outcome::Failed { consumed } => Ok(Outcome::Failed { consumed }),
     }
-    Ok(Outcome::Failed { consumed: false })
+}
+
+/// The outcome without its forest.
+fn without_forest(alloc: Global, outcome: Outcome) -> Outcome
+    ensures { result ≡ with_forest no_forest outcome }
+{
+    match outcome {
+        Outcome::Parsed(end, _) => Outcome::Parsed(end, Forest::new(alloc)),
+        Outcome::Failed { consumed } => Outcome::Failed { consumed },
+    }
+}
+
+/// The outcome with the one tree that a builder makes of the symbol and the forest.
+fn with_tree(
+    alloc: Global,
+    registry: &Registry,
+    used: &BuilderUse,
+    symbol: &Label,
+    outcome: Outcome,
+) -> Result<Outcome, AllocError>
+    requires { builder_shape (offer_of registry.now) used.now.name ≡ Some used.now.shape }
+    ensures { IfOk result (λ o. o ≡ with_forest (built_forest used.now symbol.now) outcome) }
+{
+    let Some(builder) = registry.builder(used.name.as_str()) else {
+        unreachable!()
+    };
+    match outcome {
+        Outcome::Parsed(end, kids) => {
+            let mut forest = Forest::new(alloc);
+            forest.push(builder.make(alloc, symbol.as_str(), kids)?)?;
+            Ok(Outcome::Parsed(end, forest))
+        }
+        Outcome::Failed { consumed } => Ok(Outcome::Failed { consumed }),
+    }
 }
 
 /// Reads one character of the class.
+#[inline(never)]
 fn satisfy(
     alloc: Global,
+    grammar: &Grammar,
+    registry: &Registry,
     text: &Text,
     class: &ClassExpression,
     place: usize,
 ) -> Result<Outcome, AllocError>
-    requires { place ≤ length text.now }
-    ensures { IfOk result (SatisfySpans class.now text.now place) }
+    requires fits { Fits (offer_of registry.now) grammar.now }
+    requires class { IsClassIn grammar.now class.now }
+    requires place { place ≤ length text.now }
+    ensures { IfOk result (SatisfySpans grammar.now class.now text.now place) }
 {
     if place >= text.len() {
         return Ok(Outcome::Failed { consumed: false });
     }
     match text.char_at(place) {
-        Some(c) if class.has(c) => Ok(Outcome::Parsed(place + 1, leaf(alloc, &[c])?)),
+        Some(c) if grammar.test(registry, class, c) => {
+            Ok(Outcome::Parsed(place + 1, leaf(alloc, &[c])?))
+        }
         Some(_) | None => Ok(Outcome::Failed { consumed: false }),
     }
 }
 
 /// Reads the characters of a string. A mismatch behind the first character has consumed.
+#[inline(never)]
 fn string(
     alloc: Global,
     text: &Text,
@@ -183,10 +259,7 @@ fn string(
 fn leaf(alloc: Global, characters: &[char]) -> Result<Forest, AllocError>
     ensures { IfOk result (λ forest. forest ≡ leaf_of characters.now ∷ []) }
 {
-    let mut text = String::new(alloc);
-    for c in characters {
-        text.push(*c)?;
-    }
+    let text = utf8(alloc, characters)?;
     let mut forest = Forest::new(alloc);
     forest.push(Tree::leaf(alloc, text.as_str())?)?;
     Ok(forest)

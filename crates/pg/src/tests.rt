@@ -1,10 +1,12 @@
-//! Runs from bytes to bytes, over readers and writers that are slow or fail.
+//! Runs from bytes to bytes, over readers and writers that are slow or fail, and with registries of their own.
 
 ghost use Rattle.std.specs.Prelude.{◌≡◌, false};
 
 use crate::fault::BenchFault;
 use crate::parse::parse_bytes;
-use pg_tree::Meter;
+use pg_class::Class;
+use pg_pred::{Builder, Predicate, Registry};
+use pg_tree::{Forest, Meter, Shape, Tree};
 use std::alloc::{AllocError, Global};
 use std::io;
 use std::io::{ErrorKind, Read, Write};
@@ -66,7 +68,7 @@ impl Write for Narrow {
     }
 }
 
-/// The outcome of a run; want of memory ends the test as its error, so that what is asserted is some other answer.
+/// The outcome of a run with an empty registry; want of memory ends the test as its error, so that what is asserted is some other answer.
 fn parsed<R: Read, W: Write>(
     alloc: Global,
     grammar: &[u8],
@@ -76,10 +78,27 @@ fn parsed<R: Read, W: Write>(
     requires reader { reader.old.failed ≡ false }
     requires writer { writer.old.failed ≡ false }
 {
-    match parse_bytes(alloc, grammar, reader, writer) {
+    let Ok(registry) = Registry::new(Vec::new(alloc), Vec::new(alloc)) else {
+        unreachable!()
+    };
+    match parse_bytes(alloc, grammar, &registry, reader, writer) {
         Err(BenchFault::Memory) => Err(AllocError),
         outcome => Ok(outcome),
     }
+}
+
+/// The outcome of a run whose reader answers an error at its first call, how often the reader was asked, and what was written.
+fn asked(
+    alloc: Global,
+    grammar: &[u8],
+) -> Result<(Result<(), BenchFault>, usize, Vec<u8>), AllocError> {
+    let mut reader = Meter::new(Drips {
+        calls: 0,
+        fails_at: 1,
+    });
+    let mut writer = Meter::new(Vec::<u8>::new(alloc));
+    let outcome = parsed(alloc, grammar, &mut reader, &mut writer)?;
+    Ok((outcome, reader.into_inner().calls, writer.into_inner()))
 }
 
 #[test]
@@ -94,15 +113,19 @@ fn writes_the_forest_of_a_text(rt: HostRuntime) -> Result<(), Fail> {
 
 #[test]
 fn does_not_ask_the_reader_where_the_file_is_at_fault(rt: HostRuntime) -> Result<(), Fail> {
-    let mut reader = Meter::new(Drips {
-        calls: 0,
-        fails_at: 1,
-    });
-    let mut writer = Meter::new(Vec::<u8>::new(rt.alloc()));
-    let outcome = parsed(rt.alloc(), b"start a;", &mut reader, &mut writer)?;
+    let (outcome, calls, written) = asked(rt.alloc(), b"start a;")?;
     assert!(rt; matches!(outcome, Err(BenchFault::File(_))));
-    assert_eq!(rt; reader.into_inner().calls, 0);
-    assert!(rt; writer.into_inner().is_empty());
+    assert_eq!(rt; calls, 0);
+    assert!(rt; written.is_empty());
+    Ok(())
+}
+
+#[test]
+fn does_not_ask_the_reader_where_a_form_is_not_run(rt: HostRuntime) -> Result<(), Fail> {
+    let (outcome, calls, written) = asked(rt.alloc(), b"start a; a = many(satisfy(\"x\"));")?;
+    assert!(rt; matches!(outcome, Err(BenchFault::NotRun)));
+    assert_eq!(rt; calls, 0);
+    assert!(rt; written.is_empty());
     Ok(())
 }
 
@@ -155,5 +178,47 @@ fn writes_a_front_where_the_writer_fails(rt: HostRuntime) -> Result<(), Fail> {
             assert!(rt; same, "after {most}");
         }
     }
+    Ok(())
+}
+
+#[test]
+fn asks_the_predicates_and_builders(rt: HostRuntime) -> Result<(), Fail> {
+    let alloc = rt.alloc();
+    let test = Box::new(alloc, |c: char| c == 'é' || c == 'x')?;
+    let class = Class::from_ranges(alloc, &[('é', 'é'), ('x', 'x')])?;
+    let either = Predicate::new(String::from_str(alloc, "either")?, class, test);
+    let make = Box::new(
+        alloc,
+        |alloc: Global, symbol: &str, kids: Forest| Tree::node(alloc, symbol, kids),
+    )?;
+    let pair = Builder::new(String::from_str(alloc, "pair")?, Shape::Symbol, make);
+    let registry = Registry::new(vec![in alloc; either]?, vec![in alloc; pair]?)?;
+    let grammar = b"start a; a = build(pair, \"p\", seq(satisfy(either), satisfy(not either)));";
+    let mut reader = Meter::new(b"\xc3\xa9y".as_slice());
+    let mut writer = Meter::new(Vec::<u8>::new(alloc));
+    match parse_bytes(alloc, grammar, &registry, &mut reader, &mut writer) {
+        Err(BenchFault::Memory) => Err(AllocError)?,
+        outcome => assert!(rt; outcome.is_ok()),
+    }
+    let wanted = b"[{\"kids\":[\"\xc3\xa9\",\"y\"],\"node\":\"p\"}]\n".as_slice();
+    assert!(rt; writer.into_inner().as_slice() == wanted);
+    Ok(())
+}
+
+#[test]
+fn writes_nothing_where_a_builder_wants_memory(rt: HostRuntime) -> Result<(), Fail> {
+    let alloc = rt.alloc();
+    let make = Box::new(
+        alloc,
+        |_: Global, _: &str, _: Forest| -> Result<Tree, AllocError> { Err(AllocError) },
+    )?;
+    let none = Builder::new(String::from_str(alloc, "none")?, Shape::Join, make);
+    let registry = Registry::new(Vec::new(alloc), vec![in alloc; none]?)?;
+    let grammar = b"start a; a = build(none, string(\"x\"));";
+    let mut reader = Meter::new(b"x".as_slice());
+    let mut writer = Meter::new(Vec::<u8>::new(alloc));
+    let outcome = parse_bytes(alloc, grammar, &registry, &mut reader, &mut writer);
+    assert!(rt; matches!(outcome, Err(BenchFault::Memory)));
+    assert!(rt; writer.into_inner().is_empty());
     Ok(())
 }

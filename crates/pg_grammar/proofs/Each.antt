@@ -38,12 +38,12 @@ get-known (y ∷ ys) zero x h e = ap Some (sym e)
 get-known (y ∷ ys) (suc k) x h e = let below : k < length ys = omega arith in get-known ys k x below e
 
 -- neither of two is true, so the first is not
-or_first : (a b : Bool) → (a || b) ≡ false → a ≡ false
+pub or_first : (a b : Bool) → (a || b) ≡ false → a ≡ false
 or_first true b h = h
 or_first false b h = refl
 
 -- neither of two is true, so the second is not
-or_second : (a b : Bool) → (a || b) ≡ false → b ≡ false
+pub or_second : (a b : Bool) → (a || b) ≡ false → b ≡ false
 or_second true b h = absurd cc
 or_second false b h = h
 
@@ -53,3 +53,15 @@ none-get p f [] zero x h e = absurd cc
 none-get p f [] (suc k) x h e = absurd cc
 none-get p f (y ∷ ys) zero x h e = let same : y ≡ x = cc in subst (λ z. p (f z) ≡ false) same (or_first (p (f y)) (list_any p (map f ys)) h)
 none-get p f (y ∷ ys) (suc k) x h e = none-get p f ys k x (or_second (p (f y)) (list_any p (map f ys)) h) e
+
+-- a test of the images is a test of the elements
+pub any-map : {X Y : Type 0} (p : Y → Bool) (f : X → Y) (xs : List X) → list_any p (map f xs) ≡ list_any (λ x. p (f x)) xs
+any-map p f [] = refl
+any-map p f (x ∷ xs) = ap (λ b. p (f x) || b) (any-map p f xs)
+
+-- a test that fails at all elements fails at the element at a place
+pub none-at : {X : Type 0} (p : X → Bool) (xs : List X) (k : ℕ) (x : X) → list_any p xs ≡ false → slice_get xs k ≡ Some x → p x ≡ false
+none-at p [] zero x h e = absurd cc
+none-at p [] (suc k) x h e = absurd cc
+none-at p (y ∷ ys) zero x h e = let same : y ≡ x = cc in subst (λ z. p z ≡ false) same (or_first (p y) (list_any p ys) h)
+none-at p (y ∷ ys) (suc k) x h e = none-at p ys k x (or_second (p y) (list_any p ys) h) e

@@ -1,6 +1,8 @@
-pub mod Membership
+pub mod Members
 pub mod Lookup
 pub mod Each
+pub mod Negated
+pub mod Items
 pub mod Preorder
 pub mod Numbers
 pub mod Making

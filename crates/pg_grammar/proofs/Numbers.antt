@@ -3,11 +3,11 @@ use Rattle.std.proofs.Common.{◌≡◌, ℕ, zero, suc, ◌+◌, ◌<◌, Bool,
 use Rattle.std.specs.List.{AllByRecursion, list_any}
 use Rattle.pg_grammar.specs.Preorder.{SpellForms, roots}
 use Rattle.pg_grammar.specs.Names.{Name, has_name}
-use Rattle.pg_grammar.specs.Forms.{part_count, parts_of, node_part_count, form_of, has_unknown_name, InPreorder, NamesRule}
+use Rattle.pg_grammar.specs.Forms.{part_count, parts_of, node_part_count, form_of, has_unknown_name, InPreorder, NamesRule, NamesWord}
 use Rattle.pg_grammar.specs.Follows.{PartsFollow, BodiesAreNodes}
 use Rattle.pg_grammar.specs.Grammar.{rule_body}
 use Rattle.pg_grammar.specs.declared.grammar.Rule.{Rule}
-use Rattle.pg_grammar.specs.Numbering.{node_of, nodes_from}
+use Rattle.pg_grammar.specs.Numbering.{first_part, second_part, node_of, nodes_from}
 use Rattle.pg_grammar.specs.declared.form.BaseForm.{BaseForm}
 use Rattle.pg_grammar.specs.declared.form.BaseForm.TheVariants as base
 use Rattle.pg_grammar.specs.declared.form.Node.{Node}
@@ -18,21 +18,59 @@ use Rattle.pg_grammar.proofs.Preorder.{length-parts, roots_within}
 -- ---- one node
 
 -- a node has as many parts as its form counts
-node_count : (names : List Name) (form : BaseForm) (parts : List ℕ) → length parts ≡ part_count form → node_part_count (node_of names form parts) ≡ part_count form
-node_count names (base.Satisfy class) parts h = refl
-node_count names (base.String text) parts h = refl
-node_count names (base.Seq n) parts h = h
-node_count names (base.Choice n) parts h = h
-node_count names (base.Rule name) parts h = refl
+node_count : (rules words : List Name) (form : BaseForm) (parts : List ℕ) → length parts ≡ part_count form
+    → node_part_count (node_of rules words form parts) ≡ part_count form
+node_count rules words (base.Satisfy class) parts h = refl
+node_count rules words (base.String text) parts h = refl
+node_count rules words (base.Seq n) parts h = h
+node_count rules words (base.Choice n) parts h = h
+node_count rules words base.Many parts h = refl
+node_count rules words (base.ChainLeft used) parts h = refl
+node_count rules words (base.ChainRight used) parts h = refl
+node_count rules words base.Try parts h = refl
+node_count rules words (base.NotFollowedBy class) parts h = refl
+node_count rules words base.EndOfText parts h = refl
+node_count rules words (base.Word name) parts h = refl
+node_count rules words (base.Rule name) parts h = refl
+node_count rules words (base.Expression builders) parts h = refl
+node_count rules words (base.Declare class) parts h = refl
+node_count rules words base.Text parts h = refl
+node_count rules words base.Skip parts h = refl
+node_count rules words (base.Build used symbol) parts h = refl
+node_count rules words (base.Label message) parts h = refl
+
+-- one part is the first
+first_alone : (behind : List ℕ) → length (take 1 behind) ≡ 1 → first_part (take 1 behind) ∷ [] ≡ take 1 behind
+first_alone [] h = absurd cc
+first_alone (part ∷ behind) h = refl
+
+-- two parts are the first and the second
+two_alone : (behind : List ℕ) → length (take 2 behind) ≡ 2 → first_part (take 2 behind) ∷ second_part (take 2 behind) ∷ [] ≡ take 2 behind
+two_alone [] h = absurd cc
+two_alone (part ∷ []) h = absurd cc
+two_alone (part ∷ other ∷ behind) h = refl
 
 -- the parts of a node are the next of those behind it
-node_parts : (names : List Name) (form : BaseForm) (behind : List ℕ) → length (take (part_count form) behind) ≡ part_count form
-    → let n = node_of names form (take (part_count form) behind) in parts_of n ≡ take (node_part_count n) behind
-node_parts names (base.Satisfy class) behind h = refl
-node_parts names (base.String text) behind h = refl
-node_parts names (base.Seq n) behind h = ap (λ k. take k behind) (sym h)
-node_parts names (base.Choice n) behind h = ap (λ k. take k behind) (sym h)
-node_parts names (base.Rule name) behind h = refl
+node_parts : (rules words : List Name) (form : BaseForm) (behind : List ℕ) → length (take (part_count form) behind) ≡ part_count form
+    → let n = node_of rules words form (take (part_count form) behind) in parts_of n ≡ take (node_part_count n) behind
+node_parts rules words (base.Satisfy class) behind h = refl
+node_parts rules words (base.String text) behind h = refl
+node_parts rules words (base.Seq n) behind h = ap (λ k. take k behind) (sym h)
+node_parts rules words (base.Choice n) behind h = ap (λ k. take k behind) (sym h)
+node_parts rules words base.Many behind h = first_alone behind h
+node_parts rules words (base.ChainLeft used) behind h = two_alone behind h
+node_parts rules words (base.ChainRight used) behind h = two_alone behind h
+node_parts rules words base.Try behind h = first_alone behind h
+node_parts rules words (base.NotFollowedBy class) behind h = refl
+node_parts rules words base.EndOfText behind h = refl
+node_parts rules words (base.Word name) behind h = refl
+node_parts rules words (base.Rule name) behind h = refl
+node_parts rules words (base.Expression builders) behind h = first_alone behind h
+node_parts rules words (base.Declare class) behind h = refl
+node_parts rules words base.Text behind h = first_alone behind h
+node_parts rules words base.Skip behind h = first_alone behind h
+node_parts rules words (base.Build used symbol) behind h = first_alone behind h
+node_parts rules words (base.Label message) behind h = first_alone behind h
 
 -- not false is true
 not-not : (b : Bool) → not b ≡ false → b ≡ true
@@ -40,22 +78,70 @@ not-not true h = refl
 not-not false h = absurd cc
 
 -- the base form of the node of a form is that form
-node_form : (names : List Name) (form : BaseForm) (parts : List ℕ) → length parts ≡ part_count form → has_unknown_name names form ≡ false
-    → form_of names (node_of names form parts) ≡ form
-node_form names (base.Satisfy class) parts h k = refl
-node_form names (base.String text) parts h k = refl
-node_form names (base.Seq n) parts h k = ap base.Seq h
-node_form names (base.Choice n) parts h k = ap base.Choice h
-node_form names (base.Rule name) parts h k = ap base.Rule (number_is_found names name (not-not (has_name names name) k)).named
+node_form : (rules words : List Name) (form : BaseForm) (parts : List ℕ) → length parts ≡ part_count form → has_unknown_name rules words form ≡ false
+    → form_of rules words (node_of rules words form parts) ≡ form
+node_form rules words (base.Satisfy class) parts h k = refl
+node_form rules words (base.String text) parts h k = refl
+node_form rules words (base.Seq n) parts h k = ap base.Seq h
+node_form rules words (base.Choice n) parts h k = ap base.Choice h
+node_form rules words base.Many parts h k = refl
+node_form rules words (base.ChainLeft used) parts h k = refl
+node_form rules words (base.ChainRight used) parts h k = refl
+node_form rules words base.Try parts h k = refl
+node_form rules words (base.NotFollowedBy class) parts h k = refl
+node_form rules words base.EndOfText parts h k = refl
+node_form rules words (base.Word name) parts h k = ap base.Word (number_is_found words name (not-not (has_name words name) k)).named
+node_form rules words (base.Rule name) parts h k = ap base.Rule (number_is_found rules name (not-not (has_name rules name) k)).named
+node_form rules words (base.Expression builders) parts h k = refl
+node_form rules words (base.Declare class) parts h k = refl
+node_form rules words base.Text parts h k = refl
+node_form rules words base.Skip parts h k = refl
+node_form rules words (base.Build used symbol) parts h k = refl
+node_form rules words (base.Label message) parts h k = refl
 
 -- the rule that the node of a form names is there
-node_named : (names : List Name) (form : BaseForm) (parts : List ℕ) → has_unknown_name names form ≡ false
-    → NamesRule (length names) (node_of names form parts)
-node_named names (base.Satisfy class) parts k = tt
-node_named names (base.String text) parts k = tt
-node_named names (base.Seq n) parts k = tt
-node_named names (base.Choice n) parts k = tt
-node_named names (base.Rule name) parts k = (number_is_found names name (not-not (has_name names name) k)).below
+node_named : (rules words : List Name) (form : BaseForm) (parts : List ℕ) → has_unknown_name rules words form ≡ false
+    → NamesRule (length rules) (node_of rules words form parts)
+node_named rules words (base.Satisfy class) parts k = tt
+node_named rules words (base.String text) parts k = tt
+node_named rules words (base.Seq n) parts k = tt
+node_named rules words (base.Choice n) parts k = tt
+node_named rules words base.Many parts k = tt
+node_named rules words (base.ChainLeft used) parts k = tt
+node_named rules words (base.ChainRight used) parts k = tt
+node_named rules words base.Try parts k = tt
+node_named rules words (base.NotFollowedBy class) parts k = tt
+node_named rules words base.EndOfText parts k = tt
+node_named rules words (base.Word name) parts k = tt
+node_named rules words (base.Rule name) parts k = (number_is_found rules name (not-not (has_name rules name) k)).below
+node_named rules words (base.Expression builders) parts k = tt
+node_named rules words (base.Declare class) parts k = tt
+node_named rules words base.Text parts k = tt
+node_named rules words base.Skip parts k = tt
+node_named rules words (base.Build used symbol) parts k = tt
+node_named rules words (base.Label message) parts k = tt
+
+-- the word item that the node of a form names is there
+node_word_named : (rules words : List Name) (form : BaseForm) (parts : List ℕ) → has_unknown_name rules words form ≡ false
+    → NamesWord (length words) (node_of rules words form parts)
+node_word_named rules words (base.Satisfy class) parts k = tt
+node_word_named rules words (base.String text) parts k = tt
+node_word_named rules words (base.Seq n) parts k = tt
+node_word_named rules words (base.Choice n) parts k = tt
+node_word_named rules words base.Many parts k = tt
+node_word_named rules words (base.ChainLeft used) parts k = tt
+node_word_named rules words (base.ChainRight used) parts k = tt
+node_word_named rules words base.Try parts k = tt
+node_word_named rules words (base.NotFollowedBy class) parts k = tt
+node_word_named rules words base.EndOfText parts k = tt
+node_word_named rules words (base.Word name) parts k = (number_is_found words name (not-not (has_name words name) k)).below
+node_word_named rules words (base.Rule name) parts k = tt
+node_word_named rules words (base.Expression builders) parts k = tt
+node_word_named rules words (base.Declare class) parts k = tt
+node_word_named rules words base.Text parts k = tt
+node_word_named rules words base.Skip parts k = tt
+node_word_named rules words (base.Build used symbol) parts k = tt
+node_word_named rules words (base.Label message) parts k = tt
 
 -- ---- all nodes
 
@@ -65,48 +151,56 @@ or_parts true b h = absurd cc
 or_parts false b h = (refl, h)
 
 -- the nodes have as many parts as the forms count
-pub counts-nodes_from : (names : List Name) (i k : ℕ) (forms : List BaseForm) → SpellForms k (map part_count forms)
-    → map node_part_count (nodes_from names i forms) ≡ map part_count forms
-counts-nodes_from names i k [] h = refl
-counts-nodes_from names i zero (form ∷ forms) h = absurd h
-counts-nodes_from names i (suc k) (form ∷ forms) h =
-    let one = node_count names form _ (length-parts (suc i) k (part_count form) (map part_count forms) h) in
-    let others = counts-nodes_from names (suc i) (part_count form + k) forms h in
+pub counts-nodes_from : (rules words : List Name) (i k : ℕ) (forms : List BaseForm) → SpellForms k (map part_count forms)
+    → map node_part_count (nodes_from rules words i forms) ≡ map part_count forms
+counts-nodes_from rules words i k [] h = refl
+counts-nodes_from rules words i zero (form ∷ forms) h = absurd h
+counts-nodes_from rules words i (suc k) (form ∷ forms) h =
+    let one = node_count rules words form _ (length-parts (suc i) k (part_count form) (map part_count forms) h) in
+    let others = counts-nodes_from rules words (suc i) (part_count form + k) forms h in
     cc (one, others)
 
 -- the nodes stand in preorder, as the forms do
-pub preorder-nodes_from : (names : List Name) (i k : ℕ) (forms : List BaseForm) → SpellForms k (map part_count forms)
-    → InPreorder i (nodes_from names i forms)
-preorder-nodes_from names i k [] h = tt
-preorder-nodes_from names i zero (form ∷ forms) h = absurd h
-preorder-nodes_from names i (suc k) (form ∷ forms) h =
-    let parts = node_parts names form _ (length-parts (suc i) k (part_count form) (map part_count forms) h) in
-    let counts = counts-nodes_from names (suc i) (part_count form + k) forms h in
-    (rw counts parts, preorder-nodes_from names (suc i) (part_count form + k) forms h)
+pub preorder-nodes_from : (rules words : List Name) (i k : ℕ) (forms : List BaseForm) → SpellForms k (map part_count forms)
+    → InPreorder i (nodes_from rules words i forms)
+preorder-nodes_from rules words i k [] h = tt
+preorder-nodes_from rules words i zero (form ∷ forms) h = absurd h
+preorder-nodes_from rules words i (suc k) (form ∷ forms) h =
+    let parts = node_parts rules words form _ (length-parts (suc i) k (part_count form) (map part_count forms) h) in
+    let counts = counts-nodes_from rules words (suc i) (part_count form + k) forms h in
+    (rw counts parts, preorder-nodes_from rules words (suc i) (part_count form + k) forms h)
 
 -- the base forms of the nodes are the forms
-pub forms-nodes_from : (names : List Name) (i k : ℕ) (forms : List BaseForm) → SpellForms k (map part_count forms)
-    → list_any (has_unknown_name names) forms ≡ false → map (form_of names) (nodes_from names i forms) ≡ forms
-forms-nodes_from names i k [] h e = refl
-forms-nodes_from names i zero (form ∷ forms) h e = absurd h
-forms-nodes_from names i (suc k) (form ∷ forms) h e =
-    let known = or_parts (has_unknown_name names form) (list_any (has_unknown_name names) forms) e in
-    let one = node_form names form _ (length-parts (suc i) k (part_count form) (map part_count forms) h) known.0 in
-    let others = forms-nodes_from names (suc i) (part_count form + k) forms h known.1 in
+pub forms-nodes_from : (rules words : List Name) (i k : ℕ) (forms : List BaseForm) → SpellForms k (map part_count forms)
+    → list_any (has_unknown_name rules words) forms ≡ false → map (form_of rules words) (nodes_from rules words i forms) ≡ forms
+forms-nodes_from rules words i k [] h e = refl
+forms-nodes_from rules words i zero (form ∷ forms) h e = absurd h
+forms-nodes_from rules words i (suc k) (form ∷ forms) h e =
+    let known = or_parts (has_unknown_name rules words form) (list_any (has_unknown_name rules words) forms) e in
+    let one = node_form rules words form _ (length-parts (suc i) k (part_count form) (map part_count forms) h) known.0 in
+    let others = forms-nodes_from rules words (suc i) (part_count form + k) forms h known.1 in
     cc (one, others)
 
 -- the rules that the nodes name are there
-pub named-nodes_from : (names : List Name) (i : ℕ) (forms : List BaseForm) → list_any (has_unknown_name names) forms ≡ false
-    → AllByRecursion (NamesRule (length names)) (nodes_from names i forms)
-named-nodes_from names i [] e = tt
-named-nodes_from names i (form ∷ forms) e =
-    let known = or_parts (has_unknown_name names form) (list_any (has_unknown_name names) forms) e in
-    (node_named names form _ known.0, named-nodes_from names (suc i) forms known.1)
+pub named-nodes_from : (rules words : List Name) (i : ℕ) (forms : List BaseForm) → list_any (has_unknown_name rules words) forms ≡ false
+    → AllByRecursion (NamesRule (length rules)) (nodes_from rules words i forms)
+named-nodes_from rules words i [] e = tt
+named-nodes_from rules words i (form ∷ forms) e =
+    let known = or_parts (has_unknown_name rules words form) (list_any (has_unknown_name rules words) forms) e in
+    (node_named rules words form _ known.0, named-nodes_from rules words (suc i) forms known.1)
+
+-- the word items that the nodes name are there
+pub words_named-nodes_from : (rules words : List Name) (i : ℕ) (forms : List BaseForm) → list_any (has_unknown_name rules words) forms ≡ false
+    → AllByRecursion (NamesWord (length words)) (nodes_from rules words i forms)
+words_named-nodes_from rules words i [] e = tt
+words_named-nodes_from rules words i (form ∷ forms) e =
+    let known = or_parts (has_unknown_name rules words form) (list_any (has_unknown_name rules words) forms) e in
+    (node_word_named rules words form _ known.0, words_named-nodes_from rules words (suc i) forms known.1)
 
 -- there are as many nodes as forms
-pub length-nodes_from : (names : List Name) (i : ℕ) (forms : List BaseForm) → length (nodes_from names i forms) ≡ length forms
-length-nodes_from names i [] = refl
-length-nodes_from names i (form ∷ forms) = ap suc (length-nodes_from names (suc i) forms)
+pub length-nodes_from : (rules words : List Name) (i : ℕ) (forms : List BaseForm) → length (nodes_from rules words i forms) ≡ length forms
+length-nodes_from rules words i [] = refl
+length-nodes_from rules words i (form ∷ forms) = ap suc (length-nodes_from rules words (suc i) forms)
 
 -- ---- where parts lie
 

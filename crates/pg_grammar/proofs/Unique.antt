@@ -6,10 +6,11 @@ use Rattle.std.specs.Str.{bytes_eq}
 use Rattle.std.specs.List.{AllByRecursion}
 use Rattle.pg_grammar.specs.Preorder.{roots}
 use Rattle.pg_grammar.specs.Names.{Name, has_name, number_of, name_at, AreDistinct}
-use Rattle.pg_grammar.specs.Forms.{part_count, parts_of, node_part_count, form_of, InPreorder, NamesRule}
-use Rattle.pg_grammar.specs.Grammar.{Grammar, IsGrammar, rule_name, rule_body, rule_names}
-use Rattle.pg_grammar.specs.Made.{Made, Says}
+use Rattle.pg_grammar.specs.Forms.{part_count, parts_of, node_part_count, form_of, InPreorder, NamesRule, NamesWord}
+use Rattle.pg_grammar.specs.Grammar.{Grammar, IsGrammar, rule_name, rule_body, rule_names, word_names}
+use Rattle.pg_grammar.specs.Made.{Made, Says, made_words}
 use Rattle.pg_grammar.specs.Numbering.{node_of, nodes_from}
+use Rattle.pg_grammar.specs.WordItems.{word_name}
 use Rattle.pg_grammar.specs.declared.form.Node.{Node}
 use Rattle.pg_grammar.specs.declared.form.Node.TheVariants as node
 use Rattle.pg_grammar.specs.declared.grammar.Rule.{Rule}
@@ -64,35 +65,63 @@ number_of-name_at names r d below =
 -- ---- nodes
 
 -- a form has as many parts as its node
-part_count-form_of : (names : List Name) (n : Node) → part_count (form_of names n) ≡ node_part_count n
-part_count-form_of names (node.Satisfy class) = refl
-part_count-form_of names (node.String text) = refl
-part_count-form_of names (node.Seq parts) = refl
-part_count-form_of names (node.Choice parts) = refl
-part_count-form_of names (node.Rule rule) = refl
+part_count-form_of : (rules words : List Name) (n : Node) → part_count (form_of rules words n) ≡ node_part_count n
+part_count-form_of rules words (node.Satisfy class) = refl
+part_count-form_of rules words (node.String text) = refl
+part_count-form_of rules words (node.Seq parts) = refl
+part_count-form_of rules words (node.Choice parts) = refl
+part_count-form_of rules words (node.Many part) = refl
+part_count-form_of rules words (node.ChainLeft used operand separator) = refl
+part_count-form_of rules words (node.ChainRight used operand separator) = refl
+part_count-form_of rules words (node.Try part) = refl
+part_count-form_of rules words (node.NotFollowedBy class) = refl
+part_count-form_of rules words node.EndOfText = refl
+part_count-form_of rules words (node.Word word) = refl
+part_count-form_of rules words (node.Rule rule) = refl
+part_count-form_of rules words (node.Expression builders term) = refl
+part_count-form_of rules words (node.Declare class) = refl
+part_count-form_of rules words (node.Text part) = refl
+part_count-form_of rules words (node.Skip part) = refl
+part_count-form_of rules words (node.Build used symbol part) = refl
+part_count-form_of rules words (node.Label part message) = refl
 
 -- the forms have as many parts as their nodes
-part_counts : (names : List Name) (nodes : List Node) → map part_count (map (form_of names) nodes) ≡ map node_part_count nodes
-part_counts names [] = refl
-part_counts names (n ∷ nodes) = cc (part_count-form_of names n, part_counts names nodes)
+part_counts : (rules words : List Name) (nodes : List Node) → map part_count (map (form_of rules words) nodes) ≡ map node_part_count nodes
+part_counts rules words [] = refl
+part_counts rules words (n ∷ nodes) = cc (part_count-form_of rules words n, part_counts rules words nodes)
 
 -- a node is the one of its form and its parts
-node_of-form_of : (names : List Name) (n : Node) → AreDistinct names → NamesRule (length names) n → node_of names (form_of names n) (parts_of n) ≡ n
-node_of-form_of names (node.Satisfy class) d named = refl
-node_of-form_of names (node.String text) d named = refl
-node_of-form_of names (node.Seq parts) d named = refl
-node_of-form_of names (node.Choice parts) d named = refl
-node_of-form_of names (node.Rule rule) d named = ap node.Rule (number_of-name_at names rule d named)
+node_of-form_of : (rules words : List Name) (n : Node) → AreDistinct rules → AreDistinct words → NamesRule (length rules) n → NamesWord (length words) n
+    → node_of rules words (form_of rules words n) (parts_of n) ≡ n
+node_of-form_of rules words (node.Satisfy class) d e named word_named = refl
+node_of-form_of rules words (node.String text) d e named word_named = refl
+node_of-form_of rules words (node.Seq parts) d e named word_named = refl
+node_of-form_of rules words (node.Choice parts) d e named word_named = refl
+node_of-form_of rules words (node.Many part) d e named word_named = refl
+node_of-form_of rules words (node.ChainLeft used operand separator) d e named word_named = refl
+node_of-form_of rules words (node.ChainRight used operand separator) d e named word_named = refl
+node_of-form_of rules words (node.Try part) d e named word_named = refl
+node_of-form_of rules words (node.NotFollowedBy class) d e named word_named = refl
+node_of-form_of rules words node.EndOfText d e named word_named = refl
+node_of-form_of rules words (node.Word word) d e named word_named = ap node.Word (number_of-name_at words word e word_named)
+node_of-form_of rules words (node.Rule rule) d e named word_named = ap node.Rule (number_of-name_at rules rule d named)
+node_of-form_of rules words (node.Expression builders term) d e named word_named = refl
+node_of-form_of rules words (node.Declare class) d e named word_named = refl
+node_of-form_of rules words (node.Text part) d e named word_named = refl
+node_of-form_of rules words (node.Skip part) d e named word_named = refl
+node_of-form_of rules words (node.Build used symbol part) d e named word_named = refl
+node_of-form_of rules words (node.Label part message) d e named word_named = refl
 
 -- nodes in preorder are those of their forms
-nodes_from-forms : (names : List Name) (i : ℕ) (nodes : List Node) → AreDistinct names → AllByRecursion (NamesRule (length names)) nodes
-    → InPreorder i nodes → nodes_from names i (map (form_of names) nodes) ≡ nodes
-nodes_from-forms names i [] d named preorder = refl
-nodes_from-forms names i (n ∷ nodes) d named preorder =
-    let one = node_of-form_of names n d named.0 in
+nodes_from-forms : (rules words : List Name) (i : ℕ) (nodes : List Node) → AreDistinct rules → AreDistinct words
+    → AllByRecursion (NamesRule (length rules)) nodes → AllByRecursion (NamesWord (length words)) nodes
+    → InPreorder i nodes → nodes_from rules words i (map (form_of rules words) nodes) ≡ nodes
+nodes_from-forms rules words i [] d e named words_named preorder = refl
+nodes_from-forms rules words i (n ∷ nodes) d e named words_named preorder =
+    let one = node_of-form_of rules words n d e named.0 words_named.0 in
     let parts : parts_of n ≡ take (node_part_count n) (roots (suc i) (map node_part_count nodes)) = preorder.0 in
-    let others = nodes_from-forms names (suc i) nodes d named.1 preorder.1 in
-    rw (part_count-form_of names n, part_counts names nodes, ← parts, one, others) refl
+    let others = nodes_from-forms rules words (suc i) nodes d e named.1 words_named.1 preorder.1 in
+    rw (part_count-form_of rules words n, part_counts rules words nodes, ← parts, one, others) refl
 
 -- ---- rules
 
@@ -117,15 +146,24 @@ same_rules (rule ∷ rules) (other ∷ others) names bodies =
 -- ---- the grammar
 
 -- the nodes of a grammar are those of what it says
-nodes_of_made : (made : Made) (g : Grammar) → IsGrammar g → Says made g → g.nodes ≡ nodes_from made.names 0 made.forms
+nodes_of_made : (made : Made) (g : Grammar) → IsGrammar g → Says made g → g.nodes ≡ nodes_from made.names (made_words made) 0 made.forms
 nodes_of_made made g is says =
     let count : length g.rules ≡ length (rule_names g) = sym (length-map g.rules rule_name) in
     let named = subst (λ k. AllByRecursion (NamesRule k) g.nodes) count is.named in
-    rw (says.names, says.forms) (sym (nodes_from-forms (rule_names g) 0 g.nodes is.distinct named is.preorder))
+    let word_count : length g.words ≡ length (word_names g) = sym (length-map g.words word_name) in
+    let words_named = subst (λ k. AllByRecursion (NamesWord k) g.nodes) word_count is.words_named in
+    rw (says.names, says.words, says.forms) (sym (nodes_from-forms (rule_names g) (word_names g) 0 g.nodes is.distinct is.words.distinct named words_named is.preorder))
 
--- a grammar is its nodes, its rules and its start
-abbrev grammar_of : List Node → List Rule → ℕ → Grammar
-grammar_of nodes rules start = record { nodes = nodes; rules = rules; start = start }
+-- grammars with the same parts are the same
+same_parts : (one other : Grammar) → one.classes ≡ other.classes → one.words ≡ other.words → one.operators ≡ other.operators
+    → one.initials ≡ other.initials → one.nodes ≡ other.nodes → one.rules ≡ other.rules → one.start ≡ other.start → one ≡ other
+same_parts one other classes words operators initials nodes rules start =
+    ap (λ cs. record one { classes = cs }) classes
+    ∙ (ap (λ ws. record one { classes = other.classes; words = ws }) words
+    ∙ (ap (λ o. record one { classes = other.classes; words = other.words; operators = o }) operators
+    ∙ (ap (λ is. record one { classes = other.classes; words = other.words; operators = other.operators; initials = is }) initials
+    ∙ (ap (λ ns. record other { nodes = ns; rules = one.rules; start = one.start }) nodes
+    ∙ (ap (λ rs. record other { rules = rs; start = one.start }) rules ∙ ap (λ r. record other { start = r }) start)))))
 
 -- two grammars that say what was made are the same
 pub same_grammar : (made : Made) (one other : Grammar) → Says made one → Says made other → one ≡ other
@@ -143,4 +181,5 @@ same_grammar made one other says repeats =
     let below : one.start < length (rule_names one) = let h = is.start in omega (arith, length-map one.rules rule_name) in
     let under : other.start < length (rule_names one) = let h = also.start in omega (arith, ap length rules, length-map one.rules rule_name) in
     let start = same_number (rule_names one) one.start other.start is.distinct below under called in
-    ap (λ ns. grammar_of ns one.rules one.start) nodes ∙ (ap (λ rs. grammar_of other.nodes rs one.start) rules ∙ ap (grammar_of other.nodes other.rules) start)
+    same_parts one other (sym says.classes ∙ repeats.classes) (sym says.words ∙ repeats.words) (sym says.operators ∙ repeats.operators)
+    (sym says.initials ∙ repeats.initials) nodes rules start

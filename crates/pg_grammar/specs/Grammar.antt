@@ -1,15 +1,27 @@
 -- A grammar as the definitions see it.
-use Rattle.std.specs.Prelude.{◌≡◌, ◌<◌, ◌≤◌, ℕ, false, List, length, map}
+use Rattle.std.specs.Prelude.{◌≡◌, ◌<◌, ◌≤◌, ℕ, false, List, length, map, Option}
 use Rattle.std.specs.List.{AllByRecursion, list_any}
 use Rattle.pg_grammar.specs.Preorder.{roots}
 use Rattle.pg_grammar.specs.Names.{Name, AreDistinct}
-use Rattle.pg_grammar.specs.Forms.{node_part_count, form_of, has_bad_literal, lacks_alternative, InPreorder, NamesRule}
+use Rattle.pg_grammar.specs.Forms.{node_part_count, form_of, has_bad_literal, has_unknown_class, lacks_alternative, InPreorder, NamesRule, NamesWord}
+use Rattle.pg_grammar.specs.ClassItems.{AreClasses}
+use Rattle.pg_grammar.specs.WordItems.{word_name, AreWords}
+use Rattle.pg_grammar.specs.Operators.{Operator, IsOperator}
+use Rattle.pg_grammar.specs.OperatorsItems.{lacks_operators, AreOperators}
+use Rattle.pg_grammar.specs.declared.class_item.ClassItem.{ClassItem}
 use Rattle.pg_grammar.specs.declared.form.BaseForm.{BaseForm}
 use Rattle.pg_grammar.specs.declared.form.Node.{Node}
 use Rattle.pg_grammar.specs.declared.grammar.Rule.{Rule}
+use Rattle.pg_grammar.specs.declared.operators_item.OperatorsItem.{OperatorsItem}
+use Rattle.pg_grammar.specs.declared.word_item.WordItem.{WordItem}
 
--- nodes and rules, each in file order, and the number of the rule to start with
+-- class items, word items, initial declarations, nodes and rules, each in file order, the operators item, if there is
+-- one, and the number of the rule to start with
 pub record Grammar : Type 0 where
+  pub classes : List ClassItem
+  pub words : List WordItem
+  pub operators : Option OperatorsItem
+  pub initials : List Operator
   pub nodes : List Node
   pub rules : List Rule
   pub start : ℕ
@@ -26,9 +38,13 @@ rule_body rule = rule.body
 abbrev pub rule_names : Grammar → List Name
 rule_names g = map rule_name g.rules
 
+-- the names of the word items, in file order
+abbrev pub word_names : Grammar → List Name
+word_names g = map word_name g.words
+
 -- the base forms of the nodes, with names in place of numbers
 abbrev pub forms_of : Grammar → List BaseForm
-forms_of g = map (form_of (rule_names g)) g.nodes
+forms_of g = map (form_of (rule_names g) (word_names g)) g.nodes
 
 -- every number names something, and what stands there is what a file may say
 pub record IsGrammar (g : Grammar) : Type 0 where
@@ -36,8 +52,16 @@ pub record IsGrammar (g : Grammar) : Type 0 where
   pub preorder : InPreorder 0 g.nodes
   pub bodies : map rule_body g.rules ≡ roots 0 (map node_part_count g.nodes)
   pub named : AllByRecursion (NamesRule (length g.rules)) g.nodes
+  pub words_named : AllByRecursion (NamesWord (length g.words)) g.nodes
   pub start : g.start < length g.rules
   pub distinct : AreDistinct (rule_names g)
+  pub classes : AreClasses g.classes
+  pub words : AreWords (length g.classes) g.words
+  pub operators : AreOperators (length g.classes) g.operators
+  pub initials : AllByRecursion IsOperator g.initials
+  -- whoever reads or declares operators has an operators item
+  pub operators_there : lacks_operators g.operators g.initials (forms_of g) ≡ false
+  pub classes_named : list_any (has_unknown_class (length g.classes)) (forms_of g) ≡ false
   pub literals : list_any has_bad_literal (forms_of g) ≡ false
   pub alternatives : list_any lacks_alternative (forms_of g) ≡ false
   pub few_rules : length g.rules ≤ 512

@@ -1,41 +1,77 @@
 -- What a maker has been given, and the grammar that is made of it.
 use Rattle.std.specs.Prelude.{◌≡◌, ◌<◌, ◌≤◌, ◌+◌, ℕ, ◌++◌, if◌then◌else◌, Bool, false, ◌||◌, nat_lt, nat_le, List, [], ◌∷◌, length, map, Option, Some, None}
-use Rattle.std.specs.List.{list_any}
-use Rattle.std.specs.Option.{option_map_or}
+use Rattle.std.specs.List.{list_any, AllByRecursion}
+use Rattle.std.specs.Option.{is_some, option_map_or}
 use Rattle.pg_grammar.specs.Preorder.{SpellForms}
 use Rattle.pg_grammar.specs.Names.{Name, name_at, has_name, AreDistinct}
-use Rattle.pg_grammar.specs.Forms.{part_count, lacks_alternative, has_bad_literal, has_long_text, has_unknown_name}
+use Rattle.pg_grammar.specs.Forms.{part_count, lacks_alternative, has_bad_literal, has_long_text, has_unknown_name, has_unknown_class}
+use Rattle.pg_grammar.specs.Classes.{lacks_item, descends, is_long}
+use Rattle.pg_grammar.specs.ClassItems.{AreClasses, has_item}
+use Rattle.pg_grammar.specs.WordItems.{word_name, has_word, word_lacks_item, word_has_bad_literal, word_has_long_text, AreWords}
+use Rattle.pg_grammar.specs.Literals.{is_long_literal}
+use Rattle.pg_grammar.specs.Operators.{Operator, IsOperator}
+use Rattle.pg_grammar.specs.OperatorsItems.{operators_lack_item, operators_have_bad_literal, operators_have_long_text, lacks_operators, AreOperators}
 use Rattle.pg_grammar.specs.Grammar.{Grammar, IsGrammar, rule_names, forms_of}
+use Rattle.pg_grammar.specs.declared.class.ClassPart.{ClassPart}
+use Rattle.pg_grammar.specs.declared.class_item.ClassItem.{ClassItem}
 use Rattle.pg_grammar.specs.declared.form.BaseForm.{BaseForm}
+use Rattle.pg_grammar.specs.declared.operators_item.OperatorsItem.{OperatorsItem}
+use Rattle.pg_grammar.specs.declared.word_item.WordItem.{WordItem}
 use Rattle.pg_grammar.specs.declared.fault.MakerFault.{MakerFault}
 use Rattle.pg_grammar.specs.declared.fault.MakerFault.TheVariants.{UnknownName, NameTwice, NoStart, BadLiteral, LimitPassed}
 
--- the name of the rule to start with, the rules' names, and the base forms of their bodies, one body behind another
+-- the name of the rule to start with, the class items, the word items, the operators item, the initial declarations, the
+-- rules' names, and the base forms of their bodies, one body behind another
 pub record Made : Type 0 where
   pub start : Option Name
+  pub classes : List ClassItem
+  pub words : List WordItem
+  pub operators : Option OperatorsItem
+  pub initials : List Operator
   pub names : List Name
   pub forms : List BaseForm
 
 -- nothing yet
 abbrev pub nothing_made : Made
-nothing_made = record { start = None; names = []; forms = [] }
+nothing_made = record { start = None; classes = []; words = []; operators = None; initials = []; names = []; forms = [] }
 
 -- a rule more
 abbrev pub with_rule : Made → Name → List BaseForm → Made
-with_rule made name body = record { start = made.start; names = made.names ++ name ∷ []; forms = made.forms ++ body }
+with_rule made name body = record made { names = made.names ++ name ∷ []; forms = made.forms ++ body }
 
 -- the start named
 abbrev pub with_start : Made → Name → Made
-with_start made name = record { start = Some name; names = made.names; forms = made.forms }
+with_start made name = record made { start = Some name }
+
+-- a class item more
+abbrev pub with_class : Made → Name → List ClassPart → Made
+with_class made name class = record made { classes = made.classes ++ record { name = name; class = class } ∷ [] }
+
+-- a word item more
+abbrev pub with_word : Made → WordItem → Made
+with_word made item = record made { words = made.words ++ item ∷ [] }
+
+-- the operators item
+abbrev pub with_operators : Made → OperatorsItem → Made
+with_operators made item = record made { operators = Some item }
+
+-- an initial declaration more
+abbrev pub with_initial : Made → Operator → Made
+with_initial made operator = record made { initials = made.initials ++ operator ∷ [] }
+
+-- the names of the word items
+abbrev pub made_words : Made → List Name
+made_words made = map word_name made.words
 
 -- a list of base forms that is one whole form, each choice in it with an alternative
 pub record IsBody (forms : List BaseForm) : Type 0 where
   pub whole : SpellForms 1 (map part_count forms)
   pub alternatives : list_any lacks_alternative forms ≡ false
 
--- whether a body names a rule that isn't there
-abbrev pub lacks_rule : Made → Bool
-lacks_rule made = list_any (has_unknown_name made.names) made.forms
+-- whether a body names a rule or a word item that isn't there, or operators are used and their item isn't there
+abbrev pub is_incomplete : Made → Bool
+is_incomplete made =
+    list_any (has_unknown_name made.names (made_words made)) made.forms || lacks_operators made.operators made.initials made.forms
 
 -- whether the start names a rule
 abbrev pub has_start : Made → Bool
@@ -45,6 +81,10 @@ has_start made = option_map_or (has_name made.names) made.start false
 pub record Says (made : Made) (g : Grammar) : Type 0 where
   pub sound : IsGrammar g
   pub start : made.start ≡ Some (name_at (rule_names g) g.start)
+  pub classes : made.classes ≡ g.classes
+  pub words : made.words ≡ g.words
+  pub operators : made.operators ≡ g.operators
+  pub initials : made.initials ≡ g.initials
   pub names : made.names ≡ rule_names g
   pub forms : made.forms ≡ forms_of g
 
@@ -54,11 +94,16 @@ pub record IsMade (made : Made) : Type 0 where
   pub distinct : AreDistinct made.names
   pub literals : list_any has_bad_literal made.forms ≡ false
   pub alternatives : list_any lacks_alternative made.forms ≡ false
+  pub classes : AreClasses made.classes
+  pub words : AreWords (length made.classes) made.words
+  pub operators : AreOperators (length made.classes) made.operators
+  pub initials : AllByRecursion IsOperator made.initials
+  pub classes_named : list_any (has_unknown_class (length made.classes)) made.forms ≡ false
   pub few_rules : length made.names ≤ 512
   pub few_nodes : length made.forms ≤ 8192
 
--- whether a name, a literal, the rules or the nodes would be too many with this rule: over 64 and 1,024 characters,
--- over 512 rules, over 8,192 nodes
+-- whether a name, a literal or symbol, the rules or the nodes would be too many with this rule: over 64 and 1,024
+-- characters, over 512 rules, over 8,192 nodes
 abbrev pub passes_limit : Made → Name → List BaseForm → Bool
 passes_limit made name body =
     (nat_lt 64 (length name) || list_any has_long_text body) || (nat_le 512 (length made.names) || nat_lt 8192 (length made.forms + length body))
@@ -66,18 +111,59 @@ passes_limit made name body =
 -- why a rule is refused, if it is
 abbrev pub rule_fault : Made → Name → List BaseForm → Option MakerFault
 rule_fault made name body =
+    if list_any (has_unknown_class (length made.classes)) body then Some UnknownName else
     if has_name made.names name then Some NameTwice else
     if list_any has_bad_literal body then Some BadLiteral else
     if passes_limit made name body then Some LimitPassed else None
 
+-- whether a name, a literal or the class items would be too many with this one: over 64 and 1,024 characters, over 256 items
+abbrev pub class_passes_limit : Made → Name → List ClassPart → Bool
+class_passes_limit made name class = (nat_lt 64 (length name) || list_any is_long class) || nat_le 256 (length made.classes)
+
+-- why a class item is refused, if it is
+abbrev pub class_fault : Made → Name → List ClassPart → Option MakerFault
+class_fault made name class =
+    if list_any (lacks_item (length made.classes)) class then Some UnknownName else
+    if has_item made.classes name then Some NameTwice else
+    if list_any descends class then Some BadLiteral else
+    if class_passes_limit made name class then Some LimitPassed else None
+
+-- whether a name, a literal or the word items would be too many with this one: over 64 and 1,024 characters, over 64 items
+abbrev pub word_passes_limit : Made → WordItem → Bool
+word_passes_limit made item = (nat_lt 64 (length item.name) || word_has_long_text item) || nat_le 64 (length made.words)
+
+-- why a word item is refused, if it is
+abbrev pub word_fault : Made → WordItem → Option MakerFault
+word_fault made item =
+    if word_lacks_item (length made.classes) item then Some UnknownName else
+    if has_word made.words item.name then Some NameTwice else
+    if word_has_bad_literal item then Some BadLiteral else
+    if word_passes_limit made item then Some LimitPassed else None
+
+-- whether a literal has over 1,024 characters, a name over 64, or `max` isn't from 1 to 64
+abbrev pub operators_pass_limit : OperatorsItem → Bool
+operators_pass_limit item = operators_have_long_text item || (nat_lt item.max 1 || nat_lt 64 item.max)
+
+-- why an operators item is refused, if it is
+abbrev pub operators_fault : Made → OperatorsItem → Option MakerFault
+operators_fault made item =
+    if operators_lack_item (length made.classes) item then Some UnknownName else
+    if is_some made.operators then Some NameTwice else
+    if operators_have_bad_literal item then Some BadLiteral else
+    if operators_pass_limit item then Some LimitPassed else None
+
+-- why an initial declaration is refused, if it is
+abbrev pub initial_fault : Operator → Option MakerFault
+initial_fault operator = if is_long_literal operator.symbol then Some LimitPassed else None
+
 -- why no grammar can be made, if none can
 abbrev pub finish_fault : Made → Option MakerFault
 finish_fault made =
-    if lacks_rule made then Some UnknownName else
+    if is_incomplete made then Some UnknownName else
     if has_start made then None else Some NoStart
 
 -- nothing is in the way of a grammar that starts with this rule
 pub record IsReady (made : Made) (start : ℕ) : Type 0 where
-  pub known : lacks_rule made ≡ false
+  pub known : is_incomplete made ≡ false
   pub below : start < length made.names
   pub named : made.start ≡ Some (name_at made.names start)

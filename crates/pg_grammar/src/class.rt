@@ -1,20 +1,22 @@
 //! Class expressions: sets of characters as a grammar file writes them.
 //!
-//! An expression is kept as its atoms and unions in preorder, so that it can be printed again as it was written.
-//! That the list is one whole expression, with two members or more in each union, is an invariant of the type:
+//! An expression is kept as its atoms, complements and unions in preorder, so that it can be printed again as it was
+//! written. That the list is one whole expression, with two members or more in each union, is an invariant of the type:
 //! membership, printing and sets of ranges all go through the list in one pass and rely on it.
 
-ghost use Rattle.std.specs.Prelude.{◌≡◌, ◌≤◌, ◌-◌, length, take, drop, IfOk};
+ghost use Rattle.std.specs.Prelude.{◌≡◌, IfOk};
 ghost use Rattle.std.specs.List.{list_any};
-ghost use Rattle.pg_grammar.specs.Classes.{is_member, memberships, one_holds, descends, has_long_literal, IsExpression};
+ghost use Rattle.pg_grammar.specs.Classes.{descends, is_long, lacks_item, IsExpression};
 
-use crate::limits::LITERAL_LIMIT;
+use crate::limits::{LITERAL_LIMIT, NAME_LIMIT, characters_in};
+use crate::number::ClassId;
+use crate::used::PredicateUse;
 use pg_text::Characters;
 use std::alloc::{AllocError, Global};
 use std::marker::Model;
 
-/// One atom of a class expression, or a union, whose members are the whole expressions that stand next behind it
-/// (ours; the Parsec report of 2001 has `satisfy` over any test of a character).
+/// One atom of a class expression, or a complement or union, which is of the whole expressions that stand next behind
+/// it (ours; the Parsec report of 2001 has `satisfy` over any test of a character).
 #[derive(Debug, Drop)]
 pub enum ClassPart {
     /// The characters of a literal, as a set; an empty one is the empty set.
@@ -23,6 +25,12 @@ pub enum ClassPart {
     Range(char, char),
     /// The characters of so many expressions, two or more.
     Union(usize),
+    /// The characters that the one expression behind it lacks.
+    Complement,
+    /// The characters of a class item.
+    Class(ClassId),
+    /// The characters that a predicate holds for.
+    Predicate(PredicateUse),
 }
 
 impl ClassPart {
@@ -36,11 +44,14 @@ impl ClassPart {
             }
             ClassPart::Range(low, high) => Ok(ClassPart::Range(*low, *high)),
             ClassPart::Union(count) => Ok(ClassPart::Union(*count)),
+            ClassPart::Complement => Ok(ClassPart::Complement),
+            ClassPart::Class(item) => Ok(ClassPart::Class(*item)),
+            ClassPart::Predicate(used) => Ok(ClassPart::Predicate(used.copy(alloc)?)),
         }
     }
 }
 
-/// A class expression, seen as the list of its atoms and unions in preorder.
+/// A class expression, seen as the list of its atoms, complements and unions in preorder.
 #[derive(Debug, Drop)]
 pub struct ClassExpression {
     parts: Vec<ClassPart>,
@@ -67,7 +78,7 @@ impl ClassExpression {
         ClassExpression { parts }
     }
 
-    /// Its atoms and unions in preorder, from left to right as a file writes them.
+    /// Its atoms, complements and unions in preorder, from left to right as a file writes them.
     pub fn parts(&self) -> &[ClassPart]
         ensures same { result.now ≡ self.now }
         ensures whole { IsExpression self.now }
@@ -93,53 +104,19 @@ impl ClassExpression {
         self.parts.iter().any(descends)
     }
 
-    /// Whether one of its literals has more than 1,024 characters.
-    pub(crate) fn has_long_literal(&self) -> bool
-        ensures { result ≡ list_any has_long_literal self.now }
+    /// Whether one of its literals has more than 1,024 characters, or the name of a predicate more than 64.
+    pub(crate) fn has_long_text(&self) -> bool
+        ensures { result ≡ list_any is_long self.now }
     {
         self.parts.iter().any(is_long)
     }
 
-    /// Whether the character belongs to the set that the expression writes.
-    pub fn has(&self, c: char) -> bool
-        ensures { result ≡ is_member self.now c }
+    /// Whether it names a class item that isn't among so many.
+    pub(crate) fn lacks_item(&self, count: usize) -> bool
+        ensures { result ≡ list_any (lacks_item count) self.now }
     {
-        first_membership(self.parts.as_slice(), c).0
+        self.parts.iter().any(|part| lacks_item(count, part))
     }
-}
-
-/// Whether the first whole expression of these has the character, and the parts behind that expression.
-#[cycle(membership)]
-fn first_membership(parts: &[ClassPart], c: char) -> (bool, &[ClassPart])
-    ensures first { result.0 ≡ one_holds (take 1 (memberships parts.now c)) }
-    ensures rest { memberships result.1.now c ≡ drop 1 (memberships parts.now c) }
-    ensures fewer { length result.1.now ≤ length parts.now - 1 }
-{
-    match parts {
-        [] => (false, parts),
-        [first, rest @ ..] => match first {
-            ClassPart::Literal(characters) => (characters.as_slice().contains(&c), rest),
-            ClassPart::Range(low, high) => (*low <= c && c <= *high, rest),
-            ClassPart::Union(count) => any_membership(*count, rest, c),
-        },
-    }
-}
-
-/// Whether one of the first so many expressions of these has the character, and the parts behind all of them.
-#[cycle(membership)]
-fn any_membership(count: usize, parts: &[ClassPart], c: char) -> (bool, &[ClassPart])
-    ensures any { result.0 ≡ one_holds (take count (memberships parts.now c)) }
-    ensures rest { memberships result.1.now c ≡ drop count (memberships parts.now c) }
-    ensures fewer { length result.1.now ≤ length parts.now }
-{
-    let mut any = false;
-    let mut rest = parts;
-    for _ in 0..count {
-        let (has, behind) = first_membership(rest, c);
-        any = any || has;
-        rest = behind;
-    }
-    (any, rest)
 }
 
 /// Whether a range descends.
@@ -148,16 +125,38 @@ fn descends(part: &ClassPart) -> bool
 {
     match part {
         ClassPart::Range(low, high) => high < low,
-        ClassPart::Literal(_) | ClassPart::Union(_) => false,
+        ClassPart::Literal(_)
+        | ClassPart::Union(_)
+        | ClassPart::Complement
+        | ClassPart::Class(_)
+        | ClassPart::Predicate(_) => false,
     }
 }
 
-/// Whether a literal has more than 1,024 characters.
+/// Whether a literal has more than 1,024 characters, or the name of a predicate more than 64.
 fn is_long(part: &ClassPart) -> bool
-    ensures { result ≡ has_long_literal part.now }
+    ensures { result ≡ is_long part.now }
 {
     match part {
         ClassPart::Literal(characters) => characters.len() > LITERAL_LIMIT,
-        ClassPart::Range(_, _) | ClassPart::Union(_) => false,
+        ClassPart::Predicate(used) => characters_in(used.name.as_str()) > NAME_LIMIT,
+        ClassPart::Range(_, _)
+        | ClassPart::Union(_)
+        | ClassPart::Complement
+        | ClassPart::Class(_) => false,
+    }
+}
+
+/// Whether a class item is named that isn't among so many.
+fn lacks_item(count: usize, part: &ClassPart) -> bool
+    ensures { result ≡ lacks_item count part.now }
+{
+    match part {
+        ClassPart::Class(item) => count <= item.index(),
+        ClassPart::Literal(_)
+        | ClassPart::Range(_, _)
+        | ClassPart::Union(_)
+        | ClassPart::Complement
+        | ClassPart::Predicate(_) => false,
     }
 }

@@ -13,19 +13,20 @@ use thiserror::Error;
 /// Why a maker refused a part, or to finish.
 #[derive(Debug, Drop, Error)]
 pub enum MakerFault {
-    /// A body names a rule that isn't there.
+    /// A rule, a class item or a word item is named that isn't there, or operators are used without an operators item.
     #[error("F4 unknown name")]
     UnknownName,
-    /// A rule of this name is there already, or the start is.
+    /// A rule, a class item or a word item of this name is there already, or the operators item or the start is.
     #[error("F5 name defined twice")]
     NameTwice,
     /// No start was given, or it names no rule.
     #[error("F6 no start rule")]
     NoStart,
-    /// A string is empty, or a range descends.
+    /// A string or a reserved text is empty, or a range descends.
     #[error("F7 bad literal")]
     BadLiteral,
-    /// A name or literal is too long, or there are too many rules or nodes.
+    /// A name or literal is too long, there are too many items, rules or nodes, or a table may hold none or too many
+    /// operators.
     #[error("F8 limit passed")]
     LimitPassed,
     /// Nothing is wrong with what was given, but there was no memory for it.

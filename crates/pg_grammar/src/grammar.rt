@@ -1,16 +1,25 @@
-//! The grammar value: rules in file order over one list of nodes in preorder, and the rule to start with.
+//! The grammar value: items, rules in file order over one list of nodes in preorder, and the rule to start with.
 //!
-//! The invariant says that every number names something: a node's parts are the whole forms next behind it, the
-//! nodes that are no part of another are the rules' bodies, a named rule is there, rules have different names, a
-//! string isn't empty, a choice has an alternative and no range descends. [`Maker`](crate::Maker) establishes it.
+//! The invariant says that every number names something: a node's parts are the whole forms next behind it, the nodes
+//! that are no part of another are the rules' bodies, what is named is there, and so is the operators item where operators
+//! are used; rules have different names, and so have class items and word items; a class item names only those before it;
+//! no string and no reserved text is empty, a choice has an alternative, no range descends. [`Maker`](crate::Maker)
+//! establishes it.
 
-ghost use Rattle.std.specs.Prelude.{◌≡◌, ◌<◌, length, position, slice_get, Some, false};
-ghost use Rattle.pg_grammar.specs.Forms.{parts_of, form_of, has_bad_literal, lacks_alternative, NamesRule};
+ghost use Rattle.std.specs.Prelude.{◌≡◌, ◌<◌, length, position, slice_get, Some, false, option_copied};
+ghost use Rattle.pg_grammar.specs.Forms.{parts_of, form_of, has_bad_literal, has_unknown_class, lacks_alternative, NamesRule, NamesWord};
+ghost use Rattle.pg_grammar.specs.ClassItems.{AreClasses};
+ghost use Rattle.pg_grammar.specs.WordItems.{AreWords};
+ghost use Rattle.pg_grammar.specs.OperatorsItems.{AreOperators};
 ghost use Rattle.pg_grammar.specs.Follows.{PartsFollow, BodiesAreNodes};
 ghost use Rattle.std.specs.Str.{bytes_eq};
 
+use crate::class_item::ClassItem;
+use crate::decl::Decl;
 use crate::form::Node;
 use crate::number::{NodeId, RuleId};
+use crate::operators_item::OperatorsItem;
+use crate::word_item::WordItem;
 use pg_text::Characters;
 use std::marker::Model;
 
@@ -23,9 +32,13 @@ pub struct Rule {
     pub body: NodeId,
 }
 
-/// A grammar, seen as its nodes, its rules and its start.
+/// A grammar, seen as its items, its initial declarations, its nodes, its rules and its start.
 #[derive(Debug, Drop)]
 pub struct Grammar {
+    classes: Vec<ClassItem>,
+    words: Vec<WordItem>,
+    operators: Option<OperatorsItem>,
+    initials: Vec<Decl>,
     nodes: Vec<Node>,
     rules: Vec<Rule>,
     start: RuleId,
@@ -36,20 +49,32 @@ impl Model for Grammar {
 
     ghost Value = { Parts };
 
-    ghost view = { λ g. record { nodes = g.nodes.items; rules = g.rules.items; start = g.start } };
+    ghost view = { λ g. record { classes = g.classes.items; words = g.words.items; operators = g.operators; initials = g.initials.items; nodes = g.nodes.items; rules = g.rules.items; start = g.start } };
 
-    ghost invariant = { λ g. IsGrammar (record { nodes = g.nodes.items; rules = g.rules.items; start = g.start }) };
+    ghost invariant = { λ g. IsGrammar (record { classes = g.classes.items; words = g.words.items; operators = g.operators; initials = g.initials.items; nodes = g.nodes.items; rules = g.rules.items; start = g.start }) };
 }
 
 impl Grammar {
-    ghost use Rattle.pg_grammar.specs.Grammar.{IsGrammar, rule_names};
+    ghost use Rattle.pg_grammar.specs.Grammar.{IsGrammar, rule_names, word_names};
 
     /// The grammar of these parts, which the caller owes to be one.
-    pub(crate) fn new(nodes: Vec<Node>, rules: Vec<Rule>, start: RuleId) -> Grammar
-        requires { IsGrammar (record { nodes = nodes.items; rules = rules.items; start = start }) }
-        ensures { result ≡ record { nodes = nodes.items; rules = rules.items; start = start } }
+    pub(crate) fn new(
+        classes: Vec<ClassItem>,
+        words: Vec<WordItem>,
+        operators: Option<OperatorsItem>,
+        initials: Vec<Decl>,
+        nodes: Vec<Node>,
+        rules: Vec<Rule>,
+        start: RuleId,
+    ) -> Grammar
+        requires { IsGrammar (record { classes = classes.items; words = words.items; operators = operators; initials = initials.items; nodes = nodes.items; rules = rules.items; start = start }) }
+        ensures { result ≡ record { classes = classes.items; words = words.items; operators = operators; initials = initials.items; nodes = nodes.items; rules = rules.items; start = start } }
     {
         Grammar {
+            classes,
+            words,
+            operators,
+            initials,
             nodes,
             rules,
             start,
@@ -62,6 +87,40 @@ impl Grammar {
         ensures grammar { IsGrammar self.now }
     {
         self.nodes.as_slice()
+    }
+
+    /// The class items, in file order. The number of a class item is its place here, counted from 0.
+    pub fn class_items(&self) -> &[ClassItem]
+        ensures all { result.now ≡ self.now.classes }
+        ensures classes { AreClasses result.now }
+        ensures grammar { IsGrammar self.now }
+    {
+        self.classes.as_slice()
+    }
+
+    /// The word items, in file order. The number of a word item is its place here, counted from 0.
+    pub fn word_items(&self) -> &[WordItem]
+        ensures all { result.now ≡ self.now.words }
+        ensures words { AreWords (length self.now.classes) result.now }
+    {
+        self.words.as_slice()
+    }
+
+    /// The operators item, if there is one; there is where operators are used.
+    pub fn operators_item(&self) -> Option<&OperatorsItem>
+        ensures all { option_copied result ≡ self.now.operators }
+        ensures operators { AreOperators (length self.now.classes) self.now.operators }
+        ensures grammar { IsGrammar self.now }
+    {
+        self.operators.as_ref()
+    }
+
+    /// The initial declarations, in file order. That a table takes them isn't known of them.
+    pub fn initials(&self) -> &[Decl]
+        ensures all { result.now ≡ self.now.initials }
+        ensures grammar { IsGrammar self.now }
+    {
+        self.initials.as_slice()
     }
 
     /// The rules, in file order. The number of a rule is its place here, counted from 0.
@@ -87,8 +146,10 @@ impl Grammar {
         ensures node { slice_get self.now.nodes id ≡ Some result.now }
         ensures parts { PartsFollow id (length self.now.nodes) (parts_of result.now) }
         ensures rule { NamesRule (length self.now.rules) result.now }
-        ensures proper { has_bad_literal (form_of (rule_names self.now) result.now) ≡ false }
-        ensures alternative { lacks_alternative (form_of (rule_names self.now) result.now) ≡ false }
+        ensures word { NamesWord (length self.now.words) result.now }
+        ensures proper { has_bad_literal (form_of (rule_names self.now) (word_names self.now) result.now) ≡ false }
+        ensures class { has_unknown_class (length self.now.classes) (form_of (rule_names self.now) (word_names self.now) result.now) ≡ false }
+        ensures alternative { lacks_alternative (form_of (rule_names self.now) (word_names self.now) result.now) ≡ false }
     {
         &self.nodes[id.index()]
     }

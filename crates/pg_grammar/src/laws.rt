@@ -6,7 +6,8 @@ ghost use Rattle.std.specs.Prelude.{◌≡◌};
 ghost use Rattle.pg_grammar.specs.Grammar.{Grammar};
 ghost use Rattle.pg_grammar.specs.Made.{Made, Says};
 
-/// The law that what was handed in determines the grammar: two that say it have equal nodes, rules and start.
+/// The law that what was handed in determines the grammar: two that say it have equal class items,
+/// nodes, rules and start.
 pub fn grammars_are_unique()
     ensures { (made : Made) (one other : Grammar) → Says made one → Says made other → one ≡ other }
 {}

@@ -2,29 +2,52 @@
 //!
 //! A [`Maker`] takes the parts of a grammar one after another and finishes it; a [`Grammar`] is read only.
 //! Every number in a grammar names something: that is an invariant of the type, and all layers above rely on it.
-//! `specs/Derives.antt` says which texts a grammar derives, in no order of trying.
+//! `Grammar::test` tells whether a class expression has a character, with the functions of a registry that fits
+//! (`Grammar::fits`).
 #![tactic(auto)]
 
 mod class;
+mod class_item;
+mod copies;
+mod decl;
 mod fault;
+mod fits;
 mod form;
 mod grammar;
+mod judged;
 mod laws;
 mod limits;
 mod maker;
+mod membership;
+#[cfg(test)]
+mod membership_tests;
 mod names;
 mod number;
 mod numbering;
+mod operators_item;
 mod parts;
 #[cfg(test)]
+mod test_support;
+#[cfg(test)]
 mod tests;
+mod texts;
+mod used;
+mod word_item;
 
 pub use class::{ClassExpression, ClassPart};
+pub use class_item::ClassItem;
+pub use decl::{Decl, Role};
 pub use fault::{MakerFault, Unfinished};
 pub use form::{BaseForm, Node};
 pub use grammar::{Grammar, Rule};
 pub use laws::grammars_are_unique;
-pub use limits::{LITERAL_LIMIT, NAME_LIMIT, NODE_LIMIT, RULE_LIMIT};
+pub use limits::{
+    CLASS_LIMIT, LITERAL_LIMIT, NAME_LIMIT, NODE_LIMIT, OPERATOR_LIMIT, RULE_LIMIT, WORD_LIMIT,
+};
 pub use maker::Maker;
-pub use number::{NodeId, RuleId};
+pub use number::{ClassId, NodeId, RuleId, WordId};
+pub use operators_item::OperatorsItem;
 pub use parts::Parts;
+pub use texts::Texts;
+pub use used::{BuilderUse, OperatorBuilders, PredicateUse};
+pub use word_item::WordItem;

@@ -1,29 +1,43 @@
-//! Making a grammar: its parts are handed in one after another, and its names are judged at the end.
+//! Making a grammar: its parts are handed in one after another, and the names of rules and words are judged at the end.
 //!
-//! A rule may so be named before it is handed in. A refused call leaves the maker as it was. Faults have the labels
-//! of the grammar file; of several that a call could answer, it answers the one with the lowest number.
+//! A rule or a word item may so be named before it is handed in, and operators be used before their item is; a class item
+//! is named by its number, once it is there. A refused call leaves
+//! the maker as it was. Faults have the labels of the grammar file; of several that a call could answer, it answers the
+//! one with the lowest number.
 
 ghost use Rattle.std.specs.Prelude.{◌≡◌, ◌<◌, ◌≤◌, ◌↔◌, length, option_and_then, Err, MatchOption, IsOk, IsOkUnless, IsSome, IsNone, IfOk, IfErr, OnOk, OnErr, IsErrOf, IsErrAnd};
-ghost use Rattle.std.specs.List.{list_any};
 ghost use Rattle.pg_grammar.specs.Names.{place_of_name};
-ghost use Rattle.pg_grammar.specs.Forms.{has_bad_literal, has_long_text, has_unknown_name};
+ghost use Rattle.pg_grammar.specs.ClassItems.{has_item};
 
+use crate::class::ClassExpression;
+use crate::class_item::ClassItem;
+use crate::copies::{classes_copied, declarations_copied, operators_copied, words_copied};
+use crate::decl::Decl;
 use crate::fault::{MakerFault, Unfinished};
-use crate::form::{BaseForm, has_bad_literal, has_long_text, has_unknown_name};
+use crate::form::BaseForm;
 use crate::grammar::Grammar;
-use crate::limits::{NAME_LIMIT, NODE_LIMIT, RULE_LIMIT};
-use crate::names::{has_name, place_of_name};
-use crate::number::RuleId;
+use crate::judged::{has_bad_literals, has_long_texts, lacks_class, lacks_name, use_operators};
+use crate::limits::{CLASS_LIMIT, LITERAL_LIMIT, NAME_LIMIT, NODE_LIMIT, RULE_LIMIT, WORD_LIMIT};
+use crate::names::{has_name, has_word, place_of_name};
+use crate::number::{ClassId, RuleId, WordId};
 use crate::numbering::{nodes_of, rules_of};
+use crate::operators_item::OperatorsItem;
+use crate::texts::Texts;
+use crate::word_item::WordItem;
 use pg_text::Characters;
 use std::alloc::{AllocError, Global};
 use std::marker::Model;
 
 /// A grammar in the making, seen as what it was given so far: each rule's body is one whole form, the rules have
-/// different names, no string is empty, no range descends and no limit is passed.
+/// different names, so have the class items and the word items, each class item that is named is there, no string or
+/// reserved text is empty, no range descends and no limit is passed.
 #[derive(Debug, Drop)]
 pub struct Maker {
     start: Option<Characters>,
+    classes: Vec<ClassItem>,
+    words: Vec<WordItem>,
+    operators: Option<OperatorsItem>,
+    initials: Vec<Decl>,
     names: Vec<Characters>,
     forms: Vec<BaseForm>,
 }
@@ -33,13 +47,13 @@ impl Model for Maker {
 
     ghost Value = { Made };
 
-    ghost view = { λ m. record { start = m.start; names = m.names.items; forms = m.forms.items } };
+    ghost view = { λ m. record { start = m.start; classes = m.classes.items; words = m.words.items; operators = m.operators; initials = m.initials.items; names = m.names.items; forms = m.forms.items } };
 
-    ghost invariant = { λ m. IsMade (record { start = m.start; names = m.names.items; forms = m.forms.items }) };
+    ghost invariant = { λ m. IsMade (record { start = m.start; classes = m.classes.items; words = m.words.items; operators = m.operators; initials = m.initials.items; names = m.names.items; forms = m.forms.items }) };
 }
 
 impl Maker {
-    ghost use Rattle.pg_grammar.specs.Made.{nothing_made, with_start, with_rule, rule_fault, finish_fault, IsBody, IsReady, Says};
+    ghost use Rattle.pg_grammar.specs.Made.{nothing_made, with_start, with_class, with_word, with_operators, with_initial, with_rule, class_fault, word_fault, operators_fault, initial_fault, rule_fault, word_passes_limit, passes_limit, is_incomplete, finish_fault, IsBody, IsReady, Says};
 
     /// A maker that was given nothing yet. It takes no memory until it is.
     pub fn new(alloc: Global) -> Maker
@@ -47,6 +61,10 @@ impl Maker {
     {
         Maker {
             start: None,
+            classes: Vec::new(alloc),
+            words: Vec::new(alloc),
+            operators: None,
+            initials: Vec::new(alloc),
             names: Vec::new(alloc),
             forms: Vec::new(alloc),
         }
@@ -70,10 +88,104 @@ impl Maker {
         Ok(())
     }
 
+    /// Adds a class item at the end, and answers its number.
+    ///
+    /// F4 where the expression names a class item that isn't there yet; F5 where a class item has this name; F7 where
+    /// a range descends; F8 where the name, or a predicate's, has over 64 characters, a literal over 1,024, or the
+    /// grammar would have over 256 class items.
+    pub fn class(&mut self, name: Characters, class: ClassExpression) -> Result<ClassId, MakerFault>
+        ensures ok { OnOk result (self.new ≡ with_class self.old name class) }
+        ensures number { IfOk result (λ id. id ≡ length self.old.classes) }
+        ensures refused { MatchOption (class_fault self.old name class) (IsOkUnless result MakerFault.Memory) (λ fault. result ≡ Err fault) }
+        ensures err { OnErr result (self.new ≡ self.old) }
+    {
+        if let Some(fault) = self.class_fault(&name, &class) {
+            return Err(fault);
+        }
+        let id = ClassId::new(self.classes.len());
+        self.classes.push(ClassItem { name, class })?;
+        Ok(id)
+    }
+
+    /// Adds a word item at the end, and answers its number.
+    ///
+    /// F4 where an expression names a class item that isn't there; F5 where a word item has this name; F7 where a range
+    /// descends or a reserved text is empty; F8 where the name, or a predicate's, has over 64 characters, a literal over
+    /// 1,024, or the grammar would have over 64 word items.
+    pub fn word(
+        &mut self,
+        name: Characters,
+        head: ClassExpression,
+        rest: ClassExpression,
+        reserved: Texts,
+    ) -> Result<WordId, MakerFault>
+        ensures ok { OnOk result (self.new ≡ with_word self.old (record { name = name; head = head; rest = rest; reserved = reserved })) }
+        ensures number { IfOk result (λ id. id ≡ length self.old.words) }
+        ensures refused { MatchOption (word_fault self.old (record { name = name; head = head; rest = rest; reserved = reserved })) (IsOkUnless result MakerFault.Memory) (λ fault. result ≡ Err fault) }
+        ensures err { OnErr result (self.new ≡ self.old) }
+    {
+        let item = WordItem {
+            name,
+            head,
+            rest,
+            reserved,
+        };
+        if let Some(fault) = self.word_fault(&item) {
+            return Err(fault);
+        }
+        let id = WordId::new(self.words.len());
+        self.words.push(item)?;
+        Ok(id)
+    }
+
+    /// Adds the operators item. It takes no memory.
+    ///
+    /// F4 where an expression names a class item that isn't there; F5 where the operators item is there already; F7 where
+    /// a range descends or a reserved symbol is empty; F8 where a literal has over 1,024 characters or the name of a
+    /// predicate over 64, or `max` isn't from 1 to 64.
+    pub fn operators(
+        &mut self,
+        class: ClassExpression,
+        gap: ClassExpression,
+        reserved: Texts,
+        max: usize,
+    ) -> Result<(), MakerFault>
+        ensures ok { OnOk result (self.new ≡ with_operators self.old (record { class = class; gap = gap; reserved = reserved; max = max })) }
+        ensures refused { MatchOption (operators_fault self.old (record { class = class; gap = gap; reserved = reserved; max = max })) (IsOk result) (λ fault. result ≡ Err fault) }
+        ensures err { OnErr result (self.new ≡ self.old) }
+    {
+        let item = OperatorsItem {
+            class,
+            gap,
+            reserved,
+            max,
+        };
+        if let Some(fault) = self.operators_fault(&item) {
+            return Err(fault);
+        }
+        self.operators = Some(item);
+        Ok(())
+    }
+
+    /// Adds an initial declaration at the end. F8 where its symbol has over 1,024 characters. Whether a table takes it is
+    /// judged by who makes the table.
+    pub fn initial(&mut self, declaration: Decl) -> Result<(), MakerFault>
+        ensures ok { OnOk result (self.new ≡ with_initial self.old declaration) }
+        ensures refused { MatchOption (initial_fault declaration) (IsOkUnless result MakerFault.Memory) (λ fault. result ≡ Err fault) }
+        ensures err { OnErr result (self.new ≡ self.old) }
+    {
+        if declaration.symbol().len() > LITERAL_LIMIT {
+            return Err(MakerFault::LimitPassed);
+        }
+        self.initials.push(declaration)?;
+        Ok(())
+    }
+
     /// Adds a rule at the end, its body given as base forms in preorder. The caller owes that they are one whole form.
     ///
-    /// F5 where a rule has this name; F7 where a string is empty or a range descends; F8 where the name has over 64
-    /// characters, a literal over 1,024, or the grammar would have over 512 rules or 8,192 nodes.
+    /// F4 where the body names a class item that isn't there; F5 where a rule has this name; F7 where a string is empty
+    /// or a range descends; F8 where a name has over 64 characters, a literal, symbol or message over 1,024, or the grammar
+    /// would have over 512 rules or 8,192 nodes.
     pub fn rule(&mut self, name: Characters, body: Vec<BaseForm>) -> Result<(), MakerFault>
         requires { IsBody body.items }
         ensures ok { OnOk result (self.new ≡ with_rule self.old name body.items) }
@@ -92,7 +204,8 @@ impl Maker {
         Ok(())
     }
 
-    /// The grammar of all that was given. F4 where a body names no rule, F6 where no start was named or it names no
+    /// The grammar of all that was given. F4 where a body names a rule or a word item that isn't there, or where it reads or
+    /// declares operators, or an initial declaration was given, and the operators item isn't there; F6 where no start was named or it names no
     /// rule. A refusal hands the maker back as it was.
     pub fn finish(self) -> Result<Grammar, Unfinished>
         ensures ok { IfOk result (Says self) }
@@ -105,23 +218,97 @@ impl Maker {
         }
     }
 
+    /// Why a class item is refused, if it is.
+    fn class_fault(&self, name: &Characters, class: &ClassExpression) -> Option<MakerFault>
+        ensures { result ≡ class_fault self.now name.now class.now }
+    {
+        if class.lacks_item(self.classes.len()) {
+            return Some(MakerFault::UnknownName);
+        }
+        if has_item(self.classes.as_slice(), name.as_slice()) {
+            return Some(MakerFault::NameTwice);
+        }
+        if class.has_descending_range() {
+            return Some(MakerFault::BadLiteral);
+        }
+        if name.len() > NAME_LIMIT || class.has_long_text() || self.classes.len() >= CLASS_LIMIT {
+            return Some(MakerFault::LimitPassed);
+        }
+        None
+    }
+
+    /// Why a word item is refused, if it is.
+    fn word_fault(&self, item: &WordItem) -> Option<MakerFault>
+        ensures { result ≡ word_fault self.now item.now }
+    {
+        if item.lacks_item(self.classes.len()) {
+            return Some(MakerFault::UnknownName);
+        }
+        if has_word(self.words.as_slice(), item.name.as_slice()) {
+            return Some(MakerFault::NameTwice);
+        }
+        if item.has_bad_literal() {
+            return Some(MakerFault::BadLiteral);
+        }
+        if self.word_passes_limit(item) {
+            return Some(MakerFault::LimitPassed);
+        }
+        None
+    }
+
+    /// Whether a name, a literal or the word items would be too many with this one.
+    fn word_passes_limit(&self, item: &WordItem) -> bool
+        ensures { result ≡ word_passes_limit self.now item.now }
+    {
+        item.name.len() > NAME_LIMIT || item.has_long_text() || self.words.len() >= WORD_LIMIT
+    }
+
+    /// Why an operators item is refused, if it is.
+    fn operators_fault(&self, item: &OperatorsItem) -> Option<MakerFault>
+        ensures { result ≡ operators_fault self.now item.now }
+    {
+        if item.lacks_item(self.classes.len()) {
+            return Some(MakerFault::UnknownName);
+        }
+        if self.operators.is_some() {
+            return Some(MakerFault::NameTwice);
+        }
+        if item.has_bad_literal() {
+            return Some(MakerFault::BadLiteral);
+        }
+        if item.passes_limit() {
+            return Some(MakerFault::LimitPassed);
+        }
+        None
+    }
+
     /// Why a rule is refused, if it is.
     fn rule_fault(&self, name: &Characters, body: &[BaseForm]) -> Option<MakerFault>
         ensures { result ≡ rule_fault self.now name.now body.now }
     {
+        if lacks_class(self.classes.len(), body) {
+            return Some(MakerFault::UnknownName);
+        }
         if has_name(self.names.as_slice(), name.as_slice()) {
             return Some(MakerFault::NameTwice);
         }
         if has_bad_literals(body) {
             return Some(MakerFault::BadLiteral);
         }
-        if name.len() > NAME_LIMIT || has_long_texts(body) {
-            return Some(MakerFault::LimitPassed);
-        }
-        if self.names.len() >= RULE_LIMIT || body.len() > NODE_LIMIT - self.forms.len() {
+        if self.passes_limit(name, body) {
             return Some(MakerFault::LimitPassed);
         }
         None
+    }
+
+    /// Whether a name, a literal, the rules or the nodes would be too many with this rule.
+    fn passes_limit(&self, name: &Characters, body: &[BaseForm]) -> bool
+        ensures { result ≡ passes_limit self.now name.now body.now }
+    {
+        name.len() > NAME_LIMIT
+            || has_long_texts(body)
+            || self.names.len() >= RULE_LIMIT
+            || body.len() > NODE_LIMIT - self.forms.len()
     }
 
     /// The grammar of all that was given, with the maker kept.
@@ -136,13 +323,22 @@ impl Maker {
         }
     }
 
-    /// The number of the rule to start with, where every rule that is named is there.
+    /// Whether a rule or a word item that is named, or the operators item where operators are used, isn't there.
+    fn is_incomplete(&self) -> bool
+        ensures { result ≡ is_incomplete self.now }
+    {
+        let forms = self.forms.as_slice();
+        lacks_name(self.names.as_slice(), self.words.as_slice(), forms)
+            || self.operators.is_none() && (!self.initials.is_empty() || use_operators(forms))
+    }
+
+    /// The number of the rule to start with, where all that is named is there.
     fn start_number(&self) -> Result<RuleId, MakerFault>
         ensures ok { IfOk result (IsReady self.now) }
         ensures refused { MatchOption (finish_fault self.now) (IsOk result) (λ fault. result ≡ Err fault) }
     {
         let names = self.names.as_slice();
-        if lacks_rule(names, self.forms.as_slice()) {
+        if self.is_incomplete() {
             return Err(MakerFault::UnknownName);
         }
         match place_of_start(names, &self.start) {
@@ -158,31 +354,21 @@ impl Maker {
     {
         let alloc = *self.names.allocator();
         let names = self.names.as_slice();
-        let (nodes, bodies) = nodes_of(alloc, names, self.forms.as_slice())?;
+        let (nodes, bodies) = nodes_of(alloc, names, self.words.as_slice(), self.forms.as_slice())?;
         let rules = rules_of(alloc, names, bodies)?;
-        Ok(Grammar::new(nodes, rules, start))
+        let classes = classes_copied(alloc, self.classes.as_slice())?;
+        let words = words_copied(alloc, self.words.as_slice())?;
+        let operators = operators_copied(alloc, &self.operators)?;
+        let initials = declarations_copied(alloc, self.initials.as_slice())?;
+        Ok(Grammar::new(classes, words, operators, initials, nodes, rules, start))
     }
 }
 
-/// Whether a string is empty, or a range descends.
-fn has_bad_literals(body: &[BaseForm]) -> bool
-    ensures { result ≡ list_any has_bad_literal body.now }
+/// Whether one of the class items has this name.
+fn has_item(items: &[ClassItem], name: &[char]) -> bool
+    ensures { result ≡ has_item items.now name.now }
 {
-    body.iter().any(has_bad_literal)
-}
-
-/// Whether a literal has more than 1,024 characters, or a name that is referred to more than 64.
-fn has_long_texts(body: &[BaseForm]) -> bool
-    ensures { result ≡ list_any has_long_text body.now }
-{
-    body.iter().any(has_long_text)
-}
-
-/// Whether a form names a rule that isn't among these.
-fn lacks_rule(names: &[Characters], forms: &[BaseForm]) -> bool
-    ensures { result ≡ list_any (has_unknown_name names.now) forms.now }
-{
-    forms.iter().any(|form| has_unknown_name(names, form))
+    items.iter().any(|item| item.name.as_slice() == name)
 }
 
 /// How many names stand before the one to start with, if one was named and is among these.

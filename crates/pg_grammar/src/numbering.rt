@@ -6,14 +6,16 @@
 ghost use Rattle.std.specs.Prelude.{◌≡◌, take, drop, map, length, IfOk, OnOk};
 ghost use Rattle.pg_grammar.specs.Preorder.{roots};
 ghost use Rattle.pg_grammar.specs.Forms.{part_count};
-ghost use Rattle.pg_grammar.specs.Numbering.{node_of, nodes_from};
+ghost use Rattle.pg_grammar.specs.Numbering.{first_part, second_part, node_of, nodes_from};
 ghost use Rattle.pg_grammar.specs.Grammar.{rule_name, rule_body};
+ghost use Rattle.pg_grammar.specs.WordItems.{word_name};
 
-use crate::form::{BaseForm, Node};
+use crate::form::{BaseForm, Node, copied};
 use crate::grammar::Rule;
-use crate::names::place_of_name;
-use crate::number::{NodeId, RuleId};
+use crate::names::{place_of_name, place_of_word};
+use crate::number::{NodeId, RuleId, WordId};
 use crate::parts::Parts;
+use crate::word_item::WordItem;
 use pg_text::Characters;
 use std::alloc::{AllocError, Global};
 use std::collections::VecDeque;
@@ -22,9 +24,10 @@ use std::collections::VecDeque;
 pub(crate) fn nodes_of(
     alloc: Global,
     names: &[Characters],
+    words: &[WordItem],
     forms: &[BaseForm],
 ) -> Result<(Vec<Node>, VecDeque<NodeId>), AllocError>
-    ensures nodes { IfOk result (λ x. x.0.items ≡ nodes_from names.now 0 forms.now) }
+    ensures nodes { IfOk result (λ x. x.0.items ≡ nodes_from names.now (map word_name words.now) 0 forms.now) }
     ensures roots { IfOk result (λ x. x.1.items ≡ roots 0 (map part_count forms.now)) }
 {
     let mut nodes = Vec::new(alloc);
@@ -32,7 +35,7 @@ pub(crate) fn nodes_of(
     let mut rest = forms;
     while let Some((form, before)) = rest.split_last() {
         let parts = taken(alloc, &mut roots, form.part_count())?;
-        nodes.push(node_of(alloc, names, form, parts)?)?;
+        nodes.push(node_of(alloc, names, words, form, parts)?)?;
         roots.push_front(NodeId::new(before.len()))?;
         rest = before;
     }
@@ -59,23 +62,68 @@ fn taken(alloc: Global, roots: &mut VecDeque<NodeId>, count: usize) -> Result<Pa
 fn node_of(
     alloc: Global,
     names: &[Characters],
+    words: &[WordItem],
     form: &BaseForm,
     parts: Parts,
 ) -> Result<Node, AllocError>
-    ensures { IfOk result (λ node. node ≡ node_of names.now form.now parts) }
+    ensures { IfOk result (λ node. node ≡ node_of names.now (map word_name words.now) form.now parts) }
 {
     match form {
         BaseForm::Satisfy(class) => Ok(Node::Satisfy(class.copy(alloc)?)),
-        BaseForm::String(text) => {
-            let characters = Vec::from_slice(alloc, text.as_slice())?;
-            Ok(Node::String(Characters::new(characters)))
-        }
+        BaseForm::String(text) => Ok(Node::String(copied(alloc, text)?)),
         BaseForm::Seq(_) => Ok(Node::Seq(parts)),
         BaseForm::Choice(_) => Ok(Node::Choice(parts)),
+        BaseForm::Many => Ok(Node::Many(first_part(&parts))),
+        BaseForm::ChainLeft(used) => {
+            let used = used.copy(alloc)?;
+            Ok(Node::ChainLeft(used, first_part(&parts), second_part(&parts)))
+        }
+        BaseForm::ChainRight(used) => {
+            let used = used.copy(alloc)?;
+            Ok(Node::ChainRight(used, first_part(&parts), second_part(&parts)))
+        }
+        BaseForm::Try => Ok(Node::Try(first_part(&parts))),
+        BaseForm::NotFollowedBy(class) => Ok(Node::NotFollowedBy(class.copy(alloc)?)),
+        BaseForm::EndOfText => Ok(Node::EndOfText),
+        BaseForm::Word(name) => {
+            let number = place_of_word(words, name.as_slice()).unwrap_or(0);
+            Ok(Node::Word(WordId::new(number)))
+        }
         BaseForm::Rule(name) => {
             let number = place_of_name(names, name.as_slice()).unwrap_or(0);
             Ok(Node::Rule(RuleId::new(number)))
         }
+        BaseForm::Expression(builders) => {
+            Ok(Node::Expression(builders.copy(alloc)?, first_part(&parts)))
+        }
+        BaseForm::Declare(class) => Ok(Node::Declare(class.copy(alloc)?)),
+        BaseForm::Text => Ok(Node::Text(first_part(&parts))),
+        BaseForm::Skip => Ok(Node::Skip(first_part(&parts))),
+        BaseForm::Build(used, symbol) => {
+            let (used, symbol) = (used.copy(alloc)?, symbol.copy(alloc)?);
+            Ok(Node::Build(used, symbol, first_part(&parts)))
+        }
+        BaseForm::Label(message) => { Ok(Node::Label(first_part(&parts), copied(alloc, message)?)) }
+    }
+}
+
+/// The first of some parts.
+fn first_part(parts: &Parts) -> NodeId
+    ensures { result ≡ first_part parts.now }
+{
+    match parts.as_slice() {
+        [first, ..] => *first,
+        [] => NodeId::new(0),
+    }
+}
+
+/// The second of some parts.
+fn second_part(parts: &Parts) -> NodeId
+    ensures { result ≡ second_part parts.now }
+{
+    match parts.as_slice() {
+        [_, second, ..] => *second,
+        [] | [_] => NodeId::new(0),
     }
 }
 

@@ -71,7 +71,12 @@ fn refuses_a_predicate_twice(rt: HostRuntime) -> Result<(), Fail> {
     let test = Box::new(alloc, |c: char| c == '0')?;
     let class = Class::from_ranges(alloc, &[('0', '0')])?;
     let other = Predicate::new(String::from_str(alloc, "digit")?, class, test);
-    match Registry::new(vec![in alloc; digit, other]?, Vec::new(alloc)) {
+    let make = Box::new(
+        alloc,
+        |alloc: Global, symbol: &str, kids: Forest| Tree::node(alloc, symbol, kids),
+    )?;
+    let node = Builder::new(String::from_str(alloc, "node")?, Shape::Symbol, make);
+    match Registry::new(vec![in alloc; digit, other]?, vec![in alloc; node]?) {
         Ok(_) => Err("a name stands twice")?,
         Err(fault) => {
             assert_eq!(rt;
@@ -80,7 +85,8 @@ fn refuses_a_predicate_twice(rt: HostRuntime) -> Result<(), Fail> {
             );
             assert_eq!(rt; fault.predicates.len(), 2);
             assert!(rt; fault.predicates.iter().all(|p| p.name() == "digit"));
-            assert!(rt; fault.builders.is_empty());
+            assert_eq!(rt; fault.builders.len(), 1);
+            assert!(rt; fault.builders.iter().all(|b| b.name() == "node"));
         }
     }
     Ok(())

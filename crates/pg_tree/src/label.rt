@@ -1,14 +1,14 @@
-//! The text of a node's label.
+//! A short text that definitions compare: the label of a node, or the name of a predicate or a builder.
 //!
 //! Contracts see it as the bytes of UTF-8, as in trees. It is a type of its own so that definitions can speak of what
-//! holds labels, as shapes do, and compare them.
+//! holds labels and names, as shapes and grammars do, and compare them.
 
 ghost use Rattle.std.specs.Prelude.{◌≡◌, ◌↔◌, string_bytes, IfOk, IsTrue};
 
 use std::alloc::{AllocError, Global};
 use std::marker::Model;
 
-/// A label, in memory of its own.
+/// A label or a name, in memory of its own.
 #[derive(Debug, Drop)]
 pub struct Label {
     text: String,

@@ -21,7 +21,7 @@ pub enum Shape {
     Symbol,
     /// A leaf with the texts of all leaves among the kids and below them, joined in order.
     Join,
-    /// A node with this label and the kids, where each kid that is a node with the same label gives way to its kids.
+    /// A node with this label and the kids, where each kid that is a node with the same label is replaced by its kids.
     Flat(Label),
 }
 

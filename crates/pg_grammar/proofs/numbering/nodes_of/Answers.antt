@@ -2,6 +2,7 @@ use Rattle.std.proofs.Common.{◌≡◌, ◌∷◌, suc, length, take, drop, map
 use Rattle.std.proofs.lemmas.List.{reverse-append}
 use Rattle.pg_grammar.specs.Preorder.{roots}
 use Rattle.pg_grammar.specs.Forms.{part_count}
+use Rattle.pg_grammar.specs.WordItems.{word_name}
 use Rattle.pg_grammar.specs.Numbering.{node_of}
 use Rattle.pg_grammar.proofs.Behind.{drop-last, take-last}
 use Rattle.pg_grammar.proofs.numbering.nodes_of.Goals as goal
@@ -15,7 +16,7 @@ loop-form-preserved c =
     let parts = rw (c.part_count.ensures, invariant.roots, next) at c.in_ok-parts.ensures.parts in
     let others = rw (c.part_count.ensures, invariant.roots, next) at c.in_ok-parts.ensures.rest in
     let count = length c.in-Some.before.now in
-    let first = node_of c.args.names.now c.in-Some.form.now (take (part_count c.in-Some.form.now) (roots (suc count) (map part_count (drop (suc count) c.args.forms.now)))) in
+    let first = node_of c.args.names.now (map word_name c.args.words.now) c.in-Some.form.now (take (part_count c.in-Some.form.now) (roots (suc count) (map part_count (drop (suc count) c.args.forms.now)))) in
     record {
       within = omega (arith, last.1, invariant.within);
       front = take-last c.args.forms.now c.loop-form.rest.now c.in-Some.before.now c.in-Some.form.now invariant.front last.0;

@@ -1,6 +1,7 @@
 use Rattle.std.proofs.Common.{◌≡◌, ◌≤◌, length, take, drop, map, reverse}
 use Rattle.pg_grammar.specs.Preorder.{roots}
 use Rattle.pg_grammar.specs.Forms.{part_count}
+use Rattle.pg_grammar.specs.WordItems.{word_name}
 use Rattle.pg_grammar.specs.Numbering.{nodes_from}
 use Rattle.pg_grammar.proofs.numbering.nodes_of.Given as goal
 
@@ -8,7 +9,7 @@ abbrev pub invariant-loop-form : goal.invariant-loop-form
 invariant-loop-form l = record {
   within : length l.rest ≤ length l.forms;
   front : l.rest ≡ take (length l.rest) l.forms;
-  nodes : reverse l.nodes.items ≡ nodes_from l.names (length l.rest) (drop (length l.rest) l.forms);
+  nodes : reverse l.nodes.items ≡ nodes_from l.names (map word_name l.words) (length l.rest) (drop (length l.rest) l.forms);
   roots : l.roots.items ≡ roots (length l.rest) (map part_count (drop (length l.rest) l.forms));
 }
 

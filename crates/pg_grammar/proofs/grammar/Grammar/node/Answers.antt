@@ -1,6 +1,6 @@
-use Rattle.std.proofs.Common.{◌≡◌, get_or, ap, subst}
-use Rattle.pg_grammar.specs.Grammar.{Grammar, IsGrammar, rule_names}
-use Rattle.pg_grammar.specs.Forms.{form_of, has_bad_literal, lacks_alternative, InPreorder}
+use Rattle.std.proofs.Common.{◌≡◌, length, get_or, ap, subst}
+use Rattle.pg_grammar.specs.Grammar.{Grammar, IsGrammar, rule_names, word_names}
+use Rattle.pg_grammar.specs.Forms.{form_of, has_bad_literal, has_unknown_class, lacks_alternative, InPreorder}
 use Rattle.pg_grammar.proofs.Each.{get-known, none-get}
 use Rattle.pg_grammar.proofs.Numbers.{parts_are_behind}
 use Rattle.pg_grammar.proofs.grammar.Grammar.node.Goals as goal
@@ -17,11 +17,18 @@ returns-clause-proper c =
     let nodes : c.self.inside.nodes.items ≡ c.args.self.now.nodes = ap (λ (g : Grammar). g.nodes) c.self.view_is in
     let grammar = subst IsGrammar c.self.view_is c.self.invariant in
     let is : c.index-2.result.now ≡ get_or c.args.self.now.nodes c.args.id c.index-2.result.now = rw (nodes, c.index.ensures) at c.index-2.ensures in
-    none-get has_bad_literal (form_of (rule_names c.args.self.now)) c.args.self.now.nodes c.args.id _ grammar.literals (get-known _ _ _ c.requires is)
+    none-get has_bad_literal (form_of (rule_names c.args.self.now) (word_names c.args.self.now)) c.args.self.now.nodes c.args.id _ grammar.literals (get-known _ _ _ c.requires is)
+
+pub returns-clause-class : goal.returns-clause-class
+returns-clause-class c =
+    let nodes : c.self.inside.nodes.items ≡ c.args.self.now.nodes = ap (λ (g : Grammar). g.nodes) c.self.view_is in
+    let grammar = subst IsGrammar c.self.view_is c.self.invariant in
+    let is : c.index-2.result.now ≡ get_or c.args.self.now.nodes c.args.id c.index-2.result.now = rw (nodes, c.index.ensures) at c.index-2.ensures in
+    none-get (has_unknown_class (length c.args.self.now.classes)) (form_of (rule_names c.args.self.now) (word_names c.args.self.now)) c.args.self.now.nodes c.args.id _ grammar.classes_named (get-known _ _ _ c.requires is)
 
 pub returns-clause-alternative : goal.returns-clause-alternative
 returns-clause-alternative c =
     let nodes : c.self.inside.nodes.items ≡ c.args.self.now.nodes = ap (λ (g : Grammar). g.nodes) c.self.view_is in
     let grammar = subst IsGrammar c.self.view_is c.self.invariant in
     let is : c.index-2.result.now ≡ get_or c.args.self.now.nodes c.args.id c.index-2.result.now = rw (nodes, c.index.ensures) at c.index-2.ensures in
-    none-get lacks_alternative (form_of (rule_names c.args.self.now)) c.args.self.now.nodes c.args.id _ grammar.alternatives (get-known _ _ _ c.requires is)
+    none-get lacks_alternative (form_of (rule_names c.args.self.now) (word_names c.args.self.now)) c.args.self.now.nodes c.args.id _ grammar.alternatives (get-known _ _ _ c.requires is)

@@ -1,7 +1,23 @@
-use Rattle.std.proofs.Common.{refl, arith}
+use Rattle.std.proofs.Common.{[], refl, arith}
+use Rattle.pg_grammar.specs.ClassItems.{AreClasses}
+use Rattle.pg_grammar.specs.WordItems.{AreWords}
 use Rattle.pg_grammar.proofs.maker.Maker.new.Goals as goal
 
 pub invariant_of-result : goal.invariant_of-result
 invariant_of-result c =
-    rw (c.new.ensures.items, c.new-2.ensures.items)
-    (record { whole = refl; distinct = tt; literals = refl; alternatives = refl; few_rules = omega arith; few_nodes = omega arith })
+    let nothing : AreClasses [] = record { distinct = tt; earlier = tt; ascend = tt; few = omega arith } in
+    let no_words : AreWords 0 [] = record { distinct = tt; known = refl; literals = refl; few = omega arith } in
+    rw (c.new.ensures.items, c.new-2.ensures.items, c.new-3.ensures.items, c.new-4.ensures.items, c.new-5.ensures.items)
+    (record {
+      whole = refl;
+      distinct = tt;
+      literals = refl;
+      alternatives = refl;
+      classes = nothing;
+      words = no_words;
+      operators = tt;
+      initials = tt;
+      classes_named = refl;
+      few_rules = omega arith;
+      few_nodes = omega arith;
+    })

@@ -1,0 +1,5 @@
+pub mod LexerLemmas
+pub mod ParserLemmas
+pub mod MeaningLemmas
+pub mod MakingLemmas
+pub mod ReadLemmas

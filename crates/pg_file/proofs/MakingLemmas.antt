@@ -1,0 +1,7 @@
+-- What is so of items that are handed to a maker, one behind another.
+pub mod Entries
+pub mod Growth
+pub mod Proper
+pub mod Refused
+pub mod Finished
+pub mod Turns

@@ -1,0 +1,14 @@
+-- What the parser's proofs share.
+pub mod Steps
+pub mod Loop
+pub mod Parts
+pub mod Digits
+pub mod Whole
+pub mod Classes
+pub mod Spelled
+pub mod Words
+pub mod Values
+pub mod ValuesFound
+pub mod Items
+pub mod Texts
+pub mod Files

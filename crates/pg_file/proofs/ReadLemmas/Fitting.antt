@@ -1,0 +1,248 @@
+-- A registry that offers what the names of a file stand for fits the grammar.
+use Rattle.std.proofs.Common.{◌≡◌, ℕ, zero, suc, Bool, true, false, ◌||◌, List, [], ◌∷◌, ◌++◌, map, take, drop, Option, Some, None, unwrap_or, refl, subst}
+use Rattle.std.specs.List.{AllByRecursion}
+use Rattle.std.specs.Option.{is_some}
+use Rattle.std.specs.Str.{encode_utf8_all}
+use Rattle.pg_pred.specs.Offer.{Offer, predicate_class, builder_shape}
+use Rattle.pg_grammar.specs.Contents.{class_in, builders_in}
+use Rattle.pg_grammar.specs.Fits.{PartFits, ClassFits, BuilderFits, BuildersFit, NodeFits, ItemsFit, WordFits, WordsFit, OperatorsFit, NodesFit, Fits}
+use Rattle.pg_grammar.specs.Forms.{form_of}
+use Rattle.pg_grammar.specs.Grammar.{Grammar, rule_names, word_names}
+use Rattle.pg_grammar.specs.ClassItems.{item_class}
+use Rattle.pg_grammar.specs.Made.{Made, nothing_made}
+use Rattle.pg_grammar.specs.Names as names
+use Rattle.pg_grammar.specs.Names.{place_of_name, has_name}
+use Rattle.pg_grammar.specs.declared.form.BaseForm.{BaseForm}
+use Rattle.pg_grammar.specs.declared.form.BaseForm.TheVariants as base
+use Rattle.pg_grammar.specs.declared.form.Node.{Node}
+use Rattle.pg_grammar.specs.declared.form.Node.TheVariants as node
+use Rattle.pg_file.specs.declared.written.WrittenPart.{WrittenPart}
+use Rattle.pg_file.specs.declared.written.WrittenPart.TheVariants as part
+use Rattle.pg_file.specs.declared.written.WrittenForm.{WrittenForm}
+use Rattle.pg_file.specs.declared.written.WrittenForm.TheVariants as written
+use Rattle.pg_file.specs.declared.words.ClassForm.{ClassForm}
+use Rattle.pg_file.specs.declared.words.ClassForm.TheVariants.{Satisfy, NotFollowedBy, Declare}
+use Rattle.pg_file.specs.declared.words.SomeForm.{SomeForm}
+use Rattle.pg_file.specs.declared.words.SomeForm.TheVariants.{Choice, Try}
+use Rattle.pg_file.specs.declared.words.OneForm.{OneForm}
+use Rattle.pg_file.specs.declared.words.OneForm.TheVariants as one
+use Rattle.pg_file.specs.declared.words.TwoForm.{TwoForm}
+use Rattle.pg_file.specs.declared.words.TwoForm.TheVariants.{SepBy, SepBy1, EndBy}
+use Rattle.pg_file.specs.declared.words.ChainForm.{ChainForm}
+use Rattle.pg_file.specs.declared.words.ChainForm.TheVariants as chain
+use Rattle.pg_file.specs.Names.{builder_named, item_or_predicate, PartIsKnown, ClassIsKnown, BuilderIsKnown, FormIsKnown}
+use Rattle.pg_file.specs.Meaning.{Body, joined, seq_of, choice_of, some_of, one_of, two_of, between_of, class_of, chain_of, separated, optional}
+use Rattle.pg_file.specs.Bodies.{part_meant, parts_meant, part_count, body_at, body_of_form, bodies, body_meant}
+use Rattle.pg_file.specs.Entries as entry
+use Rattle.pg_file.specs.Entries.{Entry}
+use Rattle.pg_file.specs.Spells.{made_classes}
+use Rattle.pg_file.specs.Making.{with_entry, with_entries, EntriesAreInOrder, IsGrammarOfEntries}
+use Rattle.pg_file.proofs.MeaningLemmas.Lookup.{none_is_absent}
+
+-- ---- what is offered
+
+-- what is there is what stands in its place
+is_there : {A : Type 0} (o : Option A) (otherwise : A) → is_some o ≡ true → o ≡ Some (unwrap_or o otherwise)
+is_there (Some x) otherwise h = refl
+is_there None otherwise h = absurd cc
+
+named_fits : (offer : Offer) (s : names.Name) (place : Option ℕ) (known : Bool) → ((place ≡ None) → known ≡ false)
+    → (known || is_some (predicate_class offer (encode_utf8_all s))) ≡ true → PartFits offer (item_or_predicate offer s place)
+named_fits offer s (Some k) known none h = tt
+named_fits offer s None known none h =
+    let there : is_some (predicate_class offer (encode_utf8_all s)) ≡ true = rw (none refl) at h in is_there (predicate_class offer (encode_utf8_all s)) _ there
+
+part_fits : (offer : Offer) (classes : List names.Name) (p : WrittenPart) → PartIsKnown offer classes p → PartFits offer (part_meant offer classes p)
+part_fits offer classes (part.Literal s) h = tt
+part_fits offer classes (part.Range low high) h = tt
+part_fits offer classes (part.Union n) h = tt
+part_fits offer classes part.Complement h = tt
+part_fits offer classes (part.Named s) h = named_fits offer s (place_of_name classes s) (has_name classes s) (none_is_absent classes s) h
+
+class_fits : (offer : Offer) (classes : List names.Name) (parts : List WrittenPart) → ClassIsKnown offer classes parts → ClassFits offer (parts_meant offer classes parts)
+class_fits offer classes [] h = tt
+class_fits offer classes (p ∷ parts) h = (part_fits offer classes p h.0, class_fits offer classes parts h.1)
+
+builder_fits : (offer : Offer) (s : names.Name) → BuilderIsKnown offer s → BuilderFits offer (builder_named offer s)
+builder_fits offer s h = is_there (builder_shape offer (encode_utf8_all s)) _ h
+
+-- ---- bodies
+
+-- the predicates and the builders that a base form names are offered
+abbrev FormFits : Offer → BaseForm → Type 0
+FormFits offer f = ClassFits offer (class_in f) × BuildersFit offer (builders_in f)
+
+abbrev BodyFits : Offer → Body → Type 0
+BodyFits offer body = AllByRecursion (FormFits offer) body
+
+abbrev BodiesFit : Offer → List Body → Type 0
+BodiesFit offer bs = AllByRecursion (BodyFits offer) bs
+
+both : {A : Type 0} (P : A → Type 0) (xs others : List A) → AllByRecursion P xs → AllByRecursion P others → AllByRecursion P (xs ++ others)
+both P [] others h e = e
+both P (x ∷ xs) others h e = (h.0, both P xs others h.1 e)
+
+taken : {A : Type 0} (P : A → Type 0) (n : ℕ) (xs : List A) → AllByRecursion P xs → AllByRecursion P (take n xs)
+taken P zero xs h = tt
+taken P (suc n) [] h = tt
+taken P (suc n) (x ∷ xs) h = (h.0, taken P n xs h.1)
+
+dropped : {A : Type 0} (P : A → Type 0) (n : ℕ) (xs : List A) → AllByRecursion P xs → AllByRecursion P (drop n xs)
+dropped P zero xs h = h
+dropped P (suc n) [] h = tt
+dropped P (suc n) (x ∷ xs) h = dropped P n xs h.1
+
+joined_fit : (offer : Offer) (bs : List Body) → BodiesFit offer bs → BodyFits offer (joined bs)
+joined_fit offer [] h = tt
+joined_fit offer (b ∷ bs) h = both (FormFits offer) b (joined bs) h.0 (joined_fit offer bs h.1)
+
+body_fits : (offer : Offer) (k : ℕ) (bs : List Body) → BodiesFit offer bs → BodyFits offer (body_at k bs)
+body_fits offer k [] h = tt
+body_fits offer zero (b ∷ bs) h = h.0
+body_fits offer (suc k) (b ∷ bs) h = body_fits offer k bs h.1
+
+-- a form in which nothing is named
+plain : Unit {0} × Unit {0}
+plain = (tt, tt)
+
+seq_fits : (offer : Offer) (bs : List Body) → BodiesFit offer bs → BodyFits offer (seq_of bs)
+seq_fits offer bs h = (plain, joined_fit offer bs h)
+
+choice_fits : (offer : Offer) (bs : List Body) → BodiesFit offer bs → BodyFits offer (choice_of bs)
+choice_fits offer bs h = (plain, joined_fit offer bs h)
+
+some_fits : (offer : Offer) (form : SomeForm) (bs : List Body) → BodiesFit offer bs → BodyFits offer (some_of form bs)
+some_fits offer Choice bs h = choice_fits offer bs h
+some_fits offer Try [] h = (plain, seq_fits offer [] tt)
+some_fits offer Try (b ∷ []) h = (plain, h.0)
+some_fits offer Try (b ∷ c ∷ bs) h = (plain, seq_fits offer (b ∷ c ∷ bs) h)
+
+optional_fits : (offer : Offer) (b : Body) → BodyFits offer b → BodyFits offer (optional b)
+optional_fits offer b h = choice_fits offer (b ∷ seq_of [] ∷ []) (h, (seq_fits offer [] tt, tt))
+
+separated_fits : (offer : Offer) (b s : Body) → BodyFits offer b → BodyFits offer s → BodyFits offer (separated b s)
+separated_fits offer b s h e =
+    let rounds : BodyFits offer (base.Many ∷ seq_of ((base.Skip ∷ s) ∷ b ∷ [])) = (plain, seq_fits offer ((base.Skip ∷ s) ∷ b ∷ []) ((plain, e), (h, tt))) in
+    seq_fits offer (b ∷ (base.Many ∷ seq_of ((base.Skip ∷ s) ∷ b ∷ [])) ∷ []) (h, (rounds, tt))
+
+one_fits : (offer : Offer) (form : OneForm) (b : Body) → BodyFits offer b → BodyFits offer (one_of form b)
+one_fits offer one.Many b h = (plain, h)
+one_fits offer one.Many1 b h = seq_fits offer (b ∷ (base.Many ∷ b) ∷ []) (h, ((plain, h), tt))
+one_fits offer one.Option b h = optional_fits offer b h
+one_fits offer one.Text b h = (plain, h)
+one_fits offer one.Skip b h = (plain, h)
+
+two_fits : (offer : Offer) (form : TwoForm) (b s : Body) → BodyFits offer b → BodyFits offer s → BodyFits offer (two_of form b s)
+two_fits offer SepBy b s h e = optional_fits offer (separated b s) (separated_fits offer b s h e)
+two_fits offer SepBy1 b s h e = separated_fits offer b s h e
+two_fits offer EndBy b s h e = (plain, seq_fits offer (b ∷ (base.Skip ∷ s) ∷ []) (h, ((plain, e), tt)))
+
+between_fits : (offer : Offer) (before behind inner : Body) → BodyFits offer before → BodyFits offer behind → BodyFits offer inner → BodyFits offer (between_of before behind inner)
+between_fits offer before behind inner h e d = seq_fits offer ((base.Skip ∷ before) ∷ inner ∷ (base.Skip ∷ behind) ∷ []) ((plain, h), (d, ((plain, e), tt)))
+
+of_class_fits : (offer : Offer) (classes : List names.Name) (form : ClassForm) (parts : List WrittenPart) → ClassIsKnown offer classes parts → FormFits offer (class_of form (parts_meant offer classes parts))
+of_class_fits offer classes Satisfy parts h = (class_fits offer classes parts h, tt)
+of_class_fits offer classes NotFollowedBy parts h = (class_fits offer classes parts h, tt)
+of_class_fits offer classes Declare parts h = (class_fits offer classes parts h, tt)
+
+chain_fits : (offer : Offer) (form : ChainForm) (s : names.Name) → BuilderIsKnown offer s → FormFits offer (chain_of form (builder_named offer s))
+chain_fits offer chain.Left s h = (tt, (builder_fits offer s h, tt))
+chain_fits offer chain.Right s h = (tt, (builder_fits offer s h, tt))
+
+form_fits : (offer : Offer) (classes : List names.Name) (form : WrittenForm) (bs : List Body) → FormIsKnown offer classes form → BodiesFit offer bs → BodyFits offer (body_of_form offer classes form bs)
+form_fits offer classes (written.OfClass form parts) bs h e = (of_class_fits offer classes form parts h, tt)
+form_fits offer classes (written.String s) bs h e = (plain, tt)
+form_fits offer classes (written.Seq n) bs h e = seq_fits offer bs e
+form_fits offer classes (written.OfSome form n) bs h e = some_fits offer form bs e
+form_fits offer classes (written.OfOne form) bs h e = one_fits offer form (body_at 0 bs) (body_fits offer 0 bs e)
+form_fits offer classes (written.OfTwo form) bs h e = two_fits offer form (body_at 0 bs) (body_at 1 bs) (body_fits offer 0 bs e) (body_fits offer 1 bs e)
+form_fits offer classes written.Between bs h e =
+    between_fits offer (body_at 0 bs) (body_at 1 bs) (body_at 2 bs) (body_fits offer 0 bs e) (body_fits offer 1 bs e) (body_fits offer 2 bs e)
+form_fits offer classes (written.Chain form builder) bs h e =
+    (chain_fits offer form builder h, both (FormFits offer) (body_at 0 bs) (body_at 1 bs) (body_fits offer 0 bs e) (body_fits offer 1 bs e))
+form_fits offer classes (written.Expression infixes prefixes postfixes) bs h e =
+    ((tt, (builder_fits offer infixes h.0, (builder_fits offer prefixes h.1, (builder_fits offer postfixes h.2, tt)))), body_fits offer 0 bs e)
+form_fits offer classes (written.Build builder symbol) bs h e = ((tt, (builder_fits offer builder h, tt)), body_fits offer 0 bs e)
+form_fits offer classes (written.Label message) bs h e = (plain, body_fits offer 0 bs e)
+form_fits offer classes written.EndOfText bs h e = (plain, tt)
+form_fits offer classes (written.Word s) bs h e = (plain, tt)
+form_fits offer classes (written.Rule s) bs h e = (plain, tt)
+
+bodies_fit : (offer : Offer) (classes : List names.Name) (forms : List WrittenForm) → AllByRecursion (FormIsKnown offer classes) forms → BodiesFit offer (bodies offer classes forms)
+bodies_fit offer classes [] h = tt
+bodies_fit offer classes (form ∷ forms) h =
+    let others = bodies_fit offer classes forms h.1 in
+    let n = part_count form in (
+      form_fits offer classes form (take n (bodies offer classes forms)) h.0 (taken (BodyFits offer) n (bodies offer classes forms) others),
+      dropped (BodyFits offer) n (bodies offer classes forms) others,
+    )
+
+-- ---- what is handed in
+
+-- what was handed in names nothing but what is offered
+record MadeFits (offer : Offer) (made : Made) : Type 0 where
+  classes : ItemsFit offer made.classes
+  words : WordsFit offer made.words
+  operators : OperatorsFit offer made.operators
+  forms : BodyFits offer made.forms
+
+entry_fits : (offer : Offer) (made : Made) (e : Entry) → MadeFits offer made → EntriesAreInOrder offer made (e ∷ []) → MadeFits offer (with_entry offer made e)
+entry_fits offer made (entry.class s parts) m h =
+    let one = class_fits offer (made_classes made) parts h.0.known in
+    record { classes = both (λ item. ClassFits offer (item_class item)) made.classes _ m.classes (one, tt); words = m.words; operators = m.operators; forms = m.forms }
+entry_fits offer made (entry.word s head behind reserved) m h =
+    let one = class_fits offer (made_classes made) head h.0.known.0 in
+    let other = class_fits offer (made_classes made) behind h.0.known.1 in
+    record { classes = m.classes; words = both (WordFits offer) made.words _ m.words ((one, other), tt); operators = m.operators; forms = m.forms }
+entry_fits offer made (entry.operators parts gap reserved most) m h =
+    let one = class_fits offer (made_classes made) parts h.0.known.0 in
+    let other = class_fits offer (made_classes made) gap h.0.known.1 in
+    record { classes = m.classes; words = m.words; operators = (one, other); forms = m.forms }
+entry_fits offer made (entry.table role precedence symbol) m h = record { classes = m.classes; words = m.words; operators = m.operators; forms = m.forms }
+entry_fits offer made (entry.start s) m h = record { classes = m.classes; words = m.words; operators = m.operators; forms = m.forms }
+entry_fits offer made (entry.rule s forms) m h =
+    let body = body_fits offer 0 (bodies offer (made_classes made) forms) (bodies_fit offer (made_classes made) forms h.0.known) in
+    record { classes = m.classes; words = m.words; operators = m.operators; forms = both (FormFits offer) made.forms (body_meant offer (made_classes made) forms) m.forms body }
+
+entries_fit : (offer : Offer) (made : Made) (entries : List Entry) → MadeFits offer made → EntriesAreInOrder offer made entries → MadeFits offer (with_entries offer made entries)
+entries_fit offer made [] m h = m
+entries_fit offer made (e ∷ entries) m h = entries_fit offer (with_entry offer made e) entries (entry_fits offer made e m (h.0, tt)) h.1
+
+-- ---- grammars
+
+node_fits : (offer : Offer) (rules words : List names.Name) (n : Node) → FormFits offer (form_of rules words n) → NodeFits offer n
+node_fits offer rules words (node.Satisfy class) h = h
+node_fits offer rules words (node.String s) h = h
+node_fits offer rules words (node.Seq parts) h = h
+node_fits offer rules words (node.Choice parts) h = h
+node_fits offer rules words (node.Many p) h = h
+node_fits offer rules words (node.ChainLeft used p q) h = h
+node_fits offer rules words (node.ChainRight used p q) h = h
+node_fits offer rules words (node.Try p) h = h
+node_fits offer rules words (node.NotFollowedBy class) h = h
+node_fits offer rules words node.EndOfText h = h
+node_fits offer rules words (node.Word w) h = h
+node_fits offer rules words (node.Rule r) h = h
+node_fits offer rules words (node.Expression used p) h = h
+node_fits offer rules words (node.Declare class) h = h
+node_fits offer rules words (node.Text p) h = h
+node_fits offer rules words (node.Skip p) h = h
+node_fits offer rules words (node.Build used symbol p) h = h
+node_fits offer rules words (node.Label p message) h = h
+
+nodes_fit : (offer : Offer) (rules words : List names.Name) (nodes : List Node) → BodyFits offer (map (form_of rules words) nodes) → NodesFit offer nodes
+nodes_fit offer rules words [] h = tt
+nodes_fit offer rules words (n ∷ nodes) h = (node_fits offer rules words n h.0, nodes_fit offer rules words nodes h.1)
+
+-- a registry that offers what is named fits the grammar
+pub grammar_fits : (offer : Offer) (entries : List Entry) (g : Grammar) → IsGrammarOfEntries offer entries g → Fits offer g
+grammar_fits offer entries g h =
+    let nothing : MadeFits offer nothing_made = record { classes = tt; words = tt; operators = tt; forms = tt } in
+    let made = entries_fit offer nothing_made entries nothing h.ordered in
+    let says = h.says in
+    record {
+      classes = subst (ItemsFit offer) says.classes made.classes;
+      words = subst (WordsFit offer) says.words made.words;
+      operators = subst (OperatorsFit offer) says.operators made.operators;
+      nodes = nodes_fit offer (rule_names g) (word_names g) g.nodes (subst (BodyFits offer) says.forms made.forms);
+    }

@@ -1,0 +1,47 @@
+use Rattle.std.proofs.Common.{List, Result, Err, ap, sym, subst}
+use Rattle.std.proofs.lemmas.Result.{err_from_is_err_and}
+use Rattle.pg_pred.specs.Offer.{offer_of}
+use Rattle.pg_grammar.proofs.Unique.{same_grammar}
+use Rattle.pg_file.specs.declared.error.Unmade.{Unmade}
+use Rattle.pg_file.specs.declared.making.PlacedGrammar.{PlacedGrammar}
+use Rattle.pg_file.specs.declared.item.Item.{Item}
+use Rattle.pg_file.specs.declared.token.Lexeme.{Lexeme}
+use Rattle.pg_file.specs.View.{tokens_of}
+use Rattle.pg_file.specs.Lexical.{SpelledIfGood, OnlySpelled}
+use Rattle.pg_file.specs.Entries.{entries_of}
+use Rattle.pg_file.specs.Items.{AreItems, OnlyItems}
+use Rattle.pg_file.proofs.ReadLemmas.Spelled.{is_spelled, spelled_items, spelled_grammar}
+use Rattle.pg_file.proofs.ReadLemmas.Fitting.{grammar_fits}
+use Rattle.pg_file.proofs.file.grammar_in.Goals as goal
+
+abbrev err : Unmade → Result PlacedGrammar Unmade
+err e = Err e
+
+pub returns-in_err-items-clause-refused : goal.returns-in_err-items-clause-refused
+returns-in_err-items-clause-refused g c =
+    let p = err_from_is_err_and c.from_residual-in_err-items.result c.from_residual-in_err-items.ensures.1 in
+    let only = subst (λ (ls : List Lexeme). OnlySpelled c.args.characters.now (tokens_of ls)) (sym c.as_slice.ensures.value) c.in_ok-lexemes.ensures.only in
+    rw (p.1, p.2) (λ fault g' h. c.in_err-items.ensures.refused fault _ (spelled_items (offer_of c.args.registry.now) _ _ g' only h))
+
+pub returns-in-Ok-clause-ok : goal.returns-in-Ok-clause-ok
+returns-in-Ok-clause-ok g c =
+    let spelled = subst (λ (ls : List Lexeme). SpelledIfGood c.args.characters.now (tokens_of ls)) (sym c.as_slice.ensures.value) c.in_ok-lexemes.ensures.spelled in
+    let items = subst (λ (is : List Item). AreItems (tokens_of c.as_slice.result.now) (entries_of is)) (sym c.as_slice-2.ensures.value) c.in_ok-items.ensures.items in
+    is_spelled _ _ _ _ _ spelled items c.in-Ok.ensures.ok
+
+pub returns-in-Ok-clause-fits : goal.returns-in-Ok-clause-fits
+returns-in-Ok-clause-fits g c = grammar_fits _ _ _ c.in-Ok.ensures.ok
+
+pub returns-in-Ok-clause-only : goal.returns-in-Ok-clause-only
+returns-in-Ok-clause-only g c =
+    let only = subst (λ (ls : List Lexeme). OnlySpelled c.args.characters.now (tokens_of ls)) (sym c.as_slice.ensures.value) c.in_ok-lexemes.ensures.only in
+    let items = subst (λ (is : List Item). OnlyItems (tokens_of c.as_slice.result.now) (entries_of is)) (sym c.as_slice-2.ensures.value) c.in_ok-items.ensures.only in
+    λ g' h. same_grammar _ _ _ c.in-Ok.ensures.ok.says (spelled_grammar _ _ _ _ g' only items h).says
+
+pub returns-clause-refused : goal.returns-clause-refused
+returns-clause-refused g c =
+    let only = subst (λ (ls : List Lexeme). OnlySpelled c.args.characters.now (tokens_of ls)) (sym c.as_slice.ensures.value) c.in_ok-lexemes.ensures.only in
+    let items = subst (λ (is : List Item). OnlyItems (tokens_of c.as_slice.result.now) (entries_of is)) (sym c.as_slice-2.ensures.value) c.in_ok-items.ensures.only in
+    let none = c.in-Err-Refused.ensures in
+    let same = c.in-Err-Refused.field-0-is in
+    λ fault g' h. c.in-Err-Refused.ensures.refused (ap err same) g' (spelled_grammar _ _ _ _ g' only items h)

@@ -1,0 +1,134 @@
+//! What can be wrong with a grammar file.
+//!
+//! Of several faults the first from the left counts, and at one place the one with the lowest number; those of names
+//! and of initial operators come behind those of tokens. Programs print these texts, which are written by hand so that
+//! contracts can speak of their bytes.
+
+ghost use Rattle.std.specs.Prelude.{◌≡◌, Some};
+ghost use Rattle.pg_file.specs.declared.fault.FileError.TheVariants.{Memory};
+ghost use Rattle.pg_file.specs.Texts.{reason_text, kind_text, fault_text, error_text};
+
+use pg_table::AdmitFault;
+use pg_text::Pos;
+use std::alloc::{AllocError, AllocFailed};
+use std::error::Error;
+use std::fmt;
+
+/// What is wrong with a grammar file (ours).
+#[derive(Clone, Copy, Debug, PartialEq, Eq)]
+pub enum FaultKind {
+    /// F1: its bytes are not UTF-8.
+    NotUtf8,
+    /// F2: a character that begins no token, or a literal that isn't closed on its line.
+    BadToken,
+    /// F3: a token where the syntax has another, a reserved word for a name, a number out of its range, or the end of
+    /// the file inside an item.
+    UnexpectedToken,
+    /// F4: a name of no class above, predicate, word, rule or builder, or operators are used and there is no `operators`
+    /// item.
+    UnknownName,
+    /// F5: a class of a predicate's name, a second class, word or rule of one name, or a second start or `operators`
+    /// item.
+    NameTwice,
+    /// F6: there is no start, or it names no rule.
+    NoStart,
+    /// F7: a wrong escape, a literal that is empty where it mustn't be, an end of a range that isn't one character, or
+    /// a range that descends.
+    BadLiteral,
+    /// F8: the file, a name or a literal is too long, parentheses nest too deep, or there are too many items of a kind
+    /// or too many nodes.
+    LimitPassed,
+    /// F9: an initial operator isn't admitted by those above it.
+    NotAdmitted(AdmitFault),
+}
+
+impl fmt::Display for FaultKind {
+    ghost output = { λ kind. Some (kind_text kind) };
+
+    fn fmt<W: fmt::Write>(&self, f: &mut fmt::Formatter<W>) -> fmt::Result {
+        match self {
+            FaultKind::NotUtf8 => f.write_str("F1 not UTF-8"),
+            FaultKind::BadToken => f.write_str("F2 bad token"),
+            FaultKind::UnexpectedToken => f.write_str("F3 unexpected token"),
+            FaultKind::UnknownName => f.write_str("F4 unknown name"),
+            FaultKind::NameTwice => f.write_str("F5 name defined twice"),
+            FaultKind::NoStart => f.write_str("F6 no start rule"),
+            FaultKind::BadLiteral => f.write_str("F7 bad literal"),
+            FaultKind::LimitPassed => f.write_str("F8 limit passed"),
+            FaultKind::NotAdmitted(fault) => {
+                let reason = reason(*fault);
+                write!(f, "F9 operator not admitted ({reason})")
+            }
+        }
+    }
+}
+
+/// The label of the reason why an operator isn't admitted.
+fn reason(fault: AdmitFault) -> &'static str
+    ensures { result.now ≡ reason_text fault }
+{
+    match fault {
+        AdmitFault::SymbolTooLong => "A1",
+        AdmitFault::SymbolReserved => "A2",
+        AdmitFault::PrefixThere => "A3",
+        AdmitFault::SymbolThere => "A4",
+        AdmitFault::TableFull => "A5",
+    }
+}
+
+/// The first thing wrong with a grammar file, and where it begins.
+#[derive(Clone, Copy, Debug, PartialEq, Eq)]
+pub struct FileFault {
+    /// What is wrong.
+    pub kind: FaultKind,
+    /// Where the token or character stands that is at fault.
+    pub position: Pos,
+}
+
+impl fmt::Display for FileFault {
+    ghost output = { λ fault. Some (fault_text fault) };
+
+    fn fmt<W: fmt::Write>(&self, f: &mut fmt::Formatter<W>) -> fmt::Result {
+        let Pos { line, column } = self.position;
+        let kind = self.kind;
+        write!(f, "{line}:{column}: {kind}")
+    }
+}
+
+/// Why a grammar file gave no grammar.
+#[derive(Debug, Drop)]
+pub enum FileError {
+    /// Something is wrong with it.
+    Fault(FileFault),
+    /// There was no memory for it.
+    Memory,
+}
+
+impl fmt::Display for FileError {
+    ghost output = { λ error. Some (error_text error) };
+
+    fn fmt<W: fmt::Write>(&self, f: &mut fmt::Formatter<W>) -> fmt::Result {
+        match self {
+            FileError::Fault(fault) => write!(f, "{fault}"),
+            FileError::Memory => f.write_str("out of memory"),
+        }
+    }
+}
+
+impl Error for FileError {}
+
+impl From<AllocError> for FileError {
+    ghost from_gives = { λ _ e. e ≡ Memory };
+
+    fn from(_e: AllocError) -> FileError {
+        FileError::Memory
+    }
+}
+
+impl<T: Drop> From<AllocFailed<T>> for FileError {
+    ghost from_gives = { λ _ e. e ≡ Memory };
+
+    fn from(_e: AllocFailed<T>) -> FileError {
+        FileError::Memory
+    }
+}

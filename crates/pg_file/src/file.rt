@@ -1,0 +1,169 @@
+//! Reading a grammar file: from its bytes to its grammar, or to its first fault and where that stands.
+//!
+//! Which fault is the first: bytes that are no UTF-8; then, from the left, bad tokens, unexpected ones, bad literals and
+//! passed limits, at one place the one with the lowest number; then, in file order, faults of names and of initial
+//! operators. That a grammar is read exactly where the file spells one is proved; the faults and their positions are
+//! tested.
+
+ghost use Rattle.std.specs.Prelude.{◌≡◌, ◌≤◌, ◌↔◌, length, IfOk, IfErr, IsNone};
+ghost use Rattle.std.specs.Str.{chars, IsUtf8};
+ghost use Rattle.pg_pred.specs.Offer.{offer_of};
+ghost use Rattle.pg_grammar.specs.Fits.{Fits};
+ghost use Rattle.pg_grammar.specs.Grammar.{Grammar};
+ghost use Rattle.pg_file.specs.Given.{IsFault};
+ghost use Rattle.pg_file.specs.Spells.{SpellsWithinLimits, SpelledWithinDepth, IsAnswered};
+
+use crate::error::{ReadError, Unmade};
+use crate::fault::{FaultKind, FileError, FileFault};
+use crate::item::Item;
+use crate::lexer::{lex, lex_up_to};
+use crate::making::{PlacedGrammar, grammar_of};
+use crate::names::name_fault;
+use crate::parser::read_items;
+use pg_grammar::Grammar;
+use pg_pred::Registry;
+use pg_text::position_in;
+use std::alloc::{AllocError, Global};
+
+/// The most bytes of a grammar file.
+const FILE_LIMIT: usize = 262_144;
+
+/// The furthest place that has a position of its own; a fault behind it is reported there.
+const LAST_PLACE: usize = (1 << 28) - 1;
+
+/// The grammar that the bytes of a file spell, which the registry fits (ours).
+///
+/// F1 to F9 with its position where they spell none, or pass the limit on length, 262,144 bytes, or on nesting, 64
+/// parentheses.
+pub fn read(alloc: Global, bytes: &[u8], registry: &Registry) -> Result<Grammar, FileError>
+    ensures ok { IfOk result (SpellsWithinLimits (offer_of registry.now) bytes.now) }
+    ensures fits { IfOk result (Fits (offer_of registry.now)) }
+    ensures only { (g : Grammar) → SpellsWithinLimits (offer_of registry.now) bytes.now g → IsAnswered g result }
+{
+    let PlacedGrammar { grammar, .. } = read_placed(alloc, bytes, registry)?;
+    Ok(grammar)
+}
+
+/// The same, with the place at which each node was written.
+pub fn read_placed(
+    alloc: Global,
+    bytes: &[u8],
+    registry: &Registry,
+) -> Result<PlacedGrammar, FileError>
+    ensures ok { IfOk result (λ read. SpellsWithinLimits (offer_of registry.now) bytes.now read.grammar) }
+    ensures fits { IfOk result (λ read. Fits (offer_of registry.now) read.grammar) }
+    ensures places { IfOk result (λ read. length read.places.items ≡ length read.grammar.nodes) }
+    ensures only { (g : Grammar) → SpellsWithinLimits (offer_of registry.now) bytes.now g → IfOk result (λ read. read.grammar ≡ g) }
+    ensures refused { (g : Grammar) → SpellsWithinLimits (offer_of registry.now) bytes.now g → IfErr result (λ e. e ≡ FileError.Memory) }
+{
+    let text = match std::str::from_utf8(bytes) {
+        Ok(text) => text,
+        Err(error) => return Err(not_utf8(alloc, &bytes[..error.valid_up_to()])),
+    };
+    let characters = characters_of(alloc, text)?;
+    let characters = characters.as_slice();
+    let read = match limit_place(text) {
+        None => grammar_in(alloc, characters, registry),
+        Some(limit) => Err(fault_before(alloc, characters, limit)),
+    };
+    match read {
+        Ok(read) => Ok(read),
+        Err(error) => Err(reported(error, characters)),
+    }
+}
+
+/// The grammar that the characters of a file spell.
+fn grammar_in(
+    alloc: Global,
+    characters: &[char],
+    registry: &Registry,
+) -> Result<PlacedGrammar, ReadError>
+    ensures ok { IfOk result (λ read. SpelledWithinDepth (offer_of registry.now) characters.now read.grammar) }
+    ensures fits { IfOk result (λ read. Fits (offer_of registry.now) read.grammar) }
+    ensures places { IfOk result (λ read. length read.places.items ≡ length read.grammar.nodes) }
+    ensures only { IfOk result (λ read. (g : Grammar) → SpelledWithinDepth (offer_of registry.now) characters.now g → read.grammar ≡ g) }
+    ensures refused { IfErr result (λ e. IsFault e → (g : Grammar) → SpelledWithinDepth (offer_of registry.now) characters.now g → ⊥) }
+{
+    let lexemes = lex(alloc, characters)?;
+    let items = read_items(alloc, lexemes.as_slice())?;
+    match grammar_of(alloc, registry, items.as_slice()) {
+        Ok(read) => Ok(read),
+        Err(Unmade::Memory) => Err(ReadError::Memory),
+        Err(Unmade::Refused) => Err(refusal(alloc, registry, items.as_slice())),
+    }
+}
+
+/// Why no grammar can be made of the items: the first fault of a name or an initial operator, or else that there is no
+/// start.
+fn refusal(alloc: Global, registry: &Registry, items: &[Item]) -> ReadError {
+    match name_fault(alloc, registry, items) {
+        Ok(Some(fault)) => ReadError::Fault(fault.kind, Some(fault.place)),
+        Ok(None) => ReadError::Fault(FaultKind::NoStart, None),
+        Err(error) => error,
+    }
+}
+
+/// Why a file is refused whose length limit is passed by the character at this place: a fault up to there, if there
+/// is one, or the limit.
+fn fault_before(alloc: Global, characters: &[char], limit: usize) -> ReadError {
+    let Ok(lexemes) = lex_up_to(alloc, characters, limit) else {
+        return ReadError::Memory;
+    };
+    match read_items(alloc, lexemes.as_slice()) {
+        Err(ReadError::Memory) => ReadError::Memory,
+        Err(ReadError::Fault(kind, Some(place))) if place <= limit => {
+            ReadError::Fault(kind, Some(place))
+        }
+        Ok(_) | Err(ReadError::Fault(_, _)) => {
+            ReadError::Fault(FaultKind::LimitPassed, Some(limit))
+        }
+    }
+}
+
+/// The place of the first character that ends behind the limit, if the file is longer.
+fn limit_place(text: &str) -> Option<usize>
+    ensures { IsNone result ↔ (length text.now ≤ FILE_LIMIT) }
+{
+    if text.len() <= FILE_LIMIT {
+        return None;
+    }
+    let ends_within = |(start, c): &(usize, char)| start.saturating_add(c.len_utf8()) <= FILE_LIMIT;
+    Some(text.char_indices().take_while(ends_within).count())
+}
+
+/// The fault of a file in which only the first bytes are UTF-8.
+fn not_utf8(alloc: Global, front: &[u8]) -> FileError
+    requires { IsUtf8 front.now }
+{
+    let Ok(text) = std::str::from_utf8(front) else {
+        unreachable!()
+    };
+    match characters_of(alloc, text) {
+        Ok(characters) => fault_at(FaultKind::NotUtf8, characters.as_slice(), characters.len()),
+        Err(_) => FileError::Memory,
+    }
+}
+
+/// Why a file with these characters isn't read, with the position of its fault.
+fn reported(error: ReadError, characters: &[char]) -> FileError
+    ensures { (IsFault error → ⊥) → result ≡ FileError.Memory }
+{
+    match error {
+        ReadError::Memory => FileError::Memory,
+        ReadError::Fault(kind, place) => {
+            fault_at(kind, characters, place.unwrap_or(characters.len()))
+        }
+    }
+}
+
+fn fault_at(kind: FaultKind, characters: &[char], place: usize) -> FileError {
+    let place = place.min(characters.len()).min(LAST_PLACE);
+    let position = position_in(characters, place);
+    FileError::Fault(FileFault { kind, position })
+}
+
+fn characters_of(alloc: Global, text: &str) -> Result<Vec<char>, AllocError>
+    ensures { IfOk result (λ characters. characters.items ≡ chars text.now) }
+{
+    text.chars().collect(alloc)
+}

@@ -1,0 +1,117 @@
+//! The initial operators of a file, each admitted by those above it or not.
+//!
+//! The crate of operator tables judges them. It takes whole grammars, so where a file makes none, the first operator
+//! that isn't admitted is found by a grammar of one rule with the file's initial operators.
+
+ghost use Rattle.std.specs.Prelude.{◌≡◌, ◌≤◌, OnOk, IsErrOf, IfOk};
+ghost use Rattle.pg_grammar.specs.Classes.{IsExpression};
+ghost use Rattle.pg_file.specs.Spells.{HasInitialTable};
+
+use crate::error::{ReadError, Unmade};
+use crate::handing::{declaration, texts};
+use crate::item::Item;
+use pg_grammar::{
+    BaseForm, ClassExpression, ClassPart, Grammar, Maker, MakerFault, OPERATOR_LIMIT,
+};
+use pg_table::{AdmitFault, InitialFault, Table};
+use pg_text::Characters;
+use std::alloc::{AllocError, Global};
+
+/// An initial operator that isn't admitted by those above it.
+#[derive(Clone, Copy, Debug, PartialEq, Eq)]
+pub struct RefusedInitial {
+    /// Where its symbol stands.
+    pub place: usize,
+    pub reason: AdmitFault,
+}
+
+/// Whether a grammar has an initial table. Refused where it has none.
+pub fn has_initial_table(alloc: Global, grammar: &Grammar) -> Result<(), Unmade>
+    ensures ok { OnOk result (HasInitialTable grammar.now) }
+    ensures refused { IsErrOf result Unmade.Refused → HasInitialTable grammar.now → ⊥ }
+{
+    match Table::of(alloc, grammar) {
+        Ok(_) => Ok(()),
+        Err(InitialFault::NotAdmitted { .. }) => Err(Unmade::Refused),
+        Err(InitialFault::Memory) => Err(Unmade::Memory),
+    }
+}
+
+/// The first initial operator of the items that isn't admitted by those above it, where these symbols are reserved and
+/// there may be so many operators.
+pub fn first_refused(
+    alloc: Global,
+    reserved: &[Characters],
+    most: usize,
+    items: &[Item],
+) -> Result<Option<RefusedInitial>, ReadError> {
+    let mut places = Vec::new(alloc);
+    let grammar = grammar_of_initials(alloc, reserved, most, items, &mut places)?;
+    match Table::of(alloc, &grammar) {
+        Ok(_) => Ok(None),
+        Err(InitialFault::NotAdmitted { index, fault }) => {
+            let reason = fault;
+            Ok(
+                places.get(index).map(|place| RefusedInitial {
+                    place: *place,
+                    reason,
+                }),
+            )
+        }
+        Err(InitialFault::Memory) => Err(ReadError::Memory),
+    }
+}
+
+/// A grammar with the initial operators of the items, and where the symbol of each stands.
+///
+/// The parser has kept the limits, so a maker refuses something for want of memory alone.
+fn grammar_of_initials(
+    alloc: Global,
+    reserved: &[Characters],
+    most: usize,
+    items: &[Item],
+    places: &mut Vec<usize>,
+) -> Result<Grammar, ReadError> {
+    let mut maker = Maker::new(alloc);
+    let reserved = texts(alloc, reserved)?;
+    let most = most.min(OPERATOR_LIMIT);
+    maker
+        .operators(some_class(alloc)?, some_class(alloc)?, reserved, most)
+        .map_err(unread)?;
+    for item in items {
+        if let Item::Table {
+            role,
+            precedence,
+            symbol,
+            symbol_place,
+            ..
+        } = item
+        {
+            if let Some(declaration) = declaration(alloc, *role, *precedence, symbol)? {
+                maker.initial(declaration).map_err(unread)?;
+                places.push(*symbol_place)?;
+            }
+        }
+    }
+    let name = Characters::new(vec![in alloc; 's']?);
+    maker
+        .rule(name, vec![in alloc; BaseForm::EndOfText]?)
+        .map_err(unread)?;
+    maker
+        .start(Characters::new(vec![in alloc; 's']?))
+        .map_err(unread)?;
+    match maker.finish() {
+        Ok(grammar) => Ok(grammar),
+        Err(_) => Err(ReadError::Memory),
+    }
+}
+
+fn unread(_fault: MakerFault) -> ReadError {
+    ReadError::Memory
+}
+
+/// The class of one character.
+fn some_class(alloc: Global) -> Result<ClassExpression, AllocError> {
+    let part = ClassPart::Range('x', 'x');
+    Ok(ClassExpression::new(vec![in alloc; part]?))
+}

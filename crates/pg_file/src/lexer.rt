@@ -1,0 +1,12 @@
+//! The tokens of a grammar file: one file for each kind of token, and one that cuts a file into them.
+
+mod blank;
+mod escape;
+mod lexemes;
+mod literal;
+mod mark;
+#[cfg(test)]
+mod tests;
+mod word;
+
+pub use lexemes::{lex, lex_up_to};

@@ -1,0 +1,275 @@
+//! What is judged of base forms before a maker takes them.
+//!
+//! Each judgement is over what stands in the form: its class expression, its builders, its literal and its name. A maker
+//! relies on them for F4, F7 and F8.
+
+ghost use Rattle.std.specs.Prelude.{◌≡◌, length, map};
+ghost use Rattle.std.specs.List.{list_any};
+ghost use Rattle.pg_grammar.specs.Classes.{descends, is_long, lacks_item};
+ghost use Rattle.pg_grammar.specs.Contents.{class_in, builders_in, literal_in, name_in, all_builders};
+ghost use Rattle.pg_grammar.specs.Forms.{has_bad_literal, has_long_name, has_long_text, has_unknown_name, has_unknown_class, is_empty_string, uses_operators};
+ghost use Rattle.pg_grammar.specs.WordItems.{word_name};
+
+use crate::form::BaseForm;
+use crate::limits::{LITERAL_LIMIT, NAME_LIMIT, characters_in};
+use crate::names::{has_name, has_word};
+use crate::used::{BuilderUse, OperatorBuilders};
+use crate::word_item::WordItem;
+use pg_text::Characters;
+
+/// Whether a string is empty, or a range descends.
+fn has_bad_literal(form: &BaseForm) -> bool
+    ensures { result ≡ has_bad_literal form.now }
+{
+    has_descending_range(form) || is_empty_string(form)
+}
+
+/// Whether a range descends.
+fn has_descending_range(form: &BaseForm) -> bool
+    ensures { result ≡ list_any descends (class_in form.now) }
+{
+    match form.class() {
+        Some(class) => class.has_descending_range(),
+        None => false,
+    }
+}
+
+/// Whether it is a string, and that is empty.
+fn is_empty_string(form: &BaseForm) -> bool
+    ensures { result ≡ is_empty_string form.now }
+{
+    match form {
+        BaseForm::String(text) => text.is_empty(),
+        BaseForm::Satisfy(_)
+        | BaseForm::Seq(_)
+        | BaseForm::Choice(_)
+        | BaseForm::Many
+        | BaseForm::ChainLeft(_)
+        | BaseForm::ChainRight(_)
+        | BaseForm::Try
+        | BaseForm::NotFollowedBy(_)
+        | BaseForm::EndOfText
+        | BaseForm::Word(_)
+        | BaseForm::Rule(_)
+        | BaseForm::Expression(_)
+        | BaseForm::Declare(_)
+        | BaseForm::Text
+        | BaseForm::Skip
+        | BaseForm::Build(_, _)
+        | BaseForm::Label(_) => false,
+    }
+}
+
+/// Whether a literal, symbol or message has more than 1,024 characters, or a name more than 64.
+fn has_long_text(form: &BaseForm) -> bool
+    ensures { result ≡ has_long_text form.now }
+{
+    has_long_class(form)
+        || has_long_builder(form)
+        || literal_length(form) > LITERAL_LIMIT
+        || name_length(form) > NAME_LIMIT
+}
+
+/// Whether a literal of its class expression has more than 1,024 characters, or the name of a predicate more than 64.
+fn has_long_class(form: &BaseForm) -> bool
+    ensures { result ≡ list_any is_long (class_in form.now) }
+{
+    match form.class() {
+        Some(class) => class.has_long_text(),
+        None => false,
+    }
+}
+
+/// Whether the name of one of its builders has more than 64 characters.
+fn has_long_builder(form: &BaseForm) -> bool
+    ensures { result ≡ list_any has_long_name (builders_in form.now) }
+{
+    match form {
+        BaseForm::ChainLeft(used) => has_long_name(used),
+        BaseForm::ChainRight(used) => has_long_name(used),
+        BaseForm::Build(used, _) => has_long_name(used),
+        BaseForm::Expression(builders) => have_long_name(builders),
+        BaseForm::Satisfy(_)
+        | BaseForm::String(_)
+        | BaseForm::Seq(_)
+        | BaseForm::Choice(_)
+        | BaseForm::Many
+        | BaseForm::Try
+        | BaseForm::NotFollowedBy(_)
+        | BaseForm::EndOfText
+        | BaseForm::Word(_)
+        | BaseForm::Rule(_)
+        | BaseForm::Declare(_)
+        | BaseForm::Text
+        | BaseForm::Skip
+        | BaseForm::Label(_) => false,
+    }
+}
+
+/// Whether the name of one of an expression's builders has more than 64 characters.
+fn have_long_name(builders: &OperatorBuilders) -> bool
+    ensures { result ≡ list_any has_long_name (all_builders builders.now) }
+{
+    has_long_name(&builders.infix)
+        || has_long_name(&builders.prefix)
+        || has_long_name(&builders.postfix)
+}
+
+/// Whether a builder's name has more than 64 characters.
+fn has_long_name(used: &BuilderUse) -> bool
+    ensures { result ≡ has_long_name used.now }
+{
+    characters_in(used.name.as_str()) > NAME_LIMIT
+}
+
+/// How many characters its string, symbol or message has.
+fn literal_length(form: &BaseForm) -> usize
+    ensures { result ≡ length (literal_in form.now) }
+{
+    match form {
+        BaseForm::String(text) => text.len(),
+        BaseForm::Build(_, symbol) => characters_in(symbol.as_str()),
+        BaseForm::Label(message) => message.len(),
+        BaseForm::Satisfy(_)
+        | BaseForm::Seq(_)
+        | BaseForm::Choice(_)
+        | BaseForm::Many
+        | BaseForm::ChainLeft(_)
+        | BaseForm::ChainRight(_)
+        | BaseForm::Try
+        | BaseForm::NotFollowedBy(_)
+        | BaseForm::EndOfText
+        | BaseForm::Word(_)
+        | BaseForm::Rule(_)
+        | BaseForm::Expression(_)
+        | BaseForm::Declare(_)
+        | BaseForm::Text
+        | BaseForm::Skip => 0,
+    }
+}
+
+/// How many characters the name of its rule or word item has.
+fn name_length(form: &BaseForm) -> usize
+    ensures { result ≡ length (name_in form.now) }
+{
+    match form {
+        BaseForm::Word(name) => name.len(),
+        BaseForm::Rule(name) => name.len(),
+        BaseForm::Satisfy(_)
+        | BaseForm::String(_)
+        | BaseForm::Seq(_)
+        | BaseForm::Choice(_)
+        | BaseForm::Many
+        | BaseForm::ChainLeft(_)
+        | BaseForm::ChainRight(_)
+        | BaseForm::Try
+        | BaseForm::NotFollowedBy(_)
+        | BaseForm::EndOfText
+        | BaseForm::Expression(_)
+        | BaseForm::Declare(_)
+        | BaseForm::Text
+        | BaseForm::Skip
+        | BaseForm::Build(_, _)
+        | BaseForm::Label(_) => 0,
+    }
+}
+
+/// Whether a rule or a word item is named that isn't among these.
+fn has_unknown_name(rules: &[Characters], words: &[WordItem], form: &BaseForm) -> bool
+    ensures { result ≡ has_unknown_name rules.now (map word_name words.now) form.now }
+{
+    match form {
+        BaseForm::Word(name) => !has_word(words, name.as_slice()),
+        BaseForm::Rule(name) => !has_name(rules, name.as_slice()),
+        BaseForm::Satisfy(_)
+        | BaseForm::String(_)
+        | BaseForm::Seq(_)
+        | BaseForm::Choice(_)
+        | BaseForm::Many
+        | BaseForm::ChainLeft(_)
+        | BaseForm::ChainRight(_)
+        | BaseForm::Try
+        | BaseForm::NotFollowedBy(_)
+        | BaseForm::EndOfText
+        | BaseForm::Expression(_)
+        | BaseForm::Declare(_)
+        | BaseForm::Text
+        | BaseForm::Skip
+        | BaseForm::Build(_, _)
+        | BaseForm::Label(_) => false,
+    }
+}
+
+/// Whether a class item is named that isn't among so many.
+fn has_unknown_class(count: usize, form: &BaseForm) -> bool
+    ensures { result ≡ has_unknown_class count form.now }
+{
+    match form.class() {
+        Some(class) => class.lacks_item(count),
+        None => false,
+    }
+}
+
+/// Whether operators are read or declared.
+fn uses_operators(form: &BaseForm) -> bool
+    ensures { result ≡ uses_operators form.now }
+{
+    match form {
+        BaseForm::Expression(_) | BaseForm::Declare(_) => true,
+        BaseForm::Satisfy(_)
+        | BaseForm::String(_)
+        | BaseForm::Seq(_)
+        | BaseForm::Choice(_)
+        | BaseForm::Many
+        | BaseForm::ChainLeft(_)
+        | BaseForm::ChainRight(_)
+        | BaseForm::Try
+        | BaseForm::NotFollowedBy(_)
+        | BaseForm::EndOfText
+        | BaseForm::Word(_)
+        | BaseForm::Rule(_)
+        | BaseForm::Text
+        | BaseForm::Skip
+        | BaseForm::Build(_, _)
+        | BaseForm::Label(_) => false,
+    }
+}
+
+// ---- of several forms
+
+/// Whether a string is empty, or a range descends.
+pub(crate) fn has_bad_literals(body: &[BaseForm]) -> bool
+    ensures { result ≡ list_any has_bad_literal body.now }
+{
+    body.iter().any(has_bad_literal)
+}
+
+/// Whether a literal, symbol or message has more than 1,024 characters, or a name that is referred to more than 64.
+pub(crate) fn has_long_texts(body: &[BaseForm]) -> bool
+    ensures { result ≡ list_any has_long_text body.now }
+{
+    body.iter().any(has_long_text)
+}
+
+/// Whether a form names a class item that isn't among so many.
+pub(crate) fn lacks_class(count: usize, forms: &[BaseForm]) -> bool
+    ensures { result ≡ list_any (has_unknown_class count) forms.now }
+{
+    forms.iter().any(|form| has_unknown_class(count, form))
+}
+
+/// Whether a form names a rule or a word item that isn't among these.
+pub(crate) fn lacks_name(names: &[Characters], words: &[WordItem], forms: &[BaseForm]) -> bool
+    ensures { result ≡ list_any (has_unknown_name names.now (map word_name words.now)) forms.now }
+{
+    forms
+        .iter()
+        .any(|form| has_unknown_name(names, words, form))
+}
+
+/// Whether a form reads or declares operators.
+pub(crate) fn use_operators(forms: &[BaseForm]) -> bool
+    ensures { result ≡ list_any uses_operators forms.now }
+{
+    forms.iter().any(uses_operators)
+}

@@ -1,0 +1,70 @@
+//! The operators item of a grammar: how operators are read, and how many a table may hold.
+//!
+//! A grammar that reads or declares operators has one. That each class item which it names is there, that no reserved
+//! symbol is empty and that a table may hold from 1 to 64 operators are invariants of the grammar that it stands in.
+
+ghost use Rattle.std.specs.Prelude.{◌≡◌, IfOk};
+ghost use Rattle.pg_grammar.specs.Made.{operators_pass_limit};
+ghost use Rattle.pg_grammar.specs.OperatorsItems.{operators_lack_item, operators_have_bad_literal, operators_have_long_text};
+
+use crate::class::ClassExpression;
+use crate::limits::OPERATOR_LIMIT;
+use crate::texts::Texts;
+use std::alloc::{AllocError, Global};
+
+/// How operators are read: all characters of the class that follow one another, and then all characters of the gap.
+#[derive(Debug, Drop)]
+pub struct OperatorsItem {
+    /// The characters of operators.
+    pub class: ClassExpression,
+    /// The characters that are left out behind an operator.
+    pub gap: ClassExpression,
+    /// The symbols that are never operators, each of at least one character.
+    pub reserved: Texts,
+    /// How many operators a table may hold, from 1 to 64.
+    pub max: usize,
+}
+
+impl OperatorsItem {
+    /// An equal item in memory of its own. The only error is that memory ran out.
+    pub fn copy(&self, alloc: Global) -> Result<OperatorsItem, AllocError>
+        ensures { IfOk result (λ item. item ≡ self.now) }
+    {
+        Ok(OperatorsItem {
+            class: self.class.copy(alloc)?,
+            gap: self.gap.copy(alloc)?,
+            reserved: self.reserved.copy(alloc)?,
+            max: self.max,
+        })
+    }
+
+    /// Whether it names a class item that isn't among so many.
+    pub(crate) fn lacks_item(&self, count: usize) -> bool
+        ensures { result ≡ operators_lack_item count self.now }
+    {
+        self.class.lacks_item(count) || self.gap.lacks_item(count)
+    }
+
+    /// Whether a range descends, or a reserved symbol is empty.
+    pub(crate) fn has_bad_literal(&self) -> bool
+        ensures { result ≡ operators_have_bad_literal self.now }
+    {
+        self.class.has_descending_range()
+            || self.gap.has_descending_range()
+            || self.reserved.has_empty()
+    }
+
+    /// Whether a literal has more than 1,024 characters, or the name of a predicate more than 64.
+    fn has_long_text(&self) -> bool
+        ensures { result ≡ operators_have_long_text self.now }
+    {
+        self.class.has_long_text() || self.gap.has_long_text() || self.reserved.has_long()
+    }
+
+    /// Whether a literal or name is too long, or a table may hold none or over 64 operators.
+    pub(crate) fn passes_limit(&self) -> bool
+        ensures { result ≡ operators_pass_limit self.now }
+    {
+        self.has_long_text() || self.max < 1 || self.max > OPERATOR_LIMIT
+    }
+}

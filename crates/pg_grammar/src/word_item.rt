@@ -1,0 +1,63 @@
+//! A word item of a grammar: which characters begin a word, which go on with it, and which words it isn't.
+//!
+//! Forms name word items by their numbers. That word items have different names and that each class item which one of
+//! them names is there are invariants of the grammar that they stand in.
+
+ghost use Rattle.std.specs.Prelude.{◌≡◌, IfOk};
+ghost use Rattle.pg_grammar.specs.WordItems.{word_lacks_item, word_has_bad_literal, word_has_long_text};
+
+use crate::class::ClassExpression;
+use crate::texts::Texts;
+use pg_text::Characters;
+use std::alloc::{AllocError, Global};
+
+/// A kind of words, with a name by which forms name it: a character of the head, then all characters of the rest that
+/// follow, unless the whole is reserved.
+#[derive(Debug, Drop)]
+pub struct WordItem {
+    /// Its name, which no other word item of its grammar has.
+    pub name: Characters,
+    /// The characters that a word begins with.
+    pub head: ClassExpression,
+    /// The characters that it goes on with.
+    pub rest: ClassExpression,
+    /// The words that are not of this kind, each of at least one character.
+    pub reserved: Texts,
+}
+
+impl WordItem {
+    /// An equal item in memory of its own. The only error is that memory ran out.
+    pub fn copy(&self, alloc: Global) -> Result<WordItem, AllocError>
+        ensures { IfOk result (λ item. item ≡ self.now) }
+    {
+        Ok(WordItem {
+            name: Characters::new(Vec::from_slice(alloc, self.name.as_slice())?),
+            head: self.head.copy(alloc)?,
+            rest: self.rest.copy(alloc)?,
+            reserved: self.reserved.copy(alloc)?,
+        })
+    }
+
+    /// Whether it names a class item that isn't among so many.
+    pub(crate) fn lacks_item(&self, count: usize) -> bool
+        ensures { result ≡ word_lacks_item count self.now }
+    {
+        self.head.lacks_item(count) || self.rest.lacks_item(count)
+    }
+
+    /// Whether a range descends, or a reserved text is empty.
+    pub(crate) fn has_bad_literal(&self) -> bool
+        ensures { result ≡ word_has_bad_literal self.now }
+    {
+        self.head.has_descending_range()
+            || self.rest.has_descending_range()
+            || self.reserved.has_empty()
+    }
+
+    /// Whether a literal has more than 1,024 characters, or the name of a predicate more than 64.
+    pub(crate) fn has_long_text(&self) -> bool
+        ensures { result ≡ word_has_long_text self.now }
+    {
+        self.head.has_long_text() || self.rest.has_long_text() || self.reserved.has_long()
+    }
+}

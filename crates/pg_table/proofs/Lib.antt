@@ -1,0 +1,3 @@
+pub mod Added
+pub mod Onward
+pub mod Examples

@@ -1,0 +1,62 @@
+//! Why a table doesn't admit an operator, and why a grammar has no initial table.
+//!
+//! The reasons are tried in the order in which they stand here, and the first that holds is the one that is answered
+//! (ours). Programs print these texts.
+
+ghost use Rattle.std.specs.Prelude.{◌≡◌};
+ghost use Rattle.pg_table.specs.declared.fault.InitialFault.TheVariants.{Memory};
+
+use std::alloc::{AllocError, AllocFailed};
+use thiserror::Error;
+
+/// Why an operator isn't admitted.
+#[derive(Clone, Copy, Debug, PartialEq, Eq, Drop, Error)]
+pub enum AdmitFault {
+    /// Its symbol has more than 16 characters.
+    #[error("A1")]
+    SymbolTooLong,
+    /// Its symbol is reserved.
+    #[error("A2")]
+    SymbolReserved,
+    /// It is a prefix operator, and one with this symbol is there.
+    #[error("A3")]
+    PrefixThere,
+    /// It is none, and an infix or postfix operator with this symbol is there.
+    #[error("A4")]
+    SymbolThere,
+    /// As many operators are there as may be.
+    #[error("A5")]
+    TableFull,
+}
+
+/// Why a grammar has no initial table.
+#[derive(Debug, Drop, Error)]
+pub enum InitialFault {
+    /// The initial declaration with this index, counted from 0, is the first that isn't admitted by those before it.
+    #[error("F9 operator not admitted ({fault})")]
+    NotAdmitted {
+        /// How many initial declarations stand before it.
+        index: usize,
+        /// Why it isn't admitted.
+        fault: AdmitFault,
+    },
+    /// There was no memory for the table.
+    #[error("out of memory")]
+    Memory,
+}
+
+impl From<AllocError> for InitialFault {
+    ghost from_gives = { λ _ e. e ≡ Memory };
+
+    fn from(_e: AllocError) -> InitialFault {
+        InitialFault::Memory
+    }
+}
+
+impl<T: Drop> From<AllocFailed<T>> for InitialFault {
+    ghost from_gives = { λ _ e. e ≡ Memory };
+
+    fn from(_e: AllocFailed<T>) -> InitialFault {
+        InitialFault::Memory
+    }
+}

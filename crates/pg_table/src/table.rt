@@ -1,0 +1,177 @@
+//! The operator table: the operators in force at a place of a text, in the order in which they came.
+//!
+//! That there are no more operators than there may be, at most 64, and that each has a precedence from 0 to 9 and a symbol
+//! of at least one character are invariants of the type: whoever numbers rows or reads operators relies on them. An
+//! operator comes into a table only by [`Table::admit`]'s leave, so no symbol in the table of a grammar is reserved, and
+//! none stands for two operators in one position.
+
+ghost use Rattle.std.specs.Prelude.{◌≡◌, ◌&&◌, not, IfOk, IfErr, OnOk, OnErr, Some};
+ghost use Rattle.std.specs.List.{list_any};
+ghost use Rattle.std.specs.Str.{bytes_eq};
+ghost use Rattle.pg_table.specs.Tables.{is_prefix};
+
+use crate::fault::{AdmitFault, InitialFault};
+use crate::limits::SYMBOL_LIMIT;
+use pg_grammar::{Decl, Grammar, Role, Texts};
+use std::alloc::{AllocError, Global};
+use std::marker::Model;
+
+/// A table, seen as its operators, the reserved symbols, and how many operators there may be.
+#[derive(Debug, Drop)]
+pub struct Table {
+    operators: Vec<Decl>,
+    reserved: Texts,
+    most: usize,
+}
+
+impl Model for Table {
+    ghost use Rattle.pg_table.specs.Tables.{Table as Parts, IsTable};
+
+    ghost Value = { Parts };
+
+    ghost view = { λ t. record { operators = t.operators.items; reserved = t.reserved; most = t.most } };
+
+    ghost invariant = { λ t. IsTable (record { operators = t.operators.items; reserved = t.reserved; most = t.most }) };
+}
+
+impl Table {
+    ghost use Rattle.pg_table.specs.Tables.{IsTable, whole, Admits, admit_fault, has_prefix, has_other, with_operator, empty_table, initial, IsRefusal, ComesFrom};
+
+    /// The initial table of a grammar: its initial declarations in file order, each admitted by those before it.
+    ///
+    /// Else the index of the first that isn't admitted, and why.
+    pub fn of(alloc: Global, grammar: &Grammar) -> Result<Table, InitialFault>
+        ensures ok { IfOk result (λ table. initial grammar.now ≡ whole table) }
+        ensures comes { IfOk result (ComesFrom grammar.now) }
+        ensures err { IfErr result (IsRefusal (initial grammar.now)) }
+    {
+        let mut table = Table::empty(alloc, grammar)?;
+        for (index, decl) in grammar.initials().iter().enumerate() {
+            if let Err(fault) = table.admit(decl) {
+                return Err(InitialFault::NotAdmitted { index, fault });
+            }
+            table.add(decl.copy(alloc)?)?;
+        }
+        Ok(table)
+    }
+
+    /// Whether an operator may be added, and if not, why not: the first of A1 to A5 that holds. It takes no memory.
+    pub fn admit(&self, decl: &Decl) -> Result<(), AdmitFault>
+        ensures ok { OnOk result (Admits self.now decl.now) }
+        ensures err { IfErr result (λ fault. admit_fault self.now decl.now ≡ Some fault) }
+    {
+        let symbol = decl.symbol();
+        let before = is_prefix(decl.role());
+        if symbol.len() > SYMBOL_LIMIT {
+            return Err(AdmitFault::SymbolTooLong);
+        }
+        if self.reserves(symbol) {
+            return Err(AdmitFault::SymbolReserved);
+        }
+        if before && self.has_prefix(symbol) {
+            return Err(AdmitFault::PrefixThere);
+        }
+        if !before && self.has_other(symbol) {
+            return Err(AdmitFault::SymbolThere);
+        }
+        if self.most <= self.operators.len() {
+            return Err(AdmitFault::TableFull);
+        }
+        Ok(())
+    }
+
+    /// The operators, in the order in which they came: the initial ones in file order, then the declared ones. It takes no
+    /// memory.
+    pub fn operators(&self) -> &[Decl]
+        ensures all { result.now ≡ self.now.operators }
+        ensures table { IsTable self.now }
+    {
+        self.operators.as_slice()
+    }
+
+    /// An equal table in memory of its own. The only error is that memory ran out.
+    pub fn copy(&self, alloc: Global) -> Result<Table, AllocError>
+        ensures { IfOk result (λ table. table ≡ self.now) }
+    {
+        Ok(Table {
+            operators: copied(alloc, self.operators())?,
+            reserved: self.reserved.copy(alloc)?,
+            most: self.most,
+        })
+    }
+
+    /// A grammar's table without operators, which may hold none where there is no operators item.
+    fn empty(alloc: Global, grammar: &Grammar) -> Result<Table, AllocError>
+        ensures { IfOk result (λ table. table ≡ empty_table grammar.now.operators) }
+    {
+        match grammar.operators_item() {
+            Some(item) => Ok(Table {
+                operators: Vec::new(alloc),
+                reserved: item.reserved.copy(alloc)?,
+                most: item.max,
+            }),
+            None => Ok(Table {
+                operators: Vec::new(alloc),
+                reserved: Texts::new(Vec::new(alloc)),
+                most: 0,
+            }),
+        }
+    }
+
+    /// Adds an operator at the end, which the caller owes to be admitted. A refusal changes nothing.
+    fn add(&mut self, decl: Decl) -> Result<(), AllocError>
+        requires { Admits self.old decl }
+        ensures ok { OnOk result (self.new ≡ with_operator self.old decl) }
+        ensures err { OnErr result (self.new ≡ self.old) }
+    {
+        self.operators.push(decl)?;
+        Ok(())
+    }
+
+    /// Whether the symbol is reserved.
+    fn reserves(&self, symbol: &[char]) -> bool
+        ensures { result ≡ list_any (λ s. bytes_eq s symbol.now) self.now.reserved }
+    {
+        self.reserved
+            .as_slice()
+            .iter()
+            .any(|text| text.as_slice() == symbol)
+    }
+
+    /// Whether a prefix operator has the symbol.
+    fn has_prefix(&self, symbol: &[char]) -> bool
+        ensures { result ≡ has_prefix self.now.operators symbol.now }
+    {
+        self.operators.iter().any(|operator| is_prefix(operator.role())
+            && operator.symbol() == symbol)
+    }
+
+    /// Whether an infix or postfix operator has the symbol.
+    fn has_other(&self, symbol: &[char]) -> bool
+        ensures { result ≡ has_other self.now.operators symbol.now }
+    {
+        self.operators.iter().any(|operator| !is_prefix(operator.role())
+            && operator.symbol() == symbol)
+    }
+}
+
+/// Whether an operator of this role stands before its operand.
+fn is_prefix(role: Role) -> bool
+    ensures { result ≡ is_prefix role }
+{
+    match role {
+        Role::Prefix => true,
+        Role::InfixLeft | Role::InfixRight | Role::InfixNone | Role::Postfix => false,
+    }
+}
+
+/// Equal declarations.
+fn copied(alloc: Global, decls: &[Decl]) -> Result<Vec<Decl>, AllocError>
+    ensures { IfOk result (λ copies. copies.items ≡ decls.now) }
+{
+    let mut copies = Vec::new(alloc);
+    for decl in decls {
+        copies.push(decl.copy(alloc)?)?;
+    }
+    Ok(copies)
+}

@@ -1,0 +1,201 @@
+//! What no clause says: which of several faults is answered, worked out by hand, the faults as they are printed, and that
+//! each call succeeds with ample memory.
+
+ghost use Rattle.std.specs.Prelude.{◌<◌, length, IfOk};
+
+use super::*;
+use pg_grammar::{BaseForm, ClassExpression, ClassPart, Decl, Grammar, Maker, Role, Texts};
+use pg_text::Characters;
+use std::alloc::{AllocError, Global};
+use std::test::Fail;
+
+/// A symbol: so many times `x`, and then a character.
+type Symbol = (usize, char);
+
+/// The characters of a symbol.
+fn spelled(alloc: Global, symbol: Symbol) -> Result<Characters, AllocError>
+    ensures { IfOk result (λ characters. 0 < length characters) }
+{
+    let mut characters = Vec::new(alloc);
+    for _ in 0..symbol.0 {
+        characters.push('x')?;
+    }
+    characters.push(symbol.1)?;
+    Ok(Characters::new(characters))
+}
+
+/// A declaration of a symbol, with precedence 6.
+fn declared(alloc: Global, role: Role, symbol: Symbol) -> Result<Decl, AllocError> {
+    Ok(Decl::new(role, 6, spelled(alloc, symbol)?))
+}
+
+/// The class of one character.
+fn class_of(alloc: Global, c: char) -> Result<ClassExpression, AllocError> {
+    let part = ClassPart::Literal(spelled(alloc, (0, c))?);
+    Ok(ClassExpression::new(vec![in alloc; part]?))
+}
+
+/// A grammar with these initial declarations. Its tables may hold so many operators; `=`, and `=` behind 16 times `x`, are
+/// reserved.
+fn grammar_of(alloc: Global, most: usize, initials: &[(Role, Symbol)]) -> Result<Grammar, Fail> {
+    let mut maker = Maker::new(alloc);
+    let reserved = vec![in alloc; spelled(alloc, (0, '='))?, spelled(alloc, (16, '='))?]?;
+    maker.operators(
+        class_of(alloc, 'x')?,
+        class_of(alloc, ' ')?,
+        Texts::new(reserved),
+        most,
+    )?;
+    for (role, symbol) in initials {
+        maker.initial(declared(alloc, *role, *symbol)?)?;
+    }
+    maker.rule(
+        spelled(alloc, (0, 's'))?,
+        vec![in alloc; BaseForm::EndOfText]?,
+    )?;
+    maker.start(spelled(alloc, (0, 's'))?)?;
+    Ok(maker.finish()?)
+}
+
+/// The initial table of such a grammar.
+fn table_of(alloc: Global, most: usize, initials: &[(Role, Symbol)]) -> Result<Table, Fail> {
+    let grammar = grammar_of(alloc, most, initials)?;
+    Ok(Table::of(alloc, &grammar)?)
+}
+
+/// Why such a grammar has no initial table, with the index of the declaration.
+fn refusal(alloc: Global, most: usize, initials: &[(Role, Symbol)]) -> Result<String, Fail> {
+    let grammar = grammar_of(alloc, most, initials)?;
+    match Table::of(alloc, &grammar) {
+        Ok(_) => Ok(String::from_str(alloc, "none")?),
+        Err(InitialFault::NotAdmitted { index, fault }) => {
+            let fault = InitialFault::NotAdmitted { index, fault };
+            Ok(format!(in alloc; "{index}: {fault}")?)
+        }
+        Err(InitialFault::Memory) => Ok(String::from_str(alloc, "memory")?),
+    }
+}
+
+/// What a table answers for one operator: that it is admitted, or the fault as it is printed.
+fn admission(alloc: Global, table: &Table, role: Role, symbol: Symbol) -> Result<String, Fail> {
+    let decl = declared(alloc, role, symbol)?;
+    match table.admit(&decl) {
+        Ok(()) => Ok(String::from_str(alloc, "ok")?),
+        Err(fault) => Ok(format!(in alloc; "{fault}")?),
+    }
+}
+
+/// What it answers for each of these.
+fn admissions(alloc: Global, table: &Table, operators: &[(Role, Symbol)]) -> Result<String, Fail> {
+    let mut text = String::new(alloc);
+    for (role, symbol) in operators {
+        let found = admission(alloc, table, *role, *symbol)?;
+        text = format!(in alloc; "{text} {}", found.as_str())?;
+    }
+    Ok(text)
+}
+
+/// The symbols of a table in order, each with a blank behind it.
+fn symbols(alloc: Global, table: &Table) -> Result<String, Fail> {
+    let mut text = String::new(alloc);
+    for operator in table.operators() {
+        for c in operator.symbol() {
+            text.push(*c)?;
+        }
+        text.push(' ')?;
+    }
+    Ok(text)
+}
+
+/// The operators that the tables of the tests begin with.
+const INITIALS: [(Role, Symbol); 3] = [
+    (Role::Prefix, (0, '-')),
+    (Role::InfixLeft, (0, '+')),
+    (Role::Postfix, (1, '!')),
+];
+
+#[test]
+fn tells_symbols_that_are_too_long_or_reserved(rt: HostRuntime) -> Result<(), Fail> {
+    let alloc = rt.alloc();
+    let asked = [
+        (Role::InfixRight, (15, 'y')),
+        (Role::InfixRight, (16, 'y')),
+        (Role::Prefix, (16, '=')),
+        (Role::Prefix, (0, '=')),
+        (Role::Postfix, (0, '=')),
+        (Role::Prefix, (1, '=')),
+    ];
+    let with_room = table_of(alloc, 4, &INITIALS)?;
+    let found = admissions(alloc, &with_room, &asked)?;
+    assert_eq!(rt; found.as_str(), " ok A1 A1 A2 A2 ok");
+    let full = table_of(alloc, 3, &INITIALS)?;
+    let found = admissions(alloc, &full, &asked)?;
+    assert_eq!(rt; found.as_str(), " A5 A1 A1 A2 A2 A5");
+    Ok(())
+}
+
+#[test]
+fn tells_symbols_that_are_there(rt: HostRuntime) -> Result<(), Fail> {
+    let alloc = rt.alloc();
+    let asked = [
+        (Role::Prefix, (0, '-')),
+        (Role::Prefix, (0, '+')),
+        (Role::Postfix, (0, '-')),
+        (Role::InfixRight, (0, '+')),
+        (Role::InfixNone, (1, '!')),
+        (Role::Postfix, (0, '+')),
+    ];
+    let with_room = table_of(alloc, 4, &INITIALS)?;
+    let found = admissions(alloc, &with_room, &asked)?;
+    assert_eq!(rt; found.as_str(), " A3 ok ok A4 A4 A4");
+    let full = table_of(alloc, 3, &INITIALS)?;
+    let found = admissions(alloc, &full, &asked)?;
+    assert_eq!(rt; found.as_str(), " A3 A5 A5 A4 A4 A4");
+    Ok(())
+}
+
+#[test]
+fn tells_the_first_refused_declaration(rt: HostRuntime) -> Result<(), Fail> {
+    let alloc = rt.alloc();
+    let long = [(Role::Prefix, (16, '='))];
+    let found = refusal(alloc, 1, &long)?;
+    assert_eq!(rt; found.as_str(), "0: F9 operator not admitted (A1)");
+    let prefixes = [
+        (Role::Prefix, (0, '-')),
+        (Role::Prefix, (0, '-')),
+        (Role::Prefix, (0, '=')),
+    ];
+    let found = refusal(alloc, 64, &prefixes)?;
+    assert_eq!(rt; found.as_str(), "1: F9 operator not admitted (A3)");
+    let found = refusal(alloc, 2, &INITIALS)?;
+    assert_eq!(rt; found.as_str(), "2: F9 operator not admitted (A5)");
+    Ok(())
+}
+
+#[test]
+fn keeps_the_order_of_declarations(rt: HostRuntime) -> Result<(), Fail> {
+    let alloc = rt.alloc();
+    let table = table_of(alloc, 3, &INITIALS)?;
+    assert_eq!(rt; symbols(alloc, &table)?.as_str(), "- + x! ");
+    let copy = table.copy(alloc)?;
+    assert_eq!(rt; symbols(alloc, &copy)?.as_str(), "- + x! ");
+    let found = admission(alloc, &copy, Role::Prefix, (0, '='))?;
+    assert_eq!(rt; found.as_str(), "A2");
+    Ok(())
+}
+
+#[test]
+fn holds_no_operator_without_an_operators_item(rt: HostRuntime) -> Result<(), Fail> {
+    derivations_lead_on();
+    tables_come_from_grammar();
+    let alloc = rt.alloc();
+    let mut maker = Maker::new(alloc);
+    let body = vec![in alloc; BaseForm::EndOfText]?;
+    maker.rule(spelled(alloc, (0, 's'))?, body)?;
+    maker.start(spelled(alloc, (0, 's'))?)?;
+    let grammar = maker.finish()?;
+    let table = Table::of(alloc, &grammar)?;
+    let found = admission(alloc, &table, Role::Prefix, (0, '='))?;
+    assert_eq!(rt; found.as_str(), "A5");
+    Ok(())
+}

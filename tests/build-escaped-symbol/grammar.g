@@ -1,0 +1,1 @@
+start a; a = build(node, "\"\\\u{e9}", seq());

@@ -1,0 +1,1 @@
+start a; a = build(flat, seq(build(list, seq(string("a"), build(list, string("b")))), build(num, string("c"))));

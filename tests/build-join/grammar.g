@@ -1,0 +1,1 @@
+start a; a = build(join, seq(string("a"), build(num, seq(string("b"), build(list, string("c")))), seq()));

@@ -1,0 +1,1 @@
+start a; a = seq(build(num, string("1")), build(name, string("n")), build(list, string("l")), build(call, string("c")), build(num, "+", string("2")));

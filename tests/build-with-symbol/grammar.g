@@ -1,0 +1,1 @@
+start a; a = build(node, "+", seq(satisfy(digit), skip(string("+")), satisfy(digit)));

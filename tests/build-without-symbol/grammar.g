@@ -1,0 +1,1 @@
+start a; a = seq(build(node, string("x")), build(node, "", string("y")));

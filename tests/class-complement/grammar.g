@@ -1,0 +1,1 @@
+start a; a = seq(satisfy(not "x"), satisfy(not not "x"), satisfy(not ("a".."m" | digit)));

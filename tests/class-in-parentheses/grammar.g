@@ -1,0 +1,1 @@
+start a; a = seq(satisfy((("a" | ("b" | "c"))) | "d"), satisfy((not "e")));

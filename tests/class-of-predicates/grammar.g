@@ -1,0 +1,1 @@
+start a; a = seq(satisfy(digit), satisfy(octDigit), satisfy(hexDigit), satisfy(letter), satisfy(alphaNum), satisfy(space));

@@ -1,0 +1,1 @@
+start a; a = seq(satisfy(letter), satisfy(alphaNum), satisfy(alphaNum), satisfy(space), satisfy(space), satisfy(not letter));

@@ -1,0 +1,2 @@
+start a;
+a = string("ğŸ˜

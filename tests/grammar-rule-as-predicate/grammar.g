@@ -1,0 +1,3 @@
+start a;
+d = satisfy(digit);
+a = satisfy(d);

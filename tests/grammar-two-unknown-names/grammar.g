@@ -1,0 +1,2 @@
+start a;
+a = seq(build(num, satisfy(upper)), build(tuple, seq()));

@@ -1,0 +1,3 @@
+start a;
+a = satisfy(upper);
+b = ;

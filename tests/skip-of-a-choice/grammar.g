@@ -1,0 +1,1 @@
+start a; a = seq(skip(choice(string("a"), string("b"))), string("c"), skip(seq()));

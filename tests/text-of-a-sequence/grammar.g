@@ -1,0 +1,1 @@
+start a; a = seq(text(seq(string("a"), choice(string("b"), seq()))), text(seq()));
