@@ -7,3 +7,4 @@ pub mod Categories
 pub mod Kinds
 pub mod Builders
 pub mod ProgramOffer
+pub mod Printing

@@ -8,10 +8,12 @@
 
 mod categories;
 mod fault;
+mod grammar_file;
 mod kind;
 #[cfg(test)]
 mod kind_tests;
 mod parse;
+mod print;
 mod registry;
 mod report;
 mod reporting;
@@ -31,10 +33,12 @@ use fault::BenchFault;
 use parse::parse_bytes;
 use pg_pred::Registry;
 use pg_tree::{Meter, ReadFault, read_bytes};
+use print::print_bytes;
 use registry::with_registry;
 use request::{Request, command, request_of};
 use std::alloc::AllocError;
 use std::fmt::Display;
+use std::io::Read;
 use std::process::ExitCode;
 use std::rt::{Env, Files};
 use std::{env, fs, io};
@@ -104,6 +108,7 @@ fn answer<R: AllocGlobal + Files + Print + Eprint>(
 {
     match request {
         Request::Parse { grammar, text } => parse_files(rt, grammar, text, registry),
+        Request::Print { grammar } => print_file(rt, grammar, registry),
     }
 }
 
@@ -120,10 +125,8 @@ fn parse_files<R: AllocGlobal + Files + Print + Eprint>(
     let Ok(text_file) = fs::open(rt, text) else {
         return Ok(cannot_read(rt, text));
     };
-    let bytes = match read_bytes(rt.alloc(), &mut Meter::new(grammar_file), READ_LIMIT) {
-        Ok(bytes) => bytes,
-        Err(ReadFault::Memory) => return Err(AllocError),
-        Err(ReadFault::Reader | ReadFault::TooLong) => return Ok(cannot_read(rt, grammar)),
+    let Some(bytes) = grammar_bytes(rt, grammar_file)? else {
+        return Ok(cannot_read(rt, grammar));
     };
     let mut reader = Meter::new(text_file);
     let mut writer = Meter::new(io::writer(rt));
@@ -136,6 +139,37 @@ fn parse_files<R: AllocGlobal + Files + Print + Eprint>(
     ) {
         Ok(()) => Ok(0),
         Err(fault) => print_report(rt, &fault, grammar, text),
+    }
+}
+
+/// Prints the canonical form of the grammar in a file.
+fn print_file<R: AllocGlobal + Files + Print + Eprint>(
+    rt: &R,
+    grammar: &str,
+    registry: &Registry,
+) -> Result<u8, AllocError> {
+    let Ok(grammar_file) = fs::open(rt, grammar) else {
+        return Ok(cannot_read(rt, grammar));
+    };
+    let Some(bytes) = grammar_bytes(rt, grammar_file)? else {
+        return Ok(cannot_read(rt, grammar));
+    };
+    let mut writer = Meter::new(io::writer(rt));
+    match print_bytes(rt.alloc(), bytes.as_slice(), registry, &mut writer) {
+        Ok(()) => Ok(0),
+        Err(fault) => print_report(rt, &fault, grammar, ""),
+    }
+}
+
+/// The bytes of an open grammar file, if they can be read and are within the limit.
+fn grammar_bytes<R: AllocGlobal + Files, F: Read + Drop>(
+    rt: &R,
+    file: F,
+) -> Result<Option<Vec<u8>>, AllocError> {
+    match read_bytes(rt.alloc(), &mut Meter::new(file), READ_LIMIT) {
+        Ok(bytes) => Ok(Some(bytes)),
+        Err(ReadFault::Reader | ReadFault::TooLong) => Ok(None),
+        Err(ReadFault::Memory) => Err(AllocError),
     }
 }
 

@@ -11,13 +11,12 @@ ghost use Rattle.pg_grammar.specs.Fits.{Fits};
 ghost use Rattle.pg_tree.specs.Json.{json};
 ghost use Rattle.pg_tree.specs.Meter.{saturating_sum};
 ghost use Rattle.pg_tree.specs.Bytes.{AppendsFront};
-ghost use Rattle.pg_file.specs.Spells.{SpellsWithinLimits};
 ghost use Rattle.pg.specs.Parsed.{IsFileRefusal, IsTextOf, IsParsed, SpellsNone, IsRunnable, IsNotRun, ReadsText, IsReadRefusal, IsTextRefusal, IsWriteRefusal, IsBehindFile, IsBehindReader, IsFileFault, IsPartlyWritten, ComesBeforeWriting};
 
 use crate::fault::BenchFault;
+use crate::grammar_file::grammar_of;
 use crate::runner::run;
 use crate::running::runs;
-use pg_file::FileError;
 use pg_grammar::Grammar;
 use pg_pred::Registry;
 use pg_text::{LIMIT, Text, TextFault};
@@ -91,20 +90,6 @@ pub fn parse_bytes<R: Read, W: Write>(
     let bytes = read_text(alloc, reader)?;
     let forest = forest_of(alloc, &grammar, registry, bytes.as_slice())?;
     write_line(alloc, &forest, writer)
-}
-
-/// The grammar that the bytes of a file spell.
-fn grammar_of(alloc: Global, bytes: &[u8], registry: &Registry) -> Result<Grammar, BenchFault>
-    ensures ok { IfOk result (SpellsWithinLimits (offer_of registry.now) bytes.now) }
-    ensures fits { IfOk result (Fits (offer_of registry.now)) }
-    ensures err { IfErr result IsFileRefusal }
-    ensures none { IfErr result (λ fault. IsFileFault fault → SpellsNone (offer_of registry.now) bytes.now) }
-{
-    match pg_file::read(alloc, bytes, registry) {
-        Ok(grammar) => Ok(grammar),
-        Err(FileError::Fault(fault)) => Err(BenchFault::File(fault)),
-        Err(FileError::Memory) => Err(BenchFault::Memory),
-    }
 }
 
 /// All that the reader gives.

@@ -11,6 +11,8 @@ use std::alloc::{AllocError, Global};
 pub enum Request<'a> {
     /// Parse the text by the grammar, and print the forest.
     Parse { grammar: &'a str, text: &'a str },
+    /// Print the grammar in canonical form.
+    Print { grammar: &'a str },
 }
 
 /// The program's command line. Its texts call the program `pgw`, whatever its file is called.
@@ -21,7 +23,8 @@ pub fn command<'a>(alloc: Global) -> Result<Command<'a>, AllocError> {
         .about("Runs grammars of parser combinators on texts")
         .subcommand_required(true)
         .arg_required_else_help(true)
-        .subcommand(parse_command(alloc)?)
+        .subcommand(parse_command(alloc)?)?
+        .subcommand(print_command(alloc)?)
 }
 
 fn parse_command<'a>(alloc: Global) -> Result<Command<'a>, AllocError> {
@@ -29,6 +32,12 @@ fn parse_command<'a>(alloc: Global) -> Result<Command<'a>, AllocError> {
         .about("Parses a text by a grammar and prints the trees as JSON")
         .arg(file(alloc, "grammar", "The grammar file"))?
         .arg(file(alloc, "text", "The file with the text, in UTF-8"))
+}
+
+fn print_command<'a>(alloc: Global) -> Result<Command<'a>, AllocError> {
+    Command::new(alloc, "print")
+        .about("Prints a grammar file in canonical form")
+        .arg(file(alloc, "grammar", "The grammar file"))
 }
 
 /// A word that names a file, and that can't be left out.
@@ -46,6 +55,9 @@ pub fn request_of<'a>(matches: &ArgMatches<'a>) -> Option<Request<'a>> {
         "parse" => Some(Request::Parse {
             grammar: found.get_str("grammar")?,
             text: found.get_str("text")?,
+        }),
+        "print" => Some(Request::Print {
+            grammar: found.get_str("grammar")?,
         }),
         _ => None,
     }

@@ -4,6 +4,7 @@ ghost use Rattle.std.specs.Prelude.{◌≡◌, false};
 
 use crate::fault::BenchFault;
 use crate::parse::parse_bytes;
+use crate::print::print_bytes;
 use pg_class::Class;
 use pg_pred::{Builder, Predicate, Registry};
 use pg_tree::{Forest, Meter, Shape, Tree};
@@ -220,5 +221,19 @@ fn writes_nothing_where_a_builder_wants_memory(rt: HostRuntime) -> Result<(), Fa
     let outcome = parse_bytes(alloc, grammar, &registry, &mut reader, &mut writer);
     assert!(rt; matches!(outcome, Err(BenchFault::Memory)));
     assert!(rt; writer.into_inner().is_empty());
+    Ok(())
+}
+
+#[test]
+fn prints_the_canonical_form(rt: HostRuntime) -> Result<(), Fail> {
+    let alloc = rt.alloc();
+    let registry = Registry::new(Vec::new(alloc), Vec::new(alloc))?;
+    let mut writer = Meter::new(Vec::<u8>::new(alloc));
+    match print_bytes(alloc, b"a = many1(eof); start a;", &registry, &mut writer) {
+        Err(BenchFault::Memory) => Err(AllocError)?,
+        outcome => assert!(rt; outcome.is_ok()),
+    }
+    let wanted = b"start a;\na = seq(eof, many(eof));\n".as_slice();
+    assert!(rt; writer.into_inner().as_slice() == wanted);
     Ok(())
 }

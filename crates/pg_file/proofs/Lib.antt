@@ -3,3 +3,4 @@ pub mod ParserLemmas
 pub mod MeaningLemmas
 pub mod MakingLemmas
 pub mod ReadLemmas
+pub mod PrinterLemmas

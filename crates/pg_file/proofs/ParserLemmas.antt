@@ -7,8 +7,10 @@ pub mod Whole
 pub mod Classes
 pub mod Spelled
 pub mod Words
+pub mod ValueLists
 pub mod Values
 pub mod ValuesFound
 pub mod Items
+pub mod ItemsFound
 pub mod Texts
 pub mod Files

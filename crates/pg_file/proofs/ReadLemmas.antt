@@ -3,3 +3,4 @@ pub mod Good
 pub mod Few
 pub mod Fitting
 pub mod Spelled
+pub mod Unique

@@ -11,6 +11,7 @@ pub mod Entries
 pub mod Heads
 pub mod Words
 pub mod Reading
+pub mod ItemReading
 pub mod Given
 pub mod Limits
 pub mod Items
@@ -19,4 +20,7 @@ pub mod Meaning
 pub mod Bodies
 pub mod Spells
 pub mod Making
+pub mod Canonical
+pub mod Printed
+pub mod Levels
 pub mod Texts

@@ -13,6 +13,7 @@ ghost use Rattle.pg_grammar.specs.Grammar.{Grammar};
 ghost use Rattle.pg_file.specs.Given.{IsFault};
 ghost use Rattle.pg_file.specs.Spells.{SpellsWithinLimits, SpelledWithinDepth, IsAnswered};
 
+use crate::characters::characters_of;
 use crate::error::{ReadError, Unmade};
 use crate::fault::{FaultKind, FileError, FileFault};
 use crate::item::Item;
@@ -23,7 +24,7 @@ use crate::parser::read_items;
 use pg_grammar::Grammar;
 use pg_pred::Registry;
 use pg_text::position_in;
-use std::alloc::{AllocError, Global};
+use std::alloc::Global;
 
 /// The most bytes of a grammar file.
 const FILE_LIMIT: usize = 262_144;
@@ -45,11 +46,7 @@ pub fn read(alloc: Global, bytes: &[u8], registry: &Registry) -> Result<Grammar,
 }
 
 /// The same, with the place at which each node was written.
-pub fn read_placed(
-    alloc: Global,
-    bytes: &[u8],
-    registry: &Registry,
-) -> Result<PlacedGrammar, FileError>
+fn read_placed(alloc: Global, bytes: &[u8], registry: &Registry) -> Result<PlacedGrammar, FileError>
     ensures ok { IfOk result (λ read. SpellsWithinLimits (offer_of registry.now) bytes.now read.grammar) }
     ensures fits { IfOk result (λ read. Fits (offer_of registry.now) read.grammar) }
     ensures places { IfOk result (λ read. length read.places.items ≡ length read.grammar.nodes) }
@@ -160,10 +157,4 @@ fn fault_at(kind: FaultKind, characters: &[char], place: usize) -> FileError {
     let place = place.min(characters.len()).min(LAST_PLACE);
     let position = position_in(characters, place);
     FileError::Fault(FileFault { kind, position })
-}
-
-fn characters_of(alloc: Global, text: &str) -> Result<Vec<char>, AllocError>
-    ensures { IfOk result (λ characters. characters.items ≡ chars text.now) }
-{
-    text.chars().collect(alloc)
 }

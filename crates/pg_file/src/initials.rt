@@ -113,5 +113,5 @@ fn unread(_fault: MakerFault) -> ReadError {
 /// The class of one character.
 fn some_class(alloc: Global) -> Result<ClassExpression, AllocError> {
     let part = ClassPart::Range('x', 'x');
-    Ok(ClassExpression::new(vec![in alloc; part]?))
+    ClassExpression::new(alloc, vec![in alloc; part]?)
 }

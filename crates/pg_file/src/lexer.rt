@@ -5,8 +5,6 @@ mod escape;
 mod lexemes;
 mod literal;
 mod mark;
-#[cfg(test)]
-mod tests;
 mod word;
 
 pub use lexemes::{lex, lex_up_to};

@@ -6,21 +6,20 @@
 #![tactic(auto)]
 
 mod body;
+mod characters;
 mod error;
 mod fault;
 mod file;
-#[cfg(test)]
-mod file_support;
 mod handing;
 mod initials;
 mod item;
+mod laws;
 mod lexer;
 mod lookup;
 mod making;
-#[cfg(test)]
-mod meaning_tests;
 mod names;
 mod parser;
+mod printer;
 mod replacing;
 mod size;
 mod token;
@@ -28,5 +27,6 @@ mod words;
 mod written;
 
 pub use fault::{FaultKind, FileError, FileFault};
-pub use file::{read, read_placed};
-pub use making::PlacedGrammar;
+pub use file::read;
+pub use laws::{files_spell_one_grammar, prints_are_read_again, prints_spell_the_grammar};
+pub use printer::print;

@@ -11,6 +11,7 @@ ghost use Rattle.pg_file.specs.Names.{is_predicate_name, is_class_name, is_build
 ghost use Rattle.pg_file.specs.Bodies.{part_meant, parts_meant};
 ghost use Rattle.pg_file.specs.Meaning as meaning;
 
+use crate::characters::utf8;
 use crate::error::Unmade;
 use crate::written::{WrittenClass, WrittenPart};
 use pg_grammar::{BuilderUse, ClassExpression, ClassId, ClassPart, OperatorBuilders, PredicateUse};
@@ -24,17 +25,6 @@ pub fn copied(alloc: Global, text: &[char]) -> Result<Characters, AllocError>
     ensures { IfOk result (λ copy. copy ≡ text.now) }
 {
     Ok(Characters::new(Vec::from_slice(alloc, text)?))
-}
-
-/// The text with these characters.
-fn utf8(alloc: Global, characters: &[char]) -> Result<String, AllocError>
-    ensures { IfOk result (λ text. string_bytes text ≡ encode_utf8_all characters.now) }
-{
-    let mut text = String::new(alloc);
-    for c in characters {
-        text.push(*c)?;
-    }
-    Ok(text)
 }
 
 /// The label with these characters.
@@ -204,5 +194,5 @@ pub fn class_meant(
     ensures refused { IsErrOf result Unmade.Refused → ClassIsKnown (offer_of registry.now) classes.now class.now → ⊥ }
 {
     let parts = parts_meant(alloc, registry, classes, class.parts())?;
-    Ok(ClassExpression::new(parts))
+    Ok(ClassExpression::new(alloc, parts)?)
 }

@@ -117,24 +117,16 @@ fn item_fault<'a>(
             head,
             rest,
             ..
-        } => {
-            if !above.words.insert(name.as_slice())? {
-                return Ok(fault(FaultKind::NameTwice, *name_place));
-            }
-            classes_fault(alloc, registry, above, head, rest)
-        }
+        } => match twice(above.words.insert(name.as_slice())?, *name_place) {
+            None => classes_fault(alloc, registry, above, head, rest),
+            found => Ok(found),
+        },
         Item::Operators {
             class,
             gap,
             place,
             ..
-        } => {
-            if above.has_operators {
-                return Ok(fault(FaultKind::NameTwice, *place));
-            }
-            above.has_operators = true;
-            classes_fault(alloc, registry, above, class, gap)
-        }
+        } => operators_fault(alloc, registry, above, *place, class, gap),
         Item::Table {
             place,
             symbol_place,
@@ -144,23 +136,23 @@ fn item_fault<'a>(
             name,
             place,
             name_place,
-        } => {
-            if above.has_start {
-                return Ok(fault(FaultKind::NameTwice, *place));
-            }
-            above.has_start = true;
-            if defined.rules.contains(name.as_slice()) {
-                return Ok(None);
-            }
-            Ok(fault(FaultKind::NoStart, *name_place))
-        }
-        Item::Rule { name, place, body } => {
-            if !above.rules.insert(name.as_slice())? {
-                return Ok(fault(FaultKind::NameTwice, *place));
-            }
-            body_fault(alloc, registry, defined, above, body.as_slice())
-        }
+        } => Ok(start_fault(defined, above, name.as_slice(), *place, *name_place)),
+        Item::Rule { name, place, body } => match twice(
+            above.rules.insert(name.as_slice())?,
+            *place,
+        ) {
+            None => body_fault(alloc, registry, defined, above, body.as_slice()),
+            found => Ok(found),
+        },
     }
+}
+
+/// The fault of a name that isn't new.
+fn twice(is_new: bool, place: usize) -> Option<NameFault> {
+    if is_new {
+        return None;
+    }
+    fault(FaultKind::NameTwice, place)
 }
 
 /// The first fault of a class item; where it has none, its name stands above from then on.
@@ -232,6 +224,40 @@ fn class_fault(
         }
     }
     Ok(None)
+}
+
+/// The first fault of an operators item at this place, of which there may be one.
+fn operators_fault(
+    alloc: Global,
+    registry: &Registry,
+    above: &mut Above<'_>,
+    place: usize,
+    class: &PlacedClass,
+    gap: &PlacedClass,
+) -> Result<Option<NameFault>, AllocError> {
+    if above.has_operators {
+        return Ok(fault(FaultKind::NameTwice, place));
+    }
+    above.has_operators = true;
+    classes_fault(alloc, registry, above, class, gap)
+}
+
+/// The fault of a start item at this place, of which there may be one: it names no rule.
+fn start_fault<'a>(
+    defined: &Defined<'a>,
+    above: &mut Above<'_>,
+    name: &'a [char],
+    place: usize,
+    name_place: usize,
+) -> Option<NameFault> {
+    if above.has_start {
+        return fault(FaultKind::NameTwice, place);
+    }
+    above.has_start = true;
+    if defined.rules.contains(name) {
+        return None;
+    }
+    fault(FaultKind::NoStart, name_place)
 }
 
 /// The fault of a table item: there is no operators item, or its operator is the first that isn't admitted.

@@ -1,7 +1,8 @@
 //! The items of a grammar file, read from its tokens.
 //!
-//! `specs/Reading.antt` has the parser as functions on lists of tokens, and the code is held to them; that these read
-//! exactly what `specs/Syntax.antt` writes is proved apart from the code. Kinds and places of faults are tested alone.
+//! `specs/Reading.antt` and `specs/ItemReading.antt` have the parser as functions on lists of tokens, and the code is held
+//! to them; that these read exactly what `specs/Syntax.antt` writes is proved apart from the code. Kinds and places of
+//! faults are tested alone.
 
 mod class;
 mod front;
@@ -10,10 +11,6 @@ mod item;
 mod items;
 mod reserved;
 mod room;
-#[cfg(test)]
-pub mod showing;
-#[cfg(test)]
-mod tests;
 mod text;
 mod value;
 

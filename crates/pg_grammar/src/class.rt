@@ -14,6 +14,7 @@ use crate::used::PredicateUse;
 use pg_text::Characters;
 use std::alloc::{AllocError, Global};
 use std::marker::Model;
+use std::rc::Rc;
 
 /// One atom of a class expression, or a complement or union, which is of the whole expressions that stand next behind
 /// it (ours; the Parsec report of 2001 has `satisfy` over any test of a character).
@@ -33,28 +34,12 @@ pub enum ClassPart {
     Predicate(PredicateUse),
 }
 
-impl ClassPart {
-    fn copy(&self, alloc: Global) -> Result<ClassPart, AllocError>
-        ensures { IfOk result (λ part. part ≡ self.now) }
-    {
-        match self {
-            ClassPart::Literal(characters) => {
-                let characters = Vec::from_slice(alloc, characters.as_slice())?;
-                Ok(ClassPart::Literal(Characters::new(characters)))
-            }
-            ClassPart::Range(low, high) => Ok(ClassPart::Range(*low, *high)),
-            ClassPart::Union(count) => Ok(ClassPart::Union(*count)),
-            ClassPart::Complement => Ok(ClassPart::Complement),
-            ClassPart::Class(item) => Ok(ClassPart::Class(*item)),
-            ClassPart::Predicate(used) => Ok(ClassPart::Predicate(used.copy(alloc)?)),
-        }
-    }
-}
-
 /// A class expression, seen as the list of its atoms, complements and unions in preorder.
+///
+/// Copies share one list: short forms of a file stand for several forms with equal expressions, which may be long.
 #[derive(Debug, Drop)]
 pub struct ClassExpression {
-    parts: Vec<ClassPart>,
+    parts: Rc<Vec<ClassPart>>,
 }
 
 impl Model for ClassExpression {
@@ -64,18 +49,20 @@ impl Model for ClassExpression {
 
     ghost Value = { List ClassPart };
 
-    ghost view = { λ expression. expression.parts.items };
+    ghost view = { λ expression. expression.parts.value.items };
 
-    ghost invariant = { λ expression. IsExpression expression.parts.items };
+    ghost invariant = { λ expression. IsExpression expression.parts.value.items };
 }
 
 impl ClassExpression {
-    /// The expression that these parts spell, which the caller owes to be one whole expression. It takes no memory.
-    pub fn new(parts: Vec<ClassPart>) -> ClassExpression
+    /// The expression that these parts spell, which the caller owes to be one whole expression. The only error is that
+    /// memory ran out.
+    pub fn new(alloc: Global, parts: Vec<ClassPart>) -> Result<ClassExpression, AllocError>
         requires { IsExpression parts.items }
-        ensures { result ≡ parts.items }
+        ensures { IfOk result (λ expression. expression ≡ parts.items) }
     {
-        ClassExpression { parts }
+        let parts = Rc::new(alloc, parts)?;
+        Ok(ClassExpression { parts })
     }
 
     /// Its atoms, complements and unions in preorder, from left to right as a file writes them.
@@ -86,14 +73,11 @@ impl ClassExpression {
         self.parts.as_slice()
     }
 
-    /// An equal expression in memory of its own. The only error is that memory ran out.
-    pub fn copy(&self, alloc: Global) -> Result<ClassExpression, AllocError>
+    /// An equal expression, which shares its memory. The only error is that there are too many copies to be counted.
+    pub fn share(&self) -> Result<ClassExpression, AllocError>
         ensures { IfOk result (λ expression. expression ≡ self.now) }
     {
-        let mut parts = Vec::new(alloc);
-        for part in self.parts.as_slice() {
-            parts.push(part.copy(alloc)?)?;
-        }
+        let parts = self.parts.clone()?;
         Ok(ClassExpression { parts })
     }
 

@@ -129,7 +129,7 @@ impl BaseForm {
         ensures { IfOk result (λ form. form ≡ self.now) }
     {
         Ok(match self {
-            BaseForm::Satisfy(class) => BaseForm::Satisfy(class.copy(alloc)?),
+            BaseForm::Satisfy(class) => BaseForm::Satisfy(class.share()?),
             BaseForm::String(text) => BaseForm::String(copied(alloc, text)?),
             BaseForm::Seq(count) => BaseForm::Seq(*count),
             BaseForm::Choice(count) => BaseForm::Choice(*count),
@@ -137,12 +137,12 @@ impl BaseForm {
             BaseForm::ChainLeft(used) => BaseForm::ChainLeft(used.copy(alloc)?),
             BaseForm::ChainRight(used) => BaseForm::ChainRight(used.copy(alloc)?),
             BaseForm::Try => BaseForm::Try,
-            BaseForm::NotFollowedBy(class) => BaseForm::NotFollowedBy(class.copy(alloc)?),
+            BaseForm::NotFollowedBy(class) => BaseForm::NotFollowedBy(class.share()?),
             BaseForm::EndOfText => BaseForm::EndOfText,
             BaseForm::Word(name) => BaseForm::Word(copied(alloc, name)?),
             BaseForm::Rule(name) => BaseForm::Rule(copied(alloc, name)?),
             BaseForm::Expression(builders) => BaseForm::Expression(builders.copy(alloc)?),
-            BaseForm::Declare(class) => BaseForm::Declare(class.copy(alloc)?),
+            BaseForm::Declare(class) => BaseForm::Declare(class.share()?),
             BaseForm::Text => BaseForm::Text,
             BaseForm::Skip => BaseForm::Skip,
             BaseForm::Build(used, symbol) => {

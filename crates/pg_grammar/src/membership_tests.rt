@@ -18,7 +18,7 @@ fn grammar(alloc: Global) -> Result<Grammar, Fail> {
     let name = Label::new(String::from_str(alloc, "digit")?);
     let class = Class::from_ranges(alloc, &[('0', '9')])?;
     let digit = ClassPart::Predicate(PredicateUse { name, class });
-    let class = ClassExpression::new(vec![in alloc; ClassPart::Complement, digit]?);
+    let class = ClassExpression::new(alloc, vec![in alloc; ClassPart::Complement, digit]?)?;
     let mut maker = Maker::new(alloc);
     maker.rule(word(alloc, "a")?, vec![in alloc; BaseForm::Satisfy(class)]?)?;
     maker.start(word(alloc, "a")?)?;

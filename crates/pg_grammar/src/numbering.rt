@@ -69,7 +69,7 @@ fn node_of(
     ensures { IfOk result (λ node. node ≡ node_of names.now (map word_name words.now) form.now parts) }
 {
     match form {
-        BaseForm::Satisfy(class) => Ok(Node::Satisfy(class.copy(alloc)?)),
+        BaseForm::Satisfy(class) => Ok(Node::Satisfy(class.share()?)),
         BaseForm::String(text) => Ok(Node::String(copied(alloc, text)?)),
         BaseForm::Seq(_) => Ok(Node::Seq(parts)),
         BaseForm::Choice(_) => Ok(Node::Choice(parts)),
@@ -83,7 +83,7 @@ fn node_of(
             Ok(Node::ChainRight(used, first_part(&parts), second_part(&parts)))
         }
         BaseForm::Try => Ok(Node::Try(first_part(&parts))),
-        BaseForm::NotFollowedBy(class) => Ok(Node::NotFollowedBy(class.copy(alloc)?)),
+        BaseForm::NotFollowedBy(class) => Ok(Node::NotFollowedBy(class.share()?)),
         BaseForm::EndOfText => Ok(Node::EndOfText),
         BaseForm::Word(name) => {
             let number = place_of_word(words, name.as_slice()).unwrap_or(0);
@@ -96,7 +96,7 @@ fn node_of(
         BaseForm::Expression(builders) => {
             Ok(Node::Expression(builders.copy(alloc)?, first_part(&parts)))
         }
-        BaseForm::Declare(class) => Ok(Node::Declare(class.copy(alloc)?)),
+        BaseForm::Declare(class) => Ok(Node::Declare(class.share()?)),
         BaseForm::Text => Ok(Node::Text(first_part(&parts))),
         BaseForm::Skip => Ok(Node::Skip(first_part(&parts))),
         BaseForm::Build(used, symbol) => {

@@ -31,8 +31,8 @@ impl OperatorsItem {
         ensures { IfOk result (λ item. item ≡ self.now) }
     {
         Ok(OperatorsItem {
-            class: self.class.copy(alloc)?,
-            gap: self.gap.copy(alloc)?,
+            class: self.class.share()?,
+            gap: self.gap.share()?,
             reserved: self.reserved.copy(alloc)?,
             max: self.max,
         })

@@ -33,7 +33,7 @@ pub(crate) fn run_of(alloc: Global, count: usize) -> Result<Characters, AllocErr
 pub(crate) fn digit(alloc: Global) -> Result<Vec<BaseForm>, AllocError>
     ensures { IfOk result (λ body. IsBody body.items) }
 {
-    let class = ClassExpression::new(vec![in alloc; ClassPart::Range('0', '9')]?);
+    let class = ClassExpression::new(alloc, vec![in alloc; ClassPart::Range('0', '9')]?)?;
     Ok(vec![in alloc; BaseForm::Satisfy(class)]?)
 }
 
@@ -60,11 +60,11 @@ pub(crate) fn alone(
 {
     match kind {
         Kind::Literal => {
-            let class = ClassExpression::new(vec![in alloc; ClassPart::Literal(text)]?);
+            let class = ClassExpression::new(alloc, vec![in alloc; ClassPart::Literal(text)]?)?;
             Ok(vec![in alloc; BaseForm::Satisfy(class)]?)
         }
         Kind::Descending => {
-            let class = ClassExpression::new(vec![in alloc; ClassPart::Range('9', '0')]?);
+            let class = ClassExpression::new(alloc, vec![in alloc; ClassPart::Range('9', '0')]?)?;
             Ok(vec![in alloc; BaseForm::Satisfy(class)]?)
         }
         Kind::String => Ok(vec![in alloc; BaseForm::String(text)]?),

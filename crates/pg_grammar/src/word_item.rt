@@ -32,8 +32,8 @@ impl WordItem {
     {
         Ok(WordItem {
             name: Characters::new(Vec::from_slice(alloc, self.name.as_slice())?),
-            head: self.head.copy(alloc)?,
-            rest: self.rest.copy(alloc)?,
+            head: self.head.share()?,
+            rest: self.rest.share()?,
             reserved: self.reserved.copy(alloc)?,
         })
     }

@@ -32,7 +32,7 @@ fn declared(alloc: Global, role: Role, symbol: Symbol) -> Result<Decl, AllocErro
 /// The class of one character.
 fn class_of(alloc: Global, c: char) -> Result<ClassExpression, AllocError> {
     let part = ClassPart::Literal(spelled(alloc, (0, c))?);
-    Ok(ClassExpression::new(vec![in alloc; part]?))
+    ClassExpression::new(alloc, vec![in alloc; part]?)
 }
 
 /// A grammar with these initial declarations. Its tables may hold so many operators; `=`, and `=` behind 16 times `x`, are

@@ -18,11 +18,13 @@ use Rattle.pg_file.specs.Bodies.{counted, body_size}
 use Rattle.pg_file.specs.Limits.{class_count, word_count, rule_count, node_count, KeepWithin, full_room, room_behind}
 use Rattle.pg_file.specs.Given.{Fails}
 use Rattle.pg_file.specs.Items.{IsShallow, AreItems, OnlyItems, FaultyItems}
-use Rattle.pg_file.specs.Reading.{◌>>=◌, mark_at, item_at, turn_at, items_with, items_at, file_at}
+use Rattle.pg_file.specs.Reading.{◌>>=◌, mark_at}
+use Rattle.pg_file.specs.ItemReading.{item_at, turn_at, items_with, items_at, file_at}
 use Rattle.pg_file.proofs.ParserLemmas.Steps.{bind_some, some_is, guard_some, mark_is}
 use Rattle.pg_file.proofs.ParserLemmas.Classes.{longer_class}
 use Rattle.pg_file.proofs.ParserLemmas.ValuesFound.{longer}
-use Rattle.pg_file.proofs.ParserLemmas.Items.{IsItem, item_sound, item_complete}
+use Rattle.pg_file.proofs.ParserLemmas.Items.{IsItem, item_sound}
+use Rattle.pg_file.proofs.ParserLemmas.ItemsFound.{item_complete}
 
 -- ---- room
 
@@ -233,7 +235,7 @@ items_complete (item ∷ items) (suc n) room p d k le =
     let ih = items_complete items n r.left p.1 d.1 r.keep enough in
     turn_first n room (item_written item rest) some ∙ rw (item_complete item rest p.0 d.0, r.is, ih) refl
 
-file_complete : (ts : List Token) (es : List Entry) → AreItems ts es → file_at ts ≡ Some es
+pub file_complete : (ts : List Token) (es : List Entry) → AreItems ts es → file_at ts ≡ Some es
 file_complete ts es h =
     let enough : length (file_written h.items) ≤ length (file_written h.items) = omega arith in
     ap (λ (us : List Token). file_at us) h.written ∙ items_complete h.items (length (file_written h.items)) full_room h.proper h.shallow h.few enough ∙ ap (λ (l : List Entry). Some l) (sym h.meant)

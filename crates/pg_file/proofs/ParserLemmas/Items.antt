@@ -1,27 +1,26 @@
--- An item that is read is written so, and one that is written is read.
-use Rattle.std.proofs.Common.{◌≡◌, ℕ, ◌≤◌, Bool, true, false, ◌&&◌, cond, leb, leb-true, le-leb, List, [], ◌∷◌, Option, Some, None, refl, sym, ap, subst, ◌∙◌, inl, inr, arith}
-use Rattle.std.proofs.Math.Nat.{le-max_left, le-max_right, max-le}
+-- An item that is read is written so.
+use Rattle.std.proofs.Common.{◌≡◌, ℕ, ◌≤◌, Bool, true, false, ◌&&◌, cond, leb, leb-true, List, [], ◌∷◌, Option, Some, None, refl, sym, ap, subst, ◌∙◌, inl, inr, arith}
+use Rattle.std.proofs.Math.Nat.{max-le}
 use Rattle.std.specs.Prelude.{codes}
 use Rattle.std.specs.List.{AllByRecursion}
 use Rattle.std.specs.Str.{bytes_eq}
-use Rattle.pg_file.specs.declared.token.Mark.TheVariants.{Equals, Semicolon, Dots, Bar}
+use Rattle.pg_file.specs.declared.token.Mark.TheVariants.{Equals, Semicolon}
 use Rattle.pg_file.specs.Lexical.{passes}
 use Rattle.pg_file.specs.Tokens.{Token, name, number, literal, mark, wrong, bad}
 use Rattle.pg_file.specs.Tree.{Item, Class_item, Word_item, Operators, Table, Start, Rule_item}
 use Rattle.pg_file.specs.Syntax.{role_word, class_written, written, literals_written, reserved_written, most_written, item_written}
-use Rattle.pg_file.specs.Proper.{is_reserved, is_decimal, IsFreeName, IsFilled, value_of, IsNumber, IsMost, IsProperItem}
-use Rattle.pg_file.specs.Depth.{class_depth}
+use Rattle.pg_file.specs.Proper.{is_decimal, IsFreeName, IsFilled, value_of, IsNumber, IsMost, IsProperItem}
 use Rattle.pg_file.specs.Heads.{class_parts, most_of, entry_of_item}
 use Rattle.pg_file.specs.Entries as entry
 use Rattle.pg_file.specs.Entries.{Entry}
 use Rattle.pg_file.specs.Items.{IsShallow}
 use Rattle.pg_file.specs.Words.{role_named}
-use Rattle.pg_file.specs.Reading.{◌>>=◌, mark_at, word_at, name_at, literal_at, number_at, free_name, filled_text, value_within, value_between, with_first, class_at, value_at, free_name_at, filled_at, literals_at, reserved_with, reserved_at, most_with, most_at, class_item_at, word_item_at, operators_at, table_at, start_at, rule_at, item_named_at, item_at}
-use Rattle.pg_file.proofs.ParserLemmas.Steps.{bind_some, some_is, chosen, guard_some, mark_is, name_is, literal_is, number_is, word_at_is, filled_text_is, free_name_is, word_is, free_name_found, filled_text_found, free_isnt}
-use Rattle.pg_file.proofs.ParserLemmas.Classes.{class_sound, class_complete}
-use Rattle.pg_file.proofs.ParserLemmas.Words.{role_named_is, role_found}
+use Rattle.pg_file.specs.Reading.{◌>>=◌, mark_at, word_at, name_at, literal_at, number_at, free_name, filled_text, value_within, value_between, with_first, class_at, value_at}
+use Rattle.pg_file.specs.ItemReading.{free_name_at, filled_at, literals_at, reserved_with, reserved_at, most_with, most_at, class_item_at, word_item_at, operators_at, table_at, start_at, rule_at, item_named_at, item_at}
+use Rattle.pg_file.proofs.ParserLemmas.Steps.{bind_some, some_is, chosen, guard_some, mark_is, name_is, literal_is, number_is, word_at_is, filled_text_is, free_name_is, word_is}
+use Rattle.pg_file.proofs.ParserLemmas.Classes.{class_sound}
+use Rattle.pg_file.proofs.ParserLemmas.Words.{role_named_is}
 use Rattle.pg_file.proofs.ParserLemmas.Values.{value_sound}
-use Rattle.pg_file.proofs.ParserLemmas.ValuesFound.{value_complete}
 
 -- ---- names, literals and numbers that are read
 
@@ -52,10 +51,6 @@ within_is high s n e =
     let h = both (passes is_decimal s) (leb (value_of s) high) g.0 in
     (some_is (value_of s) n g.1, h.0, leb-true (value_of s) high h.1)
 
-within_found : (high : ℕ) (s : List ℕ) → passes is_decimal s ≡ true → value_of s ≤ high → value_within high s ≡ Some (value_of s)
-unfolding value_within
-within_found high s d le = rw (d, le-leb (value_of s) high le) refl
-
 between_is : (low high : ℕ) (s : List ℕ) (n : ℕ) → value_between low high s ≡ Some n → (value_of s ≡ n) × IsNumber low high s
 between_is low high s n e =
     let a = bind_some (value_within high s) (λ m. cond (leb low m) (Some m) None) n e in
@@ -63,9 +58,6 @@ between_is low high s n e =
     let w = within_is high s a.0 a.1 in
     let least : low ≤ a.0 = leb-true low a.0 g.0 in
     (w.0 ∙ some_is a.0 n g.1, record { all_digits = w.1; above = subst (λ (m : ℕ). low ≤ m) (sym w.0) least; below = w.2 })
-
-between_found : (low high : ℕ) (s : List ℕ) → IsNumber low high s → value_between low high s ≡ Some (value_of s)
-between_found low high s h = rw (within_found high s h.all_digits h.below, le-leb low (value_of s) h.above) refl
 
 -- ---- reserved texts
 
@@ -104,15 +96,6 @@ reserved_with_sound ts (Some behind) x w e =
 reserved_sound : (ts : List Token) (x : List (List ℕ) × List Token) → reserved_at ts ≡ Some x → AreReserved ts x
 reserved_sound ts x e = reserved_with_sound ts (word_at (codes "reserved") ts) x refl e
 
-literals_complete : (texts : List (List ℕ)) (rest : List Token) → AllByRecursion IsFilled texts → literals_at rest ≡ Some ([], rest) → literals_at (literals_written texts rest) ≡ Some (texts, rest)
-unfolding literals_at
-literals_complete [] rest p e = e
-literals_complete (s ∷ texts) rest p e = rw (filled_text_found s p.0, literals_complete texts rest p.1 e) refl
-
-reserved_complete : (texts : List (List ℕ)) (rest : List Token) → AllByRecursion IsFilled texts → literals_at rest ≡ Some ([], rest) → word_at (codes "reserved") rest ≡ None → reserved_at (reserved_written texts rest) ≡ Some (texts, rest)
-reserved_complete [] rest p e w = rw w refl
-reserved_complete (s ∷ texts) rest p e w = rw (filled_text_found s p.0, literals_complete texts rest p.1 e) refl
-
 -- ---- the most operators
 
 record IsMostAt (ts : List Token) (x : Option ℕ × List Token) : Type 0 where
@@ -136,10 +119,6 @@ most_with_sound ts (Some behind) x w e =
 
 most_sound : (ts : List Token) (x : Option ℕ × List Token) → most_at ts ≡ Some x → IsMostAt ts x
 most_sound ts x e = most_with_sound ts (word_at (codes "max") ts) x refl e
-
-most_complete : (digits : Option (List ℕ)) (rest : List Token) → IsMost digits → word_at (codes "max") rest ≡ None → most_at (most_written digits rest) ≡ Some (most_of digits, rest)
-most_complete None rest p w = rw w refl
-most_complete (Some digits) rest p w = rw (between_found 1 64 digits p) refl
 
 -- ---- items that are read
 
@@ -282,85 +261,3 @@ pub item_sound : (ts rest : List Token) (x : Entry × List Token) → item_at ts
 item_sound ts rest x e ends =
     let a = bind_some (name_at ts) (λ s. item_named_at s.0 s.1) x e in
     subst (λ (us : List Token). IsItem us x.0 rest) (sym (name_is ts a.0 a.1)) (item_named_sound a.0.0 a.0.1 x a.2 rest ends)
-
--- ---- items that are written
-
-reserved_stops : (texts : List (List ℕ)) (rest : List Token) → mark_at Dots rest ≡ None → mark_at Bar rest ≡ None → (mark_at Dots (reserved_written texts rest) ≡ None) × (mark_at Bar (reserved_written texts rest) ≡ None)
-reserved_stops [] rest d b = (d, b)
-reserved_stops (s ∷ texts) rest d b = (refl, refl)
-
--- behind the reserved texts: the most operators, or the semicolon
-abbrev tail : Option (List ℕ) → List Token → List Token
-tail most rest = most_written most (mark Semicolon ∷ rest)
-
-tail_stops : (most : Option (List ℕ)) (rest : List Token) → (mark_at Dots (tail most rest) ≡ None) × (mark_at Bar (tail most rest) ≡ None)
-tail_stops None rest = (refl, refl)
-tail_stops (Some digits) rest = (refl, refl)
-
-tail_literals : (most : Option (List ℕ)) (rest : List Token) → literals_at (tail most rest) ≡ Some ([], tail most rest)
-unfolding literals_at
-tail_literals None rest = refl
-tail_literals (Some digits) rest = refl
-
-tail_reserved : (most : Option (List ℕ)) (rest : List Token) → word_at (codes "reserved") (tail most rest) ≡ None
-tail_reserved None rest = refl
-tail_reserved (Some digits) rest = refl
-
-class_reserved : is_reserved (codes "class") ≡ true
-unfolding is_reserved
-class_reserved = refl
-
-word_reserved : is_reserved (codes "word") ≡ true
-unfolding is_reserved
-word_reserved = refl
-
-operators_reserved : is_reserved (codes "operators") ≡ true
-unfolding is_reserved
-operators_reserved = refl
-
-table_reserved : is_reserved (codes "table") ≡ true
-unfolding is_reserved
-table_reserved = refl
-
-start_reserved : is_reserved (codes "start") ≡ true
-unfolding is_reserved
-start_reserved = refl
-
-abbrev ended : Entry → List Token → Option (Entry × List Token)
-ended e rest = Some (e, mark Semicolon ∷ rest)
-
--- an item that is written is read, up to its semicolon
-pub item_complete : (item : Item) (rest : List Token) → IsProperItem item → IsShallow item → item_at (item_written item rest) ≡ ended (entry_of_item item) rest
-unfolding item_named_at
-item_complete (Class_item s c) rest p d = rw (free_name_found s p.0, class_complete 64 c (mark Semicolon ∷ rest) (refl, refl) (p.1, d)) refl
-item_complete (Word_item s h c texts) rest p d =
-    let first : class_depth h ≤ 64 = omega (arith, d, le-max_left (class_depth h) (class_depth c)) in
-    let second : class_depth c ≤ 64 = omega (arith, d, le-max_right (class_depth h) (class_depth c)) in
-    rw (
-      free_name_found s p.0,
-      class_complete 64 h (name (codes "rest") ∷ class_written c (reserved_written texts (mark Semicolon ∷ rest))) (refl, refl) (p.1, first),
-      class_complete 64 c (reserved_written texts (mark Semicolon ∷ rest)) (reserved_stops texts (mark Semicolon ∷ rest) refl refl) (p.2, second),
-      reserved_complete texts (mark Semicolon ∷ rest) p.3 (tail_literals None rest) refl,
-    ) refl
-item_complete (Operators c g texts most) rest p d =
-    let first : class_depth c ≤ 64 = omega (arith, d, le-max_left (class_depth c) (class_depth g)) in
-    let second : class_depth g ≤ 64 = omega (arith, d, le-max_right (class_depth c) (class_depth g)) in
-    let stops = tail_stops most rest in
-    rw (
-      class_complete 64 c (name (codes "gap") ∷ class_written g (reserved_written texts (tail most rest))) (refl, refl) (p.0, first),
-      class_complete 64 g (reserved_written texts (tail most rest)) (reserved_stops texts (tail most rest) stops.0 stops.1) (p.1, second),
-      reserved_complete texts (tail most rest) p.2 (tail_literals most rest) (tail_reserved most rest),
-      most_complete most (mark Semicolon ∷ rest) p.3 refl,
-    ) refl
-item_complete (Table role precedence symbol) rest p d = rw (role_found role, within_found 9 precedence p.0.all_digits p.0.below, filled_text_found symbol p.1) refl
-item_complete (Start s) rest p d = rw (free_name_found s p) refl
-item_complete (Rule_item s v) rest p d =
-    rw (
-      free_isnt s (codes "class") p.0 class_reserved,
-      free_isnt s (codes "word") p.0 word_reserved,
-      free_isnt s (codes "operators") p.0 operators_reserved,
-      free_isnt s (codes "table") p.0 table_reserved,
-      free_isnt s (codes "start") p.0 start_reserved,
-      free_name_found s p.0,
-      value_complete 64 v (mark Semicolon ∷ rest) tt (p.1, d),
-    ) refl

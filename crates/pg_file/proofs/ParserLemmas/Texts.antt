@@ -7,7 +7,8 @@ use Rattle.pg_file.specs.declared.error.ReadError.TheVariants.{Memory, Fault}
 use Rattle.pg_file.specs.Tokens.{Token, name, number, literal, mark, wrong, bad}
 use Rattle.pg_file.specs.View.{tokens_of}
 use Rattle.pg_file.specs.Given.{Fails}
-use Rattle.pg_file.specs.Reading.{◌>>=◌, filled_text, filled_at, has_literal, literals_at, with_first}
+use Rattle.pg_file.specs.Reading.{◌>>=◌, filled_text, with_first}
+use Rattle.pg_file.specs.ItemReading.{filled_at, has_literal, literals_at}
 use Rattle.pg_file.proofs.ParserLemmas.Steps.{bind_some, some_is}
 use Rattle.pg_file.proofs.ParserLemmas.Loop.{tokens_len, with_front, regroup}
 use Rattle.pg_file.proofs.ParserLemmas.Items.{filled_at_is}

@@ -19,7 +19,7 @@ use Rattle.pg_file.proofs.ParserLemmas.Steps.{short_name_found, free_name_found,
 use Rattle.pg_file.proofs.ParserLemmas.Parts.{Complete, some_complete, some_long}
 use Rattle.pg_file.proofs.ParserLemmas.Classes.{classes, class_complete, longer_class}
 use Rattle.pg_file.proofs.ParserLemmas.Words.{word_text, form_word_found, form_isnt_end, free_no_form, end_reserved}
-use Rattle.pg_file.proofs.ParserLemmas.Values.{values, list_of, same_more, same_count, same_heads, one_by_one}
+use Rattle.pg_file.proofs.ParserLemmas.ValueLists.{values, list_of, same_more, same_count, same_heads, one_by_one}
 
 -- ---- what is written takes tokens
 

@@ -6,7 +6,7 @@ ghost use Rattle.std.specs.Prelude.{◌≡◌};
 ghost use Rattle.pg_file.specs.View.{tokens_of};
 ghost use Rattle.pg_file.specs.Entries.{entry_of};
 ghost use Rattle.pg_file.specs.Given.{Gives};
-ghost use Rattle.pg_file.specs.Reading.{class_item_at, word_item_at, operators_at, table_at, start_at, rule_at, item_at, item_named_at};
+ghost use Rattle.pg_file.specs.ItemReading.{class_item_at, word_item_at, operators_at, table_at, start_at, rule_at, item_at, item_named_at};
 
 use super::class::placed_class;
 use super::front::{expect_mark, expect_word, name, number, unexpected};
@@ -139,7 +139,7 @@ fn rule<'a>(
 }
 
 /// The item that a name at a place begins.
-#[tactic(auto, unfolding(crate::specs::Reading::item_named_at))]
+#[tactic(auto, unfolding(crate::specs::ItemReading::item_named_at))]
 fn item_named<'a>(
     alloc: Global,
     name: &[char],

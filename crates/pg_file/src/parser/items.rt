@@ -7,7 +7,7 @@ ghost use Rattle.pg_file.specs.View.{tokens_of};
 ghost use Rattle.pg_file.specs.Entries.{entry_of, entries_of};
 ghost use Rattle.pg_file.specs.Items.{AreItems, OnlyItems, FaultyItems};
 ghost use Rattle.pg_file.specs.Given.{Gives};
-ghost use Rattle.pg_file.specs.Reading.{turn_at, file_at};
+ghost use Rattle.pg_file.specs.ItemReading.{turn_at, file_at};
 
 use super::front::expect_mark;
 use super::item::item;

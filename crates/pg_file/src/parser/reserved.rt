@@ -3,7 +3,7 @@
 ghost use Rattle.std.specs.Prelude.{◌≡◌};
 ghost use Rattle.pg_file.specs.View.{tokens_of};
 ghost use Rattle.pg_file.specs.Given.{Gives};
-ghost use Rattle.pg_file.specs.Reading.{has_literal, literals_at, reserved_at, most_at};
+ghost use Rattle.pg_file.specs.ItemReading.{has_literal, literals_at, reserved_at, most_at};
 
 use super::front::{behind_word, number};
 use super::text::{filled_at, value_between};

@@ -6,6 +6,7 @@ ghost use Rattle.std.specs.Prelude.{◌≡◌, ◌≤◌, IfOk};
 ghost use Rattle.pg_file.specs.View.{tokens_of};
 ghost use Rattle.pg_file.specs.Given.{Gives};
 ghost use Rattle.pg_file.specs.Reading as reading;
+ghost use Rattle.pg_file.specs.ItemReading as item_reading;
 
 use super::front::{literal, name};
 use crate::error::ReadError;
@@ -69,7 +70,7 @@ pub fn free_name_at(
     alloc: Global,
     tokens: &[Lexeme],
 ) -> Result<(Characters, usize, &[Lexeme]), ReadError>
-    ensures { Gives (λ x. (x.0, tokens_of x.2.now)) result (reading.free_name_at (tokens_of tokens.now)) }
+    ensures { Gives (λ x. (x.0, tokens_of x.2.now)) result (item_reading.free_name_at (tokens_of tokens.now)) }
 {
     let (text, place, rest) = name(tokens)?;
     Ok((free_name(alloc, text, place)?, place, rest))
@@ -80,7 +81,7 @@ pub fn filled_at(
     alloc: Global,
     tokens: &[Lexeme],
 ) -> Result<(Characters, usize, &[Lexeme]), ReadError>
-    ensures { Gives (λ x. (x.0, tokens_of x.2.now)) result (reading.filled_at (tokens_of tokens.now)) }
+    ensures { Gives (λ x. (x.0, tokens_of x.2.now)) result (item_reading.filled_at (tokens_of tokens.now)) }
 {
     let (text, place, rest) = literal(tokens)?;
     Ok((filled_text(alloc, text, place)?, place, rest))

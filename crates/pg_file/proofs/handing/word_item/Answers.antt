@@ -20,7 +20,7 @@ returns-in-Err-clause-refused g c = λ refused entries grammar may says.
 
 pub returns-in-Ok-clause-follows : goal.returns-in-Ok-clause-follows
 returns-in-Ok-clause-follows g c =
-    let item : WordItem = record { name = c.in_ok-name.name; head = c.head_parts.inside.parts.items; rest = c.rest_parts.inside.parts.items; reserved = c.in_ok-texts.field-0 } in
+    let item : WordItem = record { name = c.in_ok-name.name; head = c.head_parts.inside.parts.value.items; rest = c.rest_parts.inside.parts.value.items; reserved = c.in_ok-texts.field-0 } in
     let none : word_fault c.args.maker.now item ≡ None = no_fault _ _ _ c.in-Ok.ensures.refused in
     let name = c.in_ok-name.ensures ∙ c.as_slice.ensures in
     record {

@@ -1,7 +1,7 @@
 use Rattle.std.proofs.Common.{length}
 use Rattle.pg_file.specs.View.{tokens_of}
 use Rattle.pg_file.specs.Entries.{entries_of}
-use Rattle.pg_file.specs.Reading.{file_at}
+use Rattle.pg_file.specs.ItemReading.{file_at}
 use Rattle.pg_file.proofs.ParserLemmas.Files.{ItemsLeft}
 use Rattle.pg_file.proofs.parser.items.all_items.Given as goal
 

@@ -1,6 +1,6 @@
 use Rattle.std.proofs.Common.{◌≡◌, length}
 use Rattle.pg_file.specs.View.{tokens_of}
-use Rattle.pg_file.specs.Reading.{literals_at}
+use Rattle.pg_file.specs.ItemReading.{literals_at}
 use Rattle.pg_file.proofs.ParserLemmas.Loop.{with_front}
 use Rattle.pg_file.proofs.parser.reserved.literals.Given as goal
 
