@@ -1,0 +1,69 @@
+-- The errors of answers.
+use Rattle.std.specs.Prelude.{ℕ, List, [], ◌∷◌, Option, Some, None, slice_get}
+use Rattle.std.specs.Str.{encode_utf8_all}
+use Rattle.pg_text.specs.Position.{position_of, start}
+use Rattle.pg_text.specs.declared.position.Pos.{Pos}
+use Rattle.pg_message.specs.Errors.{merged, labelled}
+use Rattle.pg_message.specs.Messages.{Text, Messages, no_messages}
+use Rattle.pg_message.specs.declared.answer.AnswerKind.{AnswerKind}
+use Rattle.pg_message.specs.declared.error.ParseError.{ParseError}
+use Rattle.pg_tree.specs.Json.{quoted}
+
+-- an error's place and its messages: its position follows from the text
+pub record Error : Type 0 where
+  pub place : ℕ
+  pub messages : Messages
+
+abbrev pub with_position : Pos → Error → ParseError
+with_position position e = record { place = e.place; position = position; messages = e.messages }
+
+abbrev pub without_position : ParseError → Error
+without_position e = record { place = e.place; messages = e.messages }
+
+-- the error as it stands in a text
+abbrev pub in_text : List ℕ → Error → ParseError
+in_text text e = with_position (position_of text e.place) e
+
+-- two errors merged, in which positions have no part
+abbrev pub merge : Error → Error → Error
+merge one other = without_position (merged (with_position start one) (with_position start other))
+
+-- the error of a labelled parser that answered so
+abbrev pub relabel : AnswerKind → Text → Error → Error
+relabel kind name e = without_position (labelled (with_position start e) kind name)
+
+-- ---- what is said
+
+-- the characters in double quotes
+abbrev pub quote : List ℕ → Text
+quote characters = quoted (encode_utf8_all characters)
+
+-- the character that comes next, or the empty text for the end
+abbrev pub next_text : Option ℕ → Text
+next_text None = []
+next_text (Some c) = quote (c ∷ [])
+
+-- what stands at a place
+abbrev pub seen_at : List ℕ → ℕ → Text
+seen_at text i = next_text (slice_get text i)
+
+abbrev pub nothing_said : ℕ → Error
+nothing_said i = record { place = i; messages = no_messages }
+
+-- what was seen is all that is said
+abbrev pub stopped_by : Text → ℕ → Error
+stopped_by seen i = record { place = i; messages = record no_messages { system_unexpected = seen ∷ [] } }
+
+-- the same, and this was expected
+abbrev pub stopped_before : Text → Text → ℕ → Error
+stopped_before expected seen i =
+    record { place = i; messages = record no_messages { system_unexpected = seen ∷ []; expected = expected ∷ [] } }
+
+-- a parser's own word for what it doesn't take
+abbrev pub refused : Text → ℕ → Error
+refused unexpected i = record { place = i; messages = record no_messages { unexpected = unexpected ∷ [] } }
+
+-- the same, and this was expected
+abbrev pub refused_before : Text → Text → ℕ → Error
+refused_before expected unexpected i =
+    record { place = i; messages = record no_messages { unexpected = unexpected ∷ []; expected = expected ∷ [] } }

@@ -1,0 +1,4 @@
+pub mod TextLists
+pub mod Merging
+pub mod Nothing
+pub mod Repeats

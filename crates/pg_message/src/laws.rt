@@ -1,0 +1,33 @@
+//! What is so of every error, beyond what a single call says.
+//!
+//! A law is a function that does nothing when it runs: its clause is the law, and whoever calls it has the clause.
+
+ghost use Rattle.std.specs.Prelude.{◌≡◌, ◌≤◌, true};
+ghost use Rattle.pg_message.specs.Messages.{Text, Messages, is_empty, with_messages, with_repeats};
+ghost use Rattle.pg_message.specs.Errors.{merged};
+ghost use Rattle.pg_message.specs.Printed.{printed};
+ghost use Rattle.pg_message.specs.declared.error.ParseError.{ParseError};
+
+/// The law that merging is associative: errors may be merged as the answers come, or later ones first.
+pub fn merging_is_associative()
+    ensures { (first second third : ParseError) →
+        merged first (merged second third) ≡ merged (merged first second) third }
+{}
+
+/// The law that an error without messages changes none that stands at its place or behind it, from either side. At one
+/// place the positions have to be equal, as they are in one text.
+pub fn errors_without_messages_change_nothing()
+    ensures behind { (error nothing : ParseError) → is_empty nothing.messages ≡ true →
+        nothing.place ≤ error.place → merged error nothing ≡ error }
+    ensures before { (error nothing : ParseError) → is_empty nothing.messages ≡ true →
+        nothing.place ≤ error.place → (nothing.place ≡ error.place → nothing.position ≡ error.position) →
+        merged nothing error ≡ error }
+{}
+
+/// The law that repeats aren't printed: an error that leaves out the texts that it has already prints as one that says
+/// them again, which is how Text.Parsec.Error merges.
+pub fn repeats_are_not_printed()
+    ensures { (error : ParseError) (more : Messages) (name : Text) →
+        printed (record error { messages = with_messages error.messages more }) name ≡
+        printed (record error { messages = with_repeats error.messages more }) name }
+{}
