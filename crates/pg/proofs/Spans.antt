@@ -7,7 +7,8 @@ use Rattle.std.specs.List.{AllByRecursion}
 use Rattle.pg_pred.specs.Offer.{Offer}
 use Rattle.pg_grammar.specs.Fits.{NodeFits, Fits}
 use Rattle.pg_grammar.specs.Grammar.{Grammar}
-use Rattle.pg_table.specs.Trails.{Item, alt}
+use Rattle.pg_grammar.specs.declared.trail.TrailItem.{TrailItem}
+use Rattle.pg_grammar.specs.declared.trail.TrailItem.TheVariants.{Alt}
 use Rattle.pg_table.specs.Derives.{Spot, Derives, DerivesParts, at_node, satisfy, string, seq, choice, skip, build, rule, no_part, first_part, leaf_of}
 use Rattle.pg_grammar.specs.declared.class.ClassPart.{ClassPart}
 use Rattle.pg_grammar.specs.declared.form.Node.{Node}
@@ -56,12 +57,12 @@ string_spans g text p place characters o e =
     o
 
 pub seq_derives : (g : Grammar) (text : List ℕ) (p from end : ℕ) (parts : List ℕ) (forest : List Tree) → slice_get g.nodes p ≡ Some (Seq parts)
-    → (trail : List Item) × AreDerived g text parts from end forest trail → (trail : List Item) × IsDerived g text p from end forest trail
+    → (trail : List TrailItem) × AreDerived g text parts from end forest trail → (trail : List TrailItem) × IsDerived g text p from end forest trail
 seq_derives g text p from end parts forest e h = (h.0, λ table. at_node e (seq (h.1 table)))
 
 pub choice_spans : (g : Grammar) (text : List ℕ) (p place k q : ℕ) (parts : List ℕ) (o : Outcome) → slice_get g.nodes p ≡ Some (Choice parts)
     → slice_get parts k ≡ Some q → NodeSpans g text q place o → NodeSpans g text p place o
-choice_spans g text p place k q parts o e is = weaker text place _ _ (λ end forest h. (alt (suc k) ∷ h.0, λ table. at_node e (choice is (h.1 table)))) o
+choice_spans g text p place k q parts o e is = weaker text place _ _ (λ end forest h. (Alt (suc k) ∷ h.0, λ table. at_node e (choice is (h.1 table)))) o
 
 pub rule_spans : (g : Grammar) (text : List ℕ) (p place r : ℕ) (named : declared.Rule) (o : Outcome) → slice_get g.nodes p ≡ Some (Rule r)
     → slice_get g.rules r ≡ Some named → NodeSpans g text named.body place o → NodeSpans g text p place o
@@ -85,7 +86,7 @@ pub build_spans : (g : Grammar) (characters : List ℕ) (p place q : ℕ) (used 
 build_spans g characters p place q used symbol o e = other_forest characters place _ _ (built_forest used symbol) (λ end forest h. (h.0, λ table. at_node e (build (h.1 table)))) o
 
 -- one part more behind those that were run
-parts-push : {g : Grammar} {text parts : List ℕ} {q : ℕ} {a b c : Spot} {forest trees : List Tree} {trail items : List Item}
+parts-push : {g : Grammar} {text parts : List ℕ} {q : ℕ} {a b c : Spot} {forest trees : List Tree} {trail items : List TrailItem}
     → DerivesParts g text parts a b forest trail → Derives g text q b c trees items
     → DerivesParts g text (parts ++ q ∷ []) a c (forest ++ trees) (trail ++ items)
 parts-push {g = g} {text = text} {q = q} {c = c} {trees = trees} {items = items} (no_part {a = a}) d =
@@ -97,8 +98,8 @@ parts-push {g = g} {text = text} {q = q} {a = a} {c = c} {trees = trees} {items 
 
 -- the parts up to one more
 pub parts_next : (g : Grammar) (text parts : List ℕ) (n q : ℕ) (a b c : ℕ) (forest trees all : List Tree) → n < length parts → q ≡ get_or parts n q
-    → all ≡ forest ++ trees → (trail : List Item) × AreDerived g text (take n parts) a b forest trail
-    → (trail : List Item) × IsDerived g text q b c trees trail → (trail : List Item) × AreDerived g text (take (n + 1) parts) a c all trail
+    → all ≡ forest ++ trees → (trail : List TrailItem) × AreDerived g text (take n parts) a b forest trail
+    → (trail : List TrailItem) × IsDerived g text q b c trees trail → (trail : List TrailItem) × AreDerived g text (take (n + 1) parts) a c all trail
 parts_next g text parts n q a b c forest trees all below item is ran next =
     let front : take (n + 1) parts ≡ take n parts ++ q ∷ [] = grind (arith, common_steps) in
     (ran.0 ++ next.0, rw (front, is) (λ table. parts-push (ran.1 table) (next.1 table)))

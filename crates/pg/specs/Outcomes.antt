@@ -9,7 +9,7 @@ use Rattle.pg_grammar.specs.declared.used.BuilderUse.{BuilderUse}
 use Rattle.pg_grammar.specs.declared.form.Node.{Node}
 use Rattle.pg_grammar.specs.declared.form.Node.TheVariants as node
 use Rattle.pg_table.specs.Tables.{Table}
-use Rattle.pg_table.specs.Trails.{Item}
+use Rattle.pg_grammar.specs.declared.trail.TrailItem.{TrailItem}
 use Rattle.pg_table.specs.Derives.{Spot, Derives, DerivesParts, DerivesText, leaf_of, span}
 use Rattle.pg.specs.declared.runner.Outcome.{Outcome}
 use Rattle.pg.specs.declared.runner.Outcome.TheVariants.{Parsed, Failed}
@@ -19,11 +19,11 @@ abbrev pub at : Table → ℕ → Spot
 at table place = record { place = place; table = table }
 
 -- what the node derives under any table, since nothing that is run yet reads or changes it
-abbrev pub IsDerived : Grammar → List ℕ → ℕ → (from to : ℕ) → List Tree → List Item → Type 0
+abbrev pub IsDerived : Grammar → List ℕ → ℕ → (from to : ℕ) → List Tree → List TrailItem → Type 0
 IsDerived g text p from to forest trail = (table : Table) → Derives g text p (at table from) (at table to) forest trail
 
 -- the same of parts
-abbrev pub AreDerived : Grammar → List ℕ → List ℕ → (from to : ℕ) → List Tree → List Item → Type 0
+abbrev pub AreDerived : Grammar → List ℕ → List ℕ → (from to : ℕ) → List Tree → List TrailItem → Type 0
 AreDerived g text parts from to forest trail = (table : Table) → DerivesParts g text parts (at table from) (at table to) forest trail
 
 -- what a claim on an end and a forest says of the outcome from a place on: a failure claims nothing
@@ -33,7 +33,7 @@ IfParsed text place Claim (Failed consumed) = Unit {0}
 
 -- the node derives the stretch from this place on
 abbrev pub NodeSpans : Grammar → List ℕ → ℕ → ℕ → Outcome → Type 0
-NodeSpans g text node place = IfParsed text place (λ end forest. (trail : List Item) × IsDerived g text node place end forest trail)
+NodeSpans g text node place = IfParsed text place (λ end forest. (trail : List TrailItem) × IsDerived g text node place end forest trail)
 
 -- one character of the class
 abbrev pub SatisfySpans : Grammar → List ClassPart → List ℕ → ℕ → Outcome → Type 0
@@ -89,4 +89,4 @@ IsWithin text place = IfParsed text place (λ end forest. Unit {0})
 -- a forest of the whole text is derived
 abbrev pub TextIsDerived : Grammar → List ℕ → Option (List Tree) → Type 0
 TextIsDerived g text None = Unit {0}
-TextIsDerived g text (Some forest) = (trail : List Item) × ((table : Table) → DerivesText g text table table forest trail)
+TextIsDerived g text (Some forest) = (trail : List TrailItem) × ((table : Table) → DerivesText g text table table forest trail)

@@ -9,7 +9,7 @@ use Rattle.pg_tree.specs.Bytes.{AppendsFront}
 use Rattle.pg_pred.specs.Offer.{Offer}
 use Rattle.pg_grammar.specs.Grammar.{Grammar}
 use Rattle.pg_table.specs.Tables.{Table}
-use Rattle.pg_table.specs.Trails.{Item}
+use Rattle.pg_grammar.specs.declared.trail.TrailItem.{TrailItem}
 use Rattle.pg_table.specs.Derives.{DerivesText}
 use Rattle.pg_file.specs.Spells.{SpellsWithinLimits}
 use Rattle.pg.specs.Running.{Runs}
@@ -20,7 +20,7 @@ use Rattle.pg.specs.declared.fault.BenchFault.TheVariants.{File, NotRun, Reader,
 pub record IsTextOf (g : Grammar) (bytes : List ℕ) (forest : List Tree) : Type 0 where
   pub utf8 : IsUtf8 bytes
   pub within : length (chars bytes) ≤ LIMIT
-  pub trail : List Item
+  pub trail : List TrailItem
   pub derived : (table : Table) → DerivesText g (chars bytes) table table forest trail
 
 -- the file spells a grammar that derives the reader's whole bytes to this forest

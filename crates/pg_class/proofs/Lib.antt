@@ -1,4 +1,6 @@
+pub mod Disjoint
 pub mod Equal
 pub mod Gaps
 pub mod Joins
 pub mod Unique
+pub mod Within

@@ -19,6 +19,14 @@ has ranges c = list_any (in_range c) ranges
 abbrev pub SameCharacters : List Range → List Range → Type 0
 SameCharacters ranges others = (c : ℕ) → IsScalar c → has ranges c ≡ has others c
 
+-- no character is in two lists of ranges
+abbrev pub AreDisjoint : List Range → List Range → Type 0
+AreDisjoint ranges others = (c : ℕ) → IsScalar c → has ranges c ≡ true → has others c ≡ true → ⊥
+
+-- each character of the first list of ranges is in the second
+abbrev pub IsWithin : List Range → List Range → Type 0
+IsWithin ranges others = (c : ℕ) → IsScalar c → has ranges c ≡ true → has others c ≡ true
+
 -- whether a character stands between two ranges, the first below the second; surrogates are no characters
 abbrev pub apart : Range → Range → Bool
 apart low high = nat_lt (scalar_index low.1 + 1) (scalar_index high.0)

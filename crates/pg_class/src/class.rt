@@ -5,8 +5,9 @@
 //! grammar and the comparison of classes rely on it.
 ghost use Rattle.std.specs.Prelude.{◌≡◌, ◌<◌, ◌↔◌, ◌||◌, ℕ, not, List, Any, IfOk, IsErrOf, IsTrue};
 ghost use Rattle.std.specs.Char.{IsScalar};
-ghost use Rattle.pg_class.specs.Ranges.{Range, IsClass, SameCharacters, has};
+ghost use Rattle.pg_class.specs.Ranges.{Range, AreDisjoint, IsClass, IsWithin, SameCharacters, has};
 
+use crate::compare::{are_disjoint, is_within};
 use crate::complement::complemented;
 use crate::ranges::{joined, united};
 use std::alloc::{AllocError, Global};
@@ -95,6 +96,22 @@ impl Class {
         ensures { result ≡ has self.now c }
     {
         self.ranges.iter().any(|range| range.0 <= c && c <= range.1)
+    }
+
+    /// Whether no character is in both classes. The ranges of each are gone through once, and no
+    /// memory is taken.
+    pub fn disjoint(&self, other: &Class) -> bool
+        ensures { IsTrue result ↔ AreDisjoint self.now other.now }
+    {
+        are_disjoint(self.ranges(), other.ranges())
+    }
+
+    /// Whether each character of this class is in the other. The ranges of each are gone through
+    /// once, and no memory is taken.
+    pub fn within(&self, other: &Class) -> bool
+        ensures { IsTrue result ↔ IsWithin self.now other.now }
+    {
+        is_within(self.ranges(), other.ranges())
     }
 
     /// The ranges from the lowest up, each with its first and its last character.

@@ -6,6 +6,7 @@
 #![tactic(auto)]
 
 mod class;
+mod compare;
 mod complement;
 mod ranges;
 #[cfg(test)]

@@ -95,6 +95,20 @@ fn copies_and_compares(rt: HostRuntime) -> Result<(), Fail> {
 }
 
 #[test]
+fn compares_characters(rt: HostRuntime) -> Result<(), Fail> {
+    let alloc = rt.alloc();
+    let letters = Class::from_ranges(alloc, &[('a', 'f'), ('k', 'z')])?;
+    let vowels = Class::from_ranges(alloc, &[('a', 'a'), ('e', 'e'), ('o', 'o')])?;
+    let digits = Class::from_ranges(alloc, &[('0', '9'), ('g', 'j')])?;
+    assert!(rt; letters.disjoint(&digits));
+    assert!(rt; !letters.disjoint(&vowels));
+    assert!(rt; vowels.within(&letters));
+    assert!(rt; !letters.within(&vowels));
+    assert!(rt; !letters.within(&letters.complement(alloc)?));
+    Ok(())
+}
+
+#[test]
 fn prints(rt: HostRuntime) -> Result<(), Fail> {
     for (fault, wanted) in [
         (ClassFault::Descends, "K1 range descends"),

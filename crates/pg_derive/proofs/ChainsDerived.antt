@@ -3,7 +3,7 @@ use Rattle.std.proofs.Common.{◌≡◌, ℕ, zero, List, [], ◌∷◌, ◌++�
 use Rattle.pg_tree.specs.Trees.{Tree}
 use Rattle.pg_tree.specs.declared.shape.Shape.{Shape}
 use Rattle.pg_table.specs.Derives.{Spot, Link, folded_left, folded_right, Derives, DerivesLinks, no_link}
-use Rattle.pg_table.specs.Trails.{Item}
+use Rattle.pg_grammar.specs.declared.trail.TrailItem.{TrailItem}
 use Rattle.pg_derive.specs.Answers.{Given}
 use Rattle.pg_derive.specs.Errors.{Error}
 use Rattle.pg_derive.specs.declared.fold.Fold.{Fold}
@@ -28,17 +28,17 @@ folded_more FromLeft shape x s y links = refl
 folded_more FromRight shape x s y links = refl
 
 -- links behind a forest, which is folded with theirs
-pub record DerivesBehind (G : Given) (fold : Fold) (shape : Shape) (p s : ℕ) (left : List Tree) (k : ℕ) (a b : Spot) (v : List Tree) (t : List Item) : Type 0 where
+pub record DerivesBehind (G : Given) (fold : Fold) (shape : Shape) (p s : ℕ) (left : List Tree) (k : ℕ) (a b : Spot) (v : List Tree) (t : List TrailItem) : Type 0 where
   pub links : List Link
   pub derived : DerivesLinks G.grammar G.text p s k a b links t
   pub forest : v ≡ folded fold shape left links
 
 -- an operand, and links behind it
-pub record DerivesChain (G : Given) (fold : Fold) (shape : Shape) (p s k : ℕ) (a b : Spot) (v : List Tree) (t : List Item) : Type 0 where
+pub record DerivesChain (G : Given) (fold : Fold) (shape : Shape) (p s k : ℕ) (a b : Spot) (v : List Tree) (t : List TrailItem) : Type 0 where
   pub middle : Spot
   pub first : List Tree
-  pub trail : List Item
-  pub items : List Item
+  pub trail : List TrailItem
+  pub items : List TrailItem
   pub operand : Derives G.grammar G.text p a middle first trail
   pub behind : DerivesBehind G fold shape p s first k middle b v items
   pub noted : t ≡ trail ++ items

@@ -8,7 +8,8 @@ use Rattle.pg_grammar.specs.declared.form.Node.TheVariants as form
 use Rattle.pg_grammar.specs.declared.used.BuilderUse.{BuilderUse}
 use Rattle.pg_table.specs.Derives as derives
 use Rattle.pg_table.specs.Derives.{Spot, leaf_of, span, Derives, DerivesForm, DerivesParts, DerivesRounds, DerivesLinks}
-use Rattle.pg_table.specs.Trails.{Item, alt, rounds}
+use Rattle.pg_grammar.specs.declared.trail.TrailItem.{TrailItem}
+use Rattle.pg_grammar.specs.declared.trail.TrailItem.TheVariants.{Alt, Rounds}
 use Rattle.pg_derive.specs.Answers.{Given, Answers, entered, AnswersForm, satisfy, string, word, not_followed_by, end_of_text, nothing, seq, choice, many, chain_left, chain_right, try, label, rule, text, skip, build, AnswersParts, part, AfterPart, part_last, part_failed, part_stuck, part_ok, AnswersAlternatives, no_alternative, alternative, AfterAlternative, alternative_consumed, alternative_stands, alternative_waits, alternative_commits, alternative_failed, alternative_stuck, AnswersRounds, round, AfterRound, round_ended, round_failed, round_empty, round_stuck, round_ok, AnswersChain, chain, AfterFirst, first_failed, first_stuck, first_ok, AnswersLinks, link, AfterSeparator, separator_failed, separator_stuck, separator_ok, AfterOperand, operand_failed, operand_stuck, operand_ok}
 use Rattle.pg_derive.specs.Errors.{Error}
 use Rattle.pg_derive.specs.declared.fold.Fold.{Fold}
@@ -20,34 +21,34 @@ use Rattle.pg_derive.proofs.LeavesDerived.{satisfy_derived, string_derived, word
 use Rattle.pg_derive.proofs.ChainsDerived.{DerivesBehind, DerivesChain, none_behind, folded_more}
 
 -- one of these alternatives, the first of which has this number
-record DerivesOne (G : Given) (k : ℕ) (ps : List ℕ) (a b : Spot) (v : List Tree) (t : List Item) : Type 0 where
+record DerivesOne (G : Given) (k : ℕ) (ps : List ℕ) (a b : Spot) (v : List Tree) (t : List TrailItem) : Type 0 where
   which : ℕ
   node : ℕ
-  items : List Item
+  items : List TrailItem
   there : slice_get ps which ≡ Some node
-  trail : t ≡ alt (k + which) ∷ items
+  trail : t ≡ Alt (k + which) ∷ items
   derived : Derives G.grammar G.text node a b v items
 
-first_one : (G : Given) (k p : ℕ) (ps : List ℕ) (a b : Spot) (v : List Tree) (t : List Item) → Derives G.grammar G.text p a b v t → DerivesOne G k (p ∷ ps) a b v (alt k ∷ t)
+first_one : (G : Given) (k p : ℕ) (ps : List ℕ) (a b : Spot) (v : List Tree) (t : List TrailItem) → Derives G.grammar G.text p a b v t → DerivesOne G k (p ∷ ps) a b v (Alt k ∷ t)
 first_one G k p ps a b v t d =
-    let e : k ≡ k + 0 = omega arith in record { which = 0; node = p; items = t; there = refl; trail = ap (λ n. alt n ∷ t) e; derived = d }
+    let e : k ≡ k + 0 = omega arith in record { which = 0; node = p; items = t; there = refl; trail = ap (λ n. Alt n ∷ t) e; derived = d }
 
-later_one : (G : Given) (k p : ℕ) (ps : List ℕ) (a b : Spot) (v : List Tree) (t : List Item) → DerivesOne G (suc k) ps a b v t → DerivesOne G k (p ∷ ps) a b v t
+later_one : (G : Given) (k p : ℕ) (ps : List ℕ) (a b : Spot) (v : List Tree) (t : List TrailItem) → DerivesOne G (suc k) ps a b v t → DerivesOne G k (p ∷ ps) a b v t
 later_one G k p ps a b v t h = let e : suc k + h.which ≡ k + suc h.which = omega arith in
-    record { which = suc h.which; node = h.node; items = h.items; there = h.there; trail = h.trail ∙ ap (λ n. alt n ∷ h.items) e; derived = h.derived }
+    record { which = suc h.which; node = h.node; items = h.items; there = h.there; trail = h.trail ∙ ap (λ n. Alt n ∷ h.items) e; derived = h.derived }
 
-one_derived : (G : Given) (ps : List ℕ) (a b : Spot) (v : List Tree) (t : List Item) → DerivesOne G (suc zero) ps a b v t → DerivesForm G.grammar G.text (form.Choice ps) a b v t
+one_derived : (G : Given) (ps : List ℕ) (a b : Spot) (v : List Tree) (t : List TrailItem) → DerivesOne G (suc zero) ps a b v t → DerivesForm G.grammar G.text (form.Choice ps) a b v t
 one_derived G ps a b v t h = let e : suc zero + h.which ≡ suc h.which = omega arith in
-    subst (λ t. DerivesForm G.grammar G.text (form.Choice ps) a b v t) (sym (h.trail ∙ ap (λ n. alt n ∷ h.items) e)) (derives.choice h.there h.derived)
+    subst (λ t. DerivesForm G.grammar G.text (form.Choice ps) a b v t) (sym (h.trail ∙ ap (λ n. Alt n ∷ h.items) e)) (derives.choice h.there h.derived)
 
 -- a last part
-last_part : (G : Given) (p : ℕ) (a b : Spot) (v : List Tree) (t : List Item) → Derives G.grammar G.text p a b v t → DerivesParts G.grammar G.text (p ∷ []) a b v t
+last_part : (G : Given) (p : ℕ) (a b : Spot) (v : List Tree) (t : List TrailItem) → Derives G.grammar G.text p a b v t → DerivesParts G.grammar G.text (p ∷ []) a b v t
 last_part G p a b v t d =
     subst (λ v. DerivesParts G.grammar G.text (p ∷ []) a b v t) (append-nil v)
     (subst (λ t. DerivesParts G.grammar G.text (p ∷ []) a b (v ++ []) t) (append-nil t) (derives.first_part d derives.no_part))
 
 -- a link more
-more_behind : (G : Given) (fold : Fold) (shape : Shape) (p s k : ℕ) (left v w : List Tree) (t u : List Item) (a b c d : Spot) (z : List Tree) (items : List Item) →
+more_behind : (G : Given) (fold : Fold) (shape : Shape) (p s k : ℕ) (left v w : List Tree) (t u : List TrailItem) (a b c d : Spot) (z : List Tree) (items : List TrailItem) →
     Derives G.grammar G.text s a b v t → Derives G.grammar G.text p b c w u → DerivesBehind G fold shape p s (carried fold shape left v w) k c d z items →
     DerivesBehind G fold shape p s left (suc k) a d (finished fold shape left v z) (t ++ (u ++ items))
 more_behind G fold shape p s k left v w t u a b c d z items separator operand h = record {
@@ -56,18 +57,18 @@ more_behind G fold shape p s k left v w t u a b c d z items separator operand h 
   forest = ap (finished fold shape left v) h.forest ∙ sym (folded_more fold shape left v w h.links);
 }
 
-left_chain : (G : Given) (used : BuilderUse) (p s k : ℕ) (a b : Spot) (v : List Tree) (t : List Item) → DerivesChain G FromLeft used.shape p s k a b v t →
-    DerivesForm G.grammar G.text (form.ChainLeft used p s) a b v (rounds k ∷ t)
+left_chain : (G : Given) (used : BuilderUse) (p s k : ℕ) (a b : Spot) (v : List Tree) (t : List TrailItem) → DerivesChain G FromLeft used.shape p s k a b v t →
+    DerivesForm G.grammar G.text (form.ChainLeft used p s) a b v (Rounds k ∷ t)
 left_chain G used p s k a b v t h =
-    subst (λ v. DerivesForm G.grammar G.text (form.ChainLeft used p s) a b v (rounds k ∷ t)) (sym h.behind.forest)
-    (subst (λ t. DerivesForm G.grammar G.text (form.ChainLeft used p s) a b (derives.folded_left used.shape h.first h.behind.links) (rounds k ∷ t)) (sym h.noted)
+    subst (λ v. DerivesForm G.grammar G.text (form.ChainLeft used p s) a b v (Rounds k ∷ t)) (sym h.behind.forest)
+    (subst (λ t. DerivesForm G.grammar G.text (form.ChainLeft used p s) a b (derives.folded_left used.shape h.first h.behind.links) (Rounds k ∷ t)) (sym h.noted)
     (derives.chain_left h.operand h.behind.derived))
 
-right_chain : (G : Given) (used : BuilderUse) (p s k : ℕ) (a b : Spot) (v : List Tree) (t : List Item) → DerivesChain G FromRight used.shape p s k a b v t →
-    DerivesForm G.grammar G.text (form.ChainRight used p s) a b v (rounds k ∷ t)
+right_chain : (G : Given) (used : BuilderUse) (p s k : ℕ) (a b : Spot) (v : List Tree) (t : List TrailItem) → DerivesChain G FromRight used.shape p s k a b v t →
+    DerivesForm G.grammar G.text (form.ChainRight used p s) a b v (Rounds k ∷ t)
 right_chain G used p s k a b v t h =
-    subst (λ v. DerivesForm G.grammar G.text (form.ChainRight used p s) a b v (rounds k ∷ t)) (sym h.behind.forest)
-    (subst (λ t. DerivesForm G.grammar G.text (form.ChainRight used p s) a b (derives.folded_right used.shape h.first h.behind.links) (rounds k ∷ t)) (sym h.noted)
+    subst (λ v. DerivesForm G.grammar G.text (form.ChainRight used p s) a b v (Rounds k ∷ t)) (sym h.behind.forest)
+    (subst (λ t. DerivesForm G.grammar G.text (form.ChainRight used p s) a b (derives.folded_right used.shape h.first h.behind.links) (Rounds k ∷ t)) (sym h.noted)
     (derives.chain_right h.operand h.behind.derived))
 
 mutual
@@ -83,11 +84,11 @@ mutual
   sound_form nothing = derives.seq derives.no_part
   sound_form (seq {o = o} d) = ok_map _ _ o (λ b v t h. derives.seq h) (sound_parts d)
   sound_form {G = G} (choice {ps = ps} {a = a} {o = o} d) = ok_map _ _ o (one_derived G ps a) (sound_alternatives d)
-  sound_form (many {k = k} {o = o} d) = ok_noted _ _ (rounds k) o (λ b v t h. derives.many h) (sound_rounds d)
+  sound_form (many {k = k} {o = o} d) = ok_noted _ _ (Rounds k) o (λ b v t h. derives.many h) (sound_rounds d)
   sound_form {G = G} (chain_left {used = used} {p = p} {s = s} {k = k} {a = a} {o = o} d) =
-      ok_noted _ _ (rounds k) o (left_chain G used p s k a) (sound_chain d)
+      ok_noted _ _ (Rounds k) o (left_chain G used p s k a) (sound_chain d)
   sound_form {G = G} (chain_right {used = used} {p = p} {s = s} {k = k} {a = a} {o = o} d) =
-      ok_noted _ _ (rounds k) o (right_chain G used p s k a) (sound_chain d)
+      ok_noted _ _ (Rounds k) o (right_chain G used p s k a) (sound_chain d)
   sound_form (try {o = o} d) = ok_tried _ o (ok_map _ _ o (λ b v t h. derives.try h) (sound d))
   sound_form (label {message = message} {o = o} d) = ok_label _ message o (ok_map _ _ o (λ b v t h. derives.label h) (sound d))
   sound_form (rule {o = o} e d) = ok_map _ _ o (λ b v t h. derives.rule e h) (sound d)
@@ -114,7 +115,7 @@ mutual
   sound_after_alternative {G = G} (alternative_consumed {k = k} {ps = ps} {a = a} {b = b} {v = v} {t = t}) p h = first_one G k p ps a b v t h
   sound_after_alternative {G = G} (alternative_stands {k = k} {ps = ps} {a = a} {b = b} {v = v} {t = t} e) p h = first_one G k p ps a b v t h
   sound_after_alternative {G = G} (alternative_waits {k = k} {ps = ps} {a = a} {b = b} {v = v} {t = t} {e = x} {o = o} e d) p h =
-      ok_unless _ b v (alt k ∷ t) x o (first_one G k p ps a b v t h) (ok_map _ _ o (later_one G k p ps a) (sound_alternatives d))
+      ok_unless _ b v (Alt k ∷ t) x o (first_one G k p ps a b v t h) (ok_map _ _ o (later_one G k p ps a) (sound_alternatives d))
   sound_after_alternative alternative_commits p h = tt
   sound_after_alternative {G = G} (alternative_failed {k = k} {ps = ps} {a = a} {e = e} {o = o} d) p h =
       ok_failure _ e o (ok_map _ _ o (later_one G k p ps a) (sound_alternatives d))
@@ -153,7 +154,7 @@ mutual
   sound_after_separator separator_stuck h = tt
   sound_after_separator (separator_ok {b = b} d r) h = sound_after_operand r b h (sound d)
 
-  sound_after_operand : {G : Given} {fold : Fold} {shape : Shape} {p s : ℕ} {left : List Tree} {k : ℕ} {a : Spot} {c : Bool} {v : List Tree} {t : List Item} {e : Error} {x o : Outcome} {m : ℕ} →
+  sound_after_operand : {G : Given} {fold : Fold} {shape : Shape} {p s : ℕ} {left : List Tree} {k : ℕ} {a : Spot} {c : Bool} {v : List Tree} {t : List TrailItem} {e : Error} {x o : Outcome} {m : ℕ} →
       AfterOperand G fold shape p s left k a c v t e x o m → (b : Spot) → Derives G.grammar G.text s a b v t →
       WhereOk (Derives G.grammar G.text p b) x → WhereOk (DerivesBehind G fold shape p s left k a) o
   sound_after_operand {G = G} {fold = fold} {shape = shape} (operand_failed {p = p} {s = s} {left = left} {a = a}) b g h = none_behind G fold shape p s left a _ _

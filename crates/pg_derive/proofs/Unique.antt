@@ -6,7 +6,8 @@ use Rattle.pg_tree.specs.declared.shape.Shape.{Shape}
 use Rattle.pg_grammar.specs.declared.form.Node.{Node}
 use Rattle.pg_grammar.specs.declared.grammar.Rule as declared
 use Rattle.pg_table.specs.Derives.{Spot}
-use Rattle.pg_table.specs.Trails.{Item, alt}
+use Rattle.pg_grammar.specs.declared.trail.TrailItem.{TrailItem}
+use Rattle.pg_grammar.specs.declared.trail.TrailItem.TheVariants.{Alt}
 use Rattle.pg_derive.specs.Answers.{Given, Answers, entered, AnswersForm, satisfy, string, word, not_followed_by, end_of_text, nothing, seq, choice, many, chain_left, chain_right, try, label, rule, text, skip, build, AnswersParts, part, AfterPart, part_last, part_failed, part_stuck, part_ok, AnswersAlternatives, no_alternative, alternative, AfterAlternative, alternative_consumed, alternative_stands, alternative_waits, alternative_commits, alternative_failed, alternative_stuck, AnswersRounds, round, AfterRound, round_ended, round_failed, round_empty, round_stuck, round_ok, AnswersChain, chain, AfterFirst, first_failed, first_stuck, first_ok, AnswersLinks, link, AfterSeparator, separator_failed, separator_stuck, separator_ok, AfterOperand, operand_failed, operand_stuck, operand_ok}
 use Rattle.pg_derive.specs.Errors.{Error}
 use Rattle.pg_derive.specs.declared.fold.Fold.{Fold}
@@ -81,7 +82,7 @@ mutual
   same_after_alternative (alternative_stands e) (alternative_waits h r) = absurd cc
   same_after_alternative (alternative_waits e d) (alternative_stands h) = absurd cc
   same_after_alternative (alternative_waits {k = k} {b = b} {v = v} {t = t} {e = e} x d) (alternative_waits h r) =
-      let s = same_alternatives d r in record { outcome = ap (unless_consumed b v (alt k ∷ t) e) s.outcome; count = s.count }
+      let s = same_alternatives d r in record { outcome = ap (unless_consumed b v (Alt k ∷ t) e) s.outcome; count = s.count }
   same_after_alternative alternative_commits alternative_commits = record { outcome = refl; count = refl }
   same_after_alternative (alternative_failed {e = e} d) (alternative_failed r) =
       let s = same_alternatives d r in record { outcome = ap (after_failure e) s.outcome; count = s.count }
@@ -132,7 +133,7 @@ mutual
       let z = same_after_operand r (subst (λ x. AfterOperand G fold shape p s left l a c v t e x q n) (sym w.outcome) u) in
       record { rounds = z.rounds; outcome = z.outcome; count = cc }
 
-  same_after_operand : {G : Given} {fold : Fold} {shape : Shape} {p s : ℕ} {left : List Tree} {k l : ℕ} {a : Spot} {c : Bool} {v : List Tree} {t : List Item} {e : Error} {x o q : Outcome} {m n : ℕ} →
+  same_after_operand : {G : Given} {fold : Fold} {shape : Shape} {p s : ℕ} {left : List Tree} {k l : ℕ} {a : Spot} {c : Bool} {v : List Tree} {t : List TrailItem} {e : Error} {x o q : Outcome} {m n : ℕ} →
       AfterOperand G fold shape p s left k a c v t e x o m → AfterOperand G fold shape p s left l a c v t e x q n → Alike k l o q m n
   same_after_operand operand_failed operand_failed = record { rounds = refl; outcome = refl; count = refl }
   same_after_operand operand_stuck operand_stuck = record { rounds = refl; outcome = refl; count = refl }

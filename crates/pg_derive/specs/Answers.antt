@@ -11,7 +11,8 @@ use Rattle.pg_grammar.specs.declared.used.BuilderUse.{BuilderUse}
 use Rattle.pg_grammar.specs.declared.word_item.WordItem.{WordItem}
 use Rattle.pg_table.specs.Derives.{Spot}
 use Rattle.pg_table.specs.Tables.{Table}
-use Rattle.pg_table.specs.Trails.{Item, alt, rounds}
+use Rattle.pg_grammar.specs.declared.trail.TrailItem.{TrailItem}
+use Rattle.pg_grammar.specs.declared.trail.TrailItem.TheVariants.{Alt, Rounds}
 use Rattle.pg_derive.specs.Errors.{Error, nothing_said}
 use Rattle.pg_derive.specs.Leaves.{satisfy_outcome, string_outcome, word_outcome, not_followed_outcome, end_outcome}
 use Rattle.pg_derive.specs.declared.fold.Fold.{Fold}
@@ -48,11 +49,11 @@ mutual
     nothing : {a : Spot} → AnswersForm G (form.Seq []) a (ok false a [] [] (nothing_said a.place)) zero
     seq : {p m : ℕ} {ps : List ℕ} {a : Spot} {o : Outcome} → AnswersParts G p ps a o m → AnswersForm G (form.Seq (p ∷ ps)) a o m
     choice : {ps : List ℕ} {m : ℕ} {a : Spot} {o : Outcome} → AnswersAlternatives G (suc zero) ps a o m → AnswersForm G (form.Choice ps) a o m
-    many : {p k m : ℕ} {a : Spot} {o : Outcome} → AnswersRounds G p k a o m → AnswersForm G (form.Many p) a (noted (rounds k) o) m
+    many : {p k m : ℕ} {a : Spot} {o : Outcome} → AnswersRounds G p k a o m → AnswersForm G (form.Many p) a (noted (Rounds k) o) m
     chain_left : {used : BuilderUse} {p s k m : ℕ} {a : Spot} {o : Outcome} → AnswersChain G FromLeft used.shape p s k a o m →
-        AnswersForm G (form.ChainLeft used p s) a (noted (rounds k) o) m
+        AnswersForm G (form.ChainLeft used p s) a (noted (Rounds k) o) m
     chain_right : {used : BuilderUse} {p s k m : ℕ} {a : Spot} {o : Outcome} → AnswersChain G FromRight used.shape p s k a o m →
-        AnswersForm G (form.ChainRight used p s) a (noted (rounds k) o) m
+        AnswersForm G (form.ChainRight used p s) a (noted (Rounds k) o) m
     try : {p m : ℕ} {a : Spot} {o : Outcome} → Answers G p a o m → AnswersForm G (form.Try p) a (tried o) m
     label : {p m : ℕ} {message : List ℕ} {a : Spot} {o : Outcome} → Answers G p a o m →
         AnswersForm G (form.Label p message) a (with_label message o) m
@@ -72,7 +73,7 @@ mutual
     part_last : {x : Outcome} → AfterPart G [] x x zero
     part_failed : {q : ℕ} {ps : List ℕ} {c : Bool} {e : Error} → AfterPart G (q ∷ ps) (failed c e) (failed c e) zero
     part_stuck : {q : ℕ} {ps : List ℕ} → AfterPart G (q ∷ ps) empty_round empty_round zero
-    part_ok : {q m : ℕ} {ps : List ℕ} {c : Bool} {b : Spot} {v : List Tree} {t : List Item} {e : Error} {o : Outcome} →
+    part_ok : {q m : ℕ} {ps : List ℕ} {c : Bool} {b : Spot} {v : List Tree} {t : List TrailItem} {e : Error} {o : Outcome} →
         AnswersParts G q ps b o m → AfterPart G (q ∷ ps) (ok c b v t e) (then_rest c v t e o) m
 
   -- ---- choices: these alternatives, the first of which has this number
@@ -83,12 +84,12 @@ mutual
 
   -- what becomes of an alternative's outcome: the next one runs where it failed empty
   pub data AfterAlternative (G : Given) : ℕ → List ℕ → Spot → Outcome → Outcome → ℕ → Type 0 where
-    alternative_consumed : {k : ℕ} {ps : List ℕ} {a b : Spot} {v : List Tree} {t : List Item} {e : Error} →
-        AfterAlternative G k ps a (ok true b v t e) (ok true b v (alt k ∷ t) e) zero
-    alternative_stands : {k : ℕ} {ps : List ℕ} {a b : Spot} {v : List Tree} {t : List Item} {e : Error} → G.reading ≡ Library →
-        AfterAlternative G k ps a (ok false b v t e) (ok false b v (alt k ∷ t) e) zero
-    alternative_waits : {k m : ℕ} {ps : List ℕ} {a b : Spot} {v : List Tree} {t : List Item} {e : Error} {o : Outcome} → G.reading ≡ Report →
-        AnswersAlternatives G (suc k) ps a o m → AfterAlternative G k ps a (ok false b v t e) (unless_consumed b v (alt k ∷ t) e o) m
+    alternative_consumed : {k : ℕ} {ps : List ℕ} {a b : Spot} {v : List Tree} {t : List TrailItem} {e : Error} →
+        AfterAlternative G k ps a (ok true b v t e) (ok true b v (Alt k ∷ t) e) zero
+    alternative_stands : {k : ℕ} {ps : List ℕ} {a b : Spot} {v : List Tree} {t : List TrailItem} {e : Error} → G.reading ≡ Library →
+        AfterAlternative G k ps a (ok false b v t e) (ok false b v (Alt k ∷ t) e) zero
+    alternative_waits : {k m : ℕ} {ps : List ℕ} {a b : Spot} {v : List Tree} {t : List TrailItem} {e : Error} {o : Outcome} → G.reading ≡ Report →
+        AnswersAlternatives G (suc k) ps a o m → AfterAlternative G k ps a (ok false b v t e) (unless_consumed b v (Alt k ∷ t) e o) m
     alternative_commits : {k : ℕ} {ps : List ℕ} {a : Spot} {e : Error} → AfterAlternative G k ps a (failed true e) (failed true e) zero
     alternative_failed : {k m : ℕ} {ps : List ℕ} {a : Spot} {e : Error} {o : Outcome} → AnswersAlternatives G (suc k) ps a o m →
         AfterAlternative G k ps a (failed false e) (after_failure e o) m
@@ -102,9 +103,9 @@ mutual
   pub data AfterRound (G : Given) : ℕ → ℕ → Spot → Outcome → Outcome → ℕ → Type 0 where
     round_ended : {p : ℕ} {a : Spot} {e : Error} → AfterRound G p zero a (failed false e) (ok false a [] [] e) zero
     round_failed : {p : ℕ} {a : Spot} {e : Error} → AfterRound G p zero a (failed true e) (failed true e) zero
-    round_empty : {p : ℕ} {a b : Spot} {v : List Tree} {t : List Item} {e : Error} → AfterRound G p zero a (ok false b v t e) empty_round zero
+    round_empty : {p : ℕ} {a b : Spot} {v : List Tree} {t : List TrailItem} {e : Error} → AfterRound G p zero a (ok false b v t e) empty_round zero
     round_stuck : {p : ℕ} {a : Spot} → AfterRound G p zero a empty_round empty_round zero
-    round_ok : {p k m : ℕ} {a b : Spot} {v : List Tree} {t : List Item} {e : Error} {o : Outcome} → AnswersRounds G p k b o m →
+    round_ok : {p k m : ℕ} {a b : Spot} {v : List Tree} {t : List TrailItem} {e : Error} {o : Outcome} → AnswersRounds G p k b o m →
         AfterRound G p (suc k) a (ok true b v t e) (then_round v t o) m
 
   -- ---- chains: an operand p, and then links, so many of which are ok
@@ -116,7 +117,7 @@ mutual
   pub data AfterFirst (G : Given) : Fold → Shape → ℕ → ℕ → ℕ → Outcome → Outcome → ℕ → Type 0 where
     first_failed : {fold : Fold} {shape : Shape} {p s : ℕ} {c : Bool} {e : Error} → AfterFirst G fold shape p s zero (failed c e) (failed c e) zero
     first_stuck : {fold : Fold} {shape : Shape} {p s : ℕ} → AfterFirst G fold shape p s zero empty_round empty_round zero
-    first_ok : {fold : Fold} {shape : Shape} {p s k m : ℕ} {c : Bool} {b : Spot} {v : List Tree} {t : List Item} {e : Error} {o : Outcome} →
+    first_ok : {fold : Fold} {shape : Shape} {p s k m : ℕ} {c : Bool} {b : Spot} {v : List Tree} {t : List TrailItem} {e : Error} {o : Outcome} →
         AnswersLinks G fold shape p s v k b o m → AfterFirst G fold shape p s k (ok c b v t e) (then_rest c [] t e o) m
 
   -- separators s, each with an operand p behind it, behind this forest of the chain
@@ -130,16 +131,16 @@ mutual
         AfterSeparator G fold shape p s left zero a (failed c e) (unless_begun c a left e) zero
     separator_stuck : {fold : Fold} {shape : Shape} {p s : ℕ} {left : List Tree} {a : Spot} →
         AfterSeparator G fold shape p s left zero a empty_round empty_round zero
-    separator_ok : {fold : Fold} {shape : Shape} {p s k m n : ℕ} {left v : List Tree} {a b : Spot} {c : Bool} {t : List Item} {e : Error} {x o : Outcome} →
+    separator_ok : {fold : Fold} {shape : Shape} {p s k m n : ℕ} {left v : List Tree} {a b : Spot} {c : Bool} {t : List TrailItem} {e : Error} {x o : Outcome} →
         Answers G p b x m → AfterOperand G fold shape p s left k a c v t e x o n → AfterSeparator G fold shape p s left k a (ok c b v t e) o (m + n)
 
   -- what becomes of an operand's outcome, behind a separator that was ok: a link that consumes nothing has no outcome
-  pub data AfterOperand (G : Given) : Fold → Shape → ℕ → ℕ → List Tree → ℕ → Spot → Bool → List Tree → List Item → Error → Outcome → Outcome → ℕ → Type 0 where
-    operand_failed : {fold : Fold} {shape : Shape} {p s : ℕ} {left v : List Tree} {a : Spot} {c d : Bool} {t : List Item} {e f : Error} →
+  pub data AfterOperand (G : Given) : Fold → Shape → ℕ → ℕ → List Tree → ℕ → Spot → Bool → List Tree → List TrailItem → Error → Outcome → Outcome → ℕ → Type 0 where
+    operand_failed : {fold : Fold} {shape : Shape} {p s : ℕ} {left v : List Tree} {a : Spot} {c d : Bool} {t : List TrailItem} {e f : Error} →
         AfterOperand G fold shape p s left zero a c v t e (failed d f) (unless_begun (c || d) a left (error_behind d e f)) zero
-    operand_stuck : {fold : Fold} {shape : Shape} {p s : ℕ} {left v : List Tree} {a : Spot} {c : Bool} {t : List Item} {e : Error} →
+    operand_stuck : {fold : Fold} {shape : Shape} {p s : ℕ} {left v : List Tree} {a : Spot} {c : Bool} {t : List TrailItem} {e : Error} →
         AfterOperand G fold shape p s left zero a c v t e empty_round empty_round zero
-    operand_ok : {fold : Fold} {shape : Shape} {p s k m : ℕ} {left v w : List Tree} {a b : Spot} {c d : Bool} {t u : List Item} {e f : Error} {o : Outcome} →
+    operand_ok : {fold : Fold} {shape : Shape} {p s k m : ℕ} {left v w : List Tree} {a b : Spot} {c d : Bool} {t u : List TrailItem} {e f : Error} {o : Outcome} →
         (c || d) ≡ true → AnswersLinks G fold shape p s (carried fold shape left v w) k b o m →
         AfterOperand G fold shape p s left (suc k) a c v t e (ok d b w u f)
         (then_rest c [] t e (then_rest d [] u f (as_finished fold shape left v o))) m

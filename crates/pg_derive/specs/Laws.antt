@@ -2,7 +2,7 @@
 use Rattle.std.specs.Prelude.{◌≡◌, ℕ, List, Bool}
 use Rattle.pg_tree.specs.Trees.{Tree}
 use Rattle.pg_table.specs.Derives.{Spot, Derives}
-use Rattle.pg_table.specs.Trails.{Item}
+use Rattle.pg_grammar.specs.declared.trail.TrailItem.{TrailItem}
 use Rattle.pg_derive.specs.Answers.{Given, Answers}
 use Rattle.pg_message.specs.Errors.{merged, labelled}
 use Rattle.pg_message.specs.Messages.{Text}
@@ -16,7 +16,7 @@ OutcomesAreUnique = (G : Given) (p : ℕ) (a : Spot) (o q : Outcome) (m n : ℕ)
 
 -- an ok answer is a derivation
 abbrev pub OkAnswersAreDerivations : Type 0
-OkAnswersAreDerivations = (G : Given) (p : ℕ) (a b : Spot) (c : Bool) (forest : List Tree) (trail : List Item) (e : Error) (m : ℕ) →
+OkAnswersAreDerivations = (G : Given) (p : ℕ) (a b : Spot) (c : Bool) (forest : List Tree) (trail : List TrailItem) (e : Error) (m : ℕ) →
     Answers G p a (ok c b forest trail e) m → Derives G.grammar G.text p a b forest trail
 
 -- errors with their positions in a text are merged and labelled as errors without positions are

@@ -7,7 +7,7 @@ use Rattle.pg_tree.specs.Built.{built}
 use Rattle.pg_tree.specs.Trees.{Tree}
 use Rattle.pg_tree.specs.declared.shape.Shape.{Shape}
 use Rattle.pg_table.specs.Derives.{Spot, leaf_of, span}
-use Rattle.pg_table.specs.Trails.{Item}
+use Rattle.pg_grammar.specs.declared.trail.TrailItem.{TrailItem}
 use Rattle.pg_derive.specs.Errors.{Error, merge, relabel, nothing_said}
 use Rattle.pg_derive.specs.declared.fold.Fold.{Fold}
 use Rattle.pg_derive.specs.declared.fold.Fold.TheVariants.{FromLeft, FromRight}
@@ -21,19 +21,19 @@ error_behind false e f = merge e f
 -- ---- sequences and repetitions
 
 -- what a sequence answers where a part was ok and those behind it answer so
-abbrev pub then_rest : Bool → List Tree → List Item → Error → Outcome → Outcome
+abbrev pub then_rest : Bool → List Tree → List TrailItem → Error → Outcome → Outcome
 then_rest c v t e (ok d b w u f) = ok (c || d) b (v ++ w) (t ++ u) (error_behind d e f)
 then_rest c v t e (failed d f) = failed (c || d) (error_behind d e f)
 then_rest c v t e empty_round = empty_round
 
 -- what a repetition answers where a round was ok and those behind it answer so: the round's error is gone
-abbrev pub then_round : List Tree → List Item → Outcome → Outcome
+abbrev pub then_round : List Tree → List TrailItem → Outcome → Outcome
 then_round v t (ok d b w u f) = ok true b (v ++ w) (t ++ u) f
 then_round v t (failed d f) = failed true f
 then_round v t empty_round = empty_round
 
 -- the outcome with an item in front of its trail
-abbrev pub noted : Item → Outcome → Outcome
+abbrev pub noted : TrailItem → Outcome → Outcome
 noted x (ok c b v t e) = ok c b v (x ∷ t) e
 noted x (failed c e) = failed c e
 noted x empty_round = empty_round
@@ -47,7 +47,7 @@ after_failure e (failed c f) = failed c (error_behind c e f)
 after_failure e empty_round = empty_round
 
 -- the same in the report's reading where an alternative was ok and empty: it stands, unless one behind it consumed
-abbrev pub unless_consumed : Spot → List Tree → List Item → Error → Outcome → Outcome
+abbrev pub unless_consumed : Spot → List Tree → List TrailItem → Error → Outcome → Outcome
 unless_consumed b v t e (ok true d w u f) = ok true d w u f
 unless_consumed b v t e (ok false d w u f) = ok false b v t (merge e f)
 unless_consumed b v t e (failed true f) = failed true f

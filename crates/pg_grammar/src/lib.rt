@@ -19,18 +19,13 @@ mod laws;
 mod limits;
 mod maker;
 mod membership;
-#[cfg(test)]
-mod membership_tests;
 mod names;
 mod number;
 mod numbering;
 mod operators_item;
 mod parts;
-#[cfg(test)]
-mod test_support;
-#[cfg(test)]
-mod tests;
 mod texts;
+mod trail;
 mod used;
 mod word_item;
 
@@ -49,5 +44,6 @@ pub use number::{ClassId, NodeId, RuleId, WordId};
 pub use operators_item::OperatorsItem;
 pub use parts::Parts;
 pub use texts::Texts;
+pub use trail::{AppliedOperator, AppliedOperators, Fixity, Trail, TrailItem};
 pub use used::{BuilderUse, OperatorBuilders, PredicateUse};
 pub use word_item::WordItem;

@@ -17,7 +17,10 @@ use Rattle.pg_grammar.specs.declared.used.BuilderUse.{BuilderUse}
 use Rattle.pg_grammar.specs.declared.used.OperatorBuilders.{OperatorBuilders}
 use Rattle.pg_grammar.specs.declared.word_item.WordItem.{WordItem}
 use Rattle.pg_table.specs.Fitting.{term, prefixed, postfixed, joined, Fits}
-use Rattle.pg_table.specs.Trails.{Item, alt, rounds, ops, before, between, behind}
+use Rattle.pg_grammar.specs.declared.trail.TrailItem.{TrailItem}
+use Rattle.pg_grammar.specs.declared.trail.TrailItem.TheVariants.{Alt, Rounds, Ops}
+use Rattle.pg_grammar.specs.declared.trail.Fixity.TheVariants as fixity
+use Rattle.pg_table.specs.Trails.{applied}
 use Rattle.pg_table.specs.Tables.{admit_fault, Admits}
 use Rattle.pg_table.specs.declared.fault.AdmitFault.{AdmitFault}
 use Rattle.pg_table.specs.Runs.{StandsAt, IsWordAt, IsOperatorAt, IsDeclarationAt, keyword, goes_on, past_run, run_at}
@@ -97,7 +100,7 @@ named symbol kids = node (encode_utf8_all symbol) (kids_of kids)
 -- the tighter operator stands below, behind each operator lies its gap
 precedence : Derives g (codes "1+ 2*3") 0 (spot 0 sums) (spot 6 sums)
     (named (codes "+") (leaf_of (codes "1") ∷ named (codes "*") (leaf_of (codes "2") ∷ leaf_of (codes "3") ∷ []) ∷ []) ∷ [])
-    (ops ((between, codes "+") ∷ (between, codes "*") ∷ []) ∷ [])
+    (Ops (applied fixity.Infix plus ∷ applied fixity.Infix times ∷ []) ∷ [])
 precedence =
     let tighter : Fits sums (joined times term term) = ((1, refl), tt, tt, tt, inl (inl (omega arith)), inl (inl (omega arith))) in
     let fits : Fits sums (joined plus term (joined times term term)) = ((0, refl), tt, tt, tighter, inl (inl (omega arith)), inl (inl (omega arith))) in
@@ -107,14 +110,14 @@ precedence =
 
 -- a prefix and a postfix operator around one term
 around : Derives g (codes "-1!") 0 (spot 0 sums) (spot 3 sums) (named (codes "-") (named (codes "!") (leaf_of (codes "1") ∷ []) ∷ []) ∷ [])
-    (ops ((before, codes "-") ∷ (behind, codes "!") ∷ []) ∷ [])
+    (Ops (applied fixity.Prefix minus ∷ applied fixity.Postfix bang ∷ []) ∷ [])
 around =
     let fits : Fits sums (prefixed minus (postfixed bang term)) = ((2, refl), refl, ((3, refl), refl, tt, inl (omega arith)), omega arith) in
     at_node refl (expression refl fits
     (a_prefix {j = 1} (record { run = refl; past = refl }) (a_postfix {j = 3} (a_term (one _ _ 49 refl refl)) (record { run = refl; past = refl }))))
 
 -- without operators an expression is its term
-alone : Derives g (codes "1") 0 (spot 0 []) (spot 1 []) (leaf_of (codes "1") ∷ []) (ops [] ∷ [])
+alone : Derives g (codes "1") 0 (spot 0 []) (spot 1 []) (leaf_of (codes "1") ∷ []) (Ops [] ∷ [])
 alone = at_node refl (expression {x = term} refl tt (a_term (one _ _ 49 refl refl)))
 
 -- an operator is the whole run of operator characters, and not a front of it
@@ -195,11 +198,11 @@ declares_plus d j is = by_role d.role refl
     by_role Postfix r = absurd (not_108 105 refl (at_five Postfix r))
 
 -- so a text that declares it again has no derivation
-declared_twice : (b : Spot) (forest : List Tree) (trail : List Item) → Derives g twice 2 (spot 0 (plus ∷ [])) b forest trail → ⊥
+declared_twice : (b : Spot) (forest : List Tree) (trail : List TrailItem) → Derives g twice 2 (spot 0 (plus ∷ [])) b forest trail → ⊥
 declared_twice b forest trail (at_node {n = n} e d) =
     let same : n ≡ form.Declare letters = cc in refused b forest trail (subst (λ n. DerivesForm g twice n (spot 0 (plus ∷ [])) b forest trail) same d)
   where
-    refused : (b : Spot) (forest : List Tree) (trail : List Item) → DerivesForm g twice (form.Declare letters) (spot 0 (plus ∷ [])) b forest trail → ⊥
+    refused : (b : Spot) (forest : List Tree) (trail : List TrailItem) → DerivesForm g twice (form.Declare letters) (spot 0 (plus ∷ [])) b forest trail → ⊥
     refused b forest trail (declare {item = other} {d = d} {j = j} e is admits) =
         let same : other ≡ item = cc in
         let plus_again = declares_plus d j (subst (λ item. IsDeclarationAt g twice item letters d 0 j) same is) in
@@ -216,23 +219,23 @@ pair_of kids = node (codes "pair") (kids_of kids)
 
 -- a chain of three operands, folded to the left and to the right
 left_chain : Derives g (codes "1,2,3") 3 (spot 0 []) (spot 5 [])
-    (pair_of (pair_of (leaf_of (codes "1") ∷ leaf_of (codes ",") ∷ leaf_of (codes "2") ∷ []) ∷ leaf_of (codes ",") ∷ leaf_of (codes "3") ∷ []) ∷ []) (rounds 2 ∷ [])
+    (pair_of (pair_of (leaf_of (codes "1") ∷ leaf_of (codes ",") ∷ leaf_of (codes "2") ∷ []) ∷ leaf_of (codes ",") ∷ leaf_of (codes "3") ∷ []) ∷ []) (Rounds 2 ∷ [])
 left_chain = at_node refl (chain_left (one _ _ 49 refl refl)
     (first_link (comma _ _ refl) (one _ _ 50 refl refl) (first_link (comma _ _ refl) (one _ _ 51 refl refl) no_link)))
 
 right_chain : Derives g (codes "1,2,3") 11 (spot 0 []) (spot 5 [])
-    (pair_of (leaf_of (codes "1") ∷ leaf_of (codes ",") ∷ pair_of (leaf_of (codes "2") ∷ leaf_of (codes ",") ∷ leaf_of (codes "3") ∷ []) ∷ []) ∷ []) (rounds 2 ∷ [])
+    (pair_of (leaf_of (codes "1") ∷ leaf_of (codes ",") ∷ pair_of (leaf_of (codes "2") ∷ leaf_of (codes ",") ∷ leaf_of (codes "3") ∷ []) ∷ []) ∷ []) (Rounds 2 ∷ [])
 right_chain = at_node refl (chain_right (one _ _ 49 refl refl)
     (first_link (comma _ _ refl) (one _ _ 50 refl refl) (first_link (comma _ _ refl) (one _ _ 51 refl refl) no_link)))
 
 -- two elements with a separator between them, which is left out
-two_elements : Derives g (codes "1,2") 5 (spot 0 []) (spot 3 []) (leaf_of (codes "1") ∷ leaf_of (codes "2") ∷ []) (alt 1 ∷ rounds 1 ∷ [])
+two_elements : Derives g (codes "1,2") 5 (spot 0 []) (spot 3 []) (leaf_of (codes "1") ∷ leaf_of (codes "2") ∷ []) (Alt 1 ∷ Rounds 1 ∷ [])
 two_elements = at_node refl (choice {k = 0} refl (at_node refl (seq (first_part (one _ _ 49 refl refl) (first_part
     (at_node refl (many (first_round
     (at_node refl (seq (first_part (at_node refl (skip (comma _ _ refl))) (first_part (one _ _ 50 refl refl) no_part)))) no_round)))
     no_part)))))
 
-no_element : Derives g (codes "") 5 (spot 0 []) (spot 0 []) [] (alt 2 ∷ [])
+no_element : Derives g (codes "") 5 (spot 0 []) (spot 0 []) [] (Alt 2 ∷ [])
 no_element = at_node refl (choice {k = 1} refl (at_node refl (seq no_part)))
 
 -- ---- words, and what reads nothing

@@ -13,7 +13,7 @@ use Rattle.pg_grammar.specs.declared.used.OperatorBuilders.{OperatorBuilders}
 use Rattle.pg_grammar.specs.declared.word_item.WordItem.{WordItem}
 use Rattle.pg_table.specs.Tables.{Admits, with_operator, whole, added_unless}
 use Rattle.pg_table.specs.Fitting.{Expression}
-use Rattle.pg_table.specs.Trails.{Item}
+use Rattle.pg_grammar.specs.declared.trail.TrailItem.{TrailItem}
 use Rattle.pg_table.specs.Runs.{run_at, past_run, HasAt, StandsAt, IsWordAt, IsOperatorAt, IsDeclarationAt}
 use Rattle.pg_table.specs.Derives.{Spot, at, behind, Link, Derives, DerivesForm, DerivesParts, DerivesRounds, DerivesLinks, DerivesExpression, at_node, satisfy, string, word, not_followed_by, end_of_text, seq, choice, many, chain_left, chain_right, try, label, rule, text, skip, build, expression, declare, no_part, first_part, no_round, first_round, no_link, first_link, a_term, a_prefix, a_postfix, an_infix}
 use Rattle.pg_table.specs.Onward.{LeadsOn}
@@ -105,10 +105,10 @@ declaration_on g s item class d a j is admits =
 -- ---- derivations
 
 mutual
-  pub leads_on : {g : Grammar} {s : List ℕ} {p : ℕ} {a b : Spot} {forest : List Tree} {trail : List Item} → Derives g s p a b forest trail → LeadsOn s a b
+  pub leads_on : {g : Grammar} {s : List ℕ} {p : ℕ} {a b : Spot} {forest : List Tree} {trail : List TrailItem} → Derives g s p a b forest trail → LeadsOn s a b
   leads_on (at_node e d) = form_on d
 
-  form_on : {g : Grammar} {s : List ℕ} {n : Node} {a b : Spot} {forest : List Tree} {trail : List Item} → DerivesForm g s n a b forest trail → LeadsOn s a b
+  form_on : {g : Grammar} {s : List ℕ} {n : Node} {a b : Spot} {forest : List Tree} {trail : List TrailItem} → DerivesForm g s n a b forest trail → LeadsOn s a b
   form_on {g} {s} (satisfy {class} {a} has) = character_on g s class a has
   form_on {s = s} (string {characters} {a} stands) = string_on s characters a stands
   form_on {g} {s} (word {item = item} {s = w} {a = a} e is) = word_on g s item a w is
@@ -128,19 +128,19 @@ mutual
   form_on (expression e fits d) = expression_on d
   form_on {g} {s} (declare {class} {item} {d} {j} {a} e is admits) = declaration_on g s item class d a j is admits
 
-  parts_on : {g : Grammar} {s : List ℕ} {parts : List ℕ} {a b : Spot} {forest : List Tree} {trail : List Item} → DerivesParts g s parts a b forest trail → LeadsOn s a b
+  parts_on : {g : Grammar} {s : List ℕ} {parts : List ℕ} {a b : Spot} {forest : List Tree} {trail : List TrailItem} → DerivesParts g s parts a b forest trail → LeadsOn s a b
   parts_on {s = s} (no_part {a = a}) = stays s a
   parts_on {s = s} (first_part {a = a} {b = b} {c = c} d ds) = joins s a b c (leads_on d) (parts_on ds)
 
-  rounds_on : {g : Grammar} {s : List ℕ} {p n : ℕ} {a b : Spot} {forest : List Tree} {trail : List Item} → DerivesRounds g s p n a b forest trail → LeadsOn s a b
+  rounds_on : {g : Grammar} {s : List ℕ} {p n : ℕ} {a b : Spot} {forest : List Tree} {trail : List TrailItem} → DerivesRounds g s p n a b forest trail → LeadsOn s a b
   rounds_on {s = s} (no_round {a = a}) = stays s a
   rounds_on {s = s} (first_round {a = a} {b = b} {c = c} d ds) = joins s a b c (leads_on d) (rounds_on ds)
 
-  links_on : {g : Grammar} {s : List ℕ} {p q n : ℕ} {a b : Spot} {links : List Link} {trail : List Item} → DerivesLinks g s p q n a b links trail → LeadsOn s a b
+  links_on : {g : Grammar} {s : List ℕ} {p q n : ℕ} {a b : Spot} {links : List Link} {trail : List TrailItem} → DerivesLinks g s p q n a b links trail → LeadsOn s a b
   links_on {s = s} (no_link {a = a}) = stays s a
   links_on {s = s} (first_link {a = a} {b = b} {c = c} {d = e} d f ds) = joins s a b e (leads_on d) (joins s b c e (leads_on f) (links_on ds))
 
-  expression_on : {g : Grammar} {s : List ℕ} {item : OperatorsItem} {builders : OperatorBuilders} {p : ℕ} {x : Expression} {a b : Spot} {forest : List Tree} {trail : List Item}
+  expression_on : {g : Grammar} {s : List ℕ} {item : OperatorsItem} {builders : OperatorBuilders} {p : ℕ} {x : Expression} {a b : Spot} {forest : List Tree} {trail : List TrailItem}
       → DerivesExpression g s item builders p x a b forest trail → LeadsOn s a b
   expression_on (a_term d) = leads_on d
   expression_on {g} {s} {item} (a_prefix {o = o} {j = j} {a = a} {b = b} is d) = joins s a (at a j) b (operator_on g s item o.symbol a j is) (expression_on d)

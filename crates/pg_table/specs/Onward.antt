@@ -4,7 +4,7 @@ use Rattle.pg_tree.specs.Trees.{Tree}
 use Rattle.pg_grammar.specs.Grammar.{Grammar}
 use Rattle.pg_grammar.specs.Operators.{Operator}
 use Rattle.pg_table.specs.Tables.{whole, added_from, ComesFrom}
-use Rattle.pg_table.specs.Trails.{Item}
+use Rattle.pg_grammar.specs.declared.trail.TrailItem.{TrailItem}
 use Rattle.pg_table.specs.Derives.{Spot, Derives}
 
 -- from the one spot on to the other: not back and not past the text's end, and with further operators, each of which was
@@ -18,8 +18,8 @@ pub record LeadsOn (text : List ℕ) (a b : Spot) : Type 0 where
 
 -- every derivation of a node leads on
 abbrev pub DerivationsLeadOn : Type 0
-DerivationsLeadOn = (g : Grammar) (text : List ℕ) (p : ℕ) (a b : Spot) (forest : List Tree) (trail : List Item) → Derives g text p a b forest trail → LeadsOn text a b
+DerivationsLeadOn = (g : Grammar) (text : List ℕ) (p : ℕ) (a b : Spot) (forest : List Tree) (trail : List TrailItem) → Derives g text p a b forest trail → LeadsOn text a b
 
 -- a table that is derived from one of the grammar comes from the grammar too
 abbrev pub TablesComeFromGrammar : Type 0
-TablesComeFromGrammar = (g : Grammar) (text : List ℕ) (p : ℕ) (a b : Spot) (forest : List Tree) (trail : List Item) → ComesFrom g a.table → Derives g text p a b forest trail → ComesFrom g b.table
+TablesComeFromGrammar = (g : Grammar) (text : List ℕ) (p : ℕ) (a b : Spot) (forest : List Tree) (trail : List TrailItem) → ComesFrom g a.table → Derives g text p a b forest trail → ComesFrom g b.table

@@ -3,7 +3,7 @@
 //! Contracts see a forest as the list of its trees. No clause names how it is stored. A call that
 //! runs out of memory leaves the forest as it was, which the parsers that collect results rely on.
 
-ghost use Rattle.std.specs.Prelude.{◌≡◌, [], ◌∷◌, ◌++◌, OnErr, OnOk};
+ghost use Rattle.std.specs.Prelude.{◌≡◌, ◌≤◌, [], ◌∷◌, ◌++◌, take, drop, length, IfOk, OnErr, OnOk};
 
 use crate::tree::Tree;
 use std::alloc::{AllocError, Global};
@@ -57,5 +57,32 @@ impl Forest {
         let Forest { mut trees } = other;
         self.trees.append(&mut trees)?;
         Ok(())
+    }
+    /// How many trees there are. It takes no memory.
+    pub fn len(&self) -> usize
+        ensures { result ≡ length self.now }
+    {
+        self.trees.len()
+    }
+
+    /// Drops the trees behind the first `count`, which the caller owes to be there. It takes no memory, so that a parser
+    /// that failed can take back what it read.
+    pub fn cut(&mut self, count: usize)
+        requires { count ≤ length self.old }
+        ensures { self.new ≡ take count self.old }
+    {
+        self.trees.truncate(count);
+    }
+
+    /// Moves the trees behind the first `count`, which the caller owes to be there, into a forest of their own. The only
+    /// error is that memory ran out; all trees then stay.
+    pub fn split_off(&mut self, count: usize) -> Result<Forest, AllocError>
+        requires { count ≤ length self.old }
+        ensures ok { OnOk result (self.new ≡ take count self.old) }
+        ensures rest { IfOk result (λ forest. forest ≡ drop count self.old) }
+        ensures err { OnErr result (self.new ≡ self.old) }
+    {
+        let trees = self.trees.split_off(count)?;
+        Ok(Forest { trees })
     }
 }

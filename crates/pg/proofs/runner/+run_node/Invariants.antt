@@ -1,5 +1,5 @@
 use Rattle.std.proofs.Common.{◌≤◌, ◌+◌, ◌-◌, ◌*◌, List, length, take}
-use Rattle.pg_table.specs.Trails.{Item}
+use Rattle.pg_grammar.specs.declared.trail.TrailItem.{TrailItem}
 use Rattle.pg.specs.Outcomes.{AreDerived}
 use Rattle.pg.proofs.runner.+run_node.Given as goal
 
@@ -10,5 +10,5 @@ abbrev pub invariant-loop-part : goal.invariant-loop-part
 invariant-loop-part g l = record {
   ahead : l.place ≤ l.reached;
   within : l.reached ≤ length l.text;
-  spanned : (trail : List Item) × AreDerived l.grammar l.text (take l.part-index l.part-items) l.place l.reached l.forest trail;
+  spanned : (trail : List TrailItem) × AreDerived l.grammar l.text (take l.part-index l.part-items) l.place l.reached l.forest trail;
 }

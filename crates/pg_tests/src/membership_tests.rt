@@ -6,8 +6,8 @@ ghost use Rattle.pg_pred.specs.Offer.{offer_of};
 ghost use Rattle.pg_grammar.specs.Fits.{Fits};
 
 use crate::test_support::word;
-use crate::{BaseForm, ClassExpression, ClassPart, Grammar, Maker, Node, PredicateUse};
 use pg_class::Class;
+use pg_grammar::{BaseForm, ClassExpression, ClassPart, Grammar, Maker, Node, PredicateUse};
 use pg_pred::{Predicate, Registry};
 use pg_tree::Label;
 use std::alloc::Global;

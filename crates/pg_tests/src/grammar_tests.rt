@@ -3,8 +3,10 @@
 //!
 //! After each refusal the same maker goes on, so that what a refused call left behind would show.
 
-use super::*;
 use crate::test_support::{Kind, alone, answer, digit, enclosed, run_of, word};
+use pg_grammar::{
+    Grammar, Maker, MakerFault, Node, Parts, Rule, RuleId, Unfinished, grammars_are_unique,
+};
 use std::alloc::Global;
 use std::test::Fail;
 

@@ -6,7 +6,7 @@
 ghost use Rattle.std.specs.Prelude.{IfOk};
 ghost use Rattle.pg_grammar.specs.Made.{IsBody};
 
-use crate::{BaseForm, ClassExpression, ClassPart, MakerFault};
+use pg_grammar::{BaseForm, ClassExpression, ClassPart, MakerFault};
 use pg_text::Characters;
 use std::alloc::{AllocError, Global};
 use std::test::Fail;

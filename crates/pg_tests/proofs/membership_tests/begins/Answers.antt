@@ -1,7 +1,7 @@
 use Rattle.std.proofs.Common.{◌≡◌, Some, slice_get, rules}
 use Rattle.pg_grammar.specs.Fits.{in_node}
 use Rattle.pg_grammar.specs.declared.form.Node.TheVariants.{Satisfy}
-use Rattle.pg_grammar.proofs.membership_tests.begins.Goals as goal
+use Rattle.pg_tests.proofs.membership_tests.begins.Goals as goal
 
 pub test-requires-clause-class : goal.test-requires-clause-class
 test-requires-clause-class g c =

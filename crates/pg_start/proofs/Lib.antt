@@ -1,0 +1,5 @@
+pub mod Ahead
+pub mod Keys
+pub mod Runs
+pub mod Meeting
+pub mod Told

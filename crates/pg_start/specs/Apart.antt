@@ -1,0 +1,43 @@
+-- When two starts are apart, so that no place of a text has both.
+use Rattle.std.specs.Prelude.{◌≡◌, ◌≢◌, ℕ, false, true, List, length}
+use Rattle.pg_class.specs.Ranges.{Range, AreDisjoint, IsWithin}
+use Rattle.pg_start.specs.Fronts.{begins_in, IsFront, word_front, is_reserved}
+use Rattle.pg_start.specs.Starts.{HasAt}
+use Rattle.pg_start.specs.declared.kind.StartKind.{StartKind}
+use Rattle.pg_start.specs.declared.kind.StartKind.TheVariants.{Class, Key, Word, End}
+
+-- two keys are apart
+pub data KeysApart (key : List ℕ) (excluded : List Range) (other : List ℕ) (other_excluded : List Range) : Type 0 where
+  -- neither begins with the other
+  differ : ¬ (IsFront key other) → ¬ (IsFront other key) → KeysApart key excluded other other_excluded
+  -- the one is longer than the other, and goes on with a character that the other excludes
+  other_goes_on : IsFront key other → HasAt other (length key) excluded → KeysApart key excluded other other_excluded
+  key_goes_on : IsFront other key → HasAt key (length other) other_excluded → KeysApart key excluded other other_excluded
+
+-- a key and words are apart
+pub data KeyWordApart (key : List ℕ) (excluded heads rest : List Range) (reserved : List (List ℕ)) : Type 0 where
+  -- the key doesn't begin with a head
+  begins_outside : begins_in heads key ≡ false → KeyWordApart key excluded heads rest reserved
+  -- the word that the key begins with is reserved, and isn't the whole key
+  goes_on : is_reserved reserved (word_front rest key) ≡ true → word_front rest key ≢ key → KeyWordApart key excluded heads rest reserved
+  -- the word that the key begins with is reserved, and the key excludes whatever a word may go on with
+  ends : is_reserved reserved (word_front rest key) ≡ true → IsWithin rest excluded → KeyWordApart key excluded heads rest reserved
+
+-- two starts are apart
+abbrev pub Apart : StartKind → StartKind → Type 0
+Apart (Class class) (Class other) = AreDisjoint class other
+Apart (Class class) (Key key excluded) = begins_in class key ≡ false
+Apart (Class class) (Word heads rest reserved) = AreDisjoint class heads
+Apart (Class class) End = Unit {0}
+Apart (Key key excluded) (Class class) = begins_in class key ≡ false
+Apart (Key key excluded) (Key other other_excluded) = KeysApart key excluded other other_excluded
+Apart (Key key excluded) (Word heads rest reserved) = KeyWordApart key excluded heads rest reserved
+Apart (Key key excluded) End = Unit {0}
+Apart (Word heads rest reserved) (Class class) = AreDisjoint heads class
+Apart (Word heads rest reserved) (Key key excluded) = KeyWordApart key excluded heads rest reserved
+Apart (Word heads rest reserved) (Word other_heads other_rest other_reserved) = AreDisjoint heads other_heads
+Apart (Word heads rest reserved) End = Unit {0}
+Apart End (Class class) = Unit {0}
+Apart End (Key key excluded) = Unit {0}
+Apart End (Word heads rest reserved) = Unit {0}
+Apart End End = ⊥

@@ -1,0 +1,3 @@
+pub mod Fronts
+pub mod Starts
+pub mod Apart

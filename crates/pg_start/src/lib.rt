@@ -1,0 +1,24 @@
+//! Starts: what a parser can meet first where it begins, or right behind where it ends.
+//!
+//! A start is one character of a class, a key (a text with characters that may not follow it), a word, or the end of the
+//! text. `matches_at` asks whether one matches at a place of a text, and `apart` whether two are told apart by their looks
+//! alone: then no place of any text has both (`starts_apart_never_meet`), and a parser that looks ahead never has to
+//! choose between them.
+#![tactic(auto)]
+
+mod front;
+mod kind;
+mod laws;
+mod matching;
+mod pairs;
+mod reserved;
+mod start;
+#[cfg(test)]
+mod tests;
+
+pub use kind::StartKind;
+pub use laws::{apart_is_symmetric, starts_apart_never_meet};
+pub use matching::matches_at;
+pub use pairs::apart;
+pub use reserved::Reserved;
+pub use start::Start;

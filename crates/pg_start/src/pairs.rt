@@ -1,0 +1,105 @@
+//! Whether two starts are apart, a case a row.
+//!
+//! It is told by the starts alone, from the classes and the characters of keys; a parser that looks ahead relies on it.
+ghost use Rattle.std.specs.Prelude.{◌↔◌, IsTrue};
+ghost use Rattle.pg_start.specs.Apart.{Apart, KeysApart, KeyWordApart};
+
+use crate::front::{begins_in, begins_with, word_front};
+use crate::kind::StartKind;
+use crate::reserved::Reserved;
+use crate::start::Start;
+use pg_class::Class;
+
+/// Whether two starts are apart. It takes no memory.
+///
+/// The order of the two doesn't matter (`apart_is_symmetric`), and two that are apart match together at no place of any
+/// text (`starts_apart_never_meet`). Two that aren't need not meet anywhere.
+pub fn apart(one: &Start, other: &Start) -> bool
+    ensures { IsTrue result ↔ Apart one.now other.now }
+{
+    match one.view() {
+        StartKind::Class(class) => class_is_apart(class, other.view()),
+        StartKind::Key(key, excluded) => key_is_apart(key.as_slice(), excluded, other.view()),
+        StartKind::Word(heads, rest, reserved) => {
+            word_is_apart(heads, rest, reserved, other.view())
+        }
+        StartKind::End => end_is_apart(other.view()),
+    }
+}
+
+fn class_is_apart(class: &Class, other: &StartKind) -> bool
+    ensures { IsTrue result ↔ Apart (StartKind.Class class.now) other.now }
+{
+    match other {
+        StartKind::Class(other) => class.disjoint(other),
+        StartKind::Key(key, _) => !begins_in(key.as_slice(), class),
+        StartKind::Word(heads, _, _) => class.disjoint(heads),
+        StartKind::End => true,
+    }
+}
+
+fn key_is_apart(key: &[char], excluded: &Class, other: &StartKind) -> bool
+    ensures { IsTrue result ↔ Apart (StartKind.Key key.now excluded.now) other.now }
+{
+    match other {
+        StartKind::Class(class) => !begins_in(key, class),
+        StartKind::Key(other, others) => keys_are_apart(key, excluded, other.as_slice(), others),
+        StartKind::Word(heads, rest, reserved) => {
+            key_and_word_are_apart(key, excluded, heads, rest, reserved)
+        }
+        StartKind::End => true,
+    }
+}
+
+fn word_is_apart(heads: &Class, rest: &Class, reserved: &Reserved, other: &StartKind) -> bool
+    ensures { IsTrue result ↔ Apart (StartKind.Word heads.now rest.now reserved.now) other.now }
+{
+    match other {
+        StartKind::Class(class) => heads.disjoint(class),
+        StartKind::Key(key, excluded) => {
+            key_and_word_are_apart(key.as_slice(), excluded, heads, rest, reserved)
+        }
+        StartKind::Word(others, _, _) => heads.disjoint(others),
+        StartKind::End => true,
+    }
+}
+
+fn end_is_apart(other: &StartKind) -> bool
+    ensures { IsTrue result ↔ Apart StartKind.End other.now }
+{
+    match other {
+        StartKind::Class(_) | StartKind::Key(_, _) | StartKind::Word(_, _, _) => true,
+        StartKind::End => false,
+    }
+}
+
+/// Whether neither key begins with the other, or the longer goes on with a character that the shorter excludes.
+fn keys_are_apart(key: &[char], excluded: &Class, other: &[char], other_excluded: &Class) -> bool
+    ensures { IsTrue result ↔ KeysApart key.now excluded.now other.now other_excluded.now }
+{
+    if begins_with(other, key) {
+        begins_in(&other[key.len()..], excluded)
+    } else if begins_with(key, other) {
+        begins_in(&key[other.len()..], other_excluded)
+    } else {
+        true
+    }
+}
+
+/// Whether no word is read where the key stands: the key begins with no head, or the word that is read is reserved, as it
+/// ends inside the key, or with the key where no character may follow that a word goes on with.
+fn key_and_word_are_apart(
+    key: &[char],
+    excluded: &Class,
+    heads: &Class,
+    rest: &Class,
+    reserved: &Reserved,
+) -> bool
+    ensures { IsTrue result ↔ KeyWordApart key.now excluded.now heads.now rest.now reserved.now }
+{
+    if !begins_in(key, heads) {
+        return true;
+    }
+    let word = word_front(key, rest);
+    reserved.has(word) && (word != key || rest.within(excluded))
+}

@@ -1,0 +1,89 @@
+//! The type of a start, and its constructors.
+//!
+//! Callers see a start as its kind with the parts. That a key isn't empty is the invariant: nothing is met where nothing
+//! stands, so without it a key wouldn't be apart from the end of the text.
+ghost use Rattle.std.specs.Prelude.{◌≡◌, ◌<◌, length, IfOk};
+ghost use Rattle.pg_start.specs.Starts.{IsStart};
+
+use crate::kind::StartKind;
+use crate::reserved::Reserved;
+use pg_class::Class;
+use pg_text::Characters;
+use std::alloc::{AllocError, Global};
+use std::marker::Model;
+
+/// A start, in memory of its own, seen as its kind.
+#[derive(Debug, Drop)]
+pub struct Start {
+    kind: StartKind,
+}
+
+impl Model for Start {
+    ghost use Rattle.pg_start.specs.declared.kind.StartKind.{StartKind};
+    ghost use Rattle.pg_start.specs.Starts.{IsStart};
+
+    ghost Value = { StartKind };
+
+    ghost view = { λ start. start.kind };
+
+    ghost invariant = { λ start. IsStart start.kind };
+}
+
+impl Start {
+    /// A character of this class. The only error is that memory ran out.
+    pub fn class(alloc: Global, class: &Class) -> Result<Start, AllocError>
+        ensures { IfOk result (λ start. start ≡ StartKind.Class class.now) }
+    {
+        let class = class.copy(alloc)?;
+        Ok(Start {
+            kind: StartKind::Class(class),
+        })
+    }
+
+    /// This text, with no excluded character behind it. The only error is that memory ran out.
+    pub fn key(alloc: Global, key: &[char], excluded: &Class) -> Result<Start, AllocError>
+        requires { 0 < length key.now }
+        ensures { IfOk result (λ start. start ≡ StartKind.Key key.now excluded.now) }
+    {
+        let key = Characters::new(Vec::from_slice(alloc, key)?);
+        let excluded = excluded.copy(alloc)?;
+        Ok(Start {
+            kind: StartKind::Key(key, excluded),
+        })
+    }
+
+    /// A word of one of the heads and all of the rest that follow, unless that is one of the reserved texts. The only
+    /// error is that memory ran out.
+    pub fn word(
+        alloc: Global,
+        heads: &Class,
+        rest: &Class,
+        reserved: &[Characters],
+    ) -> Result<Start, AllocError>
+        ensures { IfOk result (λ start. start ≡ StartKind.Word heads.now rest.now reserved.now) }
+    {
+        let heads = heads.copy(alloc)?;
+        let rest = rest.copy(alloc)?;
+        let reserved = Reserved::of(alloc, reserved)?;
+        Ok(Start {
+            kind: StartKind::Word(heads, rest, reserved),
+        })
+    }
+
+    /// The end of the text. It takes no memory.
+    pub fn end() -> Start
+        ensures { result ≡ StartKind.End }
+    {
+        Start {
+            kind: StartKind::End,
+        }
+    }
+
+    /// The kind, with its parts. It takes no memory.
+    pub fn view(&self) -> &StartKind
+        ensures same { result.now ≡ self.now }
+        ensures start { IsStart self.now }
+    {
+        &self.kind
+    }
+}

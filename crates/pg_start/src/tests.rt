@@ -1,0 +1,58 @@
+//! What no clause says: that calls succeed. What is wanted of keys and words is told by hand.
+ghost use Rattle.std.specs.Prelude.{◌<◌, length};
+
+use super::*;
+use pg_class::Class;
+use pg_text::{Characters, Text};
+use std::alloc::Global;
+use std::test::Fail;
+
+fn key(alloc: Global, text: &[char], excluded: &[(char, char)]) -> Result<Start, Fail>
+    requires { 0 < length text.now }
+{
+    let excluded = Class::from_ranges(alloc, excluded)?;
+    let start = Start::key(alloc, text, &excluded)?;
+    Ok(start)
+}
+
+fn name(alloc: Global, reserved: &[Characters]) -> Result<Start, Fail> {
+    let letters = Class::from_ranges(alloc, &[('a', 'z')])?;
+    let start = Start::word(alloc, &letters, &letters, reserved)?;
+    Ok(start)
+}
+
+#[test]
+fn tells_keys_apart(rt: HostRuntime) -> Result<(), Fail> {
+    let lets = key(rt.alloc(), &['l', 'e', 't', 's'], &[])?;
+    let open = key(rt.alloc(), &['l', 'e', 't'], &[])?;
+    let whole = key(rt.alloc(), &['l', 'e', 't'], &[('a', 'z')])?;
+    assert!(rt; !apart(&open, &lets));
+    assert!(rt; apart(&whole, &lets));
+    assert!(rt; !apart(&Start::end(), &Start::end()));
+    apart_is_symmetric();
+    Ok(())
+}
+
+#[test]
+fn tells_words_apart(rt: HostRuntime) -> Result<(), Fail> {
+    let reserved = [Characters::new(vec![in rt.alloc(); 'l', 'e', 't']?)];
+    let whole = key(rt.alloc(), &['l', 'e', 't'], &[('a', 'z')])?;
+    let any = name(rt.alloc(), &[])?;
+    let others = name(rt.alloc(), &reserved)?;
+    assert!(rt; !apart(&whole, &any));
+    assert!(rt; apart(&whole, &others));
+    starts_apart_never_meet();
+    Ok(())
+}
+
+#[test]
+fn matches(rt: HostRuntime) -> Result<(), Fail> {
+    let text = Text::from_bytes(rt.alloc(), b"let x")?;
+    let digits = Class::from_ranges(rt.alloc(), &[('0', '9')])?;
+    let digit = Start::class(rt.alloc(), &digits)?;
+    let any = name(rt.alloc(), &[])?;
+    assert!(rt; matches_at(&any, &text, 0));
+    assert!(rt; !matches_at(&digit, &text, 0));
+    assert!(rt; matches!(digit.view(), StartKind::Class(_)));
+    Ok(())
+}
