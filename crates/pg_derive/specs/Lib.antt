@@ -4,3 +4,7 @@ pub mod Leaves
 pub mod Reactions
 pub mod Answers
 pub mod Laws
+pub mod ClosedSets
+pub mod Predictive
+pub mod PredictiveLaws
+pub mod WholeTexts

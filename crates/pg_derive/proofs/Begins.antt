@@ -1,0 +1,123 @@
+-- A derivation that consumes begins where one of the node's first starts matches; where one consumes nothing, the node is
+-- nullable.
+use Rattle.std.proofs.Common.{◌≡◌, ◌<◌, ◌≤◌, ◌⊎◌, inl, inr, ℕ, zero, suc, List, [], ◌∷◌, true, false, refl, sym, ◌∙◌, ap, subst, length, Some, slice_get, arith, le_refl}
+use Rattle.std.specs.List.{Contains}
+use Rattle.std.specs.Str.{all_scalars}
+use Rattle.pg_tree.specs.Trees.{Tree}
+use Rattle.pg_grammar.specs.Grammar.{Grammar}
+use Rattle.pg_grammar.specs.declared.form.Node.{Node}
+use Rattle.pg_grammar.specs.declared.trail.TrailItem.{TrailItem}
+use Rattle.pg_start.specs.Starts.{MatchesAt}
+use Rattle.pg_start.specs.declared.kind.StartKind.{StartKind}
+use Rattle.pg_table.specs.Derives.{Spot, Link, Derives, at_node, DerivesForm, satisfy, string, word, not_followed_by, end_of_text, seq, choice, many, chain_left, chain_right, try, label, rule, text as as_text, skip, build, expression, declare, DerivesParts, no_part, first_part, DerivesRounds, no_round, first_round, DerivesLinks, no_link, first_link}
+use Rattle.pg_derive.specs.ClosedSets.{NodeSets, SomeMatches, AllNullable, BeginsParts}
+use Rattle.pg_derive.specs.Predictive.{PartFits, TryFits, of_part, of_string, of_key, AlternativesFit, ManyFits, ChainFits, Fits}
+use Rattle.pg_derive.proofs.Inverted.{form_at, spans_string, spans_key, first_stands, forward, forward_parts, forward_rounds, forward_links}
+
+pub data Beginning (text : List ℕ) (Empty : Type 0) (IsStart : StartKind → Type 0) (a b : Spot) : Type 0 where
+  still : a ≡ b → Empty → Beginning text Empty IsStart a b
+  moves : a.place < b.place → (s : StartKind) → IsStart s → MatchesAt s text a.place → Beginning text Empty IsStart a b
+
+pub widened : {text : List ℕ} {E F : Type 0} {S T : StartKind → Type 0} {a b : Spot} → (E → F) → ((s : StartKind) → S s → T s) →
+    Beginning text E S a b → Beginning text F T a b
+widened f g (still e x) = still e (f x)
+widened f g (moves l s b h) = moves l s (g s b) h
+
+abbrev pub BeginsNode : NodeSets → List ℕ → ℕ → Spot → Spot → Type 0
+BeginsNode sets text p a b = Beginning text (sets.nullable p ≡ true) (Contains (sets.first p)) a b
+
+abbrev pub BeginsList : NodeSets → List ℕ → List ℕ → Spot → Spot → Type 0
+BeginsList sets text ps a b = Beginning text (AllNullable sets ps) (BeginsParts sets ps) a b
+
+by_matching : (sets : NodeSets) (text : List ℕ) (p : ℕ) {a b : Spot} → a.place < b.place → SomeMatches text (sets.first p) a.place → BeginsNode sets text p a b
+by_matching sets text p l m = moves l m.start m.among m.there
+
+elsewhere : (text : List ℕ) {a b : Spot} (s : StartKind) → a ≡ b → MatchesAt s text b.place → MatchesAt s text a.place
+elsewhere text s e h = subst (λ (x : Spot). MatchesAt s text x.place) (sym e) h
+
+pub joined : (sets : NodeSets) (text : List ℕ) (p : ℕ) (ps : List ℕ) {a b c : Spot} → b.place ≤ c.place → BeginsNode sets text p a b → BeginsList sets text ps b c →
+    BeginsList sets text (p ∷ ps) a c
+joined sets text p ps l (still e n) (still f ns) = still (e ∙ f) (n, ns)
+joined sets text p ps l (still e n) (moves m s b h) = let same = ap (λ (x : Spot). x.place) e in moves (omega arith) s (inr (n, b)) (elsewhere _ s e h)
+joined sets text p ps l (moves m s b h) rest = moves (omega arith) s (inl b) h
+
+pub consumes : (sets : NodeSets) (text : List ℕ) (p : ℕ) {a b : Spot} → sets.nullable p ≡ false → BeginsNode sets text p a b → a.place < b.place
+consumes sets text p full (still e n) = absurd (cc)
+consumes sets text p full (moves l s b h) = l
+
+a_round : {sets : NodeSets} {text : List ℕ} {p q : ℕ} {a b c : Spot} → ManyFits sets p q → b.place ≤ c.place → BeginsNode sets text q a b → BeginsNode sets text p a c
+a_round f l (still e n) = let full = f.full in absurd (cc)
+a_round f l (moves m s b h) = moves (omega arith) s (f.first s b) h
+
+-- an operand, and then nothing or a round
+a_chain : {sets : NodeSets} {text : List ℕ} {p q r : ℕ} {a b c : Spot} → ChainFits sets p q r → b.place ≤ c.place → BeginsNode sets text q a b →
+    (b ≡ c) ⊎ BeginsList sets text (r ∷ q ∷ []) b c → BeginsNode sets text p a c
+a_chain f l (moves m s b h) rest = moves (omega arith) s (f.first s b) h
+a_chain f l (still e n) (inl x) = still (e ∙ x) (f.empty n)
+a_chain f l (still e n) (inr (still x y)) = absurd (f.full y)
+a_chain f l (still e n) (inr (moves m s b h)) = let same = ap (λ (x : Spot). x.place) e in moves (omega arith) s (f.next n s b) (elsewhere _ s e h)
+
+longer : (sets : NodeSets) (text : List ℕ) (ps : List ℕ) {a b c : Spot} → b.place ≤ c.place → (AllNullable sets ps → ⊥) → BeginsList sets text ps a b → BeginsList sets text ps a c
+longer sets text ps l full (still e n) = absurd (full n)
+longer sets text ps l full (moves m s b h) = moves (omega arith) s b h
+
+pub alternative_fits : (sets : NodeSets) (p : ℕ) (ps : List ℕ) → AlternativesFit sets p ps → (k q : ℕ) → slice_get ps k ≡ Some q → PartFits sets p q
+alternative_fits sets p [] f k q e = absurd (cc)
+alternative_fits sets p (r ∷ ps) f zero q e = let same : r ≡ q = cc in subst (PartFits sets p) same f.0
+alternative_fits sets p (r ∷ ps) f (suc k) q e = alternative_fits sets p ps f.2 k q e
+
+module _ (g : Grammar) (s : List ℕ) (scalars : all_scalars s ≡ true) (sets : NodeSets) (good : (p : ℕ) (n : Node) → slice_get g.nodes p ≡ Some n → Fits g sets p n) where
+  in_part : {p q : ℕ} {a b : Spot} → PartFits sets p q → BeginsNode sets s q a b → BeginsNode sets s p a b
+  in_part f d = widened f.empty f.first d
+
+  in_try : {p q : ℕ} {a b : Spot} {v : List Tree} {t : List TrailItem} → Derives g s q a b v t → BeginsNode sets s q a b → TryFits g sets p q → BeginsNode sets s p a b
+  in_try d h (of_part f) = in_part f h
+  in_try {p = p} {a = a} {b = b} d h (of_string {s = cs} e l falls m) =
+      let spans = spans_string (form_at d e) in
+      let ends = ap (λ (x : Spot). x.place) spans.end in
+      by_matching sets s p (omega arith) (m s scalars a.place spans.stands)
+  in_try {p = p} {a = a} {b = b} d h (of_key {s = cs} e first second l falls m) =
+      let spans = spans_key (form_at d e) first second in
+      let ends = ap (λ (x : Spot). x.place) spans.end in
+      by_matching sets s p (omega arith) (m s scalars a.place (spans.stands, spans.bare))
+
+  mutual
+    pub begins : {p : ℕ} {a b : Spot} {v : List Tree} {t : List TrailItem} → Derives g s p a b v t → BeginsNode sets s p a b
+    begins (at_node {p = p} {n = n} e d) = begins_form d p (good p n e)
+
+    begins_form : {n : Node} {a b : Spot} {v : List Tree} {t : List TrailItem} → DerivesForm g s n a b v t → (p : ℕ) → Fits g sets p n → BeginsNode sets s p a b
+    begins_form (satisfy {a = a} has) p f = by_matching sets s p (omega arith) (f s scalars a.place has)
+    begins_form (string {characters = cs} {a = a} h) p f =
+        let l = f.spelled in by_matching sets s p (omega arith) (f.first s scalars a.place (first_stands s cs a.place f.spelled h))
+    begins_form (word {w = w} {item = item} {s = cs} {a = a} e is) p f =
+        let counted = ap length is.whole in
+        by_matching sets s p (omega arith) (f s scalars a.place (record { item = item; named = e; word = cs; there = is }))
+    begins_form (not_followed_by h) p f = still refl f
+    begins_form (end_of_text h) p f = still refl f
+    begins_form (seq d) p f = widened f.empty f.first (begins_parts d)
+    begins_form (choice {parts = ps} {k = k} {p = q} e d) p f = in_part (alternative_fits sets p ps f k q e) (begins d)
+    begins_form (many {p = q} d) p f = begins_rounds d p f
+    begins_form (chain_left {p = q} {s = r} d ds) p f = a_chain f (forward_links ds) (begins d) (begins_links ds p f)
+    begins_form (chain_right {p = q} {s = r} d ds) p f = a_chain f (forward_links ds) (begins d) (begins_links ds p f)
+    begins_form (try d) p f = in_try d (begins d) f
+    begins_form (label d) p f = in_part f (begins d)
+    begins_form (rule {named = named} e d) p f = in_part (f.body named e) (begins d)
+    begins_form (as_text d) p f = in_part f (begins d)
+    begins_form (skip d) p f = in_part f (begins d)
+    begins_form (build d) p f = in_part f (begins d)
+    begins_form (expression e x d) p f = absurd f
+    begins_form (declare e x d) p f = absurd f
+
+    pub begins_parts : {ps : List ℕ} {a b : Spot} {v : List Tree} {t : List TrailItem} → DerivesParts g s ps a b v t → BeginsList sets s ps a b
+    begins_parts no_part = still refl tt
+    begins_parts (first_part {p = p} {parts = ps} d ds) = joined sets s p ps (forward_parts ds) (begins d) (begins_parts ds)
+
+    pub begins_rounds : {q n : ℕ} {a b : Spot} {v : List Tree} {t : List TrailItem} → DerivesRounds g s q n a b v t → (p : ℕ) → ManyFits sets p q → BeginsNode sets s p a b
+    begins_rounds no_round p f = still refl f.empty
+    begins_rounds (first_round d ds) p f = a_round f (forward_rounds ds) (begins d)
+
+    pub begins_links : {q r n : ℕ} {a b : Spot} {links : List Link} {t : List TrailItem} → DerivesLinks g s q r n a b links t → (p : ℕ) → ChainFits sets p q r →
+        (a ≡ b) ⊎ BeginsList sets s (r ∷ q ∷ []) a b
+    begins_links no_link p f = inl refl
+    begins_links (first_link {p = q} {s = r} d e ds) p f =
+        inr (longer sets s (r ∷ q ∷ []) (forward_links ds) f.full (joined sets s r (q ∷ []) (forward e) (begins d) (joined sets s q [] (le_refl _) (begins e) (still refl tt))))

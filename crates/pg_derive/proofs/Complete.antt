@@ -1,0 +1,324 @@
+-- A derivation that ends where a start of the node's follow set matches is what the node answers.
+use Rattle.std.proofs.Common.{◌≡◌, ◌+◌, ◌<◌, ◌≤◌, ◌⊎◌, inl, inr, ℕ, zero, suc, List, [], ◌∷◌, ◌++◌, Bool, true, false, ◌||◌, refl, sym, ◌∙◌, ap, subst, length, Some, slice_get, arith, le_trans, append_assoc, append-nil, add-zero}
+use Rattle.std.specs.Prelude.{nat_lt}
+use Rattle.std.specs.List.{Contains, AllByRecursion}
+use Rattle.std.specs.Str.{all_scalars}
+use Rattle.std.proofs.lemmas.Option.{slice_get_within, get_or_from_slice_get}
+use Rattle.pg_tree.specs.Trees.{Tree}
+use Rattle.pg_tree.specs.declared.shape.Shape.{Shape}
+use Rattle.pg_grammar.specs.declared.form.Node.{Node}
+use Rattle.pg_grammar.specs.declared.form.Node.TheVariants as form
+use Rattle.pg_grammar.specs.declared.trail.TrailItem.{TrailItem}
+use Rattle.pg_grammar.specs.declared.trail.TrailItem.TheVariants.{Alt}
+use Rattle.pg_start.specs.declared.kind.StartKind.{StartKind}
+use Rattle.pg_start.proofs.Meeting.{never_meet}
+use Rattle.pg_table.specs.Derives.{Spot, behind, leaf_of, Link, Derives, DerivesForm, DerivesParts, DerivesRounds, DerivesLinks}
+use Rattle.pg_table.specs.Derives as derives
+use Rattle.pg_table.specs.Runs.{HasAt, StandsAt}
+use Rattle.pg_grammar.specs.declared.class.ClassPart.{ClassPart}
+use Rattle.pg_derive.specs.Answers.{Given, Answers, entered, AnswersForm, satisfy, string, word, not_followed_by, end_of_text, nothing, seq, choice, many, chain_left, chain_right, try, label, rule, text as as_text, skip, build, AnswersParts, part, part_last, part_ok, AnswersAlternatives, no_alternative, alternative, alternative_consumed, alternative_stands, alternative_waits, alternative_failed, AnswersRounds, round, round_ended, round_ok, AnswersChain, chain, first_ok, AnswersLinks, link, separator_failed, separator_ok, operand_failed, operand_ok}
+use Rattle.pg_derive.specs.Errors.{Error}
+use Rattle.pg_derive.specs.Outcomes.{Outcome, ok, failed}
+use Rattle.pg_derive.specs.Reactions.{carried, finished}
+use Rattle.pg_derive.specs.declared.fold.Fold.{Fold}
+use Rattle.pg_derive.specs.declared.fold.Fold.TheVariants.{FromLeft, FromRight}
+use Rattle.pg_derive.specs.declared.reading.Reading.{Reading}
+use Rattle.pg_derive.specs.declared.reading.Reading.TheVariants.{Library, Report}
+use Rattle.pg_derive.proofs.ChainsDerived.{folded, folded_none, folded_more}
+use Rattle.pg_derive.specs.ClosedSets.{NodeSets, SomeMatches, Within, AllApart, PartsFollowed}
+use Rattle.pg_derive.specs.Predictive.{TryFits, of_part, of_string, of_key, ComesBefore, AlternativesFit, ManyFits, ChainFits, Fits}
+use Rattle.pg_derive.proofs.Begins.{still, moves, BeginsNode, BeginsList, alternative_fits, consumes, begins, begins_parts, begins_links}
+use Rattle.pg_derive.proofs.Flags.{moved, stayed, both_moved}
+use Rattle.pg_derive.proofs.Inverted.{form_at, spans_string, spans_key, forward, forward_parts, forward_rounds, forward_links}
+use Rattle.pg_derive.proofs.LeavesAnswered.{StaysOk, satisfy_ok, word_ok, string_ok, not_followed_ok, end_ok}
+use Rattle.pg_derive.proofs.Quiet.{IsWhole, refuses, skips, NoStart, QuietNode, quiet}
+
+-- the run is ok from one spot to the other, with this forest and this trail, for some error and some number of nodes
+pub record IsOk (Run : Outcome → ℕ → Type 0) (a b : Spot) (v : List Tree) (t : List TrailItem) : Type 0 where
+  pub error : Error
+  pub count : ℕ
+  pub run : Run (ok (nat_lt a.place b.place) b v t error) count
+
+ok_moved : (Run : Outcome → ℕ → Type 0) (a b : Spot) (v : List Tree) (t : List TrailItem) (e : Error) (m : ℕ) → a.place < b.place → Run (ok true b v t e) m → IsOk Run a b v t
+ok_moved Run a b v t e m l run = record { error = e; count = m; run = subst (λ c. Run (ok c b v t e) m) (sym (moved l)) run }
+
+ok_stayed : (Run : Outcome → ℕ → Type 0) (a : Spot) (v : List Tree) (t : List TrailItem) (e : Error) (m : ℕ) → Run (ok false a v t e) m → IsOk Run a a v t
+ok_stayed Run a v t e m run = record { error = e; count = m; run = subst (λ c. Run (ok c a v t e) m) (sym (stayed a.place)) run }
+
+stays : (Run : Outcome → ℕ → Type 0) (a : Spot) (o : Outcome) (m : ℕ) → Run o m → StaysOk a o → IsOk Run a a [] []
+stays Run a o m run s = ok_stayed Run a [] [] s.error m (subst (λ x. Run x m) s.is run)
+
+ok_flag : (Run : Outcome → ℕ → Type 0) (a b : Spot) (c : Bool) (v : List Tree) (t : List TrailItem) (e : Error) (m : ℕ) → c ≡ nat_lt a.place b.place → Run (ok c b v t e) m → IsOk Run a b v t
+ok_flag Run a b c v t e m flag run = record { error = e; count = m; run = subst (λ c. Run (ok c b v t e) m) flag run }
+
+-- the same, of what is equal
+renamed : (Run : Outcome → ℕ → Type 0) (a : Spot) {b c : Spot} {v w : List Tree} {t u : List TrailItem} → b ≡ c → v ≡ w → t ≡ u → IsOk Run a c w u → IsOk Run a b v t
+renamed Run a {b = b} {c = c} {v = v} {w = w} {t = t} {u = u} p q r h =
+    subst (λ x. IsOk Run a x v t) (sym p) (subst (λ x. IsOk Run a c x t) (sym q) (subst (λ x. IsOk Run a c w x) (sym r) h))
+
+widen : {text : List ℕ} {xs ys : List StartKind} {i : ℕ} → Within xs ys → SomeMatches text xs i → SomeMatches text ys i
+widen w m = record { start = m.start; among = w m.start m.among; there = m.there }
+
+elsewhere : (text : List ℕ) (xs : List StartKind) {a b : Spot} → a ≡ b → SomeMatches text xs b.place → SomeMatches text xs a.place
+elsewhere text xs e m = subst (λ (x : Spot). SomeMatches text xs x.place) (sym e) m
+
+pub contains_got : (ps : List ℕ) (k q : ℕ) → slice_get ps k ≡ Some q → Contains ps q
+contains_got ps k q e = (k, slice_get_within ps k q e, get_or_from_slice_get ps k q q e)
+
+pub all_got : (P : ℕ → Type 0) (ps : List ℕ) → AllByRecursion P ps → (k q : ℕ) → slice_get ps k ≡ Some q → P q
+all_got P [] h k q e = absurd (cc)
+all_got P (r ∷ ps) h zero q e = let same : r ≡ q = cc in subst P same h.0
+all_got P (r ∷ ps) h (suc k) q e = all_got P ps h.1 k q e
+
+module _ (G : Given) (scalars : all_scalars G.text ≡ true) (whole : IsWhole G.grammar) (sets : NodeSets)
+    (good : (p : ℕ) (n : Node) → slice_get G.grammar.nodes p ≡ Some n → Fits G.grammar sets p n) where
+  abbrev IsNode : ℕ → Type 0
+  IsNode q = q < length G.grammar.nodes
+
+  kept_out : (i : ℕ) (xs ys : List StartKind) → AllApart xs ys → SomeMatches G.text ys i → NoStart G.text (Contains xs) i
+  kept_out i xs ys h m s b x = never_meet s m.start (h s m.start b m.among) G.text scalars i x m.there
+
+  pub begun : {p : ℕ} {a b : Spot} {v : List Tree} {t : List TrailItem} → Derives G.grammar G.text p a b v t → BeginsNode sets G.text p a b
+  begun d = begins G.grammar G.text scalars sets good d
+
+  pub passes : (q : ℕ) (a : Spot) → IsNode q → sets.nullable q ≡ false → NoStart G.text (Contains (sets.first q)) a.place → (e : Error) × (m : ℕ) × Answers G q a (failed false e) m
+  passes q a there full bare = go (quiet G scalars whole sets good q a there bare)
+    where
+      go : QuietNode G scalars whole sets q a → (e : Error) × (m : ℕ) × Answers G q a (failed false e) m
+      go (refuses e m run) = (e, m, run)
+      go (skips x v t e m run) = absurd (cc)
+
+  -- ---- sequences
+
+  part_behind : (q : ℕ) (b c : Spot) (qs : List ℕ) (follow : List StartKind) → PartsFollowed sets follow (q ∷ qs) → BeginsList sets G.text qs b c →
+      SomeMatches G.text follow c.place → SomeMatches G.text (sets.follow q) b.place
+  part_behind q b c qs follow f (still e ns) m = elsewhere G.text (sets.follow q) e (widen (f.1 ns) m)
+  part_behind q b c qs follow f (moves l s x h) m = record { start = s; among = f.0 s x; there = h }
+
+  -- ---- choices
+
+  pub alternative_refused : (p q r : ℕ) (a b : Spot) → ComesBefore sets p q r → BeginsNode sets G.text r a b → SomeMatches G.text (sets.follow p) b.place →
+      NoStart G.text (Contains (sets.first q)) a.place
+  alternative_refused p q r a b f (still e n) m = kept_out a.place (sets.first q) (sets.follow p) (f.follow n) (elsewhere G.text (sets.follow p) e m)
+  alternative_refused p q r a b f (moves l s x h) m = kept_out a.place (sets.first q) (sets.first r) f.first (record { start = s; among = x; there = h })
+
+  -- the alternative that is taken
+  taken_here : (p q n : ℕ) (a b : Spot) (v : List Tree) (t : List TrailItem) (qs : List ℕ) → AlternativesFit sets p (q ∷ qs) → BeginsNode sets G.text q a b → IsOk (Answers G q a) a b v t →
+      IsOk (AnswersAlternatives G n (q ∷ qs) a) a b v (Alt n ∷ t)
+  taken_here p q n a b v t qs f (moves l s x h) r =
+      ok_moved _ a b v (Alt n ∷ t) r.error _ l (alternative (subst (λ c. Answers G q a (ok c b v t r.error) r.count) (moved l) r.run) alternative_consumed)
+  taken_here p q n a b v t [] f (still e x) r = go G.reading refl
+    where
+      empty : Answers G q a (ok false b v t r.error) r.count
+      empty = subst (λ c. Answers G q a (ok c b v t r.error) r.count) (subst (λ (z : Spot). nat_lt a.place z.place ≡ false) e (stayed a.place)) r.run
+
+      flag : false ≡ nat_lt a.place b.place
+      flag = sym (subst (λ (z : Spot). nat_lt a.place z.place ≡ false) e (stayed a.place))
+
+      go : (reading : Reading) → G.reading ≡ reading → IsOk (AnswersAlternatives G n (q ∷ []) a) a b v (Alt n ∷ t)
+      go Library is = ok_flag _ a b false v (Alt n ∷ t) r.error _ flag (alternative empty (alternative_stands is))
+      go Report is = ok_flag _ a b false v (Alt n ∷ t) _ _ flag (alternative empty (alternative_waits is no_alternative))
+  taken_here p q n a b v t (other ∷ qs) f (still e x) r =
+      let full = (f.1 other (zero, omega arith, refl)).full in absurd (cc)
+
+  reached : (p q : ℕ) (a b : Spot) (v : List Tree) (t : List TrailItem) → BeginsNode sets G.text q a b → SomeMatches G.text (sets.follow p) b.place → IsOk (Answers G q a) a b v t →
+      (ps : List ℕ) (n k : ℕ) → AlternativesFit sets p ps → AllByRecursion IsNode ps → slice_get ps k ≡ Some q → IsOk (AnswersAlternatives G n ps a) a b v (Alt (n + k) ∷ t)
+  reached p q a b v t h m r [] n k f there e = absurd (cc)
+  reached p q a b v t h m r (x ∷ ps) n zero f there e =
+      let same : x ≡ q = cc in
+      let here = taken_here p x n a b v t ps f (subst (λ y. BeginsNode sets G.text y a b) (sym same) h) (subst (λ y. IsOk (Answers G y a) a b v t) (sym same) r) in
+      subst (λ i. IsOk (AnswersAlternatives G n (x ∷ ps) a) a b v (Alt i ∷ t)) (sym (add-zero n)) here
+  reached p q a b v t h m r (x ∷ ps) n (suc k) f there e =
+      let before = f.1 q (contains_got ps k q e) in
+      let rest = reached p q a b v t h m r ps (suc n) k f.2 there.1 e in
+      let fails = passes x a there.0 before.full (alternative_refused p x q a b before h m) in
+      let number : suc n + k ≡ n + suc k = omega arith in
+      subst (λ i. IsOk (AnswersAlternatives G n (x ∷ ps) a) a b v (Alt i ∷ t)) number
+      (record { error = _; count = _; run = alternative fails.2 (alternative_failed rest.run) })
+
+  -- ---- repetitions
+
+  round_behind : (p : ℕ) {q n : ℕ} {b c : Spot} {v : List Tree} {t : List TrailItem} → DerivesRounds G.grammar G.text q n b c v t → ManyFits sets p q →
+      SomeMatches G.text (sets.follow p) c.place → SomeMatches G.text (sets.follow q) b.place
+  round_behind p derives.no_round f m = widen f.follow m
+  round_behind p (derives.first_round {p = q} {a = b} {b = c} d ds) f m = go (begun d)
+    where
+      go : BeginsNode sets G.text q b c → SomeMatches G.text (sets.follow q) b.place
+      go (still e n) = let full = f.full in absurd (cc)
+      go (moves l s x h) = record { start = s; among = f.again s x; there = h }
+
+  -- ---- chains
+
+  -- behind an operand
+  link_behind : (p q r : ℕ) (b c : Spot) → ChainFits sets p q r → (b ≡ c) ⊎ BeginsList sets G.text (r ∷ q ∷ []) b c → SomeMatches G.text (sets.follow p) c.place →
+      SomeMatches G.text (sets.follow q) b.place
+  link_behind p q r b c f (inl e) m = elsewhere G.text (sets.follow q) e (widen f.follow m)
+  link_behind p q r b c f (inr (still e n)) m = absurd (f.full n)
+  link_behind p q r b c f (inr (moves l s x h)) m = record { start = s; among = f.again s x; there = h }
+
+  -- behind a separator
+  operand_behind : (p q r : ℕ) (b c z : Spot) → ChainFits sets p q r → BeginsNode sets G.text q b c → (c ≡ z) ⊎ BeginsList sets G.text (r ∷ q ∷ []) c z →
+      SomeMatches G.text (sets.follow p) z.place → SomeMatches G.text (sets.follow r) b.place
+  operand_behind p q r b c z f (moves l s x h) rest m = record { start = s; among = f.between s x; there = h }
+  operand_behind p q r b c z f (still e n) (inl d) m = elsewhere G.text (sets.follow r) (e ∙ d) (widen (f.over_last n) m)
+  operand_behind p q r b c z f (still e n) (inr (still d o)) m = absurd (f.full o)
+  operand_behind p q r b c z f (still e n) (inr (moves l s x h)) m =
+      elsewhere G.text (sets.follow r) e (record { start = s; among = f.over_next n s x; there = h })
+
+  -- a link consumes
+  pub link_moves : (p q r : ℕ) (a b c : Spot) → ChainFits sets p q r → b.place ≤ c.place → BeginsNode sets G.text r a b → BeginsNode sets G.text q b c → a.place < c.place
+  link_moves p q r a b c f l (moves m s x h) second = omega arith
+  link_moves p q r a b c f l (still e n) (moves m s x h) = let same = ap (λ (z : Spot). z.place) e in omega arith
+  link_moves p q r a b c f l (still e n) (still d o) = absurd (f.full (n, (o, tt)))
+
+  -- no link comes any more
+  no_more : (fold : Fold) (shape : Shape) (p q r : ℕ) (left : List Tree) (a : Spot) → IsNode q → IsNode r → ChainFits sets p q r → SomeMatches G.text (sets.follow p) a.place →
+      IsOk (AnswersLinks G fold shape q r left zero a) a a left []
+  no_more fold shape p q r left a is_q is_r f m =
+      go (quiet G scalars whole sets good r a is_r (λ s b x. never_meet s m.start (f.apart s m.start (inl b) m.among) G.text scalars a.place x m.there))
+    where
+      Result : Type 0
+      Result = IsOk (AnswersLinks G fold shape q r left zero a) a a left []
+
+      behind_separator : sets.nullable r ≡ true → (w : List Tree) (u : List TrailItem) (e : Error) (i : ℕ) → Answers G r a (ok false a w u e) i →
+          QuietNode G scalars whole sets q a → Result
+      behind_separator er w u e i separator (refuses g j operand) = ok_stayed _ a left [] _ _ (link separator (separator_ok operand operand_failed))
+      behind_separator er w u e i separator (skips en y z g j operand) = absurd (f.full (er, (en, tt)))
+
+      go : QuietNode G scalars whole sets r a → Result
+      go (refuses e i separator) = ok_stayed _ a left [] _ _ (link separator separator_failed)
+      go (skips er w u e i separator) =
+          behind_separator er w u e i separator
+          (quiet G scalars whole sets good q a is_q (λ s b x. never_meet s m.start (f.apart s m.start (inr (er, inl b)) m.among) G.text scalars a.place x m.there))
+
+  -- a link more, between an operand and the links behind it
+  one_more : (fold : Fold) (shape : Shape) (q r n : ℕ) (left v w : List Tree) (links : List Link) (a b c d : Spot) (t u items : List TrailItem) →
+      a.place ≤ b.place → b.place ≤ c.place → c.place ≤ d.place → a.place < c.place →
+      IsOk (Answers G r a) a b v t → IsOk (Answers G q b) b c w u → IsOk (AnswersLinks G fold shape q r (carried fold shape left v w) n c) c d (folded fold shape (carried fold shape left v w) links) items →
+      IsOk (AnswersLinks G fold shape q r left (suc n) a) a d (folded fold shape left ((v, w) ∷ links)) (t ++ u ++ items)
+  one_more fold shape q r n left v w links a b c d t u items l k j beyond separator operand rest =
+      let first = both_moved l k in
+      let second = both_moved k j in
+      let all = both_moved l (le_trans k j) in
+      let consumed : (nat_lt a.place b.place || nat_lt b.place c.place) ≡ true = first ∙ moved beyond in
+      let flag : (nat_lt a.place b.place || (nat_lt b.place c.place || nat_lt c.place d.place)) ≡ nat_lt a.place d.place = ap (λ x. nat_lt a.place b.place || x) second ∙ all in
+      let run = link separator.run (separator_ok operand.run (operand_ok consumed rest.run)) in
+      let made = ok_flag _ a d _ (finished fold shape left v (folded fold shape (carried fold shape left v w) links)) (t ++ (u ++ items)) _ _ flag run in
+      subst (λ x. IsOk (AnswersLinks G fold shape q r left (suc n) a) a d (folded fold shape left ((v, w) ∷ links)) x) (sym (append_assoc t u items))
+      (subst (λ x. IsOk (AnswersLinks G fold shape q r left (suc n) a) a d x (t ++ (u ++ items))) (sym (folded_more fold shape left v w links)) made)
+
+  -- an operand, and the links behind it
+  chained : (fold : Fold) (shape : Shape) (q r n : ℕ) (v w : List Tree) (a b c : Spot) (t u : List TrailItem) → a.place ≤ b.place → b.place ≤ c.place →
+      IsOk (Answers G q a) a b v t → IsOk (AnswersLinks G fold shape q r v n b) b c w u → IsOk (AnswersChain G fold shape q r n a) a c w (t ++ u)
+  chained fold shape q r n v w a b c t u l k operand links =
+      ok_flag _ a c _ w (t ++ u) _ _ (both_moved l k) (chain operand.run (first_ok links.run))
+
+  -- ---- `try`
+
+  string_tried : (q : ℕ) (s : List ℕ) (a : Spot) → slice_get G.grammar.nodes q ≡ Some (form.String s) → 0 < length s → StandsAt G.text a.place s →
+      IsOk (AnswersForm G (form.Try q) a) a (behind a (length s)) (leaf_of s ∷ []) []
+  string_tried q s a e spelled h =
+      ok_moved _ a (behind a (length s)) (leaf_of s ∷ []) [] _ _ (omega arith)
+      (try (entered e (subst (λ o. AnswersForm G (form.String s) a o zero) (string_ok G.text s a h) string)))
+
+  key_tried : (q x y : ℕ) (s : List ℕ) (class : List ClassPart) (a : Spot) → slice_get G.grammar.nodes q ≡ Some (form.Seq (x ∷ y ∷ [])) →
+      slice_get G.grammar.nodes x ≡ Some (form.String s) → slice_get G.grammar.nodes y ≡ Some (form.NotFollowedBy class) → 0 < length s →
+      StandsAt G.text a.place s → (HasAt G.grammar G.text class (a.place + length s) → ⊥) →
+      IsOk (AnswersForm G (form.Try q) a) a (behind a (length s)) (leaf_of s ∷ []) []
+  key_tried q x y s class a e first second spelled h bare =
+      let b : Spot = behind a (length s) in
+      let ends = not_followed_ok G.grammar G.text class b bare in
+      let read = entered first (subst (λ o. AnswersForm G (form.String s) a o zero) (string_ok G.text s a h) string) in
+      let seen = entered second (subst (λ o. AnswersForm G (form.NotFollowedBy class) b o zero) ends.is not_followed_by) in
+      ok_moved _ a b (leaf_of s ∷ []) [] _ _ (omega arith) (try (entered e (seq (part read (part_ok (part seen part_last))))))
+
+  complete_try : {q : ℕ} {a b : Spot} {v : List Tree} {t : List TrailItem} → Derives G.grammar G.text q a b v t → (SomeMatches G.text (sets.follow q) b.place → IsOk (Answers G q a) a b v t) → (p : ℕ) → TryFits G.grammar sets p q →
+      SomeMatches G.text (sets.follow p) b.place → IsOk (AnswersForm G (form.Try q) a) a b v t
+  complete_try d answers p (of_part f) m = let r = answers (widen f.follow m) in record { error = r.error; count = r.count; run = try r.run }
+  complete_try {q = q} {a = a} d answers p (of_string {s = s} e spelled falls f) m =
+      let h = spans_string (form_at d e) in renamed _ a h.end h.forest h.trail (string_tried q s a e spelled h.stands)
+  complete_try {q = q} {a = a} d answers p (of_key {x = x} {y = y} {s = s} {class = class} e first second spelled falls f) m =
+      let h = spans_key (form_at d e) first second in renamed _ a h.end h.forest h.trail (key_tried q x y s class a e first second spelled h.stands h.bare)
+
+  mutual
+    pub complete : {p : ℕ} {a b : Spot} {v : List Tree} {t : List TrailItem} → Derives G.grammar G.text p a b v t → SomeMatches G.text (sets.follow p) b.place → IsOk (Answers G p a) a b v t
+    complete (derives.at_node {p = p} {n = n} e d) m =
+        let r = complete_form d p e (good p n e) m in record { error = r.error; count = _; run = entered e r.run }
+
+    complete_form : {n : Node} {a b : Spot} {v : List Tree} {t : List TrailItem} → DerivesForm G.grammar G.text n a b v t → (p : ℕ) → slice_get G.grammar.nodes p ≡ Some n →
+        Fits G.grammar sets p n → SomeMatches G.text (sets.follow p) b.place → IsOk (AnswersForm G n a) a b v t
+    complete_form (derives.satisfy {class = class} {a = a} has) p e f m =
+        ok_moved _ a _ _ [] _ _ (omega arith) (subst (λ o. AnswersForm G (form.Satisfy class) a o zero) (satisfy_ok G.grammar G.text class a has) satisfy)
+    complete_form (derives.string {characters = s} {a = a} h) p e f m =
+        let spelled = f.spelled in
+        ok_moved _ a _ _ [] _ _ (omega arith) (subst (λ o. AnswersForm G (form.String s) a o zero) (string_ok G.text s a h) string)
+    complete_form (derives.word {w = w} {item = item} {s = s} {a = a} there is) p e f m =
+        let counted = ap length is.whole in
+        ok_moved _ a _ _ [] _ _ (omega arith) (subst (λ o. AnswersForm G (form.Word w) a o zero) (word_ok G.grammar G.text item a s is) (word there))
+    complete_form (derives.not_followed_by {class = class} {a = a} h) p e f m = stays _ a _ _ not_followed_by (not_followed_ok G.grammar G.text class a h)
+    complete_form (derives.end_of_text {a = a} h) p e f m = stays _ a _ _ end_of_text (end_ok G.text a h)
+    complete_form (derives.seq {parts = []} derives.no_part) p e f m = ok_stayed _ _ [] [] _ _ nothing
+    complete_form (derives.seq {parts = q ∷ qs} d) p e f m =
+        let r = complete_parts d (sets.follow p) f.follow m in record { error = r.error; count = r.count; run = seq r.run }
+    complete_form (derives.choice {parts = ps} {k = k} {p = q} {a = a} {b = b} {forest = v} {trail = t} x d) p e f m =
+        let part_fits = alternative_fits sets p ps f k q x in
+        let r = reached p q a b v t (begun d) m (complete d (widen part_fits.follow m)) ps (suc zero) k f (whole.parts p _ e) x in
+        let number : suc zero + k ≡ suc k = omega arith in
+        subst (λ i. IsOk (AnswersForm G (form.Choice ps) a) a b v (Alt i ∷ t)) number (record { error = r.error; count = r.count; run = choice r.run })
+    complete_form (derives.many {p = q} d) p e f m =
+        let r = complete_rounds d p (whole.parts p _ e).0 f m in record { error = r.error; count = r.count; run = many r.run }
+    complete_form (derives.chain_left {used = used} {p = q} {s = r} {a = a} {b = b} {c = c} {trail = t} {items = u} d ds) p e f m =
+        let there = whole.parts p _ e in
+        let operand = complete d (link_behind p q r b c f (begins_links G.grammar G.text scalars sets good ds p f) m) in
+        let links = complete_links FromLeft used.shape ds p there.0 there.1.0 f _ m in
+        let r = chained FromLeft used.shape q r _ _ _ a b c t u (forward d) (forward_links ds) operand links in
+        record { error = r.error; count = r.count; run = chain_left r.run }
+    complete_form (derives.chain_right {used = used} {p = q} {s = r} {a = a} {b = b} {c = c} {trail = t} {items = u} d ds) p e f m =
+        let there = whole.parts p _ e in
+        let operand = complete d (link_behind p q r b c f (begins_links G.grammar G.text scalars sets good ds p f) m) in
+        let links = complete_links FromRight used.shape ds p there.0 there.1.0 f _ m in
+        let r = chained FromRight used.shape q r _ _ _ a b c t u (forward d) (forward_links ds) operand links in
+        record { error = r.error; count = r.count; run = chain_right r.run }
+    complete_form (derives.try {p = q} d) p e f m = complete_try d (λ k. complete d k) p f m
+    complete_form (derives.label d) p e f m = let r = complete d (widen f.follow m) in record { error = _; count = r.count; run = label r.run }
+    complete_form (derives.rule {named = named} x d) p e f m = let r = complete d (widen (f.body named x).follow m) in record { error = r.error; count = r.count; run = rule x r.run }
+    complete_form (derives.text d) p e f m = let r = complete d (widen f.follow m) in record { error = r.error; count = r.count; run = as_text r.run }
+    complete_form (derives.skip d) p e f m = let r = complete d (widen f.follow m) in record { error = r.error; count = r.count; run = skip r.run }
+    complete_form (derives.build d) p e f m = let r = complete d (widen f.follow m) in record { error = r.error; count = r.count; run = build r.run }
+    complete_form (derives.expression x y d) p e f m = absurd f
+    complete_form (derives.declare x y d) p e f m = absurd f
+
+    complete_parts : {q : ℕ} {qs : List ℕ} {a b : Spot} {v : List Tree} {t : List TrailItem} → DerivesParts G.grammar G.text (q ∷ qs) a b v t → (follow : List StartKind) →
+        PartsFollowed sets follow (q ∷ qs) → SomeMatches G.text follow b.place → IsOk (AnswersParts G q qs a) a b v t
+    complete_parts (derives.first_part {p = q} {parts = []} {a = a} {b = b} {forest = v} {trail = t} d derives.no_part) follow f m =
+        let r = complete d (part_behind q b b [] follow f (still refl tt) m) in
+        renamed _ a refl (append-nil v) (append-nil t) (record { error = r.error; count = _; run = part r.run part_last })
+    complete_parts (derives.first_part {p = q} {parts = x ∷ xs} {a = a} {b = b} {c = c} {forest = v} {others = w} {trail = t} {items = u} d ds) follow f m =
+        let first = complete d (part_behind q b c (x ∷ xs) follow f (begins_parts G.grammar G.text scalars sets good ds) m) in
+        let rest = complete_parts ds follow f.2 m in
+        ok_flag _ a c _ (v ++ w) (t ++ u) _ _ (both_moved (forward d) (forward_parts ds)) (part first.run (part_ok rest.run))
+
+    complete_rounds : {q n : ℕ} {a b : Spot} {v : List Tree} {t : List TrailItem} → DerivesRounds G.grammar G.text q n a b v t → (p : ℕ) → IsNode q → ManyFits sets p q →
+        SomeMatches G.text (sets.follow p) b.place → IsOk (AnswersRounds G q n a) a b v t
+    complete_rounds (derives.no_round {p = q} {a = a}) p there f m =
+        let fails = passes q a there f.full (kept_out a.place (sets.first q) (sets.follow p) f.apart m) in
+        ok_stayed _ a [] [] _ _ (round fails.2 round_ended)
+    complete_rounds (derives.first_round {p = q} {a = a} {b = b} {c = c} {forest = v} {others = w} {trail = t} {items = u} d ds) p there f m =
+        let first = complete d (round_behind p ds f m) in
+        let rest = complete_rounds ds p there f m in
+        let l : a.place < b.place = consumes sets G.text q f.full (begun d) in
+        let onward = forward_rounds ds in
+        let consumed = subst (λ x. Answers G q a (ok x b v t first.error) first.count) (moved l) first.run in
+        ok_moved _ a c (v ++ w) (t ++ u) _ _ (omega arith) (round consumed (round_ok rest.run))
+
+    complete_links : (fold : Fold) (shape : Shape) {q r n : ℕ} {a b : Spot} {links : List Link} {t : List TrailItem} → DerivesLinks G.grammar G.text q r n a b links t → (p : ℕ) → IsNode q → IsNode r →
+        ChainFits sets p q r → (left : List Tree) → SomeMatches G.text (sets.follow p) b.place → IsOk (AnswersLinks G fold shape q r left n a) a b (folded fold shape left links) t
+    complete_links fold shape (derives.no_link {p = q} {s = r} {a = a}) p is_q is_r f left m =
+        renamed _ a refl (folded_none fold shape left) refl (no_more fold shape p q r left a is_q is_r f m)
+    complete_links fold shape (derives.first_link {p = q} {s = r} {n = n} {a = a} {b = b} {c = c} {d = z} {separator = v} {operand = w} {links = links} {trail = t} {items = u} {others = o} d e ds) p is_q is_r f left m =
+        let onward = begins_links G.grammar G.text scalars sets good ds p f in
+        let after = link_behind p q r c z f onward m in
+        let separator = complete d (operand_behind p q r b c z f (begun e) onward m) in
+        let operand = complete e after in
+        let rest = complete_links fold shape ds p is_q is_r f (carried fold shape left v w) m in
+        one_more fold shape q r n left v w links a b c z t u o (forward d) (forward e) (forward_links ds) (link_moves p q r a b c f (forward e) (begun d) (begun e)) separator operand rest

@@ -1,0 +1,385 @@
+-- In a predictive grammar each node answers at each place: no run goes on without an end, and no repetition meets a round that
+-- consumes nothing.
+use Rattle.std.proofs.Common.{◌≡◌, ◌+◌, ◌<◌, ◌≤◌, ◌⊎◌, ℕ, zero, suc, List, [], ◌∷◌, Bool, true, false, ◌||◌, refl, ◌∙◌, ap, length, Option, Some, None, slice_get, ◌==◌, if◌then◌else◌, arith, le_refl}
+use Rattle.std.specs.Prelude.{nat_lt}
+use Rattle.std.specs.List.{AllByRecursion, list_any}
+use Rattle.std.specs.Str.{bytes_eq}
+use Rattle.pg_grammar.specs.ClassItems.{has_character}
+use Rattle.pg_grammar.specs.declared.class.ClassPart.{ClassPart}
+use Rattle.pg_grammar.specs.declared.word_item.WordItem.{WordItem}
+use Rattle.pg_table.specs.Runs.{run_at}
+use Rattle.std.specs.Str.{all_scalars}
+use Rattle.pg_tree.specs.Trees.{Tree}
+use Rattle.pg_tree.specs.declared.shape.Shape.{Shape}
+use Rattle.pg_grammar.specs.Grammar.{Grammar}
+use Rattle.pg_grammar.specs.declared.form.Node.{Node}
+use Rattle.pg_grammar.specs.declared.form.Node.TheVariants as form
+use Rattle.pg_grammar.specs.declared.grammar.Rule as declared
+use Rattle.pg_grammar.specs.declared.trail.TrailItem.{TrailItem}
+use Rattle.pg_table.specs.Derives.{Spot, Derives}
+use Rattle.pg_table.proofs.Onward.{leads_on}
+use Rattle.pg_derive.specs.Answers.{Given, Answers, entered, AnswersForm, satisfy, string, word, not_followed_by, end_of_text, nothing, seq, choice, many, chain_left, chain_right, try, label, rule, text as as_text, skip, build, AnswersParts, part, part_last, part_failed, part_ok, AnswersAlternatives, no_alternative, alternative, alternative_consumed, alternative_stands, alternative_waits, alternative_commits, alternative_failed, AnswersRounds, round, round_ended, round_failed, round_ok, AnswersChain, chain, first_failed, first_ok, AnswersLinks, link, separator_failed, separator_ok, operand_failed, operand_ok}
+use Rattle.pg_derive.specs.Errors.{Error}
+use Rattle.pg_derive.specs.Outcomes.{Outcome, ok, failed, empty_round}
+use Rattle.pg_derive.specs.Leaves.{satisfy_next, satisfy_outcome, matched, string_outcome, word_read, word_next, word_outcome, not_followed_next, not_followed_outcome, end_outcome}
+use Rattle.pg_derive.specs.Reactions.{carried, unless_begun}
+use Rattle.pg_derive.specs.declared.fold.Fold.{Fold}
+use Rattle.pg_derive.specs.declared.fold.Fold.TheVariants.{FromLeft, FromRight}
+use Rattle.pg_derive.specs.declared.reading.Reading.{Reading}
+use Rattle.pg_derive.specs.declared.reading.Reading.TheVariants.{Library, Report}
+use Rattle.pg_derive.proofs.Sound.{sound}
+use Rattle.pg_derive.specs.ClosedSets.{NodeSets, PartsFall}
+use Rattle.pg_derive.specs.Predictive.{PartFits, TryFits, of_part, of_string, of_key, AlternativesFit, ManyFits, ChainFits, Fits}
+use Rattle.pg_derive.proofs.Begins.{still, moves, BeginsNode}
+use Rattle.pg_derive.proofs.Complete.{begun, link_moves}
+use Rattle.pg_derive.proofs.Flags.{moved, both_moved}
+use Rattle.pg_derive.proofs.Moves.{tells}
+use Rattle.pg_derive.proofs.Quiet.{IsWhole, found}
+
+-- the run has an answer
+pub data Settles (Run : Outcome → ℕ → Type 0) : Type 0 where
+  settles_ok : (c : Bool) (b : Spot) (v : List Tree) (t : List TrailItem) (e : Error) (m : ℕ) → Run (ok c b v t e) m → Settles Run
+  settles_failed : (c : Bool) (e : Error) (m : ℕ) → Run (failed c e) m → Settles Run
+
+further_or_same : (i j : ℕ) → i ≤ j → (i < j) ⊎ (i ≡ j)
+further_or_same i j l = grind arith
+
+-- what a chain comes to where no link comes any more is an answer
+settles_begun : (Run : Outcome → ℕ → Type 0) (c : Bool) (a : Spot) (x : List Tree) (e : Error) (m : ℕ) → Run (unless_begun c a x e) m → Settles Run
+settles_begun Run true a x e m run = settles_failed true e m run
+settles_begun Run false a x e m run = settles_ok false a x [] _ m run
+
+-- it isn't that a repetition met a round that consumed nothing
+abbrev IsAnswer : Outcome → Type 0
+IsAnswer (ok c b v t e) = Unit {0}
+IsAnswer (failed c e) = Unit {0}
+IsAnswer empty_round = ⊥
+
+answers_if : (b : Bool) (o q : Outcome) → IsAnswer o → IsAnswer q → IsAnswer (if b then o else q)
+answers_if true o q f g = f
+answers_if false o q f g = g
+
+satisfy_answers : (g : Grammar) (text : List ℕ) (class : List ClassPart) (a : Spot) → IsAnswer (satisfy_outcome g text class a)
+satisfy_answers g text class a = go (slice_get text a.place)
+  where
+    go : (next : Option ℕ) → IsAnswer (satisfy_next g class a next)
+    go None = tt
+    go (Some c) = answers_if (has_character g.classes class c) _ _ tt tt
+
+string_answers : (text s : List ℕ) (a : Spot) → IsAnswer (string_outcome text s a)
+string_answers text s a = answers_if (matched text s a.place == length s) _ _ tt tt
+
+word_answers : (g : Grammar) (text : List ℕ) (item : WordItem) (a : Spot) → IsAnswer (word_outcome g text item a)
+word_answers g text item a = go (slice_get text a.place)
+  where
+    read : (s : List ℕ) → IsAnswer (word_read item a s)
+    read s = answers_if (list_any (λ reserved. bytes_eq reserved s) item.reserved) _ _ tt tt
+
+    go : (next : Option ℕ) → IsAnswer (word_next g text item a next)
+    go None = tt
+    go (Some c) = answers_if (has_character g.classes item.head c) _ _ (read (c ∷ run_at g text item.rest (suc a.place))) tt
+
+not_followed_answers : (g : Grammar) (text : List ℕ) (class : List ClassPart) (a : Spot) → IsAnswer (not_followed_outcome g text class a)
+not_followed_answers g text class a = go (slice_get text a.place)
+  where
+    go : (next : Option ℕ) → IsAnswer (not_followed_next g class a next)
+    go None = tt
+    go (Some c) = answers_if (has_character g.classes class c) _ _ tt tt
+
+end_answers : (text : List ℕ) (a : Spot) → IsAnswer (end_outcome text a)
+end_answers text a = answers_if (a.place == length text) _ _ tt tt
+
+module _ (G : Given) (scalars : all_scalars G.text ≡ true) (whole : IsWhole G.grammar) (sets : NodeSets)
+    (good : (p : ℕ) (n : Node) → slice_get G.grammar.nodes p ≡ Some n → Fits G.grammar sets p n)
+    (spelled : (p : ℕ) (s : List ℕ) → slice_get G.grammar.nodes p ≡ Some (form.String s) → 0 < length s) where
+  abbrev InText : Spot → Type 0
+  InText a = a.place ≤ length G.text
+
+  abbrev AreNodes : List ℕ → Type 0
+  AreNodes qs = AllByRecursion (λ q. q < length G.grammar.nodes) qs
+
+  -- q at b is nearer to an end than p at a: further on in the text, or at a lower level at the same place
+  data Nearer (p : ℕ) (a : Spot) (q : ℕ) (b : Spot) : Type 0 where
+    further : a.place < b.place → Nearer p a q b
+    lower : a.place ≡ b.place → sets.level q < sets.level p → Nearer p a q b
+
+  abbrev Nearby : ℕ → Spot → Type 0
+  Nearby p a = (q : ℕ) → q < length G.grammar.nodes → (b : Spot) → InText b → Nearer p a q b → Settles (Answers G q b)
+
+  -- parts at b, with a the place where p began
+  data Ahead (p : ℕ) (a b : Spot) (qs : List ℕ) : Type 0 where
+    beyond : a.place < b.place → Ahead p a b qs
+    beside : a.place ≡ b.place → PartsFall sets (sets.level p) qs → Ahead p a b qs
+
+  first_ahead : {p : ℕ} {a b : Spot} {q : ℕ} {qs : List ℕ} → Ahead p a b (q ∷ qs) → Nearer p a q b
+  first_ahead (beyond l) = further l
+  first_ahead (beside e f) = lower e f.0
+
+  derived : {q : ℕ} {a b : Spot} {c : Bool} {v : List Tree} {t : List TrailItem} {e : Error} {m : ℕ} → Answers G q a (ok c b v t e) m → Derives G.grammar G.text q a b v t
+  derived d = sound d
+
+  ends_in_text : {q : ℕ} {a b : Spot} {c : Bool} {v : List Tree} {t : List TrailItem} {e : Error} {m : ℕ} → Answers G q a (ok c b v t e) m → InText a → InText b
+  ends_in_text d h = (leads_on (derived d)).within h
+
+  begins_at : {q : ℕ} {a b : Spot} {c : Bool} {v : List Tree} {t : List TrailItem} {e : Error} {m : ℕ} → Answers G q a (ok c b v t e) m → BeginsNode sets G.text q a b
+  begins_at d = begun G scalars whole sets good (derived d)
+
+  -- the parts behind one that was ok
+  rest_ahead : {p : ℕ} {a b z : Spot} {q : ℕ} {qs : List ℕ} {c : Bool} {v : List Tree} {t : List TrailItem} {e : Error} {m : ℕ} → Ahead p a b (q ∷ qs) → Answers G q b (ok c z v t e) m → Ahead p a z qs
+  rest_ahead {b = b} {z = z} {q = q} h run = go h (begins_at run)
+    where
+      go : {p : ℕ} {a : Spot} {qs : List ℕ} → Ahead p a b (q ∷ qs) → BeginsNode sets G.text q b z → Ahead p a z qs
+      go (beyond l) (still e n) = let same = ap (λ (x : Spot). x.place) e in beyond (omega arith)
+      go (beyond l) (moves m s x k) = beyond (omega arith)
+      go (beside e f) (still d n) = beside (e ∙ ap (λ (x : Spot). x.place) d) (f.1 n)
+      go (beside e f) (moves m s x k) = beyond (omega arith)
+
+  settle_parts : (p : ℕ) (a : Spot) → Nearby p a → (q : ℕ) (qs : List ℕ) (b : Spot) → InText b → AreNodes (q ∷ qs) → Ahead p a b (q ∷ qs) → Settles (AnswersParts G q qs b)
+  settle_parts p a near q [] b within there h = go (near q there.0 b within (first_ahead h))
+    where
+      go : Settles (Answers G q b) → Settles (AnswersParts G q [] b)
+      go (settles_ok c z v t e m run) = settles_ok c z v t e _ (part run part_last)
+      go (settles_failed c e m run) = settles_failed c e _ (part run part_last)
+  settle_parts p a near q (r ∷ rs) b within there h = go (near q there.0 b within (first_ahead h)) (λ z x k. settle_parts p a near r rs z x there.1 k)
+    where
+      more : {c : Bool} {z : Spot} {v : List Tree} {t : List TrailItem} {e : Error} {m : ℕ} → Answers G q b (ok c z v t e) m → Settles (AnswersParts G r rs z) → Settles (AnswersParts G q (r ∷ rs) b)
+      more run (settles_ok d y w u f i rest) = settles_ok _ y _ _ _ _ (part run (part_ok rest))
+      more run (settles_failed d f i rest) = settles_failed _ _ _ (part run (part_ok rest))
+
+      go : Settles (Answers G q b) → ((z : Spot) → InText z → Ahead p a z (r ∷ rs) → Settles (AnswersParts G r rs z)) → Settles (AnswersParts G q (r ∷ rs) b)
+      go (settles_ok c z v t e m run) rest = more run (rest z (ends_in_text run within) (rest_ahead h run))
+      go (settles_failed c e m run) rest = settles_failed c e _ (part run part_failed)
+
+  settle_alternatives : (p : ℕ) (a : Spot) → Nearby p a → InText a → (k : ℕ) (qs : List ℕ) → AlternativesFit sets p qs → AreNodes qs → Settles (AnswersAlternatives G k qs a)
+  settle_alternatives p a near within k [] f there = settles_failed _ _ _ no_alternative
+  settle_alternatives p a near within k (q ∷ qs) f there =
+      go (near q there.0 a within (lower refl f.0.falls)) (settle_alternatives p a near within (suc k) qs f.2 there.1)
+    where
+      Result : Type 0
+      Result = Settles (AnswersAlternatives G k (q ∷ qs) a)
+
+      Rest : Type 0
+      Rest = Settles (AnswersAlternatives G (suc k) qs a)
+
+      passed : {e : Error} {m : ℕ} → Answers G q a (failed false e) m → Rest → Result
+      passed run (settles_ok c b v t f i rest) = settles_ok c b v t _ _ (alternative run (alternative_failed rest))
+      passed run (settles_failed c f i rest) = settles_failed c _ _ (alternative run (alternative_failed rest))
+
+      waits : {b : Spot} {v : List Tree} {t : List TrailItem} {e : Error} {m : ℕ} → Answers G q a (ok false b v t e) m → G.reading ≡ Report → Rest → Result
+      waits run r (settles_ok true d w u f i rest) = settles_ok true d w u f _ (alternative run (alternative_waits r rest))
+      waits {b = b} {v = v} run r (settles_ok false d w u f i rest) = settles_ok false b v _ _ _ (alternative run (alternative_waits r rest))
+      waits run r (settles_failed true f i rest) = settles_failed true f _ (alternative run (alternative_waits r rest))
+      waits {b = b} {v = v} run r (settles_failed false f i rest) = settles_ok false b v _ _ _ (alternative run (alternative_waits r rest))
+
+      empty : {b : Spot} {v : List Tree} {t : List TrailItem} {e : Error} {m : ℕ} → Answers G q a (ok false b v t e) m → Rest → (reading : Reading) → G.reading ≡ reading → Result
+      empty {b = b} {v = v} run rest Library r = settles_ok false b v _ _ _ (alternative run (alternative_stands r))
+      empty run rest Report r = waits run r rest
+
+      go : Settles (Answers G q a) → Rest → Result
+      go (settles_ok true b v t e m run) rest = settles_ok true b v _ e _ (alternative run alternative_consumed)
+      go (settles_ok false b v t e m run) rest = empty run rest G.reading refl
+      go (settles_failed true e m run) rest = settles_failed true e _ (alternative run alternative_commits)
+      go (settles_failed false e m run) rest = passed run rest
+
+  -- rounds of q from b on, with so many of them
+  abbrev SomeRounds : ℕ → Spot → Outcome → ℕ → Type 0
+  SomeRounds q b o m = (k : ℕ) × AnswersRounds G q k b o m
+
+  settle_rounds : (p : ℕ) (a : Spot) → Nearby p a → (q : ℕ) → q < length G.grammar.nodes → ManyFits sets p q → (n : ℕ) (b : Spot) → InText b → length G.text < n + b.place → Ahead p a b (q ∷ []) →
+      Settles (SomeRounds q b)
+  settle_rounds p a near q there f zero b within l h = absurd (omega arith)
+  settle_rounds p a near q there f (suc n) b within l h = go (near q there b within (first_ahead h)) (λ z x y k. settle_rounds p a near q there f n z x y k)
+    where
+      moves_on : {z : Spot} → BeginsNode sets G.text q b z → b.place < z.place
+      moves_on (still e x) = let full = f.full in absurd (cc)
+      moves_on (moves m s x k) = m
+
+      ahead : {z : Spot} → b.place < z.place → Ahead p a b (q ∷ []) → Ahead p a z (q ∷ [])
+      ahead m (beyond x) = beyond (omega arith)
+      ahead m (beside x y) = beyond (omega arith)
+
+      more : {z : Spot} {v : List Tree} {t : List TrailItem} {e : Error} {m : ℕ} → Answers G q b (ok true z v t e) m → Settles (SomeRounds q z) → Settles (SomeRounds q b)
+      more run (settles_ok c y w u g i rest) = settles_ok true y _ _ g _ (suc rest.0, round run (round_ok rest.1))
+      more run (settles_failed c g i rest) = settles_failed true g _ (suc rest.0, round run (round_ok rest.1))
+
+      consumed : (c : Bool) {z : Spot} {v : List Tree} {t : List TrailItem} {e : Error} {m : ℕ} → b.place < z.place → c ≡ nat_lt b.place z.place → Answers G q b (ok c z v t e) m → Answers G q b (ok true z v t e) m
+      consumed true l h run = run
+      consumed false l h run = let far = moved l in absurd (cc)
+
+      go : Settles (Answers G q b) → ((z : Spot) → InText z → length G.text < n + z.place → Ahead p a z (q ∷ []) → Settles (SomeRounds q z)) → Settles (SomeRounds q b)
+      go (settles_ok c z v t e m run) rest =
+          let x = moves_on (begins_at run) in
+          let flag = (tells G spelled run).0 in
+          more (consumed c x flag run) (rest z (ends_in_text run within) (omega arith) (ahead x h))
+      go (settles_failed true e m run) rest = settles_failed true e _ (zero, round run round_failed)
+      go (settles_failed false e m run) rest = settles_ok false b [] [] e _ (zero, round run round_ended)
+
+  -- links of q and r from b on, with so many of them
+  abbrev SomeLinks : Fold → Shape → ℕ → ℕ → List Tree → Spot → Outcome → ℕ → Type 0
+  SomeLinks fold shape q r left b o m = (k : ℕ) × AnswersLinks G fold shape q r left k b o m
+
+  settle_links : (p : ℕ) (a : Spot) → Nearby p a → (fold : Fold) (shape : Shape) (q r : ℕ) → q < length G.grammar.nodes → r < length G.grammar.nodes → ChainFits sets p q r →
+      (n : ℕ) (left : List Tree) (b : Spot) → InText b → length G.text < n + b.place → Ahead p a b (r ∷ q ∷ []) → Settles (SomeLinks fold shape q r left b)
+  settle_links p a near fold shape q r is_q is_r f zero left b within l h = absurd (omega arith)
+  settle_links p a near fold shape q r is_q is_r f (suc n) left b within l h =
+      go (near r is_r b within (first_ahead h)) (λ left z x y k. settle_links p a near fold shape q r is_q is_r f n left z x y k)
+    where
+      Result : Type 0
+      Result = Settles (SomeLinks fold shape q r left b)
+
+      Again : Type 0
+      Again = (left : List Tree) (z : Spot) → InText z → length G.text < n + z.place → Ahead p a z (r ∷ q ∷ []) → Settles (SomeLinks fold shape q r left z)
+
+      ahead : {z : Spot} → b.place < z.place → Ahead p a b (r ∷ q ∷ []) → Ahead p a z (r ∷ q ∷ [])
+      ahead m (beyond x) = beyond (omega arith)
+      ahead m (beside x y) = beyond (omega arith)
+
+      more : {c d : Bool} {y z : Spot} {v w : List Tree} {t u : List TrailItem} {e g : Error} {i j : ℕ} → Answers G r b (ok c z v t e) i → Answers G q z (ok d y w u g) j → (c || d) ≡ true →
+          Settles (SomeLinks fold shape q r (carried fold shape left v w) y) → Result
+      more separator operand x (settles_ok k y w u g i rest) = settles_ok _ y _ _ _ _ (suc rest.0, link separator (separator_ok operand (operand_ok x rest.1)))
+      more separator operand x (settles_failed k g i rest) = settles_failed _ _ _ (suc rest.0, link separator (separator_ok operand (operand_ok x rest.1)))
+
+      linked : {c : Bool} {z : Spot} {v : List Tree} {t : List TrailItem} {e : Error} {i : ℕ} → Answers G r b (ok c z v t e) i → Settles (Answers G q z) → Again → Result
+      linked {c = c} {z = z} {v = v} separator (settles_ok d y w u g j operand) again =
+          let first = tells G spelled separator in
+          let second = tells G spelled operand in
+          let x = link_moves G scalars whole sets good p q r b z y f second.1 (begins_at separator) (begins_at operand) in
+          let both = both_moved first.1 second.1 in
+          let consumed : (c || d) ≡ true = ap (λ k. k || d) first.0 ∙ ap (λ k. nat_lt b.place z.place || k) second.0 ∙ both ∙ moved x in
+          more separator operand consumed (again (carried fold shape left v w) y (ends_in_text operand (ends_in_text separator within)) (omega arith) (ahead x h))
+      linked separator (settles_failed d g j operand) again = settles_begun _ _ b left _ _ (zero, link separator (separator_ok operand operand_failed))
+
+      go : Settles (Answers G r b) → Again → Result
+      go (settles_ok c z v t e m run) again = linked run (near q is_q z (ends_in_text run within) (first_ahead (rest_ahead h run))) again
+      go (settles_failed c e m run) again = settles_begun _ c b left e _ (zero, link run separator_failed)
+
+  settle_chain : (p : ℕ) (a : Spot) → Nearby p a → InText a → (fold : Fold) (shape : Shape) (q r : ℕ) → q < length G.grammar.nodes → r < length G.grammar.nodes → ChainFits sets p q r →
+      Settles (λ o m. (k : ℕ) × AnswersChain G fold shape q r k a o m)
+  settle_chain p a near within fold shape q r is_q is_r f = go (near q is_q a within (lower refl f.falls.0))
+    where
+      Result : Type 0
+      Result = Settles (λ o m. (k : ℕ) × AnswersChain G fold shape q r k a o m)
+
+      linked : {c : Bool} {b : Spot} {v : List Tree} {t : List TrailItem} {e : Error} {m : ℕ} → Answers G q a (ok c b v t e) m → Settles (SomeLinks fold shape q r v b) → Result
+      linked run (settles_ok d z w u g i rest) = settles_ok _ z _ _ _ _ (rest.0, chain run (first_ok rest.1))
+      linked run (settles_failed d g i rest) = settles_failed _ _ _ (rest.0, chain run (first_ok rest.1))
+
+      go : Settles (Answers G q a) → Result
+      go (settles_ok c b v t e m run) =
+          let ahead : Ahead p a b (r ∷ q ∷ []) = rest_ahead (beside refl f.falls) run in
+          linked run (settle_links p a near fold shape q r is_q is_r f (suc (length G.text)) v b (ends_in_text run within) (omega arith) ahead)
+      go (settles_failed c e m run) = settles_failed c e _ (zero, chain run first_failed)
+
+  -- a leaf's one outcome is an answer
+  by_outcome : (n : Node) (a : Spot) (o : Outcome) (m : ℕ) → AnswersForm G n a o m → IsAnswer o → Settles (AnswersForm G n a)
+  by_outcome n a (ok c b v t e) m run h = settles_ok c b v t e m run
+  by_outcome n a (failed c e) m run h = settles_failed c e m run
+  by_outcome n a empty_round m run h = absurd h
+
+  module _ (p : ℕ) (a : Spot) (near : Nearby p a) (within : InText a) where
+    at_part : (q : ℕ) → PartFits sets p q → q < length G.grammar.nodes → Settles (Answers G q a)
+    at_part q f there = near q there a within (lower refl f.falls)
+
+    falls_to : {q : ℕ} → TryFits G.grammar sets p q → sets.level q < sets.level p
+    falls_to (of_part f) = f.falls
+    falls_to (of_string e spelled falls f) = falls
+    falls_to (of_key e first second spelled falls f) = falls
+
+    settle_form : (n : Node) → slice_get G.grammar.nodes p ≡ Some n → Fits G.grammar sets p n → Settles (AnswersForm G n a)
+    settle_form (form.Satisfy class) e f = by_outcome _ a _ _ satisfy (satisfy_answers G.grammar G.text class a)
+    settle_form (form.String s) e f = by_outcome _ a _ _ string (string_answers G.text s a)
+    settle_form (form.Word w) e f = let item = whole.words p w e in by_outcome _ a _ _ (word item.1) (word_answers G.grammar G.text item.0 a)
+    settle_form (form.NotFollowedBy class) e f = by_outcome _ a _ _ not_followed_by (not_followed_answers G.grammar G.text class a)
+    settle_form form.EndOfText e f = by_outcome _ a _ _ end_of_text (end_answers G.text a)
+    settle_form (form.Seq []) e f = settles_ok false a [] [] _ _ nothing
+    settle_form (form.Seq (q ∷ qs)) e f = go (settle_parts p a near q qs a within (whole.parts p _ e) (beside refl f.falls))
+      where
+        go : Settles (AnswersParts G q qs a) → Settles (AnswersForm G (form.Seq (q ∷ qs)) a)
+        go (settles_ok c b v t e m run) = settles_ok c b v t e _ (seq run)
+        go (settles_failed c e m run) = settles_failed c e _ (seq run)
+    settle_form (form.Choice qs) e f = go (settle_alternatives p a near within (suc zero) qs f (whole.parts p _ e))
+      where
+        go : Settles (AnswersAlternatives G (suc zero) qs a) → Settles (AnswersForm G (form.Choice qs) a)
+        go (settles_ok c b v t e m run) = settles_ok c b v t e _ (choice run)
+        go (settles_failed c e m run) = settles_failed c e _ (choice run)
+    settle_form (form.Many q) e f =
+        let there = (whole.parts p _ e).0 in
+        go (settle_rounds p a near q there f (suc (length G.text)) a within (omega arith) (beside refl (f.falls, λ x. tt)))
+      where
+        go : Settles (SomeRounds q a) → Settles (AnswersForm G (form.Many q) a)
+        go (settles_ok c b v t e m run) = settles_ok c b v _ e _ (many run.1)
+        go (settles_failed c e m run) = settles_failed c e _ (many run.1)
+    settle_form (form.ChainLeft used q r) e f =
+        let there = whole.parts p _ e in go (settle_chain p a near within FromLeft used.shape q r there.0 there.1.0 f)
+      where
+        go : Settles (λ o m. (k : ℕ) × AnswersChain G FromLeft used.shape q r k a o m) → Settles (AnswersForm G (form.ChainLeft used q r) a)
+        go (settles_ok c b v t e m run) = settles_ok c b v _ e _ (chain_left run.1)
+        go (settles_failed c e m run) = settles_failed c e _ (chain_left run.1)
+    settle_form (form.ChainRight used q r) e f =
+        let there = whole.parts p _ e in go (settle_chain p a near within FromRight used.shape q r there.0 there.1.0 f)
+      where
+        go : Settles (λ o m. (k : ℕ) × AnswersChain G FromRight used.shape q r k a o m) → Settles (AnswersForm G (form.ChainRight used q r) a)
+        go (settles_ok c b v t e m run) = settles_ok c b v _ e _ (chain_right run.1)
+        go (settles_failed c e m run) = settles_failed c e _ (chain_right run.1)
+    settle_form (form.Try q) e f = go (near q (whole.parts p _ e).0 a within (lower refl (falls_to f)))
+      where
+        go : Settles (Answers G q a) → Settles (AnswersForm G (form.Try q) a)
+        go (settles_ok c b v t e m run) = settles_ok c b v t e _ (try run)
+        go (settles_failed c e m run) = settles_failed false e _ (try run)
+    settle_form (form.Rule r) e f =
+        let named = whole.rules p r e in go named.1 (at_part named.0.body (f.body named.0 named.1) named.2)
+      where
+        go : {named : declared.Rule} → slice_get G.grammar.rules r ≡ Some named → Settles (Answers G named.body a) → Settles (AnswersForm G (form.Rule r) a)
+        go x (settles_ok c b v t e m run) = settles_ok c b v t e _ (rule x run)
+        go x (settles_failed c e m run) = settles_failed c e _ (rule x run)
+    settle_form (form.Expression builders q) e f = absurd f
+    settle_form (form.Declare class) e f = absurd f
+    settle_form (form.Text q) e f = go (at_part q f (whole.parts p _ e).0)
+      where
+        go : Settles (Answers G q a) → Settles (AnswersForm G (form.Text q) a)
+        go (settles_ok c b v t e m run) = settles_ok c b _ t e _ (as_text run)
+        go (settles_failed c e m run) = settles_failed c e _ (as_text run)
+    settle_form (form.Skip q) e f = go (at_part q f (whole.parts p _ e).0)
+      where
+        go : Settles (Answers G q a) → Settles (AnswersForm G (form.Skip q) a)
+        go (settles_ok c b v t e m run) = settles_ok c b _ t e _ (skip run)
+        go (settles_failed c e m run) = settles_failed c e _ (skip run)
+    settle_form (form.Build used symbol q) e f = go (at_part q f (whole.parts p _ e).0)
+      where
+        go : Settles (Answers G q a) → Settles (AnswersForm G (form.Build used symbol q) a)
+        go (settles_ok c b v t e m run) = settles_ok c b _ t e _ (build run)
+        go (settles_failed c e m run) = settles_failed c e _ (build run)
+    settle_form (form.Label q message) e f = go (at_part q f (whole.parts p _ e).0)
+      where
+        go : Settles (Answers G q a) → Settles (AnswersForm G (form.Label q message) a)
+        go (settles_ok c b v t e m run) = settles_ok c b v t _ _ (label run)
+        go (settles_failed c e m run) = settles_failed c _ _ (label run)
+
+    settle_at : (n : Node) → slice_get G.grammar.nodes p ≡ Some n → Settles (Answers G p a)
+    settle_at n e = go (settle_form n e (good p n e))
+      where
+        go : Settles (AnswersForm G n a) → Settles (Answers G p a)
+        go (settles_ok c b v t x m run) = settles_ok c b v t x _ (entered e run)
+        go (settles_failed c x m run) = settles_failed c x _ (entered e run)
+
+  -- at the places from which less than n characters are left
+  abbrev Late : ℕ → Type 0
+  Late n = (q : ℕ) → q < length G.grammar.nodes → (b : Spot) → InText b → length G.text < n + b.place → Settles (Answers G q b)
+
+  near_low : (n k q : ℕ) (b : Spot) → Late n → length G.text < suc n + b.place → sets.level q < suc k →
+      ((r : ℕ) → r < length G.grammar.nodes → (c : Spot) → InText c → length G.text < suc n + c.place → sets.level r < k → Settles (Answers G r c)) → Nearby q b
+  near_low n k q b late l m low r is c inside (further x) = late r is c inside (omega arith)
+  near_low n k q b late l m low r is c inside (lower e x) = low r is c inside (omega arith) (omega arith)
+
+  settle_low : (n : ℕ) → Late n → (k q : ℕ) → q < length G.grammar.nodes → (b : Spot) → InText b → length G.text < suc n + b.place → sets.level q < k → Settles (Answers G q b)
+  settle_low n late zero q there b within l m = absurd (omega arith)
+  settle_low n late (suc k) q there b within l m =
+      let here = found G.grammar.nodes q there in
+      settle_at q b (near_low n k q b late l m (λ r is c inside x y. settle_low n late k r is c inside x y)) within here.0 here.1
+
+  settle_late : (n : ℕ) → Late n
+  settle_late zero q there b within l = absurd (omega arith)
+  settle_late (suc n) q there b within l = settle_low n (settle_late n) (suc (sets.level q)) q there b within l (le_refl _)
+
+  pub settle : (p : ℕ) → p < length G.grammar.nodes → (a : Spot) → InText a → Settles (Answers G p a)
+  settle p there a within = settle_late (suc (length G.text)) p there a within (omega arith)

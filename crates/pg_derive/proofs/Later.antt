@@ -1,0 +1,226 @@
+-- The error of an answer stands no earlier than where the node began, and neither does its end.
+use Rattle.std.proofs.Common.{◌==◌, ◌≤◌, ℕ, suc, List, [], ◌∷◌, Bool, true, false, if◌then◌else◌, length, Option, Some, None, slice_get, arith, le_refl, le_trans}
+use Rattle.std.specs.Prelude.{nat_lt, ◌&&◌, not}
+use Rattle.std.specs.List.{list_any}
+use Rattle.std.specs.Str.{bytes_eq}
+use Rattle.pg_tree.specs.Trees.{Tree}
+use Rattle.pg_tree.specs.declared.shape.Shape.{Shape}
+use Rattle.pg_grammar.specs.ClassItems.{has_character}
+use Rattle.pg_grammar.specs.Grammar.{Grammar}
+use Rattle.pg_grammar.specs.declared.class.ClassPart.{ClassPart}
+use Rattle.pg_grammar.specs.declared.form.Node.{Node}
+use Rattle.pg_grammar.specs.declared.trail.TrailItem.{TrailItem}
+use Rattle.pg_grammar.specs.declared.word_item.WordItem.{WordItem}
+use Rattle.pg_table.specs.Derives.{Spot}
+use Rattle.pg_table.specs.Runs.{run_at}
+use Rattle.pg_derive.specs.Answers.{Given, Answers, entered, AnswersForm, satisfy, string, word, not_followed_by, end_of_text, nothing, seq, choice, many, chain_left, chain_right, try, label, rule, text as as_text, skip, build, AnswersParts, part, AfterPart, part_last, part_failed, part_stuck, part_ok, AnswersAlternatives, no_alternative, alternative, AfterAlternative, alternative_consumed, alternative_stands, alternative_waits, alternative_commits, alternative_failed, alternative_stuck, AnswersRounds, round, AfterRound, round_ended, round_failed, round_empty, round_stuck, round_ok, AnswersChain, chain, AfterFirst, first_failed, first_stuck, first_ok, AnswersLinks, link, AfterSeparator, separator_failed, separator_stuck, separator_ok, AfterOperand, operand_failed, operand_stuck, operand_ok}
+use Rattle.pg_derive.specs.Errors.{Error, with_position, without_position, merge, relabel, nothing_said}
+use Rattle.pg_derive.specs.Leaves.{taken, satisfy_next, word_read, word_next, not_followed_next, string_outcome, matched, end_outcome}
+use Rattle.pg_derive.specs.Outcomes.{Outcome, ok, failed, empty_round}
+use Rattle.pg_derive.specs.Reactions.{error_behind, ok_kind, error_kind, then_rest, then_round, noted, after_failure, unless_consumed, tried, with_label, with_forest, unless_begun}
+use Rattle.pg_derive.specs.declared.fold.Fold.{Fold}
+use Rattle.pg_text.specs.Position.{start}
+use Rattle.pg_message.specs.Errors.{renamed}
+use Rattle.pg_message.specs.Messages.{Text, is_empty, with_messages}
+use Rattle.pg_message.specs.declared.answer.AnswerKind.{AnswerKind}
+use Rattle.pg_message.specs.declared.answer.AnswerKind.TheVariants.{ConsumedOk, ConsumedError, EmptyOk, EmptyError}
+
+-- the end and the error of the outcome stand at the place or behind it
+abbrev pub Later : ℕ → Outcome → Type 0
+Later i (ok c b v t e) = (i ≤ b.place) × (i ≤ e.place)
+Later i (failed c e) = i ≤ e.place
+Later i empty_round = Unit {0}
+
+-- of an outcome from a place further on
+later_from : (i j : ℕ) (o : Outcome) → i ≤ j → Later j o → Later i o
+later_from i j (ok c b v t e) l h = (le_trans l h.0, le_trans l h.1)
+later_from i j (failed c e) l h = le_trans l h
+later_from i j empty_round l h = tt
+
+later_if : (i : ℕ) (b : Bool) (o q : Outcome) → Later i o → Later i q → Later i (if b then o else q)
+later_if i true o q f g = f
+later_if i false o q f g = g
+
+-- ---- errors
+
+later_merged : (i : ℕ) (e f : Error) → i ≤ e.place → i ≤ f.place → i ≤ (merge e f).place
+later_merged i e f l k =
+    go (is_empty e.messages && not (is_empty f.messages)) (is_empty f.messages && not (is_empty e.messages)) (nat_lt e.place f.place) (nat_lt f.place e.place)
+  where
+    go : (a b c d : Bool) → i ≤ (without_position (if a then with_position start f else if b then with_position start e else
+        if c then with_position start f else if d then with_position start e else
+        record (with_position start e) { messages = with_messages e.messages f.messages })).place
+    go true b c d = k
+    go false true c d = l
+    go false false true d = k
+    go false false false true = l
+    go false false false false = l
+
+later_behind : (i : ℕ) (c : Bool) (e f : Error) → i ≤ e.place → i ≤ f.place → i ≤ (error_behind c e f).place
+later_behind i true e f l k = k
+later_behind i false e f l k = later_merged i e f l k
+
+later_relabelled : (i : ℕ) (kind : AnswerKind) (name : Text) (e : Error) → i ≤ e.place → i ≤ (relabel kind name e).place
+later_relabelled i ConsumedOk name e l = l
+later_relabelled i ConsumedError name e l = l
+later_relabelled i EmptyOk name e l = go (is_empty e.messages)
+  where
+    go : (b : Bool) → i ≤ (without_position (if b then with_position start e else renamed (with_position start e) name)).place
+    go true = l
+    go false = l
+later_relabelled i EmptyError name e l = l
+
+-- ---- reactions
+
+later_rest : (i : ℕ) (c : Bool) (v : List Tree) (t : List TrailItem) (e : Error) (o : Outcome) → i ≤ e.place → Later i o → Later i (then_rest c v t e o)
+later_rest i c v t e (ok d z w u f) l h = (h.0, later_behind i d e f l h.1)
+later_rest i c v t e (failed d f) l h = later_behind i d e f l h
+later_rest i c v t e empty_round l h = tt
+
+later_round : (i : ℕ) (v : List Tree) (t : List TrailItem) (o : Outcome) → Later i o → Later i (then_round v t o)
+later_round i v t (ok d z w u f) h = h
+later_round i v t (failed d f) h = h
+later_round i v t empty_round h = tt
+
+later_noted : (i : ℕ) (x : TrailItem) (o : Outcome) → Later i o → Later i (noted x o)
+later_noted i x (ok c b v t e) h = h
+later_noted i x (failed c e) h = h
+later_noted i x empty_round h = tt
+
+later_failure : (i : ℕ) (e : Error) (o : Outcome) → i ≤ e.place → Later i o → Later i (after_failure e o)
+later_failure i e (ok c b v t f) l h = (h.0, later_behind i c e f l h.1)
+later_failure i e (failed c f) l h = later_behind i c e f l h
+later_failure i e empty_round l h = tt
+
+later_unless : (i : ℕ) (b : Spot) (v : List Tree) (t : List TrailItem) (e : Error) (o : Outcome) → i ≤ b.place → i ≤ e.place → Later i o → Later i (unless_consumed b v t e o)
+later_unless i b v t e (ok true d w u f) k l h = h
+later_unless i b v t e (ok false d w u f) k l h = (k, later_merged i e f l h.1)
+later_unless i b v t e (failed true f) k l h = h
+later_unless i b v t e (failed false f) k l h = (k, later_merged i e f l h)
+later_unless i b v t e empty_round k l h = tt
+
+later_tried : (i : ℕ) (o : Outcome) → Later i o → Later i (tried o)
+later_tried i (ok c b v t e) h = h
+later_tried i (failed c e) h = h
+later_tried i empty_round h = tt
+
+later_label : (i : ℕ) (message : List ℕ) (o : Outcome) → Later i o → Later i (with_label message o)
+later_label i message (ok c b v t e) h = (h.0, later_relabelled i (ok_kind c) _ e h.1)
+later_label i message (failed c e) h = later_relabelled i (error_kind c) _ e h
+later_label i message empty_round h = tt
+
+later_forest : (i : ℕ) (made : Spot → List Tree → List Tree) (o : Outcome) → Later i o → Later i (with_forest made o)
+later_forest i made (ok c b v t e) h = h
+later_forest i made (failed c e) h = h
+later_forest i made empty_round h = tt
+
+later_begun : (c : Bool) (a : Spot) (x : List Tree) (e : Error) → a.place ≤ e.place → Later a.place (unless_begun c a x e)
+later_begun true a x e l = l
+later_begun false a x e l = (le_refl _, later_merged a.place e (nothing_said a.place) l (le_refl _))
+
+-- ---- leaves
+
+later_taken : (a : Spot) (s : List ℕ) → Later a.place (taken a s)
+later_taken a s = (omega arith, omega arith)
+
+later_satisfy : (g : Grammar) (class : List ClassPart) (a : Spot) (next : Option ℕ) → Later a.place (satisfy_next g class a next)
+later_satisfy g class a None = le_refl _
+later_satisfy g class a (Some c) = later_if a.place (has_character g.classes class c) _ _ (later_taken a (c ∷ [])) (le_refl _)
+
+later_word : (g : Grammar) (s : List ℕ) (item : WordItem) (a : Spot) (next : Option ℕ) → Later a.place (word_next g s item a next)
+later_word g s item a None = le_refl _
+later_word g s item a (Some c) = later_if a.place (has_character g.classes item.head c) _ _ (read (c ∷ run_at g s item.rest (suc a.place))) (le_refl _)
+  where
+    read : (w : List ℕ) → Later a.place (word_read item a w)
+    read w = later_if a.place (list_any (λ reserved. bytes_eq reserved w) item.reserved) _ _ (le_refl _) (later_taken a w)
+
+later_not_followed : (g : Grammar) (class : List ClassPart) (a : Spot) (next : Option ℕ) → Later a.place (not_followed_next g class a next)
+later_not_followed g class a None = (le_refl _, le_refl _)
+later_not_followed g class a (Some c) = later_if a.place (has_character g.classes class c) _ _ (le_refl _) (le_refl _, le_refl _)
+
+later_string : (text s : List ℕ) (a : Spot) → Later a.place (string_outcome text s a)
+later_string text s a = later_if a.place (matched text s a.place == length s) _ _ (later_taken a s) (le_refl _)
+
+later_end : (text : List ℕ) (a : Spot) → Later a.place (end_outcome text a)
+later_end text a = later_if a.place (a.place == length text) _ _ (le_refl _, le_refl _) (le_refl _)
+
+-- ---- the relation
+
+module _ (G : Given) where
+  mutual
+    pub later : {p : ℕ} {a : Spot} {o : Outcome} {m : ℕ} → Answers G p a o m → Later a.place o
+    later (entered e d) = later_form d
+
+    later_form : {f : Node} {a : Spot} {o : Outcome} {m : ℕ} → AnswersForm G f a o m → Later a.place o
+    later_form (satisfy {class = class} {a = a}) = later_satisfy G.grammar class a (slice_get G.text a.place)
+    later_form (string {s = s} {a = a}) = later_string G.text s a
+    later_form (word {item = item} {a = a} x) = later_word G.grammar G.text item a (slice_get G.text a.place)
+    later_form (not_followed_by {class = class} {a = a}) = later_not_followed G.grammar class a (slice_get G.text a.place)
+    later_form (end_of_text {a = a}) = later_end G.text a
+    later_form nothing = (le_refl _, le_refl _)
+    later_form (seq d) = later_parts d
+    later_form (choice d) = later_alternatives d
+    later_form (many {a = a} {o = o} d) = later_noted a.place _ o (later_rounds d)
+    later_form (chain_left {a = a} {o = o} d) = later_noted a.place _ o (later_chain d)
+    later_form (chain_right {a = a} {o = o} d) = later_noted a.place _ o (later_chain d)
+    later_form (try {a = a} {o = o} d) = later_tried a.place o (later d)
+    later_form (label {message = message} {a = a} {o = o} d) = later_label a.place message o (later d)
+    later_form (rule x d) = later d
+    later_form (as_text {a = a} {o = o} d) = later_forest a.place _ o (later d)
+    later_form (skip {a = a} {o = o} d) = later_forest a.place _ o (later d)
+    later_form (build {a = a} {o = o} d) = later_forest a.place _ o (later d)
+
+    later_parts : {p : ℕ} {ps : List ℕ} {a : Spot} {o : Outcome} {m : ℕ} → AnswersParts G p ps a o m → Later a.place o
+    later_parts (part {a = a} d r) = later_after_part r a.place (later d)
+
+    later_after_part : {ps : List ℕ} {x o : Outcome} {m : ℕ} → AfterPart G ps x o m → (i : ℕ) → Later i x → Later i o
+    later_after_part part_last i h = h
+    later_after_part part_failed i h = h
+    later_after_part part_stuck i h = tt
+    later_after_part (part_ok {c = c} {b = b} {v = v} {t = t} {e = e} {o = o} d) i h = later_rest i c v t e o h.1 (later_from i b.place o h.0 (later_parts d))
+
+    later_alternatives : {k : ℕ} {ps : List ℕ} {a : Spot} {o : Outcome} {m : ℕ} → AnswersAlternatives G k ps a o m → Later a.place o
+    later_alternatives no_alternative = le_refl _
+    later_alternatives (alternative d r) = later_after_alternative r (later d)
+
+    later_after_alternative : {k : ℕ} {ps : List ℕ} {a : Spot} {x o : Outcome} {m : ℕ} → AfterAlternative G k ps a x o m → Later a.place x → Later a.place o
+    later_after_alternative alternative_consumed h = h
+    later_after_alternative (alternative_stands e) h = h
+    later_after_alternative (alternative_waits {a = a} {b = b} {v = v} {e = x} {o = o} e d) h = later_unless a.place b v _ x o h.0 h.1 (later_alternatives d)
+    later_after_alternative alternative_commits h = h
+    later_after_alternative (alternative_failed {a = a} {e = e} {o = o} d) h = later_failure a.place e o h (later_alternatives d)
+    later_after_alternative alternative_stuck h = tt
+
+    later_rounds : {p k : ℕ} {a : Spot} {o : Outcome} {m : ℕ} → AnswersRounds G p k a o m → Later a.place o
+    later_rounds (round d r) = later_after_round r (later d)
+
+    later_after_round : {p k : ℕ} {a : Spot} {x o : Outcome} {m : ℕ} → AfterRound G p k a x o m → Later a.place x → Later a.place o
+    later_after_round round_ended h = (le_refl _, h)
+    later_after_round round_failed h = h
+    later_after_round round_empty h = tt
+    later_after_round round_stuck h = tt
+    later_after_round (round_ok {a = a} {b = b} {v = v} {t = t} {o = o} d) h = later_round a.place v t o (later_from a.place b.place o h.0 (later_rounds d))
+
+    later_chain : {fold : Fold} {shape : Shape} {p s k : ℕ} {a : Spot} {o : Outcome} {m : ℕ} → AnswersChain G fold shape p s k a o m → Later a.place o
+    later_chain (chain {a = a} d r) = later_after_first r a.place (later d)
+
+    later_after_first : {fold : Fold} {shape : Shape} {p s k : ℕ} {x o : Outcome} {m : ℕ} → AfterFirst G fold shape p s k x o m → (i : ℕ) → Later i x → Later i o
+    later_after_first first_failed i h = h
+    later_after_first first_stuck i h = tt
+    later_after_first (first_ok {c = c} {b = b} {t = t} {e = e} {o = o} d) i h = later_rest i c [] t e o h.1 (later_from i b.place o h.0 (later_links d))
+
+    later_links : {fold : Fold} {shape : Shape} {p s : ℕ} {left : List Tree} {k : ℕ} {a : Spot} {o : Outcome} {m : ℕ} → AnswersLinks G fold shape p s left k a o m → Later a.place o
+    later_links (link d r) = later_after_separator r (later d)
+
+    later_after_separator : {fold : Fold} {shape : Shape} {p s : ℕ} {left : List Tree} {k : ℕ} {a : Spot} {x o : Outcome} {m : ℕ} →
+        AfterSeparator G fold shape p s left k a x o m → Later a.place x → Later a.place o
+    later_after_separator (separator_failed {left = left} {a = a} {c = c} {e = e}) h = later_begun c a left e h
+    later_after_separator separator_stuck h = tt
+    later_after_separator (separator_ok {a = a} {b = b} {x = x} d r) h = later_after_operand r h.1 (later_from a.place b.place x h.0 (later d))
+
+    later_after_operand : {fold : Fold} {shape : Shape} {p s : ℕ} {left : List Tree} {k : ℕ} {a : Spot} {c : Bool} {v : List Tree} {t : List TrailItem} {e : Error} {x o : Outcome} {m : ℕ} →
+        AfterOperand G fold shape p s left k a c v t e x o m → a.place ≤ e.place → Later a.place x → Later a.place o
+    later_after_operand (operand_failed {left = left} {a = a} {d = d} {e = e} {f = f}) l h = later_begun _ a left _ (later_behind a.place d e f l h)
+    later_after_operand operand_stuck l h = tt
+    later_after_operand (operand_ok {left = left} {v = v} {a = a} {b = b} {c = c} {d = d} {t = t} {u = u} {e = e} {f = f} {o = o} x y) l h =
+        later_rest a.place c [] t e _ l (later_rest a.place d [] u f _ h.1 (later_forest a.place _ o (later_from a.place b.place o h.0 (later_links y))))

@@ -1,0 +1,129 @@
+-- A grammar that is predictive, `a = choice(seq(string("x"), a), seq())`: what the laws take for granted can be met.
+use Rattle.std.proofs.Common.{◌≡◌, inl, inr, ℕ, zero, suc, List, [], ◌∷◌, Bool, true, false, refl, subst, get_or, Some, None, slice_get, arith}
+use Rattle.std.specs.Prelude.{codes}
+use Rattle.std.specs.List.{Contains}
+use Rattle.pg_grammar.specs.Grammar.{Grammar}
+use Rattle.pg_grammar.specs.declared.form.Node.{Node}
+use Rattle.pg_grammar.specs.declared.form.Node.TheVariants as form
+use Rattle.pg_grammar.specs.declared.grammar.Rule as declared
+use Rattle.pg_start.specs.Apart.{Apart}
+use Rattle.pg_start.specs.declared.kind.StartKind.{StartKind}
+use Rattle.pg_start.specs.declared.kind.StartKind.TheVariants.{Class, End}
+use Rattle.pg_derive.specs.ClosedSets.{NodeSets, BeginsParts}
+use Rattle.pg_derive.specs.Predictive.{BeginsAt, StringFits, PartFits, ComesBefore, SeqFits, RuleFits, Fits, IsPredictive}
+
+abbrev nodes : List Node
+nodes = form.Choice (1 ∷ 4 ∷ []) ∷ form.Seq (2 ∷ 3 ∷ []) ∷ form.String (codes "x") ∷ form.Rule 0 ∷ form.Seq [] ∷ []
+
+abbrev a : declared.Rule
+a = record { name = codes "a"; body = 0 }
+
+abbrev g : Grammar
+g = record { classes = []; words = []; operators = None; initials = []; nodes = nodes; rules = a ∷ []; start = 0 }
+
+abbrev x : StartKind
+x = Class ((120, 120) ∷ [])
+
+abbrev is_nullable : ℕ → Bool
+is_nullable p = get_or (true ∷ false ∷ false ∷ true ∷ true ∷ []) p false
+
+abbrev first_of : ℕ → List StartKind
+first_of p = get_or ((x ∷ []) ∷ (x ∷ []) ∷ (x ∷ []) ∷ (x ∷ []) ∷ [] ∷ []) p []
+
+abbrev follow_of : ℕ → List StartKind
+follow_of p = get_or ((End ∷ []) ∷ (End ∷ []) ∷ (x ∷ End ∷ []) ∷ (End ∷ []) ∷ (End ∷ []) ∷ []) p []
+
+abbrev level_of : ℕ → ℕ
+level_of p = get_or (2 ∷ 1 ∷ 0 ∷ 3 ∷ 0 ∷ []) p 0
+
+abbrev sets : NodeSets
+sets = record { nullable = is_nullable; first = first_of; follow = follow_of; level = level_of }
+
+only : (s t : StartKind) → Contains (s ∷ []) t → s ≡ t
+only s t (zero, l, e) = e
+only s t (suc k, l, e) = absurd (omega arith)
+
+nothing : (t : StartKind) → Contains [] t → ⊥
+nothing t (k, l, e) = absurd (omega arith)
+
+first_there : (t : StartKind) (ts : List StartKind) → Contains (t ∷ ts) t
+first_there t ts = (zero, omega arith, refl)
+
+second_there : (s t : StartKind) → Contains (s ∷ t ∷ []) t
+second_there s t = (suc zero, omega arith, refl)
+
+choice_fits : Fits g sets 0 (form.Choice (1 ∷ 4 ∷ []))
+choice_fits = (
+  record { empty = λ e. refl; first = λ s h. h; follow = λ s h. h; falls = omega arith },
+  (λ other h. before other h),
+  (record { empty = λ e. refl; first = λ s h. absurd (nothing s h); follow = λ s h. h; falls = omega arith }, (λ other h. absurd (none other h)), tt),
+)
+  where
+    none : (n : ℕ) → Contains [] n → ⊥
+    none n (k, l, e) = absurd (omega arith)
+
+    before : (other : ℕ) → Contains (4 ∷ []) other → ComesBefore sets 0 1 other
+    before other (zero, l, e) = subst (ComesBefore sets 0 1) e (record {
+      full = refl;
+      first = λ s t h k. absurd (nothing t k);
+      follow = λ n s t h k. subst (λ z. Apart z t) (only x s h) (subst (λ z. Apart x z) (only End t k) tt);
+    })
+    before other (suc k, l, e) = absurd (omega arith)
+
+seq_fits : SeqFits sets 1 (2 ∷ 3 ∷ [])
+seq_fits = record {
+  empty = λ h. let e : false ≡ true = h.0 in absurd (cc);
+  first = λ s h. begun s h;
+  follow = (
+    (λ s h. behind s h),
+    (λ n s h. subst (Contains (x ∷ End ∷ [])) (only End s h) (second_there x End)),
+    ((λ s h. absurd h), (λ n s h. h), tt),
+  );
+  falls = (omega arith, λ e. absurd (cc));
+}
+  where
+    behind : (s : StartKind) → BeginsParts sets (3 ∷ []) s → Contains (x ∷ End ∷ []) s
+    behind s (inl h) = subst (Contains (x ∷ End ∷ [])) (only x s h) (first_there x (End ∷ []))
+    behind s (inr h) = absurd h.1
+
+    begun : (s : StartKind) → BeginsParts sets (2 ∷ 3 ∷ []) s → Contains (x ∷ []) s
+    begun s (inl h) = h
+    begun s (inr h) = let e : false ≡ true = h.0 in absurd (cc)
+
+string_fits : StringFits sets 2 (codes "x")
+string_fits = record {
+  spelled = omega arith;
+  first = λ text scalars place h. record {
+    start = x;
+    among = first_there x [];
+    there = record { character = 120; there = at text place h; member = refl };
+  };
+}
+  where
+    at : (text : List ℕ) (place : ℕ) → BeginsAt text place (codes "x") → slice_get text place ≡ Some 120
+    at text place h = let first = h.first in let there = h.there in cc
+
+rule_fits : RuleFits g sets 3 0
+rule_fits = record { body = λ named e. fits named e }
+  where
+    fits : (named : declared.Rule) → slice_get (a ∷ []) 0 ≡ Some named → PartFits sets 3 named.body
+    fits named e =
+        let same : a ≡ named = cc in
+        subst (λ (z : declared.Rule). PartFits sets 3 z.body) same (record { empty = λ n. refl; first = λ s h. h; follow = λ s h. h; falls = omega arith })
+
+nothing_fits : SeqFits sets 4 []
+nothing_fits = record { empty = λ h. refl; first = λ s h. absurd h; follow = tt; falls = tt }
+
+fits_at : (p : ℕ) (n : Node) → slice_get nodes p ≡ Some n → Fits g sets p n
+fits_at zero n e = let same : form.Choice (1 ∷ 4 ∷ []) ≡ n = cc in subst (Fits g sets 0) same choice_fits
+fits_at (suc zero) n e = let same : form.Seq (2 ∷ 3 ∷ []) ≡ n = cc in subst (Fits g sets 1) same seq_fits
+fits_at (suc (suc zero)) n e = let same : form.String (codes "x") ≡ n = cc in subst (Fits g sets 2) same string_fits
+fits_at (suc (suc (suc zero))) n e = let same : form.Rule 0 ≡ n = cc in subst (Fits g sets 3) same rule_fits
+fits_at (suc (suc (suc (suc zero)))) n e = let same : form.Seq [] ≡ n = cc in subst (Fits g sets 4) same nothing_fits
+fits_at (suc (suc (suc (suc (suc k))))) n e = absurd (cc)
+
+is_predictive : IsPredictive g sets
+is_predictive = record {
+  nodes = fits_at;
+  end = λ start e. let same : a ≡ start = cc in subst (λ (z : declared.Rule). Contains (follow_of z.body) End) same (first_there End []);
+}

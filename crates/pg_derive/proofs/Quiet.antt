@@ -1,0 +1,255 @@
+-- Where no first start of a node matches, the node consumes nothing: it fails, or it is nullable and stays where it is.
+use Rattle.std.proofs.Common.{◌≡◌, ◌<◌, ◌≤◌, ◌⊎◌, inl, inr, ℕ, zero, suc, List, [], ◌∷◌, true, false, refl, subst, length, Some, slice_get, arith, le_refl}
+use Rattle.std.specs.List.{Contains, AllByRecursion}
+use Rattle.std.specs.Str.{all_scalars}
+use Rattle.pg_tree.specs.Trees.{Tree}
+use Rattle.pg_grammar.specs.Forms.{parts_of}
+use Rattle.pg_grammar.specs.Grammar.{Grammar}
+use Rattle.pg_grammar.specs.declared.form.Node.{Node}
+use Rattle.pg_grammar.specs.declared.form.Node.TheVariants as form
+use Rattle.pg_grammar.specs.declared.grammar.Rule as declared
+use Rattle.pg_grammar.specs.declared.trail.TrailItem.{TrailItem}
+use Rattle.pg_grammar.specs.declared.trail.TrailItem.TheVariants.{Alt, Rounds}
+use Rattle.pg_grammar.specs.declared.word_item.WordItem.{WordItem}
+use Rattle.pg_start.specs.Starts.{MatchesAt}
+use Rattle.pg_start.specs.declared.kind.StartKind.{StartKind}
+use Rattle.pg_table.specs.Derives.{Spot}
+use Rattle.pg_derive.specs.Answers.{Given, Answers, entered, AnswersForm, satisfy, string, word, not_followed_by, end_of_text, nothing, seq, choice, many, chain_left, chain_right, try, label, rule, text as as_text, skip, build, AnswersParts, part, part_last, part_failed, part_ok, AnswersAlternatives, no_alternative, alternative, alternative_stands, alternative_waits, alternative_failed, round, round_ended, AnswersChain, chain, first_failed, first_ok, link, separator_failed, separator_ok, operand_failed}
+use Rattle.pg_derive.specs.Errors.{Error}
+use Rattle.pg_derive.specs.Outcomes.{Outcome, ok, failed}
+use Rattle.pg_derive.specs.declared.fold.Fold.{Fold}
+use Rattle.pg_derive.specs.declared.fold.Fold.TheVariants.{FromLeft, FromRight}
+use Rattle.pg_grammar.specs.declared.used.BuilderUse.{BuilderUse}
+use Rattle.pg_derive.specs.declared.reading.Reading.{Reading}
+use Rattle.pg_derive.specs.declared.reading.Reading.TheVariants.{Library, Report}
+use Rattle.pg_tree.specs.declared.shape.Shape.{Shape}
+use Rattle.pg_derive.specs.ClosedSets.{NodeSets, SomeMatches, AllNullable, BeginsParts, PartsFall}
+use Rattle.pg_derive.specs.Predictive.{PartFits, TryFits, of_part, of_string, of_key, AlternativesFit, ChainFits, Fits}
+use Rattle.pg_derive.proofs.LeavesAnswered.{FailsEmpty, StaysOk, satisfy_fails, string_fails, word_fails, not_followed_decided, end_decided}
+use Rattle.pg_derive.proofs.Lexemes.{NodeFails, string_node_fails, key_node_fails}
+
+-- every number at a node names something
+pub record IsWhole (g : Grammar) : Type 0 where
+  pub parts : (p : ℕ) (n : Node) → slice_get g.nodes p ≡ Some n → AllByRecursion (λ q. q < length g.nodes) (parts_of n)
+  pub rules : (p r : ℕ) → slice_get g.nodes p ≡ Some (form.Rule r) → (named : declared.Rule) × (slice_get g.rules r ≡ Some named) × (named.body < length g.nodes)
+  pub words : (p w : ℕ) → slice_get g.nodes p ≡ Some (form.Word w) → (item : WordItem) × (slice_get g.words w ≡ Some item)
+
+pub data Quietly (Run : Outcome → ℕ → Type 0) (Empty : Type 0) (a : Spot) : Type 0 where
+  refuses : (e : Error) (m : ℕ) → Run (failed false e) m → Quietly Run Empty a
+  skips : Empty → (v : List Tree) (t : List TrailItem) (e : Error) (m : ℕ) → Run (ok false a v t e) m → Quietly Run Empty a
+
+-- no start of these matches there
+abbrev pub NoStart : List ℕ → (StartKind → Type 0) → ℕ → Type 0
+NoStart text IsStart i = (s : StartKind) → IsStart s → MatchesAt s text i → ⊥
+
+unmatched : (text : List ℕ) (starts : List StartKind) (i : ℕ) → NoStart text (Contains starts) i → SomeMatches text starts i → ⊥
+unmatched text starts i bare m = bare m.start m.among m.there
+
+pub found : {X : Type 0} (xs : List X) (i : ℕ) → i < length xs → (x : X) × (slice_get xs i ≡ Some x)
+found [] i l = absurd (omega arith)
+found (x ∷ xs) zero l = (x, refl)
+found (x ∷ xs) (suc i) l = found xs i (omega arith)
+
+refused : (Run : Outcome → ℕ → Type 0) (E : Type 0) (a : Spot) (o : Outcome) (m : ℕ) → Run o m → FailsEmpty o → Quietly Run E a
+refused Run E a o m run f = refuses f.error m (subst (λ x. Run x m) f.is run)
+
+stayed : (Run : Outcome → ℕ → Type 0) (E : Type 0) (a : Spot) (o : Outcome) (m : ℕ) → Run o m → E → StaysOk a o → Quietly Run E a
+stayed Run E a o m run x f = skips x [] [] f.error m (subst (λ z. Run z m) f.is run)
+
+decided : (Run : Outcome → ℕ → Type 0) (E : Type 0) (a : Spot) (o : Outcome) (m : ℕ) → Run o m → E → FailsEmpty o ⊎ StaysOk a o → Quietly Run E a
+decided Run E a o m run x (inl f) = refused Run E a o m run f
+decided Run E a o m run x (inr f) = stayed Run E a o m run x f
+
+falls_further : (sets : NodeSets) (m n : ℕ) (ps : List ℕ) → m ≤ n → PartsFall sets m ps → PartsFall sets n ps
+falls_further sets m n [] l f = tt
+falls_further sets m n (q ∷ qs) l f = let first = f.0 in (omega arith, λ x. falls_further sets m n qs l (f.1 x))
+
+module _ (G : Given) (scalars : all_scalars G.text ≡ true) (whole : IsWhole G.grammar) (sets : NodeSets) where
+  abbrev pub QuietNode : ℕ → Spot → Type 0
+  QuietNode p a = Quietly (Answers G p a) (sets.nullable p ≡ true) a
+
+  abbrev pub QuietParts : ℕ → List ℕ → Spot → Type 0
+  QuietParts p ps a = Quietly (AnswersParts G p ps a) (AllNullable sets (p ∷ ps)) a
+
+  abbrev QuietForm : Node → ℕ → Spot → Type 0
+  QuietForm n p a = Quietly (AnswersForm G n a) (sets.nullable p ≡ true) a
+
+  abbrev Lower : ℕ → Spot → Type 0
+  Lower n a = (q : ℕ) → sets.level q < n → q < length G.grammar.nodes → NoStart G.text (Contains (sets.first q)) a.place → QuietNode q a
+
+  quiet_parts : (n : ℕ) (a : Spot) → Lower n a → (q : ℕ) (qs : List ℕ) → PartsFall sets n (q ∷ qs) → AllByRecursion (λ r. r < length G.grammar.nodes) (q ∷ qs) →
+      NoStart G.text (BeginsParts sets (q ∷ qs)) a.place → QuietParts q qs a
+  quiet_parts n a lower q [] l there bare = go (lower q l.0 there.0 (λ s b. bare s (inl b)))
+    where
+      go : QuietNode q a → QuietParts q [] a
+      go (refuses e m run) = refuses e _ (part run part_last)
+      go (skips x v t e m run) = skips (x, tt) v t e _ (part run part_last)
+  quiet_parts n a lower q (r ∷ rs) l there bare =
+      go (lower q l.0 there.0 (λ s b. bare s (inl b))) (λ x. quiet_parts n a lower r rs (l.1 x) there.1 (λ s b. bare s (inr (x, b))))
+    where
+      more : sets.nullable q ≡ true → (v : List Tree) (t : List TrailItem) (e : Error) (m : ℕ) → Answers G q a (ok false a v t e) m → QuietParts r rs a → QuietParts q (r ∷ rs) a
+      more x v t e m run (refuses f k rest) = refuses _ _ (part run (part_ok rest))
+      more x v t e m run (skips xs w u f k rest) = skips (x, xs) _ _ _ _ (part run (part_ok rest))
+
+      go : QuietNode q a → (sets.nullable q ≡ true → QuietParts r rs a) → QuietParts q (r ∷ rs) a
+      go (refuses e m run) rest = refuses e _ (part run part_failed)
+      go (skips x v t e m run) rest = more x v t e m run (rest x)
+
+  quiet_alternatives : (n : ℕ) (a : Spot) → Lower n a → (p k : ℕ) (qs : List ℕ) → AlternativesFit sets p qs → sets.level p < suc n → AllByRecursion (λ r. r < length G.grammar.nodes) qs →
+      NoStart G.text (Contains (sets.first p)) a.place → Quietly (AnswersAlternatives G k qs a) (sets.nullable p ≡ true) a
+  quiet_alternatives n a lower p k [] f l there bare = refuses _ _ no_alternative
+  quiet_alternatives n a lower p k (q ∷ qs) f l there bare =
+      go (lower q (let falls = f.0.falls in omega arith) there.0 (λ s b. bare s (f.0.first s b))) (quiet_alternatives n a lower p (suc k) qs f.2 l there.1 bare) G.reading refl
+    where
+      Result : Type 0
+      Result = Quietly (AnswersAlternatives G k (q ∷ qs) a) (sets.nullable p ≡ true) a
+
+      Rest : Type 0
+      Rest = Quietly (AnswersAlternatives G (suc k) qs a) (sets.nullable p ≡ true) a
+
+      after_refusal : (e : Error) (m : ℕ) → Answers G q a (failed false e) m → Rest → Result
+      after_refusal e m run (refuses f i rest) = refuses _ _ (alternative run (alternative_failed rest))
+      after_refusal e m run (skips x v t f i rest) = skips x v t _ _ (alternative run (alternative_failed rest))
+
+      waiting : sets.nullable p ≡ true → (v : List Tree) (t : List TrailItem) (e : Error) (m : ℕ) → Answers G q a (ok false a v t e) m → G.reading ≡ Report → Rest → Result
+      waiting x v t e m run r (refuses f i rest) = skips x v (Alt k ∷ t) _ _ (alternative run (alternative_waits r rest))
+      waiting x v t e m run r (skips y w u f i rest) = skips x v (Alt k ∷ t) _ _ (alternative run (alternative_waits r rest))
+
+      go : QuietNode q a → Rest → (reading : Reading) → G.reading ≡ reading → Result
+      go (refuses e m run) rest reading r = after_refusal e m run rest
+      go (skips x v t e m run) rest Library r = skips (f.0.empty x) v (Alt k ∷ t) e _ (alternative run (alternative_stands r))
+      go (skips x v t e m run) rest Report r = waiting (f.0.empty x) v t e m run r rest
+
+  -- a chain, by what its first operand does, and then its separator, and then its operand again
+  quiet_chain : (n : ℕ) (a : Spot) → Lower n a → (fold : Fold) (shape : Shape) (p q r : ℕ) → ChainFits sets p q r → sets.level p < suc n → q < length G.grammar.nodes → r < length G.grammar.nodes →
+      NoStart G.text (Contains (sets.first p)) a.place → Quietly (AnswersChain G fold shape q r zero a) (sets.nullable p ≡ true) a
+  quiet_chain n a lower fold shape p q r f l is_q is_r bare = go (quiet_operand (let falls = f.falls.0 in omega arith))
+    where
+      Result : Type 0
+      Result = Quietly (AnswersChain G fold shape q r zero a) (sets.nullable p ≡ true) a
+
+      quiet_operand : sets.level q < n → QuietNode q a
+      quiet_operand below = lower q below is_q (λ s b. bare s (f.first s b))
+
+      again : (en : sets.nullable q ≡ true) (er : sets.nullable r ≡ true) (v w : List Tree) (t u : List TrailItem) (e g : Error) (m i : ℕ) →
+          Answers G q a (ok false a v t e) m → Answers G r a (ok false a w u g) i → QuietNode q a → Result
+      again en er v w t u e g m i run separator (refuses h j operand) =
+          skips (f.empty en) _ _ _ _ (chain run (first_ok (link separator (separator_ok operand operand_failed))))
+      again en er v w t u e g m i run separator (skips x y z h j operand) = absurd (f.full (er, (en, tt)))
+
+      linked : sets.nullable q ≡ true → (v : List Tree) (t : List TrailItem) (e : Error) (m : ℕ) → Answers G q a (ok false a v t e) m → QuietNode r a → Result
+      linked en v t e m run (refuses g i separator) = skips (f.empty en) _ _ _ _ (chain run (first_ok (link separator separator_failed)))
+      linked en v t e m run (skips er w u g i separator) =
+          again en er v w t u e g m i run separator (quiet_operand (let falls = f.falls.0 in omega arith))
+
+      go : QuietNode q a → Result
+      go (refuses e m run) = refuses e _ (chain run first_failed)
+      go (skips en v t e m run) =
+          linked en v t e m run (lower r (let falls = (f.falls.1 en).0 in omega arith) is_r (λ s b. bare s (f.next en s (inl b))))
+
+  quiet_chain_left : (a : Spot) (p q r : ℕ) (used : BuilderUse) → Quietly (AnswersChain G FromLeft used.shape q r zero a) (sets.nullable p ≡ true) a → QuietForm (form.ChainLeft used q r) p a
+  quiet_chain_left a p q r used (refuses e m run) = refuses e _ (chain_left run)
+  quiet_chain_left a p q r used (skips x v t e m run) = skips x v (Rounds zero ∷ t) e _ (chain_left run)
+
+  quiet_chain_right : (a : Spot) (p q r : ℕ) (used : BuilderUse) → Quietly (AnswersChain G FromRight used.shape q r zero a) (sets.nullable p ≡ true) a → QuietForm (form.ChainRight used q r) p a
+  quiet_chain_right a p q r used (refuses e m run) = refuses e _ (chain_right run)
+  quiet_chain_right a p q r used (skips x v t e m run) = skips x v (Rounds zero ∷ t) e _ (chain_right run)
+
+  by_failing : (a : Spot) (p q : ℕ) → NodeFails G q a → QuietForm (form.Try q) p a
+  by_failing a p q h = refuses h.error _ (try h.answers)
+
+  module _ (n : ℕ) (a : Spot) (lower : Lower n a) (p : ℕ) (l : sets.level p < suc n) (bare : NoStart G.text (Contains (sets.first p)) a.place) where
+    quiet_part : (q : ℕ) → PartFits sets p q → q < length G.grammar.nodes → QuietNode q a
+    quiet_part q f there = lower q (let falls = f.falls in omega arith) there (λ s b. bare s (f.first s b))
+
+    quiet_try : (q : ℕ) → TryFits G.grammar sets p q → q < length G.grammar.nodes → QuietForm (form.Try q) p a
+    quiet_try q (of_part f) there = go (quiet_part q f there)
+      where
+        go : QuietNode q a → QuietForm (form.Try q) p a
+        go (refuses e m run) = refuses e _ (try run)
+        go (skips x v t e m run) = skips (f.empty x) v t e _ (try run)
+    quiet_try q (of_string {s = s} e spelled falls f) there =
+        by_failing a p q (string_node_fails G q s a e (λ h. unmatched G.text (sets.first p) a.place bare (f G.text scalars a.place h)))
+    quiet_try q (of_key {x = x} {y = y} {s = s} {class = class} e first second spelled falls f) there =
+        by_failing a p q (key_node_fails G q x y s class a e first second (λ h. unmatched G.text (sets.first p) a.place bare (f G.text scalars a.place h)))
+
+    quiet_form : (f : Node) → slice_get G.grammar.nodes p ≡ Some f → Fits G.grammar sets p f → QuietForm f p a
+    quiet_form (form.Satisfy class) e f =
+        refused (AnswersForm G (form.Satisfy class) a) _ a _ _ satisfy
+        (satisfy_fails G.grammar G.text class a (λ h. unmatched G.text (sets.first p) a.place bare (f G.text scalars a.place h)))
+    quiet_form (form.String s) e f =
+        refused (AnswersForm G (form.String s) a) _ a _ _ string
+        (string_fails G.text s a f.spelled (λ h. unmatched G.text (sets.first p) a.place bare (f.first G.text scalars a.place h)))
+    quiet_form (form.Word w) e f =
+        let item = whole.words p w e in
+        refused (AnswersForm G (form.Word w) a) _ a _ _ (word item.1)
+        (word_fails G.grammar G.text item.0 a (λ s h. unmatched G.text (sets.first p) a.place bare (f G.text scalars a.place (record { item = item.0; named = item.1; word = s; there = h }))))
+    quiet_form (form.NotFollowedBy class) e f =
+        decided (AnswersForm G (form.NotFollowedBy class) a) _ a _ _ not_followed_by f (not_followed_decided G.grammar G.text class a)
+    quiet_form form.EndOfText e f = decided (AnswersForm G form.EndOfText a) _ a _ _ end_of_text f (end_decided G.text a)
+    quiet_form (form.Seq []) e f = skips (f.empty tt) [] [] _ _ nothing
+    quiet_form (form.Seq (q ∷ qs)) e f = go (quiet_parts n a lower q qs (falls_further sets (sets.level p) n (q ∷ qs) (omega arith) f.falls) (whole.parts p _ e) (λ s b. bare s (f.first s b)))
+      where
+        go : QuietParts q qs a → QuietForm (form.Seq (q ∷ qs)) p a
+        go (refuses e m run) = refuses e _ (seq run)
+        go (skips x v t e m run) = skips (f.empty x) v t e _ (seq run)
+    quiet_form (form.Choice qs) e f = go (quiet_alternatives n a lower p (suc zero) qs f l (whole.parts p _ e) bare)
+      where
+        go : Quietly (AnswersAlternatives G (suc zero) qs a) (sets.nullable p ≡ true) a → QuietForm (form.Choice qs) p a
+        go (refuses e m run) = refuses e _ (choice run)
+        go (skips x v t e m run) = skips x v t e _ (choice run)
+    quiet_form (form.Many q) e f = go (lower q (let falls = f.falls in omega arith) (whole.parts p _ e).0 (λ s b. bare s (f.first s b)))
+      where
+        go : QuietNode q a → QuietForm (form.Many q) p a
+        go (refuses e m run) = skips f.empty [] (Rounds zero ∷ []) e _ (many (round run round_ended))
+        go (skips x v t e m run) = let full = f.full in absurd (cc)
+    quiet_form (form.ChainLeft used q r) e f =
+        let there = whole.parts p _ e in quiet_chain_left a p q r used (quiet_chain n a lower FromLeft used.shape p q r f l there.0 there.1.0 bare)
+    quiet_form (form.ChainRight used q r) e f =
+        let there = whole.parts p _ e in quiet_chain_right a p q r used (quiet_chain n a lower FromRight used.shape p q r f l there.0 there.1.0 bare)
+    quiet_form (form.Try q) e f = quiet_try q f (whole.parts p _ e).0
+    quiet_form (form.Rule r) e f =
+        let named = whole.rules p r e in
+        go named.0 named.1 (quiet_part named.0.body (f.body named.0 named.1) named.2)
+      where
+        go : (named : declared.Rule) → slice_get G.grammar.rules r ≡ Some named → QuietNode named.body a → QuietForm (form.Rule r) p a
+        go named e (refuses x m run) = refuses x _ (rule e run)
+        go named e (skips y v t x m run) = skips ((f.body named e).empty y) v t x _ (rule e run)
+    quiet_form (form.Expression builders q) e f = absurd f
+    quiet_form (form.Declare class) e f = absurd f
+    quiet_form (form.Text q) e f = go (quiet_part q f (whole.parts p _ e).0)
+      where
+        go : QuietNode q a → QuietForm (form.Text q) p a
+        go (refuses e m run) = refuses e _ (as_text run)
+        go (skips x v t e m run) = skips (f.empty x) _ t e _ (as_text run)
+    quiet_form (form.Skip q) e f = go (quiet_part q f (whole.parts p _ e).0)
+      where
+        go : QuietNode q a → QuietForm (form.Skip q) p a
+        go (refuses e m run) = refuses e _ (skip run)
+        go (skips x v t e m run) = skips (f.empty x) _ t e _ (skip run)
+    quiet_form (form.Build used symbol q) e f = go (quiet_part q f (whole.parts p _ e).0)
+      where
+        go : QuietNode q a → QuietForm (form.Build used symbol q) p a
+        go (refuses e m run) = refuses e _ (build run)
+        go (skips x v t e m run) = skips (f.empty x) _ t e _ (build run)
+    quiet_form (form.Label q message) e f = go (quiet_part q f (whole.parts p _ e).0)
+      where
+        go : QuietNode q a → QuietForm (form.Label q message) p a
+        go (refuses e m run) = refuses _ _ (label run)
+        go (skips x v t e m run) = skips (f.empty x) v t _ _ (label run)
+
+  module _ (good : (p : ℕ) (n : Node) → slice_get G.grammar.nodes p ≡ Some n → Fits G.grammar sets p n) where
+    quiet_at : (n : ℕ) (a : Spot) → Lower n a → (p : ℕ) → sets.level p < suc n → NoStart G.text (Contains (sets.first p)) a.place →
+        (f : Node) → slice_get G.grammar.nodes p ≡ Some f → QuietNode p a
+    quiet_at n a lower p l bare f e = go (quiet_form n a lower p l bare f e (good p f e))
+      where
+        go : QuietForm f p a → QuietNode p a
+        go (refuses x m run) = refuses x _ (entered e run)
+        go (skips y v t x m run) = skips y v t x _ (entered e run)
+
+    pub quiet_below : (n : ℕ) (a : Spot) → Lower n a
+    quiet_below zero a p l there bare = absurd (omega arith)
+    quiet_below (suc n) a p l there bare = let f = found G.grammar.nodes p there in quiet_at n a (quiet_below n a) p l bare f.0 f.1
+
+    pub quiet : (p : ℕ) (a : Spot) → p < length G.grammar.nodes → NoStart G.text (Contains (sets.first p)) a.place → QuietNode p a
+    quiet p a there bare = quiet_below (suc (sets.level p)) a p (le_refl _) there bare

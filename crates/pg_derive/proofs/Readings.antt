@@ -1,0 +1,162 @@
+-- On a predictive grammar both readings of choice give the same answers: an alternative that is ok and consumes nothing is the
+-- last one.
+use Rattle.std.proofs.Common.{◌≡◌, ◌<◌, ◌≤◌, ℕ, zero, List, [], ◌∷◌, Bool, true, false, refl, ap, subst, length, Some, slice_get, arith}
+use Rattle.std.specs.Prelude.{nat_lt}
+use Rattle.std.specs.Str.{all_scalars}
+use Rattle.pg_text.specs.Position.{start}
+use Rattle.pg_tree.specs.Trees.{Tree}
+use Rattle.pg_tree.specs.declared.shape.Shape.{Shape}
+use Rattle.pg_grammar.specs.declared.form.Node.{Node}
+use Rattle.pg_grammar.specs.declared.form.Node.TheVariants as form
+use Rattle.pg_grammar.specs.declared.trail.TrailItem.{TrailItem}
+use Rattle.pg_grammar.specs.declared.trail.TrailItem.TheVariants.{Alt}
+use Rattle.pg_message.proofs.Nothing.{merged-nothing}
+use Rattle.pg_table.specs.Derives.{Spot}
+use Rattle.pg_derive.specs.Answers.{Given, Answers, entered, AnswersForm, satisfy, string, word, not_followed_by, end_of_text, nothing, seq, choice, many, chain_left, chain_right, try, label, rule, text as as_text, skip, build, AnswersParts, part, AfterPart, part_last, part_failed, part_stuck, part_ok, AnswersAlternatives, no_alternative, alternative, AfterAlternative, alternative_consumed, alternative_stands, alternative_waits, alternative_commits, alternative_failed, alternative_stuck, AnswersRounds, round, AfterRound, round_ended, round_failed, round_empty, round_stuck, round_ok, AnswersChain, chain, AfterFirst, first_failed, first_stuck, first_ok, AnswersLinks, link, AfterSeparator, separator_failed, separator_stuck, separator_ok, AfterOperand, operand_failed, operand_stuck, operand_ok}
+use Rattle.pg_derive.specs.ClosedSets.{NodeSets}
+use Rattle.pg_derive.specs.Errors.{Error, with_position, without_position, merge, nothing_said}
+use Rattle.pg_derive.specs.Outcomes.{Outcome, ok}
+use Rattle.pg_derive.specs.Predictive.{AlternativesFit, Fits}
+use Rattle.pg_derive.specs.PredictiveLaws.{as_read, ReadingsAgree}
+use Rattle.pg_derive.specs.declared.fold.Fold.{Fold}
+use Rattle.pg_derive.specs.declared.reading.Reading.{Reading}
+use Rattle.pg_derive.specs.declared.reading.Reading.TheVariants.{Library, Report}
+use Rattle.pg_derive.proofs.Begins.{still, moves, BeginsNode}
+use Rattle.pg_derive.proofs.Complete.{begun}
+use Rattle.pg_derive.proofs.Exists.{Settles, settles_ok, settles_failed, settle}
+use Rattle.pg_derive.proofs.Flags.{moved}
+use Rattle.pg_derive.proofs.Later.{later}
+use Rattle.pg_derive.proofs.Moves.{tells}
+use Rattle.pg_derive.proofs.Predicted.{spelled}
+use Rattle.pg_derive.proofs.Quiet.{IsWhole}
+use Rattle.pg_derive.proofs.Sound.{sound}
+use Rattle.pg_derive.proofs.Unique.{same}
+use Rattle.pg_derive.proofs.Whole.{is_whole}
+
+-- what says nothing, at an earlier place, adds nothing
+nothing_added : (e : Error) (i : ℕ) → i ≤ e.place → merge e (nothing_said i) ≡ e
+nothing_added e i l = ap without_position (merged-nothing (with_position start e) (with_position start (nothing_said i)) refl l)
+
+module _ (G : Given) (scalars : all_scalars G.text ≡ true) (whole : IsWhole G.grammar) (sets : NodeSets)
+    (good : (p : ℕ) (n : Node) → slice_get G.grammar.nodes p ≡ Some n → Fits G.grammar sets p n)
+    (spells : (p : ℕ) (s : List ℕ) → slice_get G.grammar.nodes p ≡ Some (form.String s) → 0 < length s) where
+  abbrev L : Given
+  L = as_read Library G
+
+  abbrev R : Given
+  R = as_read Report G
+
+  -- an alternative that is ok and consumed nothing is nullable
+  empty_nullable : {q : ℕ} {a b : Spot} {v : List Tree} {t : List TrailItem} {e : Error} {m : ℕ} → Answers L q a (ok false b v t e) m → sets.nullable q ≡ true
+  empty_nullable {q = q} {a = a} {b = b} d = go (begun L scalars whole sets good (sound d)) (tells L spells d).0
+    where
+      go : BeginsNode sets G.text q a b → false ≡ nat_lt a.place b.place → sets.nullable q ≡ true
+      go (still e n) flag = n
+      go (moves l s x h) flag = let far = moved l in absurd (cc)
+
+  mutual
+    report : {p : ℕ} {a : Spot} {o : Outcome} {m : ℕ} → Answers L p a o m → Answers R p a o m
+    report (entered {p = p} {n = n} e d) = entered e (report_form d p (good p n e))
+
+    report_form : {n : Node} {a : Spot} {o : Outcome} {m : ℕ} → AnswersForm L n a o m → (p : ℕ) → Fits G.grammar sets p n → AnswersForm R n a o m
+    report_form satisfy p f = satisfy
+    report_form string p f = string
+    report_form (word e) p f = word e
+    report_form not_followed_by p f = not_followed_by
+    report_form end_of_text p f = end_of_text
+    report_form nothing p f = nothing
+    report_form (seq d) p f = seq (report_parts d)
+    report_form (choice d) p f = choice (report_alternatives d p f)
+    report_form (many d) p f = many (report_rounds d)
+    report_form (chain_left d) p f = chain_left (report_chain d)
+    report_form (chain_right d) p f = chain_right (report_chain d)
+    report_form (try d) p f = try (report d)
+    report_form (label d) p f = label (report d)
+    report_form (rule e d) p f = rule e (report d)
+    report_form (as_text d) p f = as_text (report d)
+    report_form (skip d) p f = skip (report d)
+    report_form (build d) p f = build (report d)
+
+    report_parts : {p : ℕ} {ps : List ℕ} {a : Spot} {o : Outcome} {m : ℕ} → AnswersParts L p ps a o m → AnswersParts R p ps a o m
+    report_parts (part d r) = part (report d) (report_after_part r)
+
+    report_after_part : {ps : List ℕ} {x o : Outcome} {m : ℕ} → AfterPart L ps x o m → AfterPart R ps x o m
+    report_after_part part_last = part_last
+    report_after_part part_failed = part_failed
+    report_after_part part_stuck = part_stuck
+    report_after_part (part_ok d) = part_ok (report_parts d)
+
+    report_alternatives : {k : ℕ} {qs : List ℕ} {a : Spot} {o : Outcome} {m : ℕ} → AnswersAlternatives L k qs a o m → (p : ℕ) → AlternativesFit sets p qs → AnswersAlternatives R k qs a o m
+    report_alternatives no_alternative p f = no_alternative
+    report_alternatives (alternative {p = q} d r) p f = alternative (report d) (report_after_alternative r p q f d)
+
+    report_after_alternative : {k : ℕ} {qs : List ℕ} {a : Spot} {x o : Outcome} {m n : ℕ} → AfterAlternative L k qs a x o n → (p q : ℕ) → AlternativesFit sets p (q ∷ qs) → Answers L q a x m →
+        AfterAlternative R k qs a x o n
+    report_after_alternative alternative_consumed p q f x = alternative_consumed
+    report_after_alternative (alternative_stands {k = k} {ps = []} {a = a} {b = b} {v = v} {t = t} {e = e} is) p q f x =
+        subst (λ z. AfterAlternative R k [] a (ok false b v t e) (ok false b v (Alt k ∷ t) z) zero) (nothing_added e a.place (later L x).1) (alternative_waits refl no_alternative)
+    report_after_alternative (alternative_stands {ps = other ∷ qs} is) p q f x =
+        let empty = empty_nullable x in let full = (f.1 other (zero, omega arith, refl)).full in absurd (cc)
+    report_after_alternative (alternative_waits is d) p q f x = absurd (cc)
+    report_after_alternative alternative_commits p q f x = alternative_commits
+    report_after_alternative (alternative_failed d) p q f x = alternative_failed (report_alternatives d p f.2)
+    report_after_alternative alternative_stuck p q f x = alternative_stuck
+
+    report_rounds : {p k : ℕ} {a : Spot} {o : Outcome} {m : ℕ} → AnswersRounds L p k a o m → AnswersRounds R p k a o m
+    report_rounds (round d r) = round (report d) (report_after_round r)
+
+    report_after_round : {p k : ℕ} {a : Spot} {x o : Outcome} {m : ℕ} → AfterRound L p k a x o m → AfterRound R p k a x o m
+    report_after_round round_ended = round_ended
+    report_after_round round_failed = round_failed
+    report_after_round round_empty = round_empty
+    report_after_round round_stuck = round_stuck
+    report_after_round (round_ok d) = round_ok (report_rounds d)
+
+    report_chain : {fold : Fold} {shape : Shape} {p s k : ℕ} {a : Spot} {o : Outcome} {m : ℕ} → AnswersChain L fold shape p s k a o m → AnswersChain R fold shape p s k a o m
+    report_chain (chain d r) = chain (report d) (report_after_first r)
+
+    report_after_first : {fold : Fold} {shape : Shape} {p s k : ℕ} {x o : Outcome} {m : ℕ} → AfterFirst L fold shape p s k x o m → AfterFirst R fold shape p s k x o m
+    report_after_first first_failed = first_failed
+    report_after_first first_stuck = first_stuck
+    report_after_first (first_ok d) = first_ok (report_links d)
+
+    report_links : {fold : Fold} {shape : Shape} {p s : ℕ} {left : List Tree} {k : ℕ} {a : Spot} {o : Outcome} {m : ℕ} → AnswersLinks L fold shape p s left k a o m →
+        AnswersLinks R fold shape p s left k a o m
+    report_links (link d r) = link (report d) (report_after_separator r)
+
+    report_after_separator : {fold : Fold} {shape : Shape} {p s : ℕ} {left : List Tree} {k : ℕ} {a : Spot} {x o : Outcome} {m : ℕ} → AfterSeparator L fold shape p s left k a x o m →
+        AfterSeparator R fold shape p s left k a x o m
+    report_after_separator separator_failed = separator_failed
+    report_after_separator separator_stuck = separator_stuck
+    report_after_separator (separator_ok d r) = separator_ok (report d) (report_after_operand r)
+
+    report_after_operand : {fold : Fold} {shape : Shape} {p s : ℕ} {left : List Tree} {k : ℕ} {a : Spot} {c : Bool} {v : List Tree} {t : List TrailItem} {e : Error} {x o : Outcome} {m : ℕ} →
+        AfterOperand L fold shape p s left k a c v t e x o m → AfterOperand R fold shape p s left k a c v t e x o m
+    report_after_operand operand_failed = operand_failed
+    report_after_operand operand_stuck = operand_stuck
+    report_after_operand (operand_ok x d) = operand_ok x (report_links d)
+
+  -- what the report's reading answers is what the library's does, since that answers, and there is one answer
+  library : {p : ℕ} {a : Spot} {o : Outcome} {m : ℕ} → p < length G.grammar.nodes → a.place ≤ length G.text → Answers R p a o m → Answers L p a o m
+  library {p = p} {a = a} {o = o} {m = m} there within d = go (settle L scalars whole sets good spells p there a within)
+    where
+      found : {q : Outcome} {n : ℕ} → Answers L p a q n → Answers L p a o m
+      found {q = q} x =
+          let s = same (report x) d in
+          subst (λ z. Answers L p a z m) s.outcome (subst (λ z. Answers L p a q z) s.count x)
+
+      go : Settles (Answers L p a) → Answers L p a o m
+      go (settles_ok c b v t e n run) = found run
+      go (settles_failed c e n run) = found run
+
+pub readings_agree : ReadingsAgree
+readings_agree G sets h one other p there a o m from within d = go one other d
+  where
+    whole : IsWhole G.grammar
+    whole = is_whole G.grammar h.grammar
+
+    go : (one other : Reading) → Answers (as_read one G) p a o m → Answers (as_read other G) p a o m
+    go Library Library d = d
+    go Library Report d = report G h.text whole sets h.predictive.nodes (spelled G sets h) d
+    go Report Library d = library G h.text whole sets h.predictive.nodes (spelled G sets h) there within d
+    go Report Report d = d

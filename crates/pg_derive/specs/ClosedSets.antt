@@ -1,0 +1,52 @@
+-- Sets that are claimed of the nodes of a grammar.
+use Rattle.std.specs.Prelude.{◌≡◌, ◌<◌, ◌⊎◌, ℕ, List, [], ◌∷◌, Bool, true}
+use Rattle.std.specs.List.{Contains}
+use Rattle.pg_start.specs.Apart.{Apart}
+use Rattle.pg_start.specs.Starts.{MatchesAt}
+use Rattle.pg_start.specs.declared.kind.StartKind.{StartKind}
+
+-- for each node: whether it can succeed on nothing, what can begin it, what can follow it, and a number that falls from a
+-- node to each part of it that is reached before anything is consumed
+pub record NodeSets : Type 0 where
+  pub nullable : ℕ → Bool
+  pub first : ℕ → List StartKind
+  pub follow : ℕ → List StartKind
+  pub level : ℕ → ℕ
+
+-- a start of the list matches at the place
+pub record SomeMatches (text : List ℕ) (starts : List StartKind) (place : ℕ) : Type 0 where
+  pub start : StartKind
+  pub among : Contains starts start
+  pub there : MatchesAt start text place
+
+-- each start of the one is in the other
+abbrev pub Within : List StartKind → List StartKind → Type 0
+Within starts others = (s : StartKind) → Contains starts s → Contains others s
+
+-- each start of the one is apart from each of the other
+abbrev pub AllApart : List StartKind → List StartKind → Type 0
+AllApart starts others = (s t : StartKind) → Contains starts s → Contains others t → Apart s t
+
+-- ---- of the parts of a sequence
+
+abbrev pub AllNullable : NodeSets → List ℕ → Type 0
+AllNullable sets [] = Unit {0}
+AllNullable sets (q ∷ qs) = (sets.nullable q ≡ true) × AllNullable sets qs
+
+-- the start is a first one of some part before which all parts are nullable
+abbrev pub BeginsParts : NodeSets → List ℕ → StartKind → Type 0
+BeginsParts sets [] s = ⊥
+BeginsParts sets (q ∷ qs) s = Contains (sets.first q) s ⊎ ((sets.nullable q ≡ true) × BeginsParts sets qs s)
+
+-- what follows each part is what begins the parts behind it, and what follows the sequence where these are nullable
+abbrev pub PartsFollowed : NodeSets → List StartKind → List ℕ → Type 0
+PartsFollowed sets follow [] = Unit {0}
+PartsFollowed sets follow (q ∷ qs) =
+    ((s : StartKind) → BeginsParts sets qs s → Contains (sets.follow q) s)
+    × (AllNullable sets qs → Within follow (sets.follow q))
+    × PartsFollowed sets follow qs
+
+-- the level falls to each part that is reached
+abbrev pub PartsFall : NodeSets → ℕ → List ℕ → Type 0
+PartsFall sets level [] = Unit {0}
+PartsFall sets level (q ∷ qs) = (sets.level q < level) × ((sets.nullable q ≡ true) → PartsFall sets level qs)

@@ -1,0 +1,136 @@
+-- When sets that are claimed of a grammar's nodes are closed and show that it is predictive: what a parser meets next tells
+-- it which way to go.
+use Rattle.std.specs.Prelude.{◌≡◌, ◌<◌, ◌+◌, ℕ, List, [], ◌∷◌, true, false, Some, slice_get, length}
+use Rattle.std.specs.List.{Contains}
+use Rattle.std.specs.Str.{all_scalars}
+use Rattle.pg_grammar.specs.Grammar.{Grammar}
+use Rattle.pg_grammar.specs.declared.class.ClassPart.{ClassPart}
+use Rattle.pg_grammar.specs.declared.form.Node.{Node}
+use Rattle.pg_grammar.specs.declared.form.Node.TheVariants as form
+use Rattle.pg_grammar.specs.declared.grammar.Rule as declared
+use Rattle.pg_grammar.specs.declared.word_item.WordItem.{WordItem}
+use Rattle.pg_start.specs.Apart.{Apart}
+use Rattle.pg_start.specs.declared.kind.StartKind.{StartKind}
+use Rattle.pg_start.specs.declared.kind.StartKind.TheVariants.{End}
+use Rattle.pg_table.specs.Runs.{HasAt, StandsAt, IsWordAt}
+use Rattle.pg_derive.specs.ClosedSets.{NodeSets, SomeMatches, Within, AllApart, AllNullable, BeginsParts, PartsFollowed, PartsFall}
+
+-- ---- leaves
+
+-- wherever this stands in a text, one of the node's first starts matches
+abbrev pub Meets : NodeSets → ℕ → (List ℕ → ℕ → Type 0) → Type 0
+Meets sets p Is = (text : List ℕ) → all_scalars text ≡ true → (place : ℕ) → Is text place → SomeMatches text (sets.first p) place
+
+-- the first character of some characters stands at the place
+pub record BeginsAt (text : List ℕ) (place : ℕ) (characters : List ℕ) : Type 0 where
+  pub character : ℕ
+  pub first : slice_get characters 0 ≡ Some character
+  pub there : slice_get text place ≡ Some character
+
+-- a word of an item stands at the place
+pub record IsSomeWordAt (g : Grammar) (w : ℕ) (text : List ℕ) (place : ℕ) : Type 0 where
+  pub item : WordItem
+  pub named : slice_get g.words w ≡ Some item
+  pub word : List ℕ
+  pub there : IsWordAt g text item place word
+
+-- a string has a character
+pub record StringFits (sets : NodeSets) (p : ℕ) (characters : List ℕ) : Type 0 where
+  pub spelled : 0 < length characters
+  pub first : Meets sets p (λ text place. BeginsAt text place characters)
+
+-- ---- forms with one part
+
+pub record PartFits (sets : NodeSets) (p q : ℕ) : Type 0 where
+  pub empty : sets.nullable q ≡ true → sets.nullable p ≡ true
+  pub first : Within (sets.first q) (sets.first p)
+  pub follow : Within (sets.follow p) (sets.follow q)
+  pub falls : sets.level q < sets.level p
+
+-- what `try` goes back from is a string, or a string that some characters may not follow: then the whole of it is looked
+-- at, and not its first character alone; or it is any other part
+pub data TryFits (g : Grammar) (sets : NodeSets) (p q : ℕ) : Type 0 where
+  of_part : PartFits sets p q → TryFits g sets p q
+  of_string : {s : List ℕ} → slice_get g.nodes q ≡ Some (form.String s) → 0 < length s → sets.level q < sets.level p →
+      Meets sets p (λ text place. StandsAt text place s) → TryFits g sets p q
+  of_key : {x y : ℕ} {s : List ℕ} {class : List ClassPart} →
+      slice_get g.nodes q ≡ Some (form.Seq (x ∷ y ∷ [])) → slice_get g.nodes x ≡ Some (form.String s) →
+      slice_get g.nodes y ≡ Some (form.NotFollowedBy class) → 0 < length s → sets.level q < sets.level p →
+      Meets sets p (λ text place. StandsAt text place s × (HasAt g text class (place + length s) → ⊥)) → TryFits g sets p q
+
+pub record RuleFits (g : Grammar) (sets : NodeSets) (p r : ℕ) : Type 0 where
+  pub body : (named : declared.Rule) → slice_get g.rules r ≡ Some named → PartFits sets p named.body
+
+-- ---- sequences
+
+pub record SeqFits (sets : NodeSets) (p : ℕ) (parts : List ℕ) : Type 0 where
+  pub empty : AllNullable sets parts → sets.nullable p ≡ true
+  pub first : (s : StartKind) → BeginsParts sets parts s → Contains (sets.first p) s
+  pub follow : PartsFollowed sets (sets.follow p) parts
+  pub falls : PartsFall sets (sets.level p) parts
+
+-- ---- choices
+
+-- an alternative q, and one behind it
+pub record ComesBefore (sets : NodeSets) (p q other : ℕ) : Type 0 where
+  pub full : sets.nullable q ≡ false
+  pub first : AllApart (sets.first q) (sets.first other)
+  pub follow : sets.nullable other ≡ true → AllApart (sets.first q) (sets.follow p)
+
+abbrev pub AlternativesFit : NodeSets → ℕ → List ℕ → Type 0
+AlternativesFit sets p [] = Unit {0}
+AlternativesFit sets p (q ∷ qs) = PartFits sets p q × ((other : ℕ) → Contains qs other → ComesBefore sets p q other) × AlternativesFit sets p qs
+
+-- ---- repetitions
+
+-- a round q
+pub record ManyFits (sets : NodeSets) (p q : ℕ) : Type 0 where
+  pub empty : sets.nullable p ≡ true
+  pub full : sets.nullable q ≡ false
+  pub first : Within (sets.first q) (sets.first p)
+  pub again : Within (sets.first q) (sets.follow q)
+  pub follow : Within (sets.follow p) (sets.follow q)
+  pub apart : AllApart (sets.first q) (sets.follow p)
+  pub falls : sets.level q < sets.level p
+
+-- an operand q and a separator r; a round is the sequence of r and q
+pub record ChainFits (sets : NodeSets) (p q r : ℕ) : Type 0 where
+  pub empty : sets.nullable q ≡ true → sets.nullable p ≡ true
+  pub full : AllNullable sets (r ∷ q ∷ []) → ⊥
+  pub first : Within (sets.first q) (sets.first p)
+  pub next : sets.nullable q ≡ true → (s : StartKind) → BeginsParts sets (r ∷ q ∷ []) s → Contains (sets.first p) s
+  pub again : (s : StartKind) → BeginsParts sets (r ∷ q ∷ []) s → Contains (sets.follow q) s
+  pub follow : Within (sets.follow p) (sets.follow q)
+  pub between : Within (sets.first q) (sets.follow r)
+  pub over_next : sets.nullable q ≡ true → (s : StartKind) → BeginsParts sets (r ∷ q ∷ []) s → Contains (sets.follow r) s
+  pub over_last : sets.nullable q ≡ true → Within (sets.follow p) (sets.follow r)
+  pub apart : (s t : StartKind) → BeginsParts sets (r ∷ q ∷ []) s → Contains (sets.follow p) t → Apart s t
+  pub falls : PartsFall sets (sets.level p) (q ∷ r ∷ q ∷ [])
+
+-- ---- nodes
+
+-- by what stands at the node; grammars with expressions or declarations aren't judged yet
+abbrev pub Fits : Grammar → NodeSets → ℕ → Node → Type 0
+Fits g sets p (form.Satisfy class) = Meets sets p (λ text place. HasAt g text class place)
+Fits g sets p (form.String s) = StringFits sets p s
+Fits g sets p (form.Seq parts) = SeqFits sets p parts
+Fits g sets p (form.Choice parts) = AlternativesFit sets p parts
+Fits g sets p (form.Many q) = ManyFits sets p q
+Fits g sets p (form.ChainLeft used q r) = ChainFits sets p q r
+Fits g sets p (form.ChainRight used q r) = ChainFits sets p q r
+Fits g sets p (form.Try q) = TryFits g sets p q
+Fits g sets p (form.NotFollowedBy class) = sets.nullable p ≡ true
+Fits g sets p form.EndOfText = sets.nullable p ≡ true
+Fits g sets p (form.Word w) = Meets sets p (IsSomeWordAt g w)
+Fits g sets p (form.Rule r) = RuleFits g sets p r
+Fits g sets p (form.Expression builders q) = ⊥
+Fits g sets p (form.Declare class) = ⊥
+Fits g sets p (form.Text q) = PartFits sets p q
+Fits g sets p (form.Skip q) = PartFits sets p q
+Fits g sets p (form.Build used symbol q) = PartFits sets p q
+Fits g sets p (form.Label q message) = PartFits sets p q
+
+-- each node fits; the end of the text follows the start rule
+pub record IsPredictive (g : Grammar) (sets : NodeSets) : Type 0 where
+  pub nodes : (p : ℕ) (n : Node) → slice_get g.nodes p ≡ Some n → Fits g sets p n
+  pub end : (start : declared.Rule) → slice_get g.rules g.start ≡ Some start → Contains (sets.follow start.body) End
