@@ -1,0 +1,25 @@
+use Rattle.std.proofs.Common.{◌≡◌, ap, [], rules}
+use Rattle.pg_derive.specs.Errors.{without_position}
+use Rattle.pg_derive.specs.Outcomes.{failed, empty_round}
+use Rattle.pg_answers.specs.View.{outcome_of}
+use Rattle.pg_answers.specs.declared.answer.Outcome.TheVariants.{Ok}
+use Rattle.pg_derive.specs.Answers.{chain, first_failed, first_stuck, first_ok}
+use Rattle.pg_answers.proofs.TasksComputed.{chain_done}
+use Rattle.pg_answers.specs.Computed.{pending_outcome}
+use Rattle.pg_answers.proofs.chains.after_first.Goals as goal
+
+pub returns-in-Failed : goal.returns-in-Failed
+returns-in-Failed c = λ G table d.
+    let x : outcome_of table c.args.first.outcome ≡ failed c.in-Failed.failure.consumed (without_position c.in-Failed.failure.error) = ap (outcome_of table) c.in-Failed.is in
+    rw c.alone.ensures (chain_done (rw x at d) first_failed)
+
+pub returns-in-EmptyRound : goal.returns-in-EmptyRound
+returns-in-EmptyRound c = λ G table d.
+    let x : outcome_of table c.args.first.outcome ≡ empty_round = ap (outcome_of table) c.in-EmptyRound.is in
+    rw c.alone-in-EmptyRound.ensures (chain_done (rw x at d) first_stuck)
+
+pub returns : goal.returns
+unfolding pending_outcome
+returns c = λ G table d k m o r.
+    let x : outcome_of table c.args.first.outcome ≡ outcome_of table (Ok c.in-Ok.success) = ap (outcome_of table) c.in-Ok.is in
+    rw c.new.ensures (chain (rw x at d) (first_ok r))

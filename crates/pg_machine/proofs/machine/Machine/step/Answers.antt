@@ -1,0 +1,30 @@
+use Rattle.std.proofs.Common.{◌≡◌, ◌∷◌, ◌-◌, ◌^◌, ap, subst, sym, ◌∙◌}
+use Rattle.std.proofs.lemmas.Result.{IfOk-weaker}
+use Rattle.pg_pred.specs.Offer.{offer_of}
+use Rattle.pg_table.specs.Tables.{Table}
+use Rattle.pg_machine.specs.Setting.{given}
+use Rattle.pg_machine.specs.Tape.{Tape, tape_with, tape_turn}
+use Rattle.pg_machine.specs.Ready.{IsTapeReady}
+use Rattle.pg_machine.specs.View.{frame_of, stack_of, tape_of}
+use Rattle.pg_machine.proofs.Stack.{stack_pushed}
+use Rattle.pg_machine.proofs.machine.Machine.step.Goals as goal
+
+pub hand_to-requires : goal.hand_to-requires
+hand_to-requires g c =
+    let m = c.args.self.now in
+    let handed : tape_of c.args.mode m ≡ tape_with c.in-With.reply (frame_of c.in-Some.frame ∷ stack_of c.pop.new.self.items) m.forest m.trail.items m.messages =
+    ap (λ s. tape_of s m) c.in-With.is
+    ∙ ap (λ fs. tape_with c.in-With.reply (stack_of fs) m.forest m.trail.items m.messages) c.in-Some.ensures.items
+    ∙ ap (λ fs. tape_with c.in-With.reply fs m.forest m.trail.items m.messages) (stack_pushed c.pop.new.self.items c.in-Some.frame) in
+    let ready = subst (IsTapeReady (offer_of c.args.registry.now) (2 ^ 64 - 1)) handed c.requires.ready in
+    ready.0
+
+pub returns-in-Some : goal.returns-in-Some
+returns-in-Some g c =
+    let m = c.args.self.now in
+    let handed : tape_of c.args.mode m ≡ tape_with c.in-With.reply (frame_of c.in-Some.frame ∷ stack_of c.pop.new.self.items) m.forest m.trail.items m.messages =
+    ap (λ s. tape_of s m) c.in-With.is
+    ∙ ap (λ fs. tape_with c.in-With.reply (stack_of fs) m.forest m.trail.items m.messages) c.in-Some.ensures.items
+    ∙ ap (λ fs. tape_with c.in-With.reply fs m.forest m.trail.items m.messages) (stack_pushed c.pop.new.self.items c.in-Some.frame) in
+    IfOk-weaker c.hand_to.result _ _
+    (λ mode h table. h c.args.grammar.now ∙ ap (tape_turn (given c.args.reading c.args.grammar.now c.args.text.now) table) (sym handed)) c.hand_to.ensures

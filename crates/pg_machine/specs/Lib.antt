@@ -1,0 +1,11 @@
+pub mod Messages
+pub mod Why
+pub mod Setting
+pub mod Frames
+pub mod Turns
+pub mod Finishes
+pub mod Tape
+pub mod Ready
+pub mod Shows
+pub mod View
+pub mod Outcomes

@@ -1,0 +1,91 @@
+-- What a run may end with.
+use Rattle.std.specs.Prelude.{◌≡◌, ◌<◌, ◌≤◌, ◌+◌, ◌*◌, ℕ, List, [], ◌∷◌, Bool, Option, Some, None, drop, slice_get}
+use Rattle.pg_tree.specs.Trees.{Tree}
+use Rattle.pg_text.specs.Position.{position_of}
+use Rattle.pg_grammar.specs.declared.trail.TrailItem.{TrailItem}
+use Rattle.pg_grammar.specs.declared.grammar.Rule as declared
+use Rattle.pg_table.specs.Derives.{Spot, Derives}
+use Rattle.pg_table.specs.Tables.{Table}
+use Rattle.pg_derive.specs.Answers.{Given, AnswersStart}
+use Rattle.pg_derive.specs.Errors.{Error, without_position}
+use Rattle.pg_derive.specs.Outcomes as outcome
+use Rattle.pg_derive.specs.Outcomes.{Outcome}
+use Rattle.pg_machine.specs.Messages.{error_of}
+use Rattle.pg_machine.specs.Tape.{Tape, tape_at, tape_with, tape_endless, spot_at}
+use Rattle.pg_machine.specs.declared.answer.Answer.{Answer}
+use Rattle.pg_machine.specs.declared.answer.Success.{Success}
+use Rattle.pg_machine.specs.declared.answer.Outcome as ended
+use Rattle.pg_machine.specs.declared.answer.Outcome.TheVariants.{Answered, StepsUsed, EmptyRound}
+use Rattle.pg_machine.specs.declared.frame.Reply.TheVariants as reply
+
+-- the outcome that an answer stands for, without its error's position
+abbrev pub outcome_with : Bool → Error → Option Success → Outcome
+outcome_with consumed e None = outcome.failed consumed e
+outcome_with consumed e (Some s) = outcome.ok consumed (spot_at s.table s.place) s.forest s.trail e
+
+abbrev pub outcome_of : Answer → Outcome
+outcome_of a = outcome_with a.consumed (without_position a.error) a.success
+
+-- an ok outcome of a node is a derivation
+abbrev pub IsDerived : Given → ℕ → Spot → Outcome → Type 0
+IsDerived G p a (outcome.ok c b v t e) = Derives G.grammar G.text p a b v t
+IsDerived G p a (outcome.failed c e) = Unit {0}
+IsDerived G p a outcome.empty_round = Unit {0}
+
+-- an answer of the start rule: the relation's, with its error's position, after about two turns for each node
+pub record IsAnswer (G : Given) (table : Table) (a : Answer) : Type 0 where
+  pub entered : ℕ
+  pub answers : AnswersStart G table (outcome_of a) entered
+  pub position : a.error.position ≡ position_of G.text a.error.place
+  pub least : 2 * entered ≤ a.steps + 1
+  pub most : a.steps ≤ 2 * entered + 8
+  pub derived : IsDerived G answers.start.body (spot_at table 0) (outcome_of a)
+
+-- a run of the start rule within so many steps
+abbrev pub IsOutcome : Given → Table → ℕ → ended.Outcome → Type 0
+IsOutcome G table most (Answered a) = IsAnswer G table a × (a.steps ≤ most)
+-- only where no outcome takes so few steps
+IsOutcome G table most StepsUsed = (o : Outcome) (m : ℕ) → AnswersStart G table o m → most < 2 * m + 8
+IsOutcome G table most EmptyRound = (m : ℕ) × AnswersStart G table outcome.empty_round m
+
+-- ---- how the machine ends
+
+-- the answer that lies on the tape, where no frame is left
+abbrev pub answer_on : Table → Tape → Option Outcome
+answer_on table (tape_at p i fs v t x) = None
+answer_on table (tape_with (reply.Fine c j why) [] v t x) = Some (outcome.ok c (spot_at table j) v t (error_of why.place (drop why.from x)))
+answer_on table (tape_with (reply.Failed c why) [] v t x) = Some (outcome.failed c (error_of why.place (drop why.from x)))
+answer_on table (tape_with (reply.Fine c j why) (f ∷ fs) v t x) = None
+answer_on table (tape_with (reply.Failed c why) (f ∷ fs) v t x) = None
+answer_on table (tape_with reply.EmptyRound fs v t x) = None
+answer_on table tape_endless = None
+
+-- a round was empty
+abbrev pub IsStuck : Tape → Type 0
+IsStuck (tape_at p i fs v t x) = ⊥
+IsStuck (tape_with (reply.Fine c j why) fs v t x) = ⊥
+IsStuck (tape_with (reply.Failed c why) fs v t x) = ⊥
+IsStuck (tape_with reply.EmptyRound fs v t x) = Unit {0}
+IsStuck tape_endless = ⊥
+
+-- neither an answer nor an empty round
+abbrev pub IsUnanswered : Tape → Type 0
+IsUnanswered (tape_at p i fs v t x) = Unit {0}
+IsUnanswered (tape_with (reply.Fine c j why) [] v t x) = ⊥
+IsUnanswered (tape_with (reply.Failed c why) [] v t x) = ⊥
+IsUnanswered (tape_with (reply.Fine c j why) (f ∷ fs) v t x) = Unit {0}
+IsUnanswered (tape_with (reply.Failed c why) (f ∷ fs) v t x) = Unit {0}
+IsUnanswered (tape_with reply.EmptyRound fs v t x) = ⊥
+IsUnanswered tape_endless = Unit {0}
+
+-- the answer is what lies on the tape
+pub record IsAnswerOn (text : List ℕ) (table : Table) (tape : Tape) (taken : ℕ) (a : Answer) : Type 0 where
+  pub outcome : answer_on table tape ≡ Some (outcome_of a)
+  pub position : a.error.position ≡ position_of text a.error.place
+  pub steps : a.steps ≡ taken
+
+-- so a run ends whose machine has this tape after so many steps
+abbrev pub Ends : List ℕ → Table → Tape → ℕ → ended.Outcome → Type 0
+Ends text table tape steps (Answered a) = IsAnswerOn text table tape steps a
+Ends text table tape steps StepsUsed = IsUnanswered tape
+Ends text table tape steps EmptyRound = IsStuck tape

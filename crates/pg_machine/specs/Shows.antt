@@ -1,0 +1,121 @@
+-- The machine on plain values that the machine over lists stands for: what frames own lies on the lists, those of the
+-- topmost frame last. Lengths that frames keep are those of what stands below.
+use Rattle.std.specs.Prelude.{◌≡◌, ℕ, Bool, List, [], ◌∷◌, ◌++◌, length, Option, Some, None}
+use Rattle.pg_tree.specs.Trees.{Tree}
+use Rattle.pg_grammar.specs.declared.used.BuilderUse.{BuilderUse}
+use Rattle.pg_grammar.specs.declared.trail.TrailItem.{TrailItem}
+use Rattle.pg_grammar.specs.declared.trail.TrailItem.TheVariants.{Alt}
+use Rattle.pg_table.specs.Tables.{Table}
+use Rattle.pg_derive.specs.Errors.{Error}
+use Rattle.pg_derive.specs.Outcomes.{ok, failed, empty_round}
+use Rattle.pg_derive.specs.declared.fold.Fold.TheVariants.{FromLeft, FromRight}
+use Rattle.pg_machine.specs.Frames.{Before, none_before, before, Kept, none_kept, failed_kept, ok_kept, Chain, Linked, a_try, a_label, a_rule, a_text, a_skip, a_build, Frame, in_parts, in_choice, in_rounds, in_first, in_separator, in_operand, in_around}
+use Rattle.pg_machine.specs.Messages.{Said}
+use Rattle.pg_machine.specs.Tape.{spot_at, OnKept, no_kept, kept_failure, kept_empty_ok, OnChain, OnLinks, OnFrame, on_parts, on_choice, on_rounds, on_first, on_separator, on_operand, on_try, on_label, on_rule, on_text, on_skip, on_build, Tape, tape_at, tape_with, tape_endless}
+use Rattle.pg_machine.specs.Turns.{State, at_node, with_outcome, endless}
+use Rattle.pg_machine.specs.Why.{Says, Holds}
+use Rattle.pg_machine.specs.declared.frame.Before as declared
+use Rattle.pg_machine.specs.declared.frame.Reply.TheVariants.{Fine, Failed, EmptyRound}
+use Rattle.pg_machine.specs.declared.message_tape.Held.{Held}
+use Rattle.pg_machine.specs.declared.message_tape.Why.{Why}
+
+-- a chain as the definitions have it
+abbrev pub plain : OnChain → Chain
+plain ch = record { fold = ch.fold; shape = ch.used.shape; operand = ch.operand; separator = ch.separator }
+
+-- the parts before, with their forest, their trail and the list that ends with their messages, behind the first list
+pub data ShowsBefore : List Said → Before → List Tree → List TrailItem → Option declared.Before → List Said → Type 0 where
+  no_parts : {x : List Said} → ShowsBefore x none_before [] [] None x
+  some_parts : {x y : List Said} {held : Held} {c : Bool} {v : List Tree} {t : List TrailItem} {e : Error} → Holds x held e y →
+      ShowsBefore x (before c v t e) v t (Some (record { consumed = c; held = held })) y
+
+pub data ShowsKept (T : Table) : List Said → Kept → OnKept → List Said → Type 0 where
+  nothing_kept : {x : List Said} → ShowsKept T x none_kept no_kept x
+  a_failure : {x y : List Said} {held : Held} {e : Error} → Holds x held e y → ShowsKept T x (failed_kept e) (kept_failure held) y
+  an_empty_ok : {x y : List Said} {held : Held} {i : ℕ} {v : List Tree} {t : List TrailItem} {e : Error} → Holds x held e y →
+      ShowsKept T x (ok_kept (spot_at T i) v t e) (kept_empty_ok i v t held) y
+
+-- the trees that wait to be folded lie behind the first list; from the left none do
+pub data Waits : OnChain → List Tree → List (List Tree × List Tree) → List ℕ → List Tree → Type 0 where
+  none_wait : {ch : OnChain} {v : List Tree} → Waits ch v [] [] v
+  from_left : {ch : OnChain} {v : List Tree} {waiting : List (List Tree × List Tree)} → ch.fold ≡ FromLeft → Waits ch v waiting [] v
+  from_right : {ch : OnChain} {v y a s : List Tree} {waiting : List (List Tree × List Tree)} {ns : List ℕ} → ch.fold ≡ FromRight →
+      Waits ch v waiting ns y →
+      Waits ch v ((a, s) ∷ waiting) (length y ∷ ns) (y ++ a ++ s)
+
+-- a chain behind some links, over the lists below it
+pub data ShowsLinks : List Tree → List TrailItem → List Said → Linked → ℕ → OnLinks → List Tree → List TrailItem → List Said → Type 0 where
+  links : {ch : OnChain} {v y w : List Tree} {t u : List TrailItem} {x z : List Said} {waiting : List (List Tree × List Tree)}
+      {ns : List ℕ} {n i : ℕ} {c : Bool} {held : Held} {e : Error}
+      (item : TrailItem) → Waits ch v waiting ns y → Holds x held e z →
+      ShowsLinks v t x (record { count = n; consumed = c; trail = u; error = e; waiting = waiting; left = w }) i
+      (record {
+        chain = ch;
+        slot = length t;
+        count = n;
+        consumed = c;
+        held = held;
+        waiting = ns;
+        left = length y;
+        start = i;
+        forest =
+            length (y ++ w);
+        trail = length (t ++ item ∷ u);
+      })
+      (y ++ w) (t ++ item ∷ u) z
+
+-- the frames of the one, over these lists, are those of the other with what they own
+pub data Stands (T : Table) : List Frame → List OnFrame → List Tree → List TrailItem → List Said → Type 0 where
+  no_frames : Stands T [] [] [] [] []
+  stands_parts : {fs : List Frame} {gs : List OnFrame} {v w : List Tree} {t u : List TrailItem} {x y : List Said} {ps : List ℕ}
+      {done : Before} {b : Option declared.Before} →
+      Stands T fs gs v t x → ShowsBefore x done w u b y → Stands T (in_parts ps done ∷ fs) (on_parts ps b ∷ gs) (v ++ w) (t ++ u) y
+  stands_choice : {fs : List Frame} {gs : List OnFrame} {v : List Tree} {t : List TrailItem} {x y : List Said} {ps : List ℕ} {k i : ℕ}
+      {kept : Kept} {q : OnKept} →
+      Stands T fs gs v t x → ShowsKept T x kept q y → Stands T (in_choice k ps (spot_at T i) kept ∷ fs) (on_choice k ps i q (length v)
+      (length t) ∷ gs) v (t ++ Alt k ∷ []) y
+  stands_rounds : {fs : List Frame} {gs : List OnFrame} {v w : List Tree} {t u : List TrailItem} {x : List Said} {p k i : ℕ}
+      {c : Bool} (item : TrailItem) →
+      Stands T fs gs v t x → Stands T (in_rounds p k c (spot_at T i) w u ∷ fs) (on_rounds p k c i (length t) (length (v ++ w))
+      (length (t ++ item ∷ u)) (length x) ∷ gs) (v ++ w) (t ++ item ∷ u) x
+  stands_first : {fs : List Frame} {gs : List OnFrame} {v : List Tree} {t : List TrailItem} {x : List Said}
+      {ch : OnChain} (item : TrailItem) →
+      Stands T fs gs v t x → Stands T (in_first (plain ch) ∷ fs) (on_first ch (length t) (length v) ∷ gs) v (t ++ item ∷ []) x
+  stands_separator : {fs : List Frame} {gs : List OnFrame} {v w : List Tree} {t u : List TrailItem} {x y : List Said} {linked : Linked}
+      {i : ℕ} {l : OnLinks} →
+      Stands T fs gs v t x → ShowsLinks v t x linked i l w u y →
+      Stands T (in_separator (plain l.chain) linked (spot_at T i) ∷ fs) (on_separator l ∷ gs) w u y
+  stands_operand : {fs : List Frame} {gs : List OnFrame} {v w s : List Tree} {t u r : List TrailItem} {x y z : List Said}
+      {linked : Linked} {i : ℕ} {l : OnLinks} {c : Bool} {held : Held} {e : Error} →
+      Stands T fs gs v t x → ShowsLinks v t x linked i l w u y → Holds y held e z →
+      Stands T (in_operand (plain l.chain) linked (spot_at T i) c s r e ∷ fs) (on_operand l (record { consumed = c; held = held })
+      (length (w ++ s)) ∷ gs) (w ++ s) (u ++ r) z
+  stands_try : {fs : List Frame} {gs : List OnFrame} {v : List Tree} {t : List TrailItem} {x : List Said} →
+      Stands T fs gs v t x → Stands T (in_around a_try ∷ fs) (on_try ∷ gs) v t x
+  stands_label : {fs : List Frame} {gs : List OnFrame} {v : List Tree} {t : List TrailItem} {x : List Said} {message : List ℕ} →
+      Stands T fs gs v t x → Stands T (in_around (a_label message) ∷ fs) (on_label message ∷ gs) v t x
+  stands_rule : {fs : List Frame} {gs : List OnFrame} {v : List Tree} {t : List TrailItem} {x : List Said} →
+      Stands T fs gs v t x → Stands T (in_around a_rule ∷ fs) (on_rule ∷ gs) v t x
+  stands_text : {fs : List Frame} {gs : List OnFrame} {v : List Tree} {t : List TrailItem} {x : List Said} {i : ℕ} →
+      Stands T fs gs v t x → Stands T (in_around (a_text (spot_at T i)) ∷ fs) (on_text i (length v) ∷ gs) v t x
+  stands_skip : {fs : List Frame} {gs : List OnFrame} {v : List Tree} {t : List TrailItem} {x : List Said} →
+      Stands T fs gs v t x → Stands T (in_around a_skip ∷ fs) (on_skip (length v) ∷ gs) v t x
+  stands_build : {fs : List Frame} {gs : List OnFrame} {v : List Tree} {t : List TrailItem} {x : List Said} {used : BuilderUse}
+      {symbol : List ℕ} →
+      Stands T fs gs v t x → Stands T (in_around (a_build used.shape symbol) ∷ fs) (on_build used symbol (length v) ∷ gs) v t x
+
+-- the state of the one is the tape of the other: an ok outcome's trees, items and messages stand last, and behind a failed
+-- one others may
+pub data Shows (T : Table) : State → Tape → Type 0 where
+  shows_at : {fs : List Frame} {gs : List OnFrame} {v : List Tree} {t : List TrailItem} {x : List Said} {p i : ℕ} →
+      Stands T fs gs v t x → Shows T (at_node p (spot_at T i) fs) (tape_at p i gs v t x)
+  shows_fine : {fs : List Frame} {gs : List OnFrame} {v w : List Tree} {t u : List TrailItem} {x y : List Said} {c : Bool} {j : ℕ}
+      {why : Why} {e : Error} →
+      Stands T fs gs v t x → Says x why e y → Shows T (with_outcome (ok c (spot_at T j) w u e) fs) (tape_with (Fine c j why) gs (v ++ w)
+      (t ++ u) y)
+  shows_failed : {fs : List Frame} {gs : List OnFrame} {v : List Tree} {t : List TrailItem} {x y : List Said} {c : Bool} {why : Why}
+      {e : Error} (w : List Tree) (u : List TrailItem) →
+      Stands T fs gs v t x → Says x why e y → Shows T (with_outcome (failed c e) fs) (tape_with (Failed c why) gs (v ++ w) (t ++ u) y)
+  shows_stuck : {fs : List Frame} {gs : List OnFrame} {v : List Tree} {t : List TrailItem} {x : List Said} →
+      Shows T (with_outcome empty_round fs) (tape_with EmptyRound gs v t x)
+  shows_endless : Shows T endless tape_endless

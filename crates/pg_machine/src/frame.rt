@@ -1,0 +1,177 @@
+//! What nodes that were entered wait for, and what the machine does next.
+//!
+//! The trees, the trail and the messages of all that runs lie on three lists of the machine, those of a frame behind
+//! those of the frames below. So a frame keeps only how long the lists were where it may cut them back.
+
+use crate::message_tape::{Held, Why};
+use pg_derive::Fold;
+use pg_grammar::{BuilderUse, NodeId, TrailItem};
+use pg_text::Characters;
+use pg_tree::{Forest, Label};
+
+/// What a node answered. Its trees, its items and the messages of its error are the last ones on the lists; behind an
+/// error others may lie there, which whoever goes on cuts off.
+#[derive(Clone, Copy, Debug)]
+pub(crate) enum Reply {
+    /// It is ok, up to this place.
+    Fine {
+        consumed: bool,
+        end: usize,
+        why: Why,
+    },
+    /// It failed.
+    Failed {
+        consumed: bool,
+        why: Why,
+    },
+    /// A round of a repetition was ok and consumed nothing.
+    EmptyRound,
+}
+
+/// What the next turn does.
+#[derive(Clone, Copy, Debug)]
+pub(crate) enum Mode {
+    /// It enters the node at the place.
+    At(NodeId, usize),
+    /// It hands the answer to the topmost frame.
+    With(Reply),
+    /// No turn comes to an answer: a chain goes on without an end, or a node has a form that isn't run.
+    Endless,
+}
+
+/// How many trees and items there were.
+#[derive(Clone, Copy, Debug)]
+pub(crate) struct Marks {
+    pub(crate) forest: usize,
+    pub(crate) trail: usize,
+}
+
+/// What the parts of a sequence before the one that runs came to.
+#[derive(Clone, Copy, Debug)]
+pub(crate) struct Before {
+    pub(crate) consumed: bool,
+    pub(crate) held: Held,
+}
+
+/// A part of a sequence runs.
+#[derive(Clone, Copy, Debug)]
+pub(crate) struct PartsFrame<'a> {
+    /// The parts behind it.
+    pub(crate) rest: &'a [NodeId],
+    /// The parts before it, if there are any.
+    pub(crate) before: Option<Before>,
+}
+
+/// An alternative that was ok and empty, which stands unless a later one consumes.
+#[derive(Drop)]
+pub(crate) struct EmptyOk {
+    pub(crate) end: usize,
+    pub(crate) forest: Forest,
+    pub(crate) trail: Vec<TrailItem>,
+}
+
+/// What the alternatives of a choice before the one that runs came to.
+#[derive(Drop)]
+pub(crate) enum Kept {
+    /// There was none.
+    Nothing,
+    /// They failed.
+    Failure(Held),
+    /// One of them was ok and empty, the first of these being kept.
+    EmptyOk(Box<EmptyOk>, Held),
+}
+
+/// An alternative of a choice runs.
+#[derive(Drop)]
+pub(crate) struct ChoiceFrame<'a> {
+    /// Its number, from 1.
+    pub(crate) which: usize,
+    /// The alternatives behind it.
+    pub(crate) rest: &'a [NodeId],
+    /// The place where they begin.
+    pub(crate) start: usize,
+    /// What there was before them.
+    pub(crate) marks: Marks,
+    /// What those before it came to.
+    pub(crate) kept: Kept,
+}
+
+/// A round of a repetition runs.
+#[derive(Clone, Copy, Debug)]
+pub(crate) struct RoundsFrame {
+    pub(crate) part: NodeId,
+    /// How many rounds there were before.
+    pub(crate) count: usize,
+    /// Whether they consumed: whether there were any.
+    pub(crate) consumed: bool,
+    /// The place where this one begins.
+    pub(crate) start: usize,
+    /// Where the trail has the item of the repetition.
+    pub(crate) slot: usize,
+    /// What there was before this round.
+    pub(crate) marks: Marks,
+    /// How many messages there were before the repetition.
+    pub(crate) messages: usize,
+}
+
+/// A chain whose first operand runs.
+#[derive(Clone, Copy, Debug)]
+pub(crate) struct ChainFrame<'a> {
+    pub(crate) fold: Fold,
+    pub(crate) used: &'a BuilderUse,
+    pub(crate) operand: NodeId,
+    pub(crate) separator: NodeId,
+    /// Where the trail has the item of the chain.
+    pub(crate) slot: usize,
+    /// How many trees there were before the chain.
+    pub(crate) forest: usize,
+}
+
+/// A chain behind its first operand: a separator or an operand behind one runs.
+#[derive(Drop)]
+pub(crate) struct LinksFrame<'a> {
+    pub(crate) chain: ChainFrame<'a>,
+    /// How many links there were before.
+    pub(crate) count: usize,
+    pub(crate) consumed: bool,
+    pub(crate) held: Held,
+    /// Where the trees begin that are still to be folded into those behind them, of a chain that is folded from the right.
+    pub(crate) waiting: Vec<usize>,
+    /// Where the trees begin that stand on the left of the link.
+    pub(crate) left: usize,
+    /// The place where the link begins.
+    pub(crate) start: usize,
+    /// What there was before the link.
+    pub(crate) marks: Marks,
+}
+
+/// What a node that was entered waits for.
+#[derive(Drop)]
+pub(crate) enum Frame<'a> {
+    Parts(PartsFrame<'a>),
+    Choice(ChoiceFrame<'a>),
+    Rounds(RoundsFrame),
+    First(ChainFrame<'a>),
+    /// A separator runs.
+    Separator(Box<LinksFrame<'a>>),
+    /// An operand runs, behind a separator that was ok; so many trees were there before it.
+    Operand(Box<LinksFrame<'a>>, Before, usize),
+    Try,
+    Label(&'a Characters),
+    Rule,
+    /// The leaf of the text from the place on takes the place of the trees behind the first.
+    Text {
+        start: usize,
+        forest: usize,
+    },
+    /// The trees behind the first are dropped.
+    Skip {
+        forest: usize,
+    },
+    /// The trees behind the first are made into one.
+    Build {
+        used: &'a BuilderUse,
+        symbol: &'a Label,
+        forest: usize,
+    },
+}

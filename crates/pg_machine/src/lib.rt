@@ -1,0 +1,24 @@
+//! The machine that gives Parsec's four answers, on any grammar.
+//!
+//! [`probe`] runs a grammar's start rule by turns over a stack of frames, without recursion. One forest, one trail and one
+//! list of messages serve all that runs; frames keep how long these were, so that what failed is cut back and nothing is
+//! moved when a part ends. An answer is the one of the relation in `pg_derive`, its error and its trail among it.
+#![tactic(auto)]
+
+mod answer;
+mod around;
+mod chains;
+mod choices;
+mod enter;
+mod frame;
+mod leaves;
+mod machine;
+mod message;
+mod message_tape;
+mod parts;
+mod rounds;
+mod run;
+mod turn;
+
+pub use answer::{Answer, Outcome, Success};
+pub use run::probe;

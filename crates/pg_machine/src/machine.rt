@@ -1,0 +1,137 @@
+//! The machine's lists, and how frames keep, cut and join what lies on them.
+
+ghost use Rattle.std.specs.Prelude.{◌≡◌, ◌∷◌, [], length, take, drop, slice_set, IfOk, OnOk};
+ghost use Rattle.pg_machine.specs.View.{frame_of, stack_of};
+ghost use Rattle.pg_machine.specs.Why.{why_at, why_behind, messages_behind};
+
+use crate::frame::{Frame, Marks};
+use crate::message_tape::{Held, MessageTape, Why};
+use pg_grammar::TrailItem;
+use pg_tree::Forest;
+use std::alloc::{AllocError, Global};
+
+/// The frames, and the trees, the items and the messages of all that runs.
+#[derive(Drop)]
+pub(crate) struct Machine<'a> {
+    pub(crate) frames: Vec<Frame<'a>>,
+    pub(crate) forest: Forest,
+    pub(crate) trail: Vec<TrailItem>,
+    pub(crate) messages: MessageTape<'a>,
+}
+
+impl<'a> Machine<'a> {
+    /// A machine in which nothing runs. It takes no memory.
+    pub(crate) fn new(alloc: Global) -> Machine<'a>
+        ensures frames { stack_of result.frames.items ≡ [] }
+        ensures forest { result.forest ≡ [] }
+        ensures trail { result.trail.items ≡ [] }
+        ensures messages { result.messages ≡ [] }
+    {
+        Machine {
+            frames: Vec::new(alloc),
+            forest: Forest::new(alloc),
+            trail: Vec::new(alloc),
+            messages: MessageTape::new(alloc),
+        }
+    }
+
+    /// Puts a frame on top.
+    #[tactic(auto, using(crate::proofs::Stack::stack_pushed))]
+    pub(crate) fn push(&mut self, frame: Frame<'a>) -> Result<(), AllocError>
+        ensures frames { OnOk result (stack_of self.new.frames.items ≡ frame_of frame.entry ∷ stack_of self.old.frames.items) }
+        ensures forest { OnOk result (self.new.forest ≡ self.old.forest) }
+        ensures trail { OnOk result (self.new.trail.items ≡ self.old.trail.items) }
+        ensures messages { OnOk result (self.new.messages ≡ self.old.messages) }
+    {
+        self.frames.push(frame)?;
+        Ok(())
+    }
+
+    /// How many trees and items there are.
+    pub(crate) fn marks(&self) -> Marks
+        ensures forest { result.forest ≡ length self.now.forest }
+        ensures trail { result.trail ≡ length self.now.trail.items }
+    {
+        Marks {
+            forest: self.forest.len(),
+            trail: self.trail.len(),
+        }
+    }
+
+    /// Cuts trees and items back to the marks.
+    pub(crate) fn cut(&mut self, marks: Marks)
+        ensures frames { self.new.frames ≡ self.old.frames }
+        ensures forest { self.new.forest ≡ take marks.forest self.old.forest }
+        ensures trail { self.new.trail.items ≡ take marks.trail self.old.trail.items }
+        ensures messages { self.new.messages ≡ self.old.messages }
+    {
+        self.cut_forest(marks.forest);
+        self.trail.truncate(marks.trail);
+    }
+
+    /// Cuts trees.
+    pub(crate) fn cut_forest(&mut self, count: usize)
+        ensures frames { self.new.frames ≡ self.old.frames }
+        ensures forest { self.new.forest ≡ take count self.old.forest }
+        ensures trail { self.new.trail ≡ self.old.trail }
+        ensures messages { self.new.messages ≡ self.old.messages }
+    {
+        if count < self.forest.len() {
+            self.forest.cut(count);
+        }
+    }
+
+    /// The trees behind the first leave the forest.
+    pub(crate) fn forest_behind(&mut self, count: usize) -> Result<Forest, AllocError>
+        ensures behind { IfOk result (λ behind. behind ≡ drop count self.old.forest) }
+        ensures frames { OnOk result (self.new.frames ≡ self.old.frames) }
+        ensures forest { OnOk result (self.new.forest ≡ take count self.old.forest) }
+        ensures trail { OnOk result (self.new.trail ≡ self.old.trail) }
+        ensures messages { OnOk result (self.new.messages ≡ self.old.messages) }
+    {
+        let behind = self.forest.split_off(count.min(self.forest.len()))?;
+        Ok(behind)
+    }
+
+    /// The error without messages at the place.
+    pub(crate) fn nothing_said(&self, place: usize) -> Why
+        ensures { result ≡ why_at place (length self.now.messages) }
+    {
+        Why {
+            place,
+            from: self.messages.len(),
+        }
+    }
+
+    /// Replaces the item of a repetition or a chain.
+    pub(crate) fn note(&mut self, slot: usize, item: TrailItem)
+        ensures frames { self.new.frames ≡ self.old.frames }
+        ensures forest { self.new.forest ≡ self.old.forest }
+        ensures trail { self.new.trail.items ≡ slice_set self.old.trail.items slot item }
+        ensures messages { self.new.messages ≡ self.old.messages }
+    {
+        if slot < self.trail.len() {
+            self.trail[slot] = item;
+        }
+    }
+
+    /// The error behind one that is kept, of an answer that consumed or not.
+    pub(crate) fn error_behind(
+        &mut self,
+        held: Held,
+        consumed: bool,
+        why: Why,
+    ) -> Result<Why, AllocError>
+        ensures why { IfOk result (λ after. after ≡ why_behind consumed held why self.old.messages) }
+        ensures frames { OnOk result (self.new.frames ≡ self.old.frames) }
+        ensures forest { OnOk result (self.new.forest ≡ self.old.forest) }
+        ensures trail { OnOk result (self.new.trail ≡ self.old.trail) }
+        ensures messages { OnOk result (self.new.messages ≡ messages_behind consumed held why self.old.messages) }
+    {
+        if consumed {
+            return Ok(why);
+        }
+        let merged = self.messages.merge(held, why)?;
+        Ok(merged)
+    }
+}
