@@ -12,7 +12,8 @@ pub enum NoAnswer {
     OutOfMemory,
     /// It takes more nested runs than were allowed.
     OutOfFuel,
-    /// The relation has no case for it: an expression or a declaration was met, or a chain's link that consumes nothing.
+    /// The relation has no case for it: an expression or a declaration was met, a chain's link that consumes nothing, or a
+    /// place behind the text's end. A count that no `usize` holds is answered so too.
     NoCase,
 }
 
