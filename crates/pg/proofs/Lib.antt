@@ -1,4 +1,2 @@
-pub mod Spans
-pub mod Fronts
 pub mod Sets
 pub mod Offered

@@ -1,10 +1,6 @@
-pub mod Running
-pub mod Outcomes
-pub mod Parsed
 pub mod Status
 pub mod Texts
 pub mod Categories
 pub mod Kinds
 pub mod Builders
 pub mod ProgramOffer
-pub mod Printing

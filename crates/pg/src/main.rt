@@ -2,38 +2,28 @@
 //!
 //! The files are opened in the order of the words, and only then read. Results go to standard
 //! output, and everything else to standard error, one line a fault. The exit status is 0 for a
-//! result, 1 for a text that doesn't parse, 2 for words or files that can't be used, and 3 for
-//! memory; if standard error takes nothing, it stays what it was.
+//! result, 1 for a text that doesn't parse or a probe that isn't ok, 2 for words or files that can't
+//! be used, and 3 for memory; if standard error takes nothing, it stays what it was.
 #![tactic(auto)]
 
 mod categories;
-mod fault;
-mod grammar_file;
 mod kind;
 #[cfg(test)]
 mod kind_tests;
-mod parse;
-mod print;
 mod registry;
 mod report;
 mod reporting;
 mod request;
-mod runner;
-mod running;
 mod shapes;
-#[cfg(test)]
-mod tests;
-mod utf8;
 
 ghost use Rattle.pg_pred.specs.Offer.{offer_of};
 ghost use Rattle.pg.specs.ProgramOffer.{IsProgramOffer};
 
 use clap::error::ErrorKind;
-use fault::BenchFault;
-use parse::parse_bytes;
+use pg_bench::{BenchFault, parse_bytes, print_bytes, probe_bytes};
+use pg_derive::Reading;
 use pg_pred::Registry;
 use pg_tree::{Meter, ReadFault, read_bytes};
-use print::print_bytes;
 use registry::with_registry;
 use request::{Request, command, request_of};
 use std::alloc::AllocError;
@@ -45,6 +35,9 @@ use std::{env, fs, io};
 
 /// The most bytes of a grammar file that are read.
 const READ_LIMIT: usize = 67_108_864;
+
+/// The exit status of a probe whose answer isn't ok.
+const NO: u8 = 1;
 
 /// The exit status where words or files can't be used.
 const UNUSABLE: u8 = 2;
@@ -108,6 +101,19 @@ fn answer<R: AllocGlobal + Files + Print + Eprint>(
 {
     match request {
         Request::Parse { grammar, text } => parse_files(rt, grammar, text, registry),
+        Request::Probe {
+            grammar,
+            text,
+            max_steps,
+            report,
+        } => {
+            let reading = if report {
+                Reading::Report
+            } else {
+                Reading::Library
+            };
+            probe_files(rt, grammar, text, registry, max_steps, reading)
+        }
         Request::Print { grammar } => print_file(rt, grammar, registry),
     }
 }
@@ -119,14 +125,8 @@ fn parse_files<R: AllocGlobal + Files + Print + Eprint>(
     text: &str,
     registry: &Registry,
 ) -> Result<u8, AllocError> {
-    let Ok(grammar_file) = fs::open(rt, grammar) else {
-        return Ok(cannot_read(rt, grammar));
-    };
-    let Ok(text_file) = fs::open(rt, text) else {
-        return Ok(cannot_read(rt, text));
-    };
-    let Some(bytes) = grammar_bytes(rt, grammar_file)? else {
-        return Ok(cannot_read(rt, grammar));
+    let Some((bytes, text_file)) = inputs(rt, grammar, text)? else {
+        return Ok(UNUSABLE);
     };
     let mut reader = Meter::new(text_file);
     let mut writer = Meter::new(io::writer(rt));
@@ -140,6 +140,58 @@ fn parse_files<R: AllocGlobal + Files + Print + Eprint>(
         Ok(()) => Ok(0),
         Err(fault) => print_report(rt, &fault, grammar, text),
     }
+}
+
+/// Runs the start rule of the grammar in a file on the text in another.
+fn probe_files<R: AllocGlobal + Files + Print + Eprint>(
+    rt: &R,
+    grammar: &str,
+    text: &str,
+    registry: &Registry,
+    max_steps: u64,
+    reading: Reading,
+) -> Result<u8, AllocError> {
+    let Some((bytes, text_file)) = inputs(rt, grammar, text)? else {
+        return Ok(UNUSABLE);
+    };
+    let mut reader = Meter::new(text_file);
+    let mut writer = Meter::new(io::writer(rt));
+    match probe_bytes(
+        rt.alloc(),
+        bytes.as_slice(),
+        registry,
+        text,
+        &mut reader,
+        &mut writer,
+        max_steps,
+        reading,
+    ) {
+        Ok(true) => Ok(0),
+        Ok(false) => Ok(NO),
+        Err(fault) => print_report(rt, &fault, grammar, text),
+    }
+}
+
+/// The bytes of the grammar in a file, and the open text. Both are opened before either is read; none if one can't be, which
+/// is printed.
+fn inputs<R: AllocGlobal + Files + Eprint>(
+    rt: &R,
+    grammar: &str,
+    text: &str,
+) -> Result<Option<(Vec<u8>, R::File)>, AllocError> {
+    let Ok(grammar_file) = fs::open(rt, grammar) else {
+        cannot_read(rt, grammar);
+        return Ok(None);
+    };
+    let Ok(text_file) = fs::open(rt, text) else {
+        cannot_read(rt, text);
+        return Ok(None);
+    };
+    let Some(bytes) = grammar_bytes(rt, grammar_file)? else {
+        cannot_read(rt, grammar);
+        return Ok(None);
+    };
+    Ok(Some((bytes, text_file)))
 }
 
 /// Prints the canonical form of the grammar in a file.

@@ -9,8 +9,8 @@ ghost use Rattle.std.specs.String.{string_bytes};
 ghost use Rattle.pg.specs.Status.{status_of};
 ghost use Rattle.pg.specs.Texts.{front_of, line_of};
 
-use crate::fault::BenchFault;
 use crate::report::Report;
+use pg_bench::BenchFault;
 use std::alloc::{AllocError, Global};
 
 /// The report of a fault in a run over files of these names.

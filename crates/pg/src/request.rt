@@ -3,16 +3,32 @@
 //! Words that are no request are refused by `clap`, with its text and the status 2. The names of
 //! files are kept as they were given, since reports begin with them.
 
-use clap::{Arg, ArgAction, ArgMatches, Command};
+use clap::{Arg, ArgAction, ArgMatches, Command, value_parser};
 use std::alloc::{AllocError, Global};
+
+/// The most steps that a probe may be given (ours).
+const MOST_STEPS: i64 = 1_000_000_000;
 
 /// What is asked. The names of files are relative to the caller's folder.
 #[derive(Clone, Copy, Debug, PartialEq, Eq)]
 pub enum Request<'a> {
     /// Parse the text by the grammar, and print the forest.
-    Parse { grammar: &'a str, text: &'a str },
+    Parse {
+        grammar: &'a str,
+        text: &'a str,
+    },
+    /// Run the start rule on the text in so many steps at most, in the report's reading of choice or in the library's, and
+    /// print what it answers.
+    Probe {
+        grammar: &'a str,
+        text: &'a str,
+        max_steps: u64,
+        report: bool,
+    },
     /// Print the grammar in canonical form.
-    Print { grammar: &'a str },
+    Print {
+        grammar: &'a str,
+    },
 }
 
 /// The program's command line. Its texts call the program `pgw`, whatever its file is called.
@@ -24,6 +40,7 @@ pub fn command<'a>(alloc: Global) -> Result<Command<'a>, AllocError> {
         .subcommand_required(true)
         .arg_required_else_help(true)
         .subcommand(parse_command(alloc)?)?
+        .subcommand(probe_command(alloc)?)?
         .subcommand(print_command(alloc)?)
 }
 
@@ -32,6 +49,34 @@ fn parse_command<'a>(alloc: Global) -> Result<Command<'a>, AllocError> {
         .about("Parses a text by a grammar and prints the trees as JSON")
         .arg(file(alloc, "grammar", "The grammar file"))?
         .arg(file(alloc, "text", "The file with the text, in UTF-8"))
+}
+
+fn probe_command<'a>(alloc: Global) -> Result<Command<'a>, AllocError> {
+    Command::new(alloc, "probe")
+        .about("Runs a grammar's start rule on a text as Parsec would, and prints its answer")
+        .arg(steps(alloc))?
+        .arg(report(alloc))?
+        .arg(file(alloc, "grammar", "The grammar file"))?
+        .arg(file(alloc, "text", "The file with the text, in UTF-8"))
+}
+
+/// The word that bounds the steps.
+fn steps<'a>(alloc: Global) -> Arg<'a> {
+    Arg::new(alloc, "steps")
+        .long("steps")
+        .value_name("N")
+        .value_parser(value_parser!(u64).range(1..=MOST_STEPS))
+        .required(true)
+        .action(ArgAction::Set)
+        .help("The most steps, from 1 to 1000000000")
+}
+
+/// The word that picks the report's reading.
+fn report<'a>(alloc: Global) -> Arg<'a> {
+    Arg::new(alloc, "report")
+        .long("report")
+        .action(ArgAction::SetTrue)
+        .help("Reads choice as the report of 2001 does, not as the library")
 }
 
 fn print_command<'a>(alloc: Global) -> Result<Command<'a>, AllocError> {
@@ -55,6 +100,12 @@ pub fn request_of<'a>(matches: &ArgMatches<'a>) -> Option<Request<'a>> {
         "parse" => Some(Request::Parse {
             grammar: found.get_str("grammar")?,
             text: found.get_str("text")?,
+        }),
+        "probe" => Some(Request::Probe {
+            grammar: found.get_str("grammar")?,
+            text: found.get_str("text")?,
+            max_steps: found.get_one("steps")?,
+            report: found.get_flag("report"),
         }),
         "print" => Some(Request::Print {
             grammar: found.get_str("grammar")?,

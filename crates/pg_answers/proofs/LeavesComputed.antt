@@ -14,8 +14,7 @@ use Rattle.pg_grammar.specs.declared.word_item.WordItem.{WordItem}
 use Rattle.pg_table.specs.Derives.{Spot}
 use Rattle.pg_table.specs.Runs.{run_at}
 use Rattle.pg_table.specs.Tables.{Table}
-use Rattle.pg_derive.specs.Answers.{Given, Answers, AnswersForm, entered}
-use Rattle.pg_answers.specs.Computed.{given}
+use Rattle.pg_derive.specs.Answers.{Given, given, Answers, AnswersForm, entered}
 use Rattle.pg_derive.specs.Errors.{quote, next_text, stopped_before, refused}
 use Rattle.pg_derive.specs.Leaves.{taken, word_read, word_outcome, end_outcome}
 use Rattle.pg_derive.specs.Outcomes.{Outcome, ok, failed}

@@ -8,7 +8,7 @@ use Rattle.pg_grammar.specs.declared.form.Node.TheVariants as form
 use Rattle.pg_table.specs.Derives.{Spot}
 use Rattle.pg_table.specs.Tables.{Table}
 use Rattle.pg_grammar.specs.declared.trail.TrailItem.TheVariants.{Alt, Rounds}
-use Rattle.pg_derive.specs.Answers.{Given, Answers, AnswersForm, AnswersParts, AnswersAlternatives, AnswersRounds, AnswersChain, AnswersLinks, AfterOperand}
+use Rattle.pg_derive.specs.Answers.{Given, given, Answers, AnswersForm, AnswersParts, AnswersAlternatives, AnswersRounds, AnswersChain, AnswersLinks, AfterOperand}
 use Rattle.pg_derive.specs.Errors.{without_position}
 use Rattle.pg_derive.specs.Outcomes as defined
 use Rattle.pg_derive.specs.Reactions.{noted, tried, with_label, as_text, skipped, as_tree, with_forest, then_rest, then_round, after_failure, unless_consumed}
@@ -27,10 +27,6 @@ use Rattle.pg_answers.specs.declared.task.Reaction.TheVariants as reaction
 use Rattle.pg_answers.specs.declared.task.Reply.{Reply}
 use Rattle.pg_answers.specs.declared.task.Task.{Task}
 use Rattle.pg_answers.specs.declared.task.Task.TheVariants as task
-
--- a run of the grammar on the text in this reading
-abbrev pub given : Reading → Grammar → List ℕ → Given
-given reading g text = record { reading = reading; weight = 0; grammar = g; text = text }
 
 -- an outcome that is computed of a leaf is that leaf's, in either reading
 abbrev pub IsLeafOutcome : Grammar → List ℕ → ℕ → ℕ → Option Outcome → Type 0

@@ -2,8 +2,8 @@
 
 ghost use Rattle.std.specs.Prelude.{◌≡◌, ◌+◌, ◌⊎◌, true, false, IfOk, IfSome};
 ghost use Rattle.pg_table.specs.Tables.{Table};
-ghost use Rattle.pg_derive.specs.Answers.{Given};
-ghost use Rattle.pg_answers.specs.Computed.{given, Reacts, form_outcome};
+ghost use Rattle.pg_derive.specs.Answers.{Given, given};
+ghost use Rattle.pg_answers.specs.Computed.{Reacts, form_outcome};
 ghost use Rattle.pg_answers.specs.View.{spot_at, outcome_of};
 ghost use Rattle.pg_derive.specs.declared.reading.Reading.TheVariants.{Library, Report};
 ghost use Rattle.pg_answers.specs.declared.task.Task.TheVariants as tasks;

@@ -7,8 +7,8 @@ ghost use Rattle.std.specs.Prelude.{◌≡◌, ℕ, IfOk};
 ghost use Rattle.pg_pred.specs.Offer.{offer_of};
 ghost use Rattle.pg_grammar.specs.Fits.{Fits};
 ghost use Rattle.pg_table.specs.Tables.{Table};
-ghost use Rattle.pg_derive.specs.Answers.{AnswersStart};
-ghost use Rattle.pg_answers.specs.Computed.{given, Shows};
+ghost use Rattle.pg_derive.specs.Answers.{given, AnswersStart};
+ghost use Rattle.pg_answers.specs.Computed.{Shows};
 ghost use Rattle.pg_answers.specs.View.{outcome_of};
 
 use crate::answer::Answer;

@@ -30,6 +30,10 @@ pub record Given : Type 0 where
   pub grammar : Grammar
   pub text : List ℕ
 
+-- a run of a grammar over a text, in a reading; turns inside an expression count nothing
+abbrev pub given : Reading → Grammar → List ℕ → Given
+given reading g text = record { reading = reading; weight = 0; grammar = g; text = text }
+
 mutual
   -- the node, run at the spot, has this outcome, with so many nodes entered
   pub data Answers (G : Given) : ℕ → Spot → Outcome → ℕ → Type 0 where

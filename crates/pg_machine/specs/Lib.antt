@@ -1,6 +1,5 @@
 pub mod Messages
 pub mod Why
-pub mod Setting
 pub mod Frames
 pub mod Turns
 pub mod Finishes

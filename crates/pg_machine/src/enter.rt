@@ -5,7 +5,7 @@ ghost use Rattle.pg_pred.specs.Offer.{offer_of};
 ghost use Rattle.pg_grammar.specs.Contents.{node_class};
 ghost use Rattle.pg_grammar.specs.Fits.{Fits, IsClassIn};
 ghost use Rattle.pg_table.specs.Tables.{Table};
-ghost use Rattle.pg_machine.specs.Setting.{given};
+ghost use Rattle.pg_derive.specs.Answers.{given};
 ghost use Rattle.pg_machine.specs.Tape.{tape_at, tape_enter_at, tape_enter, tape_seq, tape_many, tape_chain, tape_rule, tape_word};
 ghost use Rattle.pg_machine.specs.View.{frame_of, on_lists, stack_of, tape_of};
 ghost use Rattle.pg_derive.specs.declared.reading.Reading.{Reading};

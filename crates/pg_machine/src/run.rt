@@ -8,7 +8,7 @@ ghost use Rattle.pg_text.specs.Position.{position_of};
 ghost use Rattle.pg_derive.specs.Errors.{without_position};
 ghost use Rattle.pg_machine.specs.Messages.{error_of};
 ghost use Rattle.pg_machine.specs.Outcomes.{IsOutcome, Ends};
-ghost use Rattle.pg_machine.specs.Setting.{given};
+ghost use Rattle.pg_derive.specs.Answers.{given};
 ghost use Rattle.pg_machine.specs.View.{tape_of};
 
 use crate::answer::{Answer, Outcome, Success};

@@ -5,7 +5,7 @@ ghost use Rattle.pg_pred.specs.Offer.{offer_of};
 ghost use Rattle.pg_grammar.specs.Fits.{Fits};
 ghost use Rattle.pg_grammar.specs.Grammar.{Grammar as Parts};
 ghost use Rattle.pg_table.specs.Tables.{Table};
-ghost use Rattle.pg_machine.specs.Setting.{given};
+ghost use Rattle.pg_derive.specs.Answers.{given};
 ghost use Rattle.pg_machine.specs.Tape.{tape_turn, tape_hand, tape_is_last};
 ghost use Rattle.pg_machine.specs.Ready.{IsReady, IsTapeReady};
 ghost use Rattle.pg_machine.specs.View.{frame_of, on_lists, stack_of, tape_of};

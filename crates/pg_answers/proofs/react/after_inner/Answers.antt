@@ -1,4 +1,4 @@
-use Rattle.pg_answers.specs.Computed.{given}
+use Rattle.pg_derive.specs.Answers.{given}
 use Rattle.pg_answers.specs.View.{spot_at}
 use Rattle.pg_answers.proofs.ReactionsComputed.{node_entered}
 use Rattle.pg_answers.proofs.react.after_inner.Goals as goal

@@ -1,7 +1,7 @@
 use Rattle.std.proofs.Common.{refl}
 use Rattle.std.proofs.lemmas.Result.{IfOk-weaker}
-use Rattle.pg_derive.specs.Answers.{Given}
-use Rattle.pg_answers.specs.Computed.{given, Reacts}
+use Rattle.pg_derive.specs.Answers.{Given, given}
+use Rattle.pg_answers.specs.Computed.{Reacts}
 use Rattle.pg_derive.specs.declared.reading.Reading.{Reading}
 use Rattle.pg_answers.specs.declared.task.Reaction.{Reaction}
 use Rattle.pg_answers.specs.declared.task.Task.TheVariants as tasks

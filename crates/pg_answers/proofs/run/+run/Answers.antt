@@ -1,4 +1,4 @@
-use Rattle.pg_answers.specs.Computed.{given}
+use Rattle.pg_derive.specs.Answers.{given}
 use Rattle.pg_answers.proofs.RunsComputed.{begun_done, begun_first, reacted_done, reacted_then, task_reacts, task_finished}
 use Rattle.pg_answers.proofs.run.+run.Goals as goal
 

@@ -1,7 +1,7 @@
 use Rattle.std.proofs.Common.{◌≡◌, ◌≤◌, ◌-◌, ◌^◌, sym, ◌∙◌, arith, inl, inr, false}
 use Rattle.std.proofs.lemmas.Result.{IfOk-weaker}
 use Rattle.pg_pred.specs.Offer.{offer_of}
-use Rattle.pg_machine.specs.Setting.{given}
+use Rattle.pg_derive.specs.Answers.{given}
 use Rattle.pg_machine.specs.Tape.{tape_is_last}
 use Rattle.pg_machine.specs.View.{tape_of, stack_of}
 use Rattle.pg_machine.proofs.Running.{running_begins, running_turn, running_ready, running_ends}

@@ -1,6 +1,6 @@
 use Rattle.std.proofs.Common.{◌-◌}
 use Rattle.pg_pred.specs.Offer.{offer_of}
-use Rattle.pg_machine.specs.Setting.{given}
+use Rattle.pg_derive.specs.Answers.{given}
 use Rattle.pg_machine.specs.View.{tape_of}
 use Rattle.pg_machine.proofs.Running.{Running}
 use Rattle.pg_machine.proofs.run.probe.Given as goal

@@ -2,7 +2,7 @@ use Rattle.std.proofs.Common.{◌≡◌, sym, ap, ◌∙◌}
 use Rattle.std.specs.Prelude.{Some, None, slice_get, option_copied}
 use Rattle.std.proofs.lemmas.Result.{IfOk-weaker}
 use Rattle.pg_grammar.specs.Fits.{in_head, in_rest}
-use Rattle.pg_machine.specs.Setting.{given}
+use Rattle.pg_derive.specs.Answers.{given}
 use Rattle.pg_machine.specs.Tape.{tape_word}
 use Rattle.pg_machine.specs.View.{stack_of}
 use Rattle.pg_machine.proofs.machine.Machine.enter_word.Goals as goal

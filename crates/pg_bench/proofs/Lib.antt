@@ -1,0 +1,4 @@
+pub mod Spans
+pub mod Fronts
+pub mod Shown
+pub mod Texts

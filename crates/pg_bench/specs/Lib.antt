@@ -1,0 +1,7 @@
+pub mod Running
+pub mod Outcomes
+pub mod Parsed
+pub mod Printing
+pub mod Texts
+pub mod Operators
+pub mod Probing

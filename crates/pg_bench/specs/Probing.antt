@@ -1,0 +1,108 @@
+-- What is told by a run of a grammar's start rule from bytes to bytes.
+use Rattle.std.specs.Prelude.{◌≡◌, ◌≤◌, ◌<◌, ◌+◌, ◌*◌, ℕ, List, ◌++◌, Bool, true, false, length, Option, Some, None, codes}
+use Rattle.std.specs.Fmt.{decimal}
+use Rattle.std.specs.Io.KnownBytes.{Appends, Consumes, IsAtEnd}
+use Rattle.std.specs.Str.{chars, IsUtf8}
+use Rattle.pg_text.specs.declared.text.TheConstants.{LIMIT}
+use Rattle.pg_message.specs.Printed.{printed}
+use Rattle.pg_message.specs.declared.error.ParseError.{ParseError}
+use Rattle.pg_tree.specs.Bytes.{AppendsFront}
+use Rattle.pg_tree.specs.Json.{json}
+use Rattle.pg_tree.specs.Trees.{Tree}
+use Rattle.pg_pred.specs.Offer.{Offer}
+use Rattle.pg_grammar.specs.Grammar.{Grammar}
+use Rattle.pg_grammar.specs.declared.trail.TrailItem.{TrailItem}
+use Rattle.pg_table.specs.Derives.{Spot}
+use Rattle.pg_table.specs.Tables.{Table, initial, whole}
+use Rattle.pg_derive.specs.Answers.{Given, given, AnswersStart}
+use Rattle.pg_derive.specs.Errors.{Error, in_text}
+use Rattle.pg_derive.specs.Outcomes.{Outcome, ok, failed, empty_round}
+use Rattle.pg_derive.specs.declared.reading.Reading.{Reading}
+use Rattle.pg_file.specs.Spells.{SpellsWithinLimits}
+use Rattle.pg_machine.specs.declared.answer.Success.{Success}
+use Rattle.pg_machine.specs.declared.answer.Outcome as ended
+use Rattle.pg_machine.specs.declared.answer.Outcome.TheVariants.{Answered, StepsUsed, EmptyRound}
+use Rattle.pg_bench.specs.Operators.{HasNoOperators}
+
+abbrev pub consumption : Bool → List ℕ
+consumption true = codes "consumed"
+consumption false = codes "empty"
+
+-- an ok answer: whether it consumed, then the place up to which it read, in characters, then the forest's JSON
+abbrev pub ok_text : Bool → ℕ → List Tree → List ℕ
+ok_text c place forest = (consumption c ++ codes " ok\nplace " ++ decimal place ++ codes "\n") ++ (json forest ++ codes "\n")
+
+-- an error answer: whether it consumed, then the printed error
+abbrev pub error_text : Bool → List ℕ → List ℕ
+error_text c error = consumption c ++ codes " error\n" ++ error
+
+abbrev pub steps_used_text : List ℕ
+steps_used_text = codes "P5 steps used up\n"
+
+abbrev pub empty_round_text : List ℕ
+empty_round_text = codes "P6 empty repetition\n"
+
+-- what is printed of a run within so many steps on a text of this name, and whether its answer is ok
+pub data Shows (G : Given) (table : Table) (name : List ℕ) (most : ℕ) : Bool → List ℕ → Type 0 where
+  is_ok : {c : Bool} {end : Spot} {forest : List Tree} {trail : List TrailItem} {e : Error} {m : ℕ} →
+      AnswersStart G table (ok c end forest trail e) m → Shows G table name most true (ok_text c end.place forest)
+  is_error : {c : Bool} {e : Error} {m : ℕ} →
+      AnswersStart G table (failed c e) m → Shows G table name most false (error_text c (printed (in_text G.text e) name))
+  is_stuck : {m : ℕ} → AnswersStart G table empty_round m → Shows G table name most false empty_round_text
+  -- only where no outcome takes so few steps
+  is_used_up : ((o : Outcome) (m : ℕ) → AnswersStart G table o m → most < 2 * m + 8) → Shows G table name most false steps_used_text
+
+-- the bytes spell a text, not too long, and this is printed of the grammar's run on it under its initial table
+pub record IsShownOf (g : Grammar) (name : List ℕ) (most : ℕ) (reading : Reading) (bytes : List ℕ) (accepted : Bool) (said : List ℕ) : Type 0 where
+  pub utf8 : IsUtf8 bytes
+  pub within : length (chars bytes) ≤ LIMIT
+  pub table : Table
+  pub is_table : initial g ≡ whole table
+  pub shows : Shows (given reading g (chars bytes)) table name most accepted said
+
+-- the file spells a grammar without operators that are read or declared, and this is printed of its run on the reader's
+-- whole bytes
+pub record IsShown (offer : Offer) (file : List ℕ) (reader left : Option (List ℕ)) (name : List ℕ) (most : ℕ) (reading : Reading) (accepted : Bool)
+    (said : List ℕ) : Type 0 where
+  pub grammar : Grammar
+  pub spelled : SpellsWithinLimits offer file grammar
+  pub plain : HasNoOperators grammar
+  pub bytes : List ℕ
+  pub read : Consumes reader left bytes
+  pub end : IsAtEnd left
+  pub shown : IsShownOf grammar name most reading bytes accepted said
+
+-- and it was written
+pub record IsProbed (offer : Offer) (file : List ℕ) (reader left : Option (List ℕ)) (name : List ℕ) (most : ℕ) (reading : Reading)
+    (writer held : Option (List ℕ)) (accepted : Bool) : Type 0 where
+  pub said : List ℕ
+  pub shown : IsShown offer file reader left name most reading accepted said
+  pub written : Appends writer held said
+
+-- or a front of it
+pub record IsPartlyProbed (offer : Offer) (file : List ℕ) (reader left : Option (List ℕ)) (name : List ℕ) (most : ℕ) (reading : Reading)
+    (writer held : Option (List ℕ)) : Type 0 where
+  pub accepted : Bool
+  pub said : List ℕ
+  pub shown : IsShown offer file reader left name most reading accepted said
+  pub written : AppendsFront writer held said
+
+-- ---- the page of an outcome of the machine
+
+abbrev pub answer_text : Bool → ParseError → Option Success → List ℕ → List ℕ
+answer_text c e None name = error_text c (printed e name)
+answer_text c e (Some s) name = ok_text c s.place s.forest
+
+abbrev pub outcome_text : ended.Outcome → List ℕ → List ℕ
+outcome_text (Answered a) name = answer_text a.consumed a.error a.success name
+outcome_text StepsUsed name = steps_used_text
+outcome_text EmptyRound name = empty_round_text
+
+abbrev pub is_some : Option Success → Bool
+is_some None = false
+is_some (Some s) = true
+
+abbrev pub is_ok_outcome : ended.Outcome → Bool
+is_ok_outcome (Answered a) = is_some a.success
+is_ok_outcome StepsUsed = false
+is_ok_outcome EmptyRound = false

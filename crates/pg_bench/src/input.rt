@@ -1,0 +1,47 @@
+//! The text that a reader gives.
+
+ghost use Rattle.std.specs.Prelude.{◌≡◌, ◌≤◌, ◌<◌, ◌+◌, ◌*◌, ◌⊎◌, false, true, length, IfOk, IfErr, OnOk, IsErrOf};
+ghost use Rattle.std.specs.Io.KnownBytes.{Consumes, IsAtEnd};
+ghost use Rattle.std.specs.Str.{chars, IsUtf8};
+ghost use Rattle.pg_tree.specs.Meter.{saturating_sum};
+ghost use Rattle.pg_bench.specs.Parsed.{IsReadRefusal, IsTextRefusal, IsSpelledBy};
+
+use crate::fault::BenchFault;
+use pg_text::{LIMIT, Text, TextFault};
+use pg_tree::{Meter, ReadFault, read_bytes};
+use std::alloc::Global;
+use std::io::Read;
+
+/// The most bytes of a text: a character has at most four.
+const TEXT_BYTES: usize = 4 * LIMIT;
+
+/// All that the reader gives.
+pub fn read_text<R: Read>(alloc: Global, reader: &mut Meter<R>) -> Result<Vec<u8>, BenchFault>
+    requires { reader.old.failed ≡ false }
+    ensures ok { IfOk result (λ read. Consumes (R.remaining reader.old.inner) (R.remaining reader.new.inner) read.items) }
+    ensures end { OnOk result (IsAtEnd (R.remaining reader.new.inner)) }
+    ensures stays { OnOk result (reader.new.failed ≡ false) }
+    ensures err { IfErr result IsReadRefusal }
+    ensures reader { IsErrOf result BenchFault.Reader →
+        (reader.new.failed ≡ true) ⊎ (saturating_sum reader.old.bytes (4 * LIMIT + 1) ≤ reader.new.bytes) }
+    ensures asked { reader.new.calls ≤ saturating_sum reader.old.calls (4 * LIMIT + 1) }
+{
+    match read_bytes(alloc, reader, TEXT_BYTES) {
+        Ok(bytes) => Ok(bytes),
+        Err(ReadFault::Reader | ReadFault::TooLong) => Err(BenchFault::Reader),
+        Err(ReadFault::Memory) => Err(BenchFault::Memory),
+    }
+}
+
+/// The text that bytes spell.
+pub fn text_of(alloc: Global, bytes: &[u8]) -> Result<Text, BenchFault>
+    ensures ok { IfOk result (IsSpelledBy bytes.now) }
+    ensures err { IfErr result (IsTextRefusal bytes.now) }
+{
+    match Text::from_bytes(alloc, bytes) {
+        Ok(text) => Ok(text),
+        Err(TextFault::NotUtf8) => Err(BenchFault::NotUtf8),
+        Err(TextFault::TooLong) => Err(BenchFault::TooLong),
+        Err(TextFault::Memory) => Err(BenchFault::Memory),
+    }
+}

@@ -1,0 +1,26 @@
+//! From bytes to bytes: what the program does with a grammar file and a text, once they are open.
+//!
+//! `parse_bytes` parses the text that a reader gives and writes its forest, `probe_bytes` runs the start rule on it and writes
+//! what Parsec would answer, and `print_bytes` writes a grammar in canonical form. Their contracts speak of the bytes that
+//! were read and written and of what these spell, derive and answer. The predicates and builders that a file may name come
+//! in a registry.
+#![tactic(auto)]
+
+mod fault;
+mod grammar_file;
+mod input;
+mod operators;
+mod page;
+mod parse;
+mod print;
+mod probe;
+mod runner;
+mod running;
+#[cfg(test)]
+mod tests;
+mod utf8;
+
+pub use fault::BenchFault;
+pub use parse::parse_bytes;
+pub use print::print_bytes;
+pub use probe::probe_bytes;

@@ -1,0 +1,155 @@
+//! From the bytes of a grammar file and of a text to what the grammar's start rule answers, as Parsec would.
+
+ghost use Rattle.std.specs.Prelude.{◌≡◌, ◌≤◌, ◌<◌, ◌+◌, ◌*◌, ◌⊎◌, false, true, length, IfOk, IfErr, OnOk, IsErrOf};
+ghost use Rattle.std.specs.Str.{chars, IsUtf8};
+ghost use Rattle.pg_table.specs.Tables.{initial, whole};
+ghost use Rattle.pg_pred.specs.Offer.{offer_of};
+ghost use Rattle.pg_grammar.specs.Fits.{Fits};
+ghost use Rattle.pg_file.specs.Spells.{HasInitialTable};
+ghost use Rattle.pg_tree.specs.Meter.{saturating_sum};
+ghost use Rattle.pg_bench.specs.Operators.{HasNoOperators};
+ghost use Rattle.pg_bench.specs.Parsed.{SpellsNone, SpellsSome, SpellsOther, ReadsText, IsBehindFile, IsBehindReader, IsFileFault, IsTextRefusal, IsMemory, ComesBeforeWriting};
+ghost use Rattle.pg_bench.specs.Probing.{IsProbed, IsPartlyProbed, IsShownOf};
+
+use crate::fault::BenchFault;
+use crate::grammar_file::grammar_of;
+use crate::input::{read_text, text_of};
+use crate::operators::has_no_operators;
+use crate::page::{is_ok, page_of};
+use pg_derive::Reading;
+use pg_grammar::Grammar;
+use pg_machine::probe;
+use pg_pred::Registry;
+use pg_table::{InitialFault, Table};
+use pg_text::LIMIT;
+use pg_tree::{Meter, WriteFault, write_bytes};
+use std::alloc::Global;
+use std::io::{Read, Write};
+
+/// Runs the start rule of the grammar that a file spells at the beginning of the text that a reader gives, and writes what
+/// it answers; the answer is whether that was ok. What is written is `consumed ok` or `empty ok`, the place in characters
+/// and the forest's JSON; or `consumed error` or `empty error` and the error as Text.Parsec prints it, with the text's
+/// `name` in it; or `P5 steps used up`, where no answer comes within `max_steps` turns, or `P6 empty repetition`, each on
+/// lines of its own. The registry has the predicates and builders that the file may name.
+///
+/// Both meters have to be fresh of failures. The faults come in the order of [`BenchFault`], without `NoParse`: a fault of the
+/// file, and `NotRun` where its grammar reads or declares operators, before the reader is asked at all; then the reader's,
+/// then those of its bytes, and the writer's. Before the last, and where memory runs out, nothing is written.
+pub fn probe_bytes<R: Read, W: Write>(
+    alloc: Global,
+    grammar: &[u8],
+    registry: &Registry,
+    name: &str,
+    reader: &mut Meter<R>,
+    writer: &mut Meter<W>,
+    max_steps: u64,
+    reading: Reading,
+) -> Result<bool, BenchFault>
+    requires reader { reader.old.failed ≡ false }
+    requires writer { writer.old.failed ≡ false }
+
+    // The whole of the reader's bytes is a text, and what the start rule answers to it was written.
+    ensures ok { IfOk result (IsProbed (offer_of registry.now) grammar.now (R.remaining reader.old.inner) (R.remaining reader.new.inner)
+        name.now max_steps reading (W.contents writer.old.inner) (W.contents writer.new.inner)) }
+
+    // A fault of the file comes first, and every other one only where the file spells a grammar that is run.
+    ensures file { IfErr result (λ fault. IsFileFault fault → SpellsNone (offer_of registry.now) grammar.now) }
+    ensures unread { IfErr result (λ fault. IsFileFault fault → reader.new ≡ reader.old) }
+    ensures runnable { IfErr result (λ fault. IsBehindFile fault → SpellsSome HasNoOperators (offer_of registry.now) grammar.now) }
+
+    // The file spells a grammar that reads or declares operators.
+    ensures not_run { IsErrOf result BenchFault.NotRun → SpellsOther HasNoOperators (offer_of registry.now) grammar.now }
+    ensures unasked { IsErrOf result BenchFault.NotRun → reader.new ≡ reader.old }
+
+    // The reader failed, or gave more than the limit.
+    ensures reader { IsErrOf result BenchFault.Reader →
+        (reader.new.failed ≡ true) ⊎ (saturating_sum reader.old.bytes (4 * LIMIT + 1) ≤ reader.new.bytes) }
+
+    // What is wrong with the bytes that the reader gave, in this order. That a parser answers an error is no fault.
+    ensures not_utf8 { IsErrOf result BenchFault.NotUtf8 →
+        ReadsText (R.remaining reader.old.inner) (R.remaining reader.new.inner) (λ bytes. ¬ (IsUtf8 bytes)) }
+    ensures too_long { IsErrOf result BenchFault.TooLong →
+        ReadsText (R.remaining reader.old.inner) (R.remaining reader.new.inner) (λ bytes. IsUtf8 bytes × (LIMIT < length (chars bytes))) }
+    ensures parsed { ¬ (IsErrOf result BenchFault.NoParse) }
+
+    // In every other case the reader didn't fail.
+    ensures reader_stays { OnOk result (reader.new.failed ≡ false) }
+    ensures reader_well { IfErr result (λ fault. IsBehindReader fault → reader.new.failed ≡ false) }
+
+    // The writer failed behind a front of what it was to be given, and in every other case was given nothing.
+    ensures writer { IsErrOf result BenchFault.Writer → writer.new.failed ≡ true }
+    ensures front { IsErrOf result BenchFault.Writer → IsPartlyProbed (offer_of registry.now) grammar.now (R.remaining reader.old.inner)
+        (R.remaining reader.new.inner) name.now max_steps reading (W.contents writer.old.inner) (W.contents writer.new.inner) }
+    ensures writer_stays { OnOk result (writer.new.failed ≡ false) }
+    ensures unwritten { IfErr result (λ fault. ComesBeforeWriting fault → writer.new ≡ writer.old) }
+
+    ensures asked { reader.new.calls ≤ saturating_sum reader.old.calls (4 * LIMIT + 1) }
+{
+    let grammar = grammar_of(alloc, grammar, registry)?;
+    if !has_no_operators(&grammar) {
+        return Err(BenchFault::NotRun);
+    }
+    let bytes = read_text(alloc, reader)?;
+    let shown = shown_of(
+        alloc,
+        &grammar,
+        registry,
+        name,
+        bytes.as_slice(),
+        max_steps,
+        reading,
+    )?;
+    match write_bytes(shown.page.as_slice(), writer) {
+        Ok(()) => Ok(shown.accepted),
+        Err(WriteFault::Writer) => Err(BenchFault::Writer),
+        Err(WriteFault::Memory) => Err(BenchFault::Memory),
+    }
+}
+
+/// What is printed of a run, and whether its answer is ok.
+#[derive(Drop)]
+struct Shown {
+    accepted: bool,
+    page: Vec<u8>,
+}
+
+/// What is printed of the run of a grammar's start rule on the text that bytes spell.
+#[tactic(auto, using(crate::proofs::Shown::shown))]
+fn shown_of(
+    alloc: Global,
+    grammar: &Grammar,
+    registry: &Registry,
+    name: &str,
+    bytes: &[u8],
+    max_steps: u64,
+    reading: Reading,
+) -> Result<Shown, BenchFault>
+    requires fits { Fits (offer_of registry.now) grammar.now }
+    requires table { HasInitialTable grammar.now }
+    ensures ok { IfOk result (λ shown. IsShownOf grammar.now name.now max_steps reading bytes.now shown.accepted shown.page.items) }
+    ensures err { IfErr result (IsTextRefusal bytes.now) }
+{
+    let text = text_of(alloc, bytes)?;
+    let table = initial_table(alloc, grammar)?;
+    let Ok(outcome) = probe(alloc, grammar, &text, &table, registry, max_steps, reading) else {
+        return Err(BenchFault::Memory);
+    };
+    let Ok(page) = page_of(alloc, &outcome, name) else {
+        return Err(BenchFault::Memory);
+    };
+    let accepted = is_ok(&outcome);
+    Ok(Shown { accepted, page })
+}
+
+/// The initial operator table of a grammar that has one.
+fn initial_table(alloc: Global, grammar: &Grammar) -> Result<Table, BenchFault>
+    requires { HasInitialTable grammar.now }
+    ensures ok { IfOk result (λ table. initial grammar.now ≡ whole table) }
+    ensures err { IfErr result IsMemory }
+{
+    match Table::of(alloc, grammar) {
+        Ok(table) => Ok(table),
+        Err(InitialFault::NotAdmitted { .. }) => unreachable!(),
+        Err(InitialFault::Memory) => Err(BenchFault::Memory),
+    }
+}

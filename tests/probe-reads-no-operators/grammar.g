@@ -1,0 +1,1 @@
+operators "+" gap " "; start a; a = choice(satisfy(digit), expr(node, node, node, a));

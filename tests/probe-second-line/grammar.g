@@ -1,0 +1,1 @@
+class end = "\n"; start a; a = many(seq(string("ab"), satisfy(end)));
