@@ -1,0 +1,89 @@
+-- Which sets are contained in which: as edges of a graph whose vertices are the first and the follow sets of nodes.
+use Rattle.std.specs.Prelude.{ℕ, suc, ◌+◌, nat_lt, Bool, if◌then◌else◌, List, [], ◌∷◌, ◌++◌, slice_get}
+use Rattle.std.specs.Option.{option_map_or}
+use Rattle.pg_grammar.specs.declared.form.Node.{Node}
+use Rattle.pg_grammar.specs.declared.form.Node.TheVariants as form
+use Rattle.pg_grammar.specs.declared.grammar.Rule.{Rule}
+use Rattle.pg_sets.specs.Graphs.{joined}
+use Rattle.pg_sets.specs.Marks.{is_marked}
+
+-- the number of the follow set of a node, where there are so many nodes; the first sets have the numbers below
+abbrev pub follow_of : ℕ → ℕ → ℕ
+follow_of count p = if nat_lt p count then count + p else count + count
+
+-- an edge, from a set to one that contains it
+abbrev pub Flow : Type 0
+Flow = ℕ × ℕ
+
+-- the edges are added to a graph
+abbrev pub with_flows : List (List ℕ) → List Flow → List (List ℕ)
+with_flows graph [] = graph
+with_flows graph (flow ∷ flows) = with_flows (joined graph flow.0 flow.1) flows
+
+-- to a set from the first of these nodes, one behind another, and from another set behind them all: first sets have the
+-- numbers of their nodes
+abbrev pub flows_of_all : List Bool → List ℕ → ℕ → ℕ → List Flow
+flows_of_all nullable [] behind to = (behind, to) ∷ []
+flows_of_all nullable (q ∷ qs) behind to = (q, to) ∷ (if is_marked nullable q then flows_of_all nullable qs behind to else [])
+
+-- the same without another set behind them
+abbrev pub flows_of_some : List Bool → List ℕ → ℕ → List Flow
+flows_of_some nullable [] to = []
+flows_of_some nullable (q ∷ qs) to = (q, to) ∷ (if is_marked nullable q then flows_of_some nullable qs to else [])
+
+-- to the follow set of each part of a sequence
+abbrev pub flows_behind_parts : List Bool → ℕ → ℕ → List ℕ → List Flow
+flows_behind_parts nullable count p [] = []
+flows_behind_parts nullable count p (q ∷ qs) = flows_of_all nullable qs (follow_of count p) (follow_of count q) ++ flows_behind_parts nullable count p qs
+
+-- to and from the sets of each alternative
+abbrev pub flows_of_alternatives : ℕ → ℕ → List ℕ → List Flow
+flows_of_alternatives count p [] = []
+flows_of_alternatives count p (q ∷ qs) = (q, p) ∷ (follow_of count p, follow_of count q) ∷ flows_of_alternatives count p qs
+
+-- of a chain
+abbrev pub flows_of_chain : List Bool → ℕ → ℕ → ℕ → ℕ → List Flow
+flows_of_chain nullable count p operand separator =
+    flows_of_some nullable (operand ∷ separator ∷ []) p
+    ++ flows_of_some nullable (separator ∷ operand ∷ []) (follow_of count operand)
+    ++ flows_of_all nullable (operand ∷ []) (follow_of count p) (follow_of count separator)
+    ++ ((follow_of count p, follow_of count operand) ∷ [])
+    ++ (if is_marked nullable operand then flows_of_some nullable (separator ∷ []) (follow_of count separator) else [])
+
+-- of the one part of a form
+abbrev pub flows_of_only : ℕ → ℕ → ℕ → List Flow
+flows_of_only count p q = (q, p) ∷ (follow_of count p, follow_of count q) ∷ []
+
+-- of a try: where it gives a key, only the follow sets are its part's
+abbrev pub try_flows : List Bool → ℕ → ℕ → ℕ → List Flow
+try_flows keys count p q = if is_marked keys p then (follow_of count p, follow_of count q) ∷ [] else flows_of_only count p q
+
+-- of a use of a rule
+abbrev pub flows_of_use : List Rule → ℕ → ℕ → ℕ → List Flow
+flows_of_use rules count p r = option_map_or (λ rule. flows_of_only count p rule.body) (slice_get rules r) []
+
+-- those that a node tells, whose number is p
+abbrev pub node_flows : List Rule → List Bool → List Bool → ℕ → ℕ → Node → List Flow
+node_flows rules nullable keys count p (form.Satisfy class) = []
+node_flows rules nullable keys count p (form.String text) = []
+node_flows rules nullable keys count p (form.Seq parts) = flows_of_some nullable parts p ++ flows_behind_parts nullable count p parts
+node_flows rules nullable keys count p (form.Choice parts) = flows_of_alternatives count p parts
+node_flows rules nullable keys count p (form.Many part) = (part, follow_of count part) ∷ flows_of_only count p part
+node_flows rules nullable keys count p (form.ChainLeft used operand separator) = flows_of_chain nullable count p operand separator
+node_flows rules nullable keys count p (form.ChainRight used operand separator) = flows_of_chain nullable count p operand separator
+node_flows rules nullable keys count p (form.Try part) = try_flows keys count p part
+node_flows rules nullable keys count p (form.NotFollowedBy class) = []
+node_flows rules nullable keys count p form.EndOfText = []
+node_flows rules nullable keys count p (form.Word word) = []
+node_flows rules nullable keys count p (form.Rule rule) = flows_of_use rules count p rule
+node_flows rules nullable keys count p (form.Expression builders term) = flows_of_only count p term
+node_flows rules nullable keys count p (form.Declare class) = []
+node_flows rules nullable keys count p (form.Text part) = flows_of_only count p part
+node_flows rules nullable keys count p (form.Skip part) = flows_of_only count p part
+node_flows rules nullable keys count p (form.Build used symbol part) = flows_of_only count p part
+node_flows rules nullable keys count p (form.Label part message) = flows_of_only count p part
+
+-- those of these nodes, the first having the number p
+abbrev pub all_flows : List Rule → List Bool → List Bool → ℕ → ℕ → List Node → List Flow
+all_flows rules nullable keys count p [] = []
+all_flows rules nullable keys count p (n ∷ ns) = node_flows rules nullable keys count p n ++ all_flows rules nullable keys count (suc p) ns

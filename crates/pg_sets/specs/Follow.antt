@@ -1,0 +1,68 @@
+-- The starts that can follow what a node reads: the least sets with these cases. Every rule's body counts, whether the
+-- start rule leads to it or not.
+use Rattle.std.specs.Prelude.{◌≡◌, ℕ, List, [], ◌∷◌, Some, slice_get}
+use Rattle.pg_grammar.specs.Grammar.{Grammar}
+use Rattle.pg_grammar.specs.declared.form.Node.{Node}
+use Rattle.pg_grammar.specs.declared.form.Node.TheVariants as form
+use Rattle.pg_grammar.specs.declared.grammar.Rule as declared
+use Rattle.pg_grammar.specs.declared.used.BuilderUse.{BuilderUse}
+use Rattle.pg_grammar.specs.declared.used.OperatorBuilders.{OperatorBuilders}
+use Rattle.pg_start.specs.declared.kind.StartKind.{StartKind}
+use Rattle.pg_start.specs.declared.kind.StartKind.TheVariants.{End}
+use Rattle.pg_sets.specs.First.{IsFirst, IsFirstOf}
+use Rattle.pg_sets.specs.Nullable.{Nullable, AllNullable}
+use Rattle.pg_sets.specs.OwnStarts.{IsOperatorStart}
+
+-- a part stands in a sequence, with these behind it
+pub data StandsBefore (part : ℕ) (rest : List ℕ) : List ℕ → Type 0 where
+  here : StandsBefore part rest (part ∷ rest)
+  further : {first : ℕ} {parts : List ℕ} → StandsBefore part rest parts → StandsBefore part rest (first ∷ parts)
+
+-- what stands at a node is a chain of this operand and this separator
+pub data IsChain (operand separator : ℕ) : Node → Type 0 where
+  left : {used : BuilderUse} → IsChain operand separator (form.ChainLeft used operand separator)
+  right : {used : BuilderUse} → IsChain operand separator (form.ChainRight used operand separator)
+
+-- what stands at a node reads what its one part reads
+pub data HasOnly (part : ℕ) : Node → Type 0 where
+  try : HasOnly part (form.Try part)
+  text : HasOnly part (form.Text part)
+  skip : HasOnly part (form.Skip part)
+  build : {used : BuilderUse} {symbol : List ℕ} → HasOnly part (form.Build used symbol part)
+  label : {message : List ℕ} → HasOnly part (form.Label part message)
+
+-- the start is among those that follow the node
+pub data IsFollow (g : Grammar) : StartKind → ℕ → Type 0 where
+  -- the end follows the start rule
+  at_end : {named : declared.Rule} → slice_get g.rules g.start ≡ Some named → IsFollow g End named.body
+  -- a rule's body has what follows its uses
+  used : {start : StartKind} {p r : ℕ} {named : declared.Rule} → slice_get g.nodes p ≡ Some (form.Rule r) → slice_get g.rules r ≡ Some named
+      → IsFollow g start p → IsFollow g start named.body
+  -- a part of a sequence has the first of what stands behind it, and what follows the sequence if all of that is nullable
+  next : {start : StartKind} (p : ℕ) {q : ℕ} {parts rest : List ℕ} → slice_get g.nodes p ≡ Some (form.Seq parts) → StandsBefore q rest parts
+      → IsFirstOf g start rest → IsFollow g start q
+  last : {start : StartKind} {p q : ℕ} {parts rest : List ℕ} → slice_get g.nodes p ≡ Some (form.Seq parts) → StandsBefore q rest parts
+      → AllNullable g rest → IsFollow g start p → IsFollow g start q
+  -- an alternative has what follows its choice
+  alternative : {start : StartKind} {p q : ℕ} {parts : List ℕ} (k : ℕ) → slice_get g.nodes p ≡ Some (form.Choice parts) → slice_get parts k ≡ Some q
+      → IsFollow g start p → IsFollow g start q
+  -- the body of a many has its own first, and what follows the many
+  next_round : {start : StartKind} (p : ℕ) {q : ℕ} → slice_get g.nodes p ≡ Some (form.Many q) → IsFirst g start q → IsFollow g start q
+  last_round : {start : StartKind} {p q : ℕ} → slice_get g.nodes p ≡ Some (form.Many q) → IsFollow g start p → IsFollow g start q
+  -- the operand of a chain has the first of separator and operand, and what follows the chain
+  next_link : {start : StartKind} (p : ℕ) {o s : ℕ} {n : Node} → slice_get g.nodes p ≡ Some n → IsChain o s n
+      → IsFirstOf g start (s ∷ o ∷ []) → IsFollow g start o
+  last_link : {start : StartKind} {p o s : ℕ} {n : Node} → slice_get g.nodes p ≡ Some n → IsChain o s n → IsFollow g start p → IsFollow g start o
+  -- the separator has the first of the operand, and what follows the operand if that is nullable
+  operand : {start : StartKind} (p : ℕ) {o s : ℕ} {n : Node} → slice_get g.nodes p ≡ Some n → IsChain o s n → IsFirst g start o → IsFollow g start s
+  over_operand : {start : StartKind} (p : ℕ) {o s : ℕ} {n : Node} → slice_get g.nodes p ≡ Some n → IsChain o s n → Nullable g o
+      → IsFirstOf g start (s ∷ o ∷ []) → IsFollow g start s
+  last_operand : {start : StartKind} {p o s : ℕ} {n : Node} → slice_get g.nodes p ≡ Some n → IsChain o s n → Nullable g o
+      → IsFollow g start p → IsFollow g start s
+  -- the term of an expression has the operators, and what follows the expression
+  operator : {start : StartKind} (p : ℕ) {term : ℕ} {builders : OperatorBuilders} → slice_get g.nodes p ≡ Some (form.Expression builders term)
+      → IsOperatorStart g start → IsFollow g start term
+  last_term : {start : StartKind} {p term : ℕ} {builders : OperatorBuilders} → slice_get g.nodes p ≡ Some (form.Expression builders term)
+      → IsFollow g start p → IsFollow g start term
+  -- the one part of any other form has what follows that
+  only : {start : StartKind} {p q : ℕ} {n : Node} → slice_get g.nodes p ≡ Some n → HasOnly q n → IsFollow g start p → IsFollow g start q

@@ -1,0 +1,37 @@
+-- Graphs, as lists of numbers: for each vertex those of the vertices that an edge leads to.
+use Rattle.std.specs.Prelude.{◌≡◌, ◌↔◌, ◌<◌, ◌==◌, ℕ, Bool, true, false, List, [], ◌∷◌, ◌++◌, length, slice_set, slice_index_or}
+use Rattle.std.specs.List.{list_any}
+use Rattle.std.specs.List.Sorted.{IsStrictlyIncreasing}
+
+-- whether a number is among these
+abbrev pub has : List ℕ → ℕ → Bool
+has numbers n = list_any (λ m. m == n) numbers
+
+-- no number stands twice
+abbrev pub AreOnce : List ℕ → Type 0
+AreOnce [] = Unit {0}
+AreOnce (n ∷ ns) = (has ns n ≡ false) × AreOnce ns
+
+-- the numbers of one of some lists; none for a list that isn't there
+abbrev pub numbers_at : List (List ℕ) → ℕ → List ℕ
+numbers_at lists k = slice_index_or lists k []
+
+-- the lists, with a number more at the end of one of them
+abbrev pub joined : List (List ℕ) → ℕ → ℕ → List (List ℕ)
+joined lists k n = slice_set lists k (numbers_at lists k ++ n ∷ [])
+
+-- the lists, with a number more at the end of each of these
+abbrev pub joined_each : List (List ℕ) → List ℕ → ℕ → List (List ℕ)
+joined_each lists [] n = lists
+joined_each lists (k ∷ ks) n = joined_each (joined lists k n) ks n
+
+-- the vertex is a root, or an edge leads to it from a vertex that is reached
+pub data IsReached (graph : List (List ℕ)) (roots : List ℕ) : ℕ → Type 0 where
+  root : {v : ℕ} → has roots v ≡ true → v < length graph → IsReached graph roots v
+  onward : {w v : ℕ} → IsReached graph roots w → has (numbers_at graph w) v ≡ true → v < length graph → IsReached graph roots v
+
+-- for each vertex the numbers, below some, of the lists of roots from which it is reached, from the lowest up
+pub record IsGathered (graph roots : List (List ℕ)) (count : ℕ) (sets : List (List ℕ)) : Type 0 where
+  pub long : length sets ≡ length graph
+  pub members : (v k : ℕ) → v < length graph → (has (numbers_at sets v) k ≡ true) ↔ ((k < count) × IsReached graph (numbers_at roots k) v)
+  pub ascending : (v : ℕ) → IsStrictlyIncreasing (numbers_at sets v)

@@ -1,0 +1,75 @@
+-- Which sets hold which starts by themselves, as a map from starts to the numbers of sets.
+use Rattle.std.specs.Prelude.{◌≡◌, ◌↔◌, ◌<◌, ℕ, true, List, [], Some, slice_get, length, unwrap_or, is_some}
+use Rattle.std.specs.BTreeMap.{BTreeMap, get}
+use Rattle.std.specs.List.Sorted.{IsStrictlySortedBy}
+use Rattle.pg_grammar.specs.Grammar.{Grammar}
+use Rattle.pg_grammar.specs.declared.form.Node.{Node}
+use Rattle.pg_grammar.specs.declared.form.Node.TheVariants as form
+use Rattle.pg_grammar.specs.declared.used.OperatorBuilders.{OperatorBuilders}
+use Rattle.pg_start.specs.declared.kind.StartKind.{StartKind}
+use Rattle.pg_sets.specs.Flows.{follow_of}
+use Rattle.pg_sets.specs.Graphs.{has, numbers_at}
+use Rattle.pg_sets.specs.Listed.{IsListed, start_order}
+use Rattle.pg_sets.specs.Own.{IsPlain}
+use Rattle.pg_sets.specs.OwnStarts.{OwnStart, IsOperatorStart}
+use Rattle.pg_sets.specs.Sources.{IsSource}
+use Rattle.pg_sets.specs.declared.listed.ListedStart.{ListedStart}
+
+-- for each start the numbers of some sets
+abbrev pub Origins : Type 0
+Origins = BTreeMap ListedStart (List ℕ)
+
+-- the sets of a start; none for a start that isn't there
+abbrev pub sets_of : Origins → ListedStart → List ℕ
+sets_of origins listed = unwrap_or (get start_order origins listed) []
+
+-- the set with this number is one of a start's
+abbrev pub HoldsIt : Origins → ListedStart → ℕ → Type 0
+HoldsIt origins listed v = has (sets_of origins listed) v ≡ true
+
+-- the start is there
+abbrev pub IsThere : Origins → ListedStart → Type 0
+IsThere origins listed = is_some (get start_order origins listed) ≡ true
+
+-- the set with this number holds the start by itself, for what stands at the node p: the node's own first set, and the
+-- follow set of the term of an expression, which has the operators
+pub data SourceAt (g : Grammar) (p : ℕ) : Node → StartKind → ℕ → Type 0 where
+  own : {n : Node} {start : StartKind} → OwnStart g n start → SourceAt g p n start p
+  operator : {builders : OperatorBuilders} {term v : ℕ} {start : StartKind} → IsOperatorStart g start → follow_of (length g.nodes) term ≡ v
+      → SourceAt g p (form.Expression builders term) start v
+
+-- the same, for one of the first nodes
+pub record SourceBelow (g : Grammar) (count : ℕ) (start : StartKind) (v : ℕ) : Type 0 where
+  pub place : ℕ
+  pub node : Node
+  pub below : place < count
+  pub there : slice_get g.nodes place ≡ Some node
+  pub source : SourceAt g place node start v
+
+-- these are the starts with the sets that hold them by themselves, for so many of the first nodes
+pub record AreSoManyOrigins (g : Grammar) (count : ℕ) (origins : Origins) : Type 0 where
+  pub held : (listed : ListedStart) (v : ℕ) → HoldsIt origins listed v ↔ (SourceBelow g count listed.start v × IsListed g listed)
+  pub listed : (listed : ListedStart) → IsThere origins listed → IsListed g listed
+  pub plain : (p : ℕ) (n : Node) → p < count → slice_get g.nodes p ≡ Some n → IsPlain g n → (start : StartKind) × OwnStart g n start
+
+-- the same, for all nodes and for the end
+pub record AreOrigins (g : Grammar) (origins : Origins) : Type 0 where
+  pub held : (listed : ListedStart) (v : ℕ) → HoldsIt origins listed v ↔ (IsSource g listed.start v × IsListed g listed)
+  pub listed : (listed : ListedStart) → IsThere origins listed → IsListed g listed
+  pub plain : (p : ℕ) (n : Node) → slice_get g.nodes p ≡ Some n → IsPlain g n → (start : StartKind) × OwnStart g n start
+
+-- the start is in the list, under its name
+pub record IsAt (starts : List ListedStart) (start : StartKind) : Type 0 where
+  pub place : ℕ
+  pub listed : ListedStart
+  pub there : slice_get starts place ≡ Some listed
+  pub same : listed.start ≡ start
+
+-- the starts in their order, each with the sets that hold it by themselves
+pub record AreListed (g : Grammar) (starts : List ListedStart) (roots : List (List ℕ)) : Type 0 where
+  pub ordered : IsStrictlySortedBy start_order starts
+  pub long : length roots ≡ length starts
+  pub listed : (k : ℕ) (listed : ListedStart) → slice_get starts k ≡ Some listed → IsListed g listed
+  pub sources : (k v : ℕ) (listed : ListedStart) → slice_get starts k ≡ Some listed → (has (numbers_at roots k) v ≡ true) ↔ IsSource g listed.start v
+  pub all : (start : StartKind) (v : ℕ) → IsSource g start v → IsAt starts start
+  pub plain : (p : ℕ) (n : Node) → slice_get g.nodes p ≡ Some n → IsPlain g n → (start : StartKind) × OwnStart g n start

@@ -1,0 +1,42 @@
+-- The own starts of a node, as sets list them.
+use Rattle.std.specs.Prelude.{◌≡◌, ◌↔◌, ◌⊎◌, ℕ, List, [], ◌∷◌, Some, slice_get}
+use Rattle.pg_grammar.specs.Grammar.{Grammar}
+use Rattle.pg_grammar.specs.declared.class.ClassPart.{ClassPart}
+use Rattle.pg_grammar.specs.declared.form.Node.{Node}
+use Rattle.pg_grammar.specs.declared.form.Node.TheVariants as form
+use Rattle.pg_grammar.specs.declared.word_item.WordItem.{WordItem}
+use Rattle.pg_class.specs.Ranges.{Range}
+use Rattle.pg_grammar.specs.declared.decl.Role.TheVariants.{InfixLeft, InfixRight, InfixNone, Prefix, Postfix}
+use Rattle.pg_start.specs.declared.kind.StartKind.{StartKind}
+use Rattle.pg_start.specs.declared.kind.StartKind.TheVariants.{Key}
+use Rattle.pg_sets.specs.Listed.{IsListed}
+use Rattle.pg_sets.specs.OwnStarts.{OwnStart, IsKeyTry, role_keyword}
+use Rattle.pg_sets.specs.declared.listed.ListedStart.{ListedStart}
+
+-- the start is one that this gives by itself, under its name
+pub record OwnListed (g : Grammar) (n : Node) (listed : ListedStart) : Type 0 where
+  pub own : OwnStart g n listed.start
+  pub named : IsListed g listed
+
+-- a character of a class, a word of an item that is there, and a try that gives a key
+pub data IsPlain (g : Grammar) : Node → Type 0 where
+  satisfy : {class : List ClassPart} → IsPlain g (form.Satisfy class)
+  word : {w : ℕ} {item : WordItem} → slice_get g.words w ≡ Some item → IsPlain g (form.Word w)
+  key : {n : Node} → IsKeyTry g n → IsPlain g n
+
+-- the start is one of these
+abbrev pub IsAmong : List ListedStart → ListedStart → Type 0
+IsAmong [] listed = ⊥
+IsAmong (one ∷ others) listed = (one ≡ listed) ⊎ IsAmong others listed
+
+-- these are the own starts; what is plain has one
+pub record AreOwn (g : Grammar) (n : Node) (own : List ListedStart) : Type 0 where
+  pub members : (listed : ListedStart) → IsAmong own listed ↔ OwnListed g n listed
+  pub there : IsPlain g n → (start : StartKind) × OwnStart g n start
+
+-- the keys of a declaration, in each role
+abbrev pub keyword_keys : List Range → List ListedStart
+keyword_keys excluded =
+    record { start = Key (role_keyword InfixLeft) excluded; word = 0 } ∷ record { start = Key (role_keyword InfixRight) excluded; word = 0 }
+    ∷ record { start = Key (role_keyword InfixNone) excluded; word = 0 } ∷ record { start = Key (role_keyword Prefix) excluded; word = 0 }
+    ∷ record { start = Key (role_keyword Postfix) excluded; word = 0 } ∷ []

@@ -1,0 +1,255 @@
+//! Which first and follow sets are contained in which, as the edges of a graph.
+//!
+//! A first set has the number of its node, a follow set a number behind those of all first sets. Each node tells the edges
+//! to its own first set and to the follow sets of its parts. A part that can be empty lets through what is behind it.
+ghost use Rattle.std.specs.Prelude.{◌≡◌, ◌≤◌, ◌+◌, [], ◌∷◌, ◌++◌, replicate, length, IfOk, OnOk};
+ghost use Rattle.pg_grammar.specs.Grammar.{IsGrammar};
+ghost use Rattle.pg_sets.specs.Flows.{follow_of, with_flows, flows_of_all, flows_of_some, flows_behind_parts, flows_of_alternatives, flows_of_chain, flows_of_only, flows_of_use, try_flows, node_flows, all_flows};
+
+use crate::marks::is_marked;
+use crate::numbers::{Numbers, empty_lists, join};
+use pg_grammar::{Grammar, Node, NodeId, Rule, RuleId};
+use std::alloc::{AllocError, Global};
+
+/// For each first and each follow set those that contain it, by the marks of the nullable nodes and of the tries that give
+/// keys. The only error is that memory ran out.
+pub(crate) fn flow_graph(
+    alloc: Global,
+    grammar: &Grammar,
+    nullable: &[bool],
+    keys: &[bool],
+) -> Result<Vec<Numbers>, AllocError>
+    ensures graph { IfOk result (λ graph. graph.items ≡
+        with_flows (replicate (length grammar.now.nodes + length grammar.now.nodes) [])
+        (all_flows grammar.now.rules nullable.now keys.now (length grammar.now.nodes) 0 grammar.now.nodes)) }
+    ensures grammar { IsGrammar grammar.now }
+{
+    let nodes = grammar.nodes();
+    let rules = grammar.rules();
+    let count = nodes.len();
+    let mut graph = empty_lists(alloc, count + count)?;
+    for (number, node) in nodes.iter().enumerate() {
+        join_node(&mut graph, rules, nullable, keys, count, number, node)?;
+    }
+    Ok(graph)
+}
+
+/// The number of a node's follow set, where there are so many nodes.
+pub(crate) fn follow_of(count: usize, node: usize) -> usize
+    requires { count ≤ 8192 }
+    ensures { result ≡ follow_of count node }
+{
+    if node < count {
+        count + node
+    } else {
+        count + count
+    }
+}
+
+/// Adds the edges that a node tells, which has this number. The only error is that memory ran out.
+fn join_node(
+    graph: &mut [Numbers],
+    rules: &[Rule],
+    nullable: &[bool],
+    keys: &[bool],
+    count: usize,
+    number: usize,
+    node: &Node,
+) -> Result<(), AllocError>
+    requires { count ≤ 8192 }
+    ensures { OnOk result (graph.new ≡ with_flows graph.old (node_flows rules.now nullable.now keys.now count number node.now)) }
+{
+    match node {
+        Node::Seq(parts) => join_seq(graph, nullable, count, number, parts.as_slice()),
+        Node::Choice(parts) => join_alternatives(graph, count, number, parts.as_slice()),
+        Node::Many(part) => join_many(graph, count, number, part.index()),
+        Node::ChainLeft(_, operand, separator) | Node::ChainRight(_, operand, separator) => {
+            join_chain(graph, nullable, count, number, *operand, *separator)
+        }
+        Node::Try(part) => join_try(graph, keys, count, number, part.index()),
+        Node::Rule(rule) => join_use(graph, rules, count, number, *rule),
+        Node::Expression(_, part)
+        | Node::Text(part)
+        | Node::Skip(part)
+        | Node::Build(_, _, part)
+        | Node::Label(part, _) => join_only(graph, count, number, part.index()),
+        Node::Satisfy(_)
+        | Node::String(_)
+        | Node::NotFollowedBy(_)
+        | Node::EndOfText
+        | Node::Word(_)
+        | Node::Declare(_) => Ok(()),
+    }
+}
+
+/// Adds the edges to a set from the first of these nodes, one behind another, and from another set behind them all.
+fn join_all(
+    graph: &mut [Numbers],
+    nullable: &[bool],
+    parts: &[NodeId],
+    behind: usize,
+    to: usize,
+) -> Result<(), AllocError>
+    ensures { OnOk result (graph.new ≡ with_flows graph.old (flows_of_all nullable.now parts.now behind to)) }
+{
+    for part in parts {
+        join(graph, part.index(), to)?;
+        if !is_marked(nullable, part.index()) {
+            return Ok(());
+        }
+    }
+    join(graph, behind, to)
+}
+
+/// The same without another set behind them.
+fn join_some(
+    graph: &mut [Numbers],
+    nullable: &[bool],
+    parts: &[NodeId],
+    to: usize,
+) -> Result<(), AllocError>
+    ensures { OnOk result (graph.new ≡ with_flows graph.old (flows_of_some nullable.now parts.now to)) }
+{
+    for part in parts {
+        join(graph, part.index(), to)?;
+        if !is_marked(nullable, part.index()) {
+            return Ok(());
+        }
+    }
+    Ok(())
+}
+
+/// Adds the edges of a sequence.
+fn join_seq(
+    graph: &mut [Numbers],
+    nullable: &[bool],
+    count: usize,
+    number: usize,
+    parts: &[NodeId],
+) -> Result<(), AllocError>
+    requires { count ≤ 8192 }
+    ensures { OnOk result (graph.new ≡
+        with_flows graph.old (flows_of_some nullable.now parts.now number ++ flows_behind_parts nullable.now count number parts.now)) }
+{
+    join_some(graph, nullable, parts, number)?;
+    let mut rest = parts;
+    while let Some((part, behind)) = rest.split_first() {
+        join_all(
+            graph,
+            nullable,
+            behind,
+            follow_of(count, number),
+            follow_of(count, part.index()),
+        )?;
+        rest = behind;
+    }
+    Ok(())
+}
+
+/// Adds the edges of a choice.
+fn join_alternatives(
+    graph: &mut [Numbers],
+    count: usize,
+    number: usize,
+    parts: &[NodeId],
+) -> Result<(), AllocError>
+    requires { count ≤ 8192 }
+    ensures { OnOk result (graph.new ≡ with_flows graph.old (flows_of_alternatives count number parts.now)) }
+{
+    for part in parts {
+        join(graph, part.index(), number)?;
+        join(
+            graph,
+            follow_of(count, number),
+            follow_of(count, part.index()),
+        )?;
+    }
+    Ok(())
+}
+
+/// Adds the edges of a repetition: what begins a round follows the round before.
+fn join_many(
+    graph: &mut [Numbers],
+    count: usize,
+    number: usize,
+    part: usize,
+) -> Result<(), AllocError>
+    requires { count ≤ 8192 }
+    ensures { OnOk result (graph.new ≡ with_flows graph.old ((part, follow_of count part) ∷ flows_of_only count number part)) }
+{
+    join(graph, part, follow_of(count, part))?;
+    join_only(graph, count, number, part)
+}
+
+/// Adds the edges of a chain: its operand stands at the start and behind each separator.
+fn join_chain(
+    graph: &mut [Numbers],
+    nullable: &[bool],
+    count: usize,
+    number: usize,
+    operand: NodeId,
+    separator: NodeId,
+) -> Result<(), AllocError>
+    requires { count ≤ 8192 }
+    ensures { OnOk result (graph.new ≡ with_flows graph.old (flows_of_chain nullable.now count number operand separator)) }
+{
+    let behind_operand = follow_of(count, operand.index());
+    let behind_separator = follow_of(count, separator.index());
+    let behind = follow_of(count, number);
+    join_some(graph, nullable, &[operand, separator], number)?;
+    join_some(graph, nullable, &[separator, operand], behind_operand)?;
+    join_all(graph, nullable, &[operand], behind, behind_separator)?;
+    join(graph, behind, behind_operand)?;
+    if is_marked(nullable, operand.index()) {
+        join_some(graph, nullable, &[separator], behind_separator)?;
+    }
+    Ok(())
+}
+
+/// Adds the edges of a try, whose first set is a key's or its part's.
+fn join_try(
+    graph: &mut [Numbers],
+    keys: &[bool],
+    count: usize,
+    number: usize,
+    part: usize,
+) -> Result<(), AllocError>
+    requires { count ≤ 8192 }
+    ensures { OnOk result (graph.new ≡ with_flows graph.old (try_flows keys.now count number part)) }
+{
+    if is_marked(keys, number) {
+        return join(graph, follow_of(count, number), follow_of(count, part));
+    }
+    join_only(graph, count, number, part)
+}
+
+/// Adds the edges of a use of a rule.
+fn join_use(
+    graph: &mut [Numbers],
+    rules: &[Rule],
+    count: usize,
+    number: usize,
+    rule: RuleId,
+) -> Result<(), AllocError>
+    requires { count ≤ 8192 }
+    ensures { OnOk result (graph.new ≡ with_flows graph.old (flows_of_use rules.now count number rule)) }
+{
+    match rules.get(rule.index()) {
+        Some(rule) => join_only(graph, count, number, rule.body.index()),
+        None => Ok(()),
+    }
+}
+
+/// Adds the edges of a form with one part.
+fn join_only(
+    graph: &mut [Numbers],
+    count: usize,
+    number: usize,
+    part: usize,
+) -> Result<(), AllocError>
+    requires { count ≤ 8192 }
+    ensures { OnOk result (graph.new ≡ with_flows graph.old (flows_of_only count number part)) }
+{
+    join(graph, part, number)?;
+    join(graph, follow_of(count, number), follow_of(count, part))
+}

@@ -1,0 +1,167 @@
+//! Tries that give keys: around a string, or around a string with a class that doesn't follow it.
+//!
+//! The first set of such a try is a key, and not what its part gives.
+ghost use Rattle.std.specs.Prelude.{◌≡◌, ◌↔◌, ◌∷◌, [], true, ℕ, List, Some, slice_get, IfOk, MatchOption};
+ghost use Rattle.pg_grammar.specs.declared.class.ClassPart.{ClassPart};
+ghost use Rattle.pg_sets.specs.OwnStarts.{IsKeyTry, IsKeyed, MarksKeys};
+
+use pg_grammar::{ClassExpression, Grammar, Node, NodeId};
+use pg_text::Characters;
+use std::alloc::{AllocError, Global};
+
+/// A mark for each node, which is on the tries that give keys. The only error is that memory ran out.
+pub(crate) fn key_tries(alloc: Global, grammar: &Grammar) -> Result<Vec<bool>, AllocError>
+    ensures { IfOk result (λ marks. MarksKeys grammar.now marks.items) }
+{
+    let mut marks = Vec::new(alloc);
+    for node in grammar.nodes() {
+        marks.push(is_key_try(grammar, node))?;
+    }
+    Ok(marks)
+}
+
+/// Whether what stands at a node is a try that gives a key.
+fn is_key_try(grammar: &Grammar, node: &Node) -> bool
+    ensures { (result ≡ true) ↔ IsKeyTry grammar.now node.now }
+{
+    match node {
+        Node::Try(part) => gives_key(grammar, *part),
+        Node::Satisfy(_)
+        | Node::String(_)
+        | Node::Seq(_)
+        | Node::Choice(_)
+        | Node::Many(_)
+        | Node::ChainLeft(_, _, _)
+        | Node::ChainRight(_, _, _)
+        | Node::NotFollowedBy(_)
+        | Node::EndOfText
+        | Node::Word(_)
+        | Node::Rule(_)
+        | Node::Expression(_, _)
+        | Node::Declare(_)
+        | Node::Text(_)
+        | Node::Skip(_)
+        | Node::Build(_, _, _)
+        | Node::Label(_, _) => false,
+    }
+}
+
+/// Whether a try around this part gives a key.
+fn gives_key(grammar: &Grammar, part: NodeId) -> bool
+    ensures { (result ≡ true) ↔ IsKeyTry grammar.now (Node.Try part) }
+{
+    match tried_string(grammar, part) {
+        Some(_) => true,
+        None => match tried_keyword(grammar, part) {
+            Some(_) => true,
+            None => false,
+        },
+    }
+}
+
+/// The string at a node, if one stands there.
+pub(crate) fn tried_string(grammar: &Grammar, node: NodeId) -> Option<&Characters>
+    ensures { MatchOption result ((text : List ℕ) → slice_get grammar.now.nodes node ≡ Some (Node.String text) → ⊥)
+        (λ text. slice_get grammar.now.nodes node ≡ Some (Node.String text.now)) }
+{
+    match grammar.nodes().get(node.index()) {
+        Some(Node::String(text)) => Some(text),
+        Some(
+            Node::Satisfy(_)
+            | Node::Seq(_)
+            | Node::Choice(_)
+            | Node::Many(_)
+            | Node::ChainLeft(_, _, _)
+            | Node::ChainRight(_, _, _)
+            | Node::Try(_)
+            | Node::NotFollowedBy(_)
+            | Node::EndOfText
+            | Node::Word(_)
+            | Node::Rule(_)
+            | Node::Expression(_, _)
+            | Node::Declare(_)
+            | Node::Text(_)
+            | Node::Skip(_)
+            | Node::Build(_, _, _)
+            | Node::Label(_, _),
+        )
+        | None => None,
+    }
+}
+
+/// The class at a node, if characters of a class may not follow there.
+fn excluded_class(grammar: &Grammar, node: NodeId) -> Option<&ClassExpression>
+    ensures { MatchOption result ((class : List ClassPart) → slice_get grammar.now.nodes node ≡ Some (Node.NotFollowedBy class) → ⊥)
+        (λ class. slice_get grammar.now.nodes node ≡ Some (Node.NotFollowedBy class.now)) }
+{
+    match grammar.nodes().get(node.index()) {
+        Some(Node::NotFollowedBy(class)) => Some(class),
+        Some(
+            Node::Satisfy(_)
+            | Node::String(_)
+            | Node::Seq(_)
+            | Node::Choice(_)
+            | Node::Many(_)
+            | Node::ChainLeft(_, _, _)
+            | Node::ChainRight(_, _, _)
+            | Node::Try(_)
+            | Node::EndOfText
+            | Node::Word(_)
+            | Node::Rule(_)
+            | Node::Expression(_, _)
+            | Node::Declare(_)
+            | Node::Text(_)
+            | Node::Skip(_)
+            | Node::Build(_, _, _)
+            | Node::Label(_, _),
+        )
+        | None => None,
+    }
+}
+
+/// The parts at a node, if a sequence stands there.
+fn sequence_parts(grammar: &Grammar, node: NodeId) -> Option<&[NodeId]>
+    ensures { MatchOption result ((parts : List ℕ) → slice_get grammar.now.nodes node ≡ Some (Node.Seq parts) → ⊥)
+        (λ parts. slice_get grammar.now.nodes node ≡ Some (Node.Seq parts.now)) }
+{
+    match grammar.nodes().get(node.index()) {
+        Some(Node::Seq(parts)) => Some(parts.as_slice()),
+        Some(
+            Node::Satisfy(_)
+            | Node::String(_)
+            | Node::Choice(_)
+            | Node::Many(_)
+            | Node::ChainLeft(_, _, _)
+            | Node::ChainRight(_, _, _)
+            | Node::Try(_)
+            | Node::NotFollowedBy(_)
+            | Node::EndOfText
+            | Node::Word(_)
+            | Node::Rule(_)
+            | Node::Expression(_, _)
+            | Node::Declare(_)
+            | Node::Text(_)
+            | Node::Skip(_)
+            | Node::Build(_, _, _)
+            | Node::Label(_, _),
+        )
+        | None => None,
+    }
+}
+
+/// The string and the class that doesn't follow it, if the two stand at a node.
+pub(crate) fn tried_keyword(
+    grammar: &Grammar,
+    node: NodeId,
+) -> Option<(&Characters, &ClassExpression)>
+    ensures { MatchOption result ((text : List ℕ) (excluded : List ClassPart) → IsKeyed grammar.now node text excluded → ⊥)
+        (λ keyword. IsKeyed grammar.now node keyword.0.now keyword.1.now) }
+{
+    let parts = sequence_parts(grammar, node)?;
+    if parts.len() != 2 {
+        return None;
+    }
+    let text = tried_string(grammar, parts[0])?;
+    let excluded = excluded_class(grammar, parts[1])?;
+    Some((text, excluded))
+}

@@ -1,0 +1,64 @@
+//! Which nodes can succeed without a character.
+//!
+//! Nodes are marked in rounds, until a round marks none. A node's parts stand behind it, so a round goes from the last node
+//! to the first, and only rules that lead back take more rounds than one.
+ghost use Rattle.std.specs.Prelude.{◌≡◌, ◌<◌, ◌↔◌, ℕ, true, not, length, count_by, slice_get, Some, IfOk};
+ghost use Rattle.std.specs.Bool.{OnTrue, OnFalse};
+ghost use Rattle.pg_grammar.specs.declared.form.Node.{Node};
+ghost use Rattle.pg_sets.specs.Marks.{is_marked, looks_nullable};
+ghost use Rattle.pg_sets.specs.Nullable.{Nullable};
+
+use crate::marks::{all_are_marked, body_is_marked, is_marked, one_is_marked};
+use pg_grammar::{Grammar, Node, Rule};
+use std::alloc::{AllocError, Global};
+
+/// For each node whether it is nullable. The only error is that memory ran out.
+pub(crate) fn nullable_nodes(alloc: Global, grammar: &Grammar) -> Result<Vec<bool>, AllocError>
+    ensures { IfOk result (λ marks. (p : ℕ) → (is_marked marks.items p ≡ true) ↔ Nullable grammar.now p) }
+{
+    let mut marks = vec![in alloc; false; grammar.nodes().len()]?;
+    while mark_round(grammar, &mut marks) {}
+    Ok(marks)
+}
+
+/// Marks each node that the marks show to be nullable, and says whether there was one.
+fn mark_round(grammar: &Grammar, marks: &mut [bool]) -> bool
+    requires length { length marks.old ≡ length grammar.now.nodes }
+    requires nullable { (p : ℕ) → is_marked marks.old p ≡ true → Nullable grammar.now p }
+    ensures nullable { (p : ℕ) → is_marked marks.new p ≡ true → Nullable grammar.now p }
+    ensures fewer { OnTrue result (count_by not marks.new < count_by not marks.old) }
+    ensures closed { OnFalse result ((p : ℕ) (node : Node) → slice_get grammar.now.nodes p ≡ Some node →
+        looks_nullable grammar.now.rules marks.new node ≡ true → is_marked marks.new p ≡ true) }
+{
+    let nodes = grammar.nodes();
+    let rules = grammar.rules();
+    let mut grew = false;
+    for p in (0..nodes.len()).rev() {
+        if !marks[p] && looks_nullable(rules, marks, &nodes[p]) {
+            marks[p] = true;
+            grew = true;
+        }
+    }
+    grew
+}
+
+/// Whether what stands at a node is nullable, if the marked nodes are.
+fn looks_nullable(rules: &[Rule], marks: &[bool], node: &Node) -> bool
+    ensures { result ≡ looks_nullable rules.now marks.now node.now }
+{
+    match node {
+        Node::Many(_) | Node::NotFollowedBy(_) | Node::EndOfText => true,
+        Node::Seq(parts) => all_are_marked(marks, parts.as_slice()),
+        Node::Choice(parts) => one_is_marked(marks, parts.as_slice()),
+        Node::ChainLeft(_, part, _)
+        | Node::ChainRight(_, part, _)
+        | Node::Try(part)
+        | Node::Text(part)
+        | Node::Skip(part)
+        | Node::Build(_, _, part)
+        | Node::Label(part, _)
+        | Node::Expression(_, part) => is_marked(marks, part.index()),
+        Node::Rule(rule) => body_is_marked(rules, marks, *rule),
+        Node::Satisfy(_) | Node::String(_) | Node::Word(_) | Node::Declare(_) => false,
+    }
+}

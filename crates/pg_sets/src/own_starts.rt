@@ -1,0 +1,244 @@
+//! The starts that a node gives by itself, and not by its parts.
+ghost use Rattle.std.specs.Prelude.{◌≡◌, ◌<◌, ◌∷◌, [], ℕ, length, IfOk};
+ghost use Rattle.pg_grammar.specs.declared.used.OperatorBuilders.{OperatorBuilders};
+ghost use Rattle.pg_sets.specs.Own.{AreOwn, keyword_keys};
+ghost use Rattle.pg_sets.specs.OwnStarts.{role_keyword};
+ghost use Rattle.pg_sets.specs.Words.{AreClassesOf, AreWordClasses};
+
+use crate::classes::{class_between, class_in, class_in_grammar};
+use crate::keys::{tried_keyword, tried_string};
+use crate::listed::ListedStart;
+use crate::words::{WordClasses, listed_words};
+use pg_class::Class;
+use pg_grammar::{ClassExpression, Grammar, Node, NodeId, Role, WordId};
+use pg_start::{Start, StartKind};
+use pg_text::Characters;
+use std::alloc::{AllocError, Global};
+
+/// The starts that a node gives by itself, where these are the classes of the class items and of the word items. The
+/// only error is that memory ran out.
+pub(crate) fn own_starts(
+    alloc: Global,
+    grammar: &Grammar,
+    classes: &[Class],
+    words: &[WordClasses],
+    node: &Node,
+) -> Result<Vec<ListedStart>, AllocError>
+    requires classes { AreClassesOf grammar.now classes.now }
+    requires words { AreWordClasses grammar.now words.now }
+    ensures { IfOk result (λ own. AreOwn grammar.now node.now own.items) }
+{
+    match node {
+        Node::Satisfy(expression) => class_starts(alloc, grammar, classes, expression),
+        Node::String(text) => string_starts(alloc, grammar, text),
+        Node::Word(word) => word_starts(alloc, grammar, words, *word),
+        Node::Try(part) => key_starts(alloc, grammar, classes, *part),
+        Node::Expression(_, _) => operator_starts(alloc, grammar, classes, words),
+        Node::Declare(excluded) => keyword_starts(alloc, grammar, classes, excluded),
+        Node::Seq(_)
+        | Node::Choice(_)
+        | Node::Many(_)
+        | Node::ChainLeft(_, _, _)
+        | Node::ChainRight(_, _, _)
+        | Node::NotFollowedBy(_)
+        | Node::EndOfText
+        | Node::Rule(_)
+        | Node::Text(_)
+        | Node::Skip(_)
+        | Node::Build(_, _, _)
+        | Node::Label(_, _) => Ok(Vec::new(alloc)),
+    }
+}
+
+/// One start. The only error is that memory ran out.
+fn one(alloc: Global, listed: ListedStart) -> Result<Vec<ListedStart>, AllocError>
+    ensures { IfOk result (λ own. own.items ≡ listed ∷ []) }
+{
+    let mut own = Vec::new(alloc);
+    own.push(listed)?;
+    Ok(own)
+}
+
+/// A character of the class.
+fn class_starts(
+    alloc: Global,
+    grammar: &Grammar,
+    classes: &[Class],
+    expression: &ClassExpression,
+) -> Result<Vec<ListedStart>, AllocError>
+    requires { AreClassesOf grammar.now classes.now }
+    ensures { IfOk result (λ own. AreOwn grammar.now (Node.Satisfy expression.now) own.items) }
+{
+    let class = class_in_grammar(alloc, grammar, classes, expression)?;
+    let start = Start::class(alloc, &class)?;
+    one(alloc, ListedStart { start, word: 0 })
+}
+
+/// The first character of the string.
+fn string_starts(
+    alloc: Global,
+    grammar: &Grammar,
+    text: &Characters,
+) -> Result<Vec<ListedStart>, AllocError>
+    ensures { IfOk result (λ own. AreOwn grammar.now (Node.String text.now) own.items) }
+{
+    let _items = grammar.class_items();
+    match text.as_slice() {
+        [] => Ok(Vec::new(alloc)),
+        [first, ..] => {
+            let class = character(alloc, *first)?;
+            let start = Start::class(alloc, &class)?;
+            one(alloc, ListedStart { start, word: 0 })
+        }
+    }
+}
+
+/// The class of one character.
+fn character(alloc: Global, c: char) -> Result<Class, AllocError>
+    ensures { IfOk result (λ class. class ≡ (c, c) ∷ []) }
+{
+    let class = class_between(alloc, c, c)?;
+    let _ranges = class.ranges();
+    Ok(class)
+}
+
+/// The words of the item.
+fn word_starts(
+    alloc: Global,
+    grammar: &Grammar,
+    words: &[WordClasses],
+    word: WordId,
+) -> Result<Vec<ListedStart>, AllocError>
+    requires { AreWordClasses grammar.now words.now }
+    ensures { IfOk result (λ own. AreOwn grammar.now (Node.Word word) own.items) }
+{
+    let items = grammar.word_items();
+    let number = word.index();
+    if number < items.len() {
+        let (item, classes) = (&items[number], &words[number]);
+        let listed = listed_words(
+            alloc,
+            grammar,
+            words,
+            &classes.head,
+            &classes.rest,
+            &item.reserved,
+        )?;
+        return one(alloc, listed);
+    }
+    Ok(Vec::new(alloc))
+}
+
+/// The whole string that is tried, without a character of the class behind it if there is one.
+fn key_starts(
+    alloc: Global,
+    grammar: &Grammar,
+    classes: &[Class],
+    part: NodeId,
+) -> Result<Vec<ListedStart>, AllocError>
+    requires { AreClassesOf grammar.now classes.now }
+    ensures { IfOk result (λ own. AreOwn grammar.now (Node.Try part) own.items) }
+{
+    let _nodes = grammar.nodes();
+    if let Some(text) = tried_string(grammar, part) {
+        let none = no_characters(alloc)?;
+        return key_start(alloc, text.as_slice(), &none);
+    }
+    if let Some((text, excluded)) = tried_keyword(grammar, part) {
+        let excluded = class_in_grammar(alloc, grammar, classes, excluded)?;
+        return key_start(alloc, text.as_slice(), &excluded);
+    }
+    Ok(Vec::new(alloc))
+}
+
+/// The class of no character.
+fn no_characters(alloc: Global) -> Result<Class, AllocError>
+    ensures { IfOk result (λ class. class ≡ []) }
+{
+    let class = class_in(alloc, &[])?;
+    let _ranges = class.ranges();
+    Ok(class)
+}
+
+/// A key, alone.
+fn key_start(alloc: Global, text: &[char], excluded: &Class) -> Result<Vec<ListedStart>, AllocError>
+    requires { 0 < length text.now }
+    ensures { IfOk result (λ own. own.items ≡ record { start = StartKind.Key text.now excluded.now; word = 0 } ∷ []) }
+{
+    let start = Start::key(alloc, text, excluded)?;
+    one(alloc, ListedStart { start, word: 0 })
+}
+
+/// The operators.
+fn operator_starts(
+    alloc: Global,
+    grammar: &Grammar,
+    classes: &[Class],
+    words: &[WordClasses],
+) -> Result<Vec<ListedStart>, AllocError>
+    requires classes { AreClassesOf grammar.now classes.now }
+    requires words { AreWordClasses grammar.now words.now }
+    ensures { IfOk result (λ own. (builders : OperatorBuilders) (term : ℕ) → AreOwn grammar.now (Node.Expression builders term) own.items) }
+{
+    match grammar.operators_item() {
+        Some(item) => {
+            let class = class_in_grammar(alloc, grammar, classes, &item.class)?;
+            let listed = listed_words(alloc, grammar, words, &class, &class, &item.reserved)?;
+            one(alloc, listed)
+        }
+        None => Ok(Vec::new(alloc)),
+    }
+}
+
+/// The keyword of each role, without a character of the class or one of a to z behind it.
+fn keyword_starts(
+    alloc: Global,
+    grammar: &Grammar,
+    classes: &[Class],
+    excluded: &ClassExpression,
+) -> Result<Vec<ListedStart>, AllocError>
+    requires { AreClassesOf grammar.now classes.now }
+    ensures { IfOk result (λ own. AreOwn grammar.now (Node.Declare excluded.now) own.items) }
+{
+    let class = class_in_grammar(alloc, grammar, classes, excluded)?;
+    let letters = class_between(alloc, 'a', 'z')?;
+    let excluded = class.union(alloc, &letters)?;
+    let _ranges = excluded.ranges();
+    let own = keyword_keys(alloc, &excluded)?;
+    Ok(own)
+}
+
+/// The keyword of each role as a key.
+fn keyword_keys(alloc: Global, excluded: &Class) -> Result<Vec<ListedStart>, AllocError>
+    ensures { IfOk result (λ own. own.items ≡ keyword_keys excluded.now) }
+{
+    let mut own = Vec::new(alloc);
+    own.push(keyword_key(alloc, Role::InfixLeft, excluded)?)?;
+    own.push(keyword_key(alloc, Role::InfixRight, excluded)?)?;
+    own.push(keyword_key(alloc, Role::InfixNone, excluded)?)?;
+    own.push(keyword_key(alloc, Role::Prefix, excluded)?)?;
+    own.push(keyword_key(alloc, Role::Postfix, excluded)?)?;
+    Ok(own)
+}
+
+/// The keyword of a role as a key.
+fn keyword_key(alloc: Global, role: Role, excluded: &Class) -> Result<ListedStart, AllocError>
+    ensures { IfOk result (λ listed. listed ≡ record { start = StartKind.Key (role_keyword role) excluded.now; word = 0 }) }
+{
+    let start = Start::key(alloc, keyword(role), excluded)?;
+    Ok(ListedStart { start, word: 0 })
+}
+
+/// The keyword of a role, as a declaration spells it.
+fn keyword(role: Role) -> &'static [char]
+    ensures same { result.now ≡ role_keyword role }
+    ensures spelled { 0 < length result.now }
+{
+    match role {
+        Role::InfixLeft => &['i', 'n', 'f', 'i', 'x', 'l'],
+        Role::InfixRight => &['i', 'n', 'f', 'i', 'x', 'r'],
+        Role::InfixNone => &['i', 'n', 'f', 'i', 'x'],
+        Role::Prefix => &['p', 'r', 'e', 'f', 'i', 'x'],
+        Role::Postfix => &['p', 'o', 's', 't', 'f', 'i', 'x'],
+    }
+}

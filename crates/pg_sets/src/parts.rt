@@ -1,0 +1,126 @@
+//! Which parts of a node are reached, and which rule a node uses.
+//!
+//! Nothing need be consumed before a part that is reached, which the marks of the nullable nodes tell.
+ghost use Rattle.std.specs.Prelude.{◌≡◌, ◌∷◌, [], ◌++◌, replicate, length, IfOk, OnOk, MatchOption};
+ghost use Rattle.pg_grammar.specs.Grammar.{IsGrammar};
+ghost use Rattle.pg_sets.specs.Parts.{up_to_unmarked, reached_parts, used_rules, all_joined};
+
+use crate::marks::is_marked;
+use crate::numbers::{Numbers, empty_lists, join, join_each};
+use pg_grammar::{Grammar, Node, NodeId, RuleId};
+use std::alloc::{AllocError, Global};
+
+/// For each node those that it is a reached part of. The only error is that memory ran out.
+pub(crate) fn reached_from(
+    alloc: Global,
+    grammar: &Grammar,
+    nullable: &[bool],
+) -> Result<Vec<Numbers>, AllocError>
+    ensures graph { IfOk result (λ graph. graph.items ≡
+        all_joined (reached_parts nullable.now) 0 grammar.now.nodes (replicate (length grammar.now.nodes) [])) }
+    ensures grammar { IsGrammar grammar.now }
+{
+    let nodes = grammar.nodes();
+    let mut graph = empty_lists(alloc, nodes.len())?;
+    for (number, node) in nodes.iter().enumerate() {
+        let parts = reached_parts(alloc, node, nullable)?;
+        join_each(&mut graph, parts.as_slice(), number)?;
+    }
+    Ok(graph)
+}
+
+/// For each rule the nodes that use it. The only error is that memory ran out.
+pub(crate) fn uses_of_rules(alloc: Global, grammar: &Grammar) -> Result<Vec<Numbers>, AllocError>
+    ensures { IfOk result (λ uses. uses.items ≡
+        all_joined used_rules 0 grammar.now.nodes (replicate (length grammar.now.rules) [])) }
+{
+    let mut uses = empty_lists(alloc, grammar.rules().len())?;
+    for (number, node) in grammar.nodes().iter().enumerate() {
+        if let Some(rule) = used_rule(node) {
+            join(&mut uses, rule.index(), number)?;
+        }
+    }
+    Ok(uses)
+}
+
+/// The parts of a node that are reached. The only error is that memory ran out.
+fn reached_parts(alloc: Global, node: &Node, nullable: &[bool]) -> Result<Vec<usize>, AllocError>
+    ensures { IfOk result (λ parts. parts.items ≡ reached_parts nullable.now node.now) }
+{
+    let mut reached = Vec::new(alloc);
+    match node {
+        Node::Seq(parts) => push_reached(&mut reached, parts.as_slice(), nullable)?,
+        Node::Choice(parts) => push_all(&mut reached, parts.as_slice())?,
+        Node::ChainLeft(_, operand, separator) | Node::ChainRight(_, operand, separator) => {
+            push_reached(&mut reached, &[*operand, *separator], nullable)?;
+        }
+        Node::Many(part)
+        | Node::Try(part)
+        | Node::Expression(_, part)
+        | Node::Text(part)
+        | Node::Skip(part)
+        | Node::Build(_, _, part)
+        | Node::Label(part, _) => reached.push(part.index())?,
+        Node::Satisfy(_)
+        | Node::String(_)
+        | Node::NotFollowedBy(_)
+        | Node::EndOfText
+        | Node::Word(_)
+        | Node::Rule(_)
+        | Node::Declare(_) => {}
+    }
+    Ok(reached)
+}
+
+/// Adds the numbers of these nodes, up to the first that isn't nullable. The only error is that memory ran out.
+fn push_reached(
+    reached: &mut Vec<usize>,
+    parts: &[NodeId],
+    nullable: &[bool],
+) -> Result<(), AllocError>
+    ensures { OnOk result (reached.new.items ≡ reached.old.items ++ up_to_unmarked nullable.now parts.now) }
+{
+    for part in parts {
+        reached.push(part.index())?;
+        if !is_marked(nullable, part.index()) {
+            return Ok(());
+        }
+    }
+    Ok(())
+}
+
+/// Adds the numbers of all these nodes. The only error is that memory ran out.
+fn push_all(numbers: &mut Vec<usize>, parts: &[NodeId]) -> Result<(), AllocError>
+    ensures { OnOk result (numbers.new.items ≡ numbers.old.items ++ parts.now) }
+{
+    for part in parts {
+        numbers.push(part.index())?;
+    }
+    Ok(())
+}
+
+/// The rule that a node uses, if it does nothing else.
+fn used_rule(node: &Node) -> Option<RuleId>
+    ensures { MatchOption result (used_rules node.now ≡ []) (λ rule. used_rules node.now ≡ rule ∷ []) }
+{
+    match node {
+        Node::Rule(rule) => Some(*rule),
+        Node::Satisfy(_)
+        | Node::String(_)
+        | Node::Seq(_)
+        | Node::Choice(_)
+        | Node::Many(_)
+        | Node::ChainLeft(_, _, _)
+        | Node::ChainRight(_, _, _)
+        | Node::Try(_)
+        | Node::NotFollowedBy(_)
+        | Node::EndOfText
+        | Node::Word(_)
+        | Node::Expression(_, _)
+        | Node::Declare(_)
+        | Node::Text(_)
+        | Node::Skip(_)
+        | Node::Build(_, _, _)
+        | Node::Label(_, _) => None,
+    }
+}

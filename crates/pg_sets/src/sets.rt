@@ -1,0 +1,105 @@
+//! The sets of a grammar, and the calls that read them.
+//!
+//! Callers see them as plain lists by the numbers of nodes and rules; `compute` says whose they are. Nothing writes them
+//! once they are made, and no call but `compute` takes memory.
+ghost use Rattle.std.specs.Prelude.{◌≡◌, IfOk};
+ghost use Rattle.pg_sets.specs.Graphs.{numbers_at};
+ghost use Rattle.pg_sets.specs.Marks.{is_marked};
+ghost use Rattle.pg_sets.specs.Ranks.{rank_at};
+
+use crate::heads::heads_of_rules;
+use crate::listed::ListedStart;
+use crate::marks::is_marked;
+use crate::nullable::nullable_nodes;
+use crate::numbers::{Numbers, numbers_at};
+use crate::ranks::{rank_at, ranks_of_rules};
+use crate::rules::{Rules, rules_at};
+use crate::start_sets::start_sets;
+use pg_grammar::{Grammar, NodeId, RuleId};
+use std::alloc::{AllocError, Global};
+use std::marker::Model;
+
+/// What a check judges a grammar by: the least sets of its nodes and rules.
+#[derive(Debug, Drop)]
+pub struct Sets {
+    nullable: Vec<bool>,
+    starts: Vec<ListedStart>,
+    firsts: Vec<Numbers>,
+    follows: Vec<Numbers>,
+    heads: Vec<Rules>,
+    ranks: Vec<Option<u32>>,
+}
+
+impl Model for Sets {
+    ghost use Rattle.pg_sets.specs.Sets.{Sets as Lists};
+
+    ghost Value = { Lists };
+
+    ghost view = { λ sets. record { nullable = sets.nullable.items; starts = sets.starts.items; firsts = sets.firsts.items; follows = sets.follows.items; heads = sets.heads.items; ranks = sets.ranks.items } };
+}
+
+impl Sets {
+    ghost use Rattle.pg_sets.specs.Sets.{AreSets};
+
+    /// The sets of the grammar, by the definitions alone (ours). The only error is that memory ran out.
+    pub fn compute(alloc: Global, grammar: &Grammar) -> Result<Sets, AllocError>
+        ensures { IfOk result (λ sets. AreSets grammar.now sets) }
+    {
+        let nullable = nullable_nodes(alloc, grammar)?;
+        let found = start_sets(alloc, grammar, &nullable)?;
+        let heads = heads_of_rules(alloc, grammar, &nullable)?;
+        let ranks = ranks_of_rules(alloc, grammar, &heads)?;
+        Ok(Sets {
+            nullable,
+            starts: found.starts,
+            firsts: found.firsts,
+            follows: found.follows,
+            heads,
+            ranks,
+        })
+    }
+
+    /// Whether the node can succeed on nothing.
+    pub fn nullable(&self, node: NodeId) -> bool
+        ensures { result ≡ is_marked self.now.nullable node }
+    {
+        is_marked(&self.nullable, node.index())
+    }
+
+    /// The starts of the grammar, each once: classes by their ranges, keys by text and then by what they exclude, words in
+    /// the order of their items, then the operators and the end. Sets give the numbers of starts in this list.
+    pub fn starts(&self) -> &[ListedStart]
+        ensures { result.now ≡ self.now.starts }
+    {
+        self.starts.as_slice()
+    }
+
+    /// The numbers of the starts that can begin what the node reads, from the lowest up, and so in the order of starts.
+    pub fn first(&self, node: NodeId) -> &[usize]
+        ensures { result.now ≡ numbers_at self.now.firsts node }
+    {
+        numbers_at(&self.firsts, node.index())
+    }
+
+    /// The numbers of the starts that can follow what the node reads, from the lowest up, and so in the order of starts.
+    pub fn follow(&self, node: NodeId) -> &[usize]
+        ensures { result.now ≡ numbers_at self.now.follows node }
+    {
+        numbers_at(&self.follows, node.index())
+    }
+
+    /// The rules whose use is reached in the rule's body before anything is consumed, from the lowest number up.
+    pub fn heads(&self, rule: RuleId) -> &[RuleId]
+        ensures { result.now ≡ numbers_at self.now.heads rule }
+    {
+        rules_at(&self.heads, rule.index())
+    }
+
+    /// 0 for a rule without heads, else 1 plus the greatest rank of its heads; none exactly where a chain of heads leads
+    /// from the rule to a cycle.
+    pub fn rank(&self, rule: RuleId) -> Option<u32>
+        ensures { result ≡ rank_at self.now.ranks rule }
+    {
+        rank_at(&self.ranks, rule)
+    }
+}

@@ -1,0 +1,50 @@
+//! First and follow sets: the starts that are reached along the edges of the sets (`flows.rt`), from where they come
+//! from (`origins.rt`).
+ghost use Rattle.std.specs.Prelude.{◌≡◌, ◌↔◌, ℕ, true, IfOk};
+ghost use Rattle.pg_sets.specs.Marks.{is_marked};
+ghost use Rattle.pg_sets.specs.Nullable.{Nullable};
+ghost use Rattle.pg_sets.specs.Sets.{AreStartSets};
+
+use crate::flows::flow_graph;
+use crate::gather::gathered;
+use crate::keys::key_tries;
+use crate::listed::ListedStart;
+use crate::numbers::Numbers;
+use crate::origins::listed_starts;
+use pg_grammar::Grammar;
+use std::alloc::{AllocError, Global};
+
+/// The starts of a grammar, and for each node the numbers of those in its sets.
+#[derive(Debug, Drop)]
+pub(crate) struct StartSets {
+    /// The starts in their order.
+    pub(crate) starts: Vec<ListedStart>,
+    /// For each node its first set.
+    pub(crate) firsts: Vec<Numbers>,
+    /// For each node its follow set.
+    pub(crate) follows: Vec<Numbers>,
+}
+
+/// The first and the follow sets of the grammar, by the marks of its nullable nodes. The only error is that memory ran
+/// out.
+pub(crate) fn start_sets(
+    alloc: Global,
+    grammar: &Grammar,
+    nullable: &[bool],
+) -> Result<StartSets, AllocError>
+    requires { (p : ℕ) → (is_marked nullable.now p ≡ true) ↔ Nullable grammar.now p }
+    ensures { IfOk result (λ sets. AreStartSets grammar.now sets.starts.items sets.firsts.items sets.follows.items) }
+{
+    let keys = key_tries(alloc, grammar)?;
+    let graph = flow_graph(alloc, grammar, nullable, keys.as_slice())?;
+    let listing = listed_starts(alloc, grammar)?;
+    let count = grammar.nodes().len();
+    let mut firsts = gathered(alloc, graph.as_slice(), listing.origins.as_slice())?;
+    prove!(count <= firsts.len());
+    let follows = firsts.split_off(count)?;
+    Ok(StartSets {
+        starts: listing.starts,
+        firsts,
+        follows,
+    })
+}
