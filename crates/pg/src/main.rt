@@ -2,8 +2,8 @@
 //!
 //! The files are opened in the order of the words, and only then read. Results go to standard
 //! output, and everything else to standard error, one line a fault. The exit status is 0 for a
-//! result, 1 for a text that doesn't parse or a probe that isn't ok, 2 for words or files that can't
-//! be used, and 3 for memory; if standard error takes nothing, it stays what it was.
+//! result, 1 for a grammar that isn't accepted, a text that doesn't parse or a probe that isn't ok, 2 for
+//! words or files that can't be used, and 3 for memory; if standard error takes nothing, it stays what it was.
 #![tactic(auto)]
 
 mod categories;
@@ -20,7 +20,7 @@ ghost use Rattle.pg_pred.specs.Offer.{offer_of};
 ghost use Rattle.pg.specs.ProgramOffer.{IsProgramOffer};
 
 use clap::error::ErrorKind;
-use pg_bench::{BenchFault, parse_bytes, print_bytes, probe_bytes};
+use pg_bench::{BenchFault, check_bytes, parse_bytes, print_bytes, probe_bytes};
 use pg_derive::Reading;
 use pg_pred::Registry;
 use pg_tree::{Meter, ReadFault, read_bytes};
@@ -36,7 +36,7 @@ use std::{env, fs, io};
 /// The most bytes of a grammar file that are read.
 const READ_LIMIT: usize = 67_108_864;
 
-/// The exit status of a probe whose answer isn't ok.
+/// The exit status of a grammar that isn't accepted, and of a probe whose answer isn't ok.
 const NO: u8 = 1;
 
 /// The exit status where words or files can't be used.
@@ -100,6 +100,7 @@ fn answer<R: AllocGlobal + Files + Print + Eprint>(
     requires { IsProgramOffer (offer_of registry.now) }
 {
     match request {
+        Request::Check { grammar } => check_file(rt, grammar, registry),
         Request::Parse { grammar, text } => parse_files(rt, grammar, text, registry),
         Request::Probe {
             grammar,
@@ -115,6 +116,23 @@ fn answer<R: AllocGlobal + Files + Print + Eprint>(
             probe_files(rt, grammar, text, registry, max_steps, reading)
         }
         Request::Print { grammar } => print_file(rt, grammar, registry),
+    }
+}
+
+/// Prints whether the grammar in a file is accepted, or what is wrong with it.
+fn check_file<R: AllocGlobal + Files + Print + Eprint>(
+    rt: &R,
+    grammar: &str,
+    registry: &Registry,
+) -> Result<u8, AllocError> {
+    let Some(bytes) = grammar_alone(rt, grammar)? else {
+        return Ok(UNUSABLE);
+    };
+    let mut writer = Meter::new(io::writer(rt));
+    match check_bytes(rt.alloc(), bytes.as_slice(), registry, &mut writer) {
+        Ok(true) => Ok(0),
+        Ok(false) => Ok(NO),
+        Err(fault) => print_report(rt, &fault, grammar, ""),
     }
 }
 
@@ -200,17 +218,30 @@ fn print_file<R: AllocGlobal + Files + Print + Eprint>(
     grammar: &str,
     registry: &Registry,
 ) -> Result<u8, AllocError> {
-    let Ok(grammar_file) = fs::open(rt, grammar) else {
-        return Ok(cannot_read(rt, grammar));
-    };
-    let Some(bytes) = grammar_bytes(rt, grammar_file)? else {
-        return Ok(cannot_read(rt, grammar));
+    let Some(bytes) = grammar_alone(rt, grammar)? else {
+        return Ok(UNUSABLE);
     };
     let mut writer = Meter::new(io::writer(rt));
     match print_bytes(rt.alloc(), bytes.as_slice(), registry, &mut writer) {
         Ok(()) => Ok(0),
         Err(fault) => print_report(rt, &fault, grammar, ""),
     }
+}
+
+/// The bytes of the grammar in a file; none if it can't be opened or read, which is printed.
+fn grammar_alone<R: AllocGlobal + Files + Eprint>(
+    rt: &R,
+    grammar: &str,
+) -> Result<Option<Vec<u8>>, AllocError> {
+    let Ok(grammar_file) = fs::open(rt, grammar) else {
+        cannot_read(rt, grammar);
+        return Ok(None);
+    };
+    let bytes = grammar_bytes(rt, grammar_file)?;
+    if bytes.is_none() {
+        cannot_read(rt, grammar);
+    }
+    Ok(bytes)
 }
 
 /// The bytes of an open grammar file, if they can be read and are within the limit.

@@ -9,9 +9,41 @@ use std::alloc::{AllocError, Global};
 /// The most steps that a probe may be given (ours).
 const MOST_STEPS: i64 = 1_000_000_000;
 
+// What the help of each command ends with: its statuses, and an example that can be run at the top of the repository.
+
+const HELP_OF_PROGRAM: &str =
+    "Exit status: 0 yes (accepted, parsed, an ok answer), 1 no (findings, no tree, any other answer),
+2 trouble (words or files that can't be used), 3 out of memory
+
+Example: pgw parse examples/digit.g examples/digit.txt";
+
+const HELP_OF_CHECK: &str =
+    "Exit status: 0 accepted, 1 findings, 2 trouble (words or files that can't be used), 3 out of memory
+
+Example: pgw check examples/color.g";
+
+const HELP_OF_PARSE: &str =
+    "Exit status: 0 parsed, 1 no parse, 2 trouble (words or files that can't be used), 3 out of memory
+
+Example: pgw parse examples/time.g examples/time.txt";
+
+const HELP_OF_PROBE: &str =
+    "Exit status: 0 an ok answer, 1 any other answer, 2 trouble (words or files that can't be used), 3 out of memory
+
+Example: pgw probe --steps 1000 examples/lost-alternative.g examples/lost-alternative.txt";
+
+const HELP_OF_PRINT: &str =
+    "Exit status: 0 printed, 2 trouble (words or files that can't be used), 3 out of memory
+
+Example: pgw print examples/color.g";
+
 /// What is asked. The names of files are relative to the caller's folder.
 #[derive(Clone, Copy, Debug, PartialEq, Eq)]
 pub enum Request<'a> {
+    /// Say whether the grammar is accepted, or what is wrong with it.
+    Check {
+        grammar: &'a str,
+    },
     /// Parse the text by the grammar, and print the forest.
     Parse {
         grammar: &'a str,
@@ -39,14 +71,24 @@ pub fn command<'a>(alloc: Global) -> Result<Command<'a>, AllocError> {
         .about("Runs grammars of parser combinators on texts")
         .subcommand_required(true)
         .arg_required_else_help(true)
+        .after_help(HELP_OF_PROGRAM)
+        .subcommand(check_command(alloc)?)?
         .subcommand(parse_command(alloc)?)?
         .subcommand(probe_command(alloc)?)?
         .subcommand(print_command(alloc)?)
 }
 
+fn check_command<'a>(alloc: Global) -> Result<Command<'a>, AllocError> {
+    Command::new(alloc, "check")
+        .about("Says whether a grammar is accepted, or what is wrong with it, a line each")
+        .after_help(HELP_OF_CHECK)
+        .arg(file(alloc, "grammar", "The grammar file"))
+}
+
 fn parse_command<'a>(alloc: Global) -> Result<Command<'a>, AllocError> {
     Command::new(alloc, "parse")
         .about("Parses a text by a grammar and prints the trees as JSON")
+        .after_help(HELP_OF_PARSE)
         .arg(file(alloc, "grammar", "The grammar file"))?
         .arg(file(alloc, "text", "The file with the text, in UTF-8"))
 }
@@ -54,6 +96,7 @@ fn parse_command<'a>(alloc: Global) -> Result<Command<'a>, AllocError> {
 fn probe_command<'a>(alloc: Global) -> Result<Command<'a>, AllocError> {
     Command::new(alloc, "probe")
         .about("Runs a grammar's start rule on a text as Parsec would, and prints its answer")
+        .after_help(HELP_OF_PROBE)
         .arg(steps(alloc))?
         .arg(report(alloc))?
         .arg(file(alloc, "grammar", "The grammar file"))?
@@ -82,6 +125,7 @@ fn report<'a>(alloc: Global) -> Arg<'a> {
 fn print_command<'a>(alloc: Global) -> Result<Command<'a>, AllocError> {
     Command::new(alloc, "print")
         .about("Prints a grammar file in canonical form")
+        .after_help(HELP_OF_PRINT)
         .arg(file(alloc, "grammar", "The grammar file"))
 }
 
@@ -97,6 +141,9 @@ fn file<'a>(alloc: Global, id: &'a str, help: &'a str) -> Arg<'a> {
 pub fn request_of<'a>(matches: &ArgMatches<'a>) -> Option<Request<'a>> {
     let (name, found) = matches.subcommand()?;
     match name {
+        "check" => Some(Request::Check {
+            grammar: found.get_str("grammar")?,
+        }),
         "parse" => Some(Request::Parse {
             grammar: found.get_str("grammar")?,
             text: found.get_str("text")?,

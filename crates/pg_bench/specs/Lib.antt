@@ -3,5 +3,5 @@ pub mod Outcomes
 pub mod Parsed
 pub mod Printing
 pub mod Texts
-pub mod Operators
+pub mod Checking
 pub mod Probing

@@ -124,6 +124,17 @@ IsFileRefusal NoParse = ⊥
 IsFileRefusal Writer = ⊥
 IsFileRefusal Memory = Unit {0}
 
+-- what reading the file of a grammar without operators refuses with
+abbrev pub IsPlainRefusal : BenchFault → Type 0
+IsPlainRefusal (File fault) = Unit {0}
+IsPlainRefusal NotRun = Unit {0}
+IsPlainRefusal Reader = ⊥
+IsPlainRefusal NotUtf8 = ⊥
+IsPlainRefusal TooLong = ⊥
+IsPlainRefusal NoParse = ⊥
+IsPlainRefusal Writer = ⊥
+IsPlainRefusal Memory = Unit {0}
+
 -- what reading the text refuses with
 abbrev pub IsReadRefusal : BenchFault → Type 0
 IsReadRefusal (File fault) = ⊥

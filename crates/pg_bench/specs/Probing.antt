@@ -22,7 +22,7 @@ use Rattle.pg_file.specs.Spells.{SpellsWithinLimits}
 use Rattle.pg_machine.specs.declared.answer.Success.{Success}
 use Rattle.pg_machine.specs.declared.answer.Outcome as ended
 use Rattle.pg_machine.specs.declared.answer.Outcome.TheVariants.{Answered, StepsUsed, EmptyRound}
-use Rattle.pg_bench.specs.Operators.{HasNoOperators}
+use Rattle.pg_predict.specs.Operators.{HasNoOperators}
 
 abbrev pub consumption : Bool → List ℕ
 consumption true = codes "consumed"

@@ -1,15 +1,16 @@
 //! From bytes to bytes: what the program does with a grammar file and a text, once they are open.
 //!
-//! `parse_bytes` parses the text that a reader gives and writes its forest, `probe_bytes` runs the start rule on it and writes
-//! what Parsec would answer, and `print_bytes` writes a grammar in canonical form. Their contracts speak of the bytes that
-//! were read and written and of what these spell, derive and answer. The predicates and builders that a file may name come
-//! in a registry.
+//! `check_bytes` writes whether a grammar is accepted, or all that is wrong with it. `parse_bytes` parses the text that a
+//! reader gives and writes its forest, `probe_bytes` runs the start rule on it and writes what Parsec would answer, and
+//! `print_bytes` writes a grammar in canonical form. Their contracts speak of the bytes that were read and written and of what
+//! these spell, derive and answer. The predicates and builders that a file may name come in a registry.
 #![tactic(auto)]
 
+mod check;
 mod fault;
 mod grammar_file;
 mod input;
-mod operators;
+mod output;
 mod page;
 mod parse;
 mod print;
@@ -20,6 +21,7 @@ mod running;
 mod tests;
 mod utf8;
 
+pub use check::check_bytes;
 pub use fault::BenchFault;
 pub use parse::parse_bytes;
 pub use print::print_bytes;

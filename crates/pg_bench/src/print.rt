@@ -7,9 +7,10 @@ ghost use Rattle.pg_bench.specs.Printing.{IsPrinted, IsPartlyPrinted, IsPrintRef
 
 use crate::fault::BenchFault;
 use crate::grammar_file::grammar_of;
+use crate::output::write_page;
 use pg_file::print;
 use pg_pred::Registry;
-use pg_tree::{Meter, WriteFault, write_bytes};
+use pg_tree::Meter;
 use std::alloc::Global;
 use std::io::Write;
 
@@ -42,9 +43,5 @@ pub fn print_bytes<W: Write>(
     let Ok(bytes) = print(alloc, &grammar) else {
         return Err(BenchFault::Memory);
     };
-    match write_bytes(bytes.as_slice(), writer) {
-        Ok(()) => Ok(()),
-        Err(WriteFault::Writer) => Err(BenchFault::Writer),
-        Err(WriteFault::Memory) => Err(BenchFault::Memory),
-    }
+    write_page(bytes.as_slice(), writer)
 }

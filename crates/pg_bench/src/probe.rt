@@ -7,14 +7,14 @@ ghost use Rattle.pg_pred.specs.Offer.{offer_of};
 ghost use Rattle.pg_grammar.specs.Fits.{Fits};
 ghost use Rattle.pg_file.specs.Spells.{HasInitialTable};
 ghost use Rattle.pg_tree.specs.Meter.{saturating_sum};
-ghost use Rattle.pg_bench.specs.Operators.{HasNoOperators};
+ghost use Rattle.pg_predict.specs.Operators.{HasNoOperators};
 ghost use Rattle.pg_bench.specs.Parsed.{SpellsNone, SpellsSome, SpellsOther, ReadsText, IsBehindFile, IsBehindReader, IsFileFault, IsTextRefusal, IsMemory, ComesBeforeWriting};
 ghost use Rattle.pg_bench.specs.Probing.{IsProbed, IsPartlyProbed, IsShownOf};
 
 use crate::fault::BenchFault;
-use crate::grammar_file::grammar_of;
+use crate::grammar_file::plain_grammar_of;
 use crate::input::{read_text, text_of};
-use crate::operators::has_no_operators;
+use crate::output::write_page;
 use crate::page::{is_ok, page_of};
 use pg_derive::Reading;
 use pg_grammar::Grammar;
@@ -22,7 +22,7 @@ use pg_machine::probe;
 use pg_pred::Registry;
 use pg_table::{InitialFault, Table};
 use pg_text::LIMIT;
-use pg_tree::{Meter, WriteFault, write_bytes};
+use pg_tree::Meter;
 use std::alloc::Global;
 use std::io::{Read, Write};
 
@@ -85,10 +85,7 @@ pub fn probe_bytes<R: Read, W: Write>(
 
     ensures asked { reader.new.calls ≤ saturating_sum reader.old.calls (4 * LIMIT + 1) }
 {
-    let grammar = grammar_of(alloc, grammar, registry)?;
-    if !has_no_operators(&grammar) {
-        return Err(BenchFault::NotRun);
-    }
+    let grammar = plain_grammar_of(alloc, grammar, registry)?;
     let bytes = read_text(alloc, reader)?;
     let shown = shown_of(
         alloc,
@@ -99,11 +96,8 @@ pub fn probe_bytes<R: Read, W: Write>(
         max_steps,
         reading,
     )?;
-    match write_bytes(shown.page.as_slice(), writer) {
-        Ok(()) => Ok(shown.accepted),
-        Err(WriteFault::Writer) => Err(BenchFault::Writer),
-        Err(WriteFault::Memory) => Err(BenchFault::Memory),
-    }
+    write_page(shown.page.as_slice(), writer)?;
+    Ok(shown.accepted)
 }
 
 /// What is printed of a run, and whether its answer is ok.

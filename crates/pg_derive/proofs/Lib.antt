@@ -19,3 +19,16 @@ pub mod PredictiveExample
 pub mod WholeTexts
 pub mod Later
 pub mod Readings
+pub mod Least
+pub mod ApartDecided
+pub mod StartLists
+pub mod Ranked
+pub mod Meetings
+pub mod LeastSets
+pub mod Levels
+pub mod LeavesFit
+pub mod LexemesDecided
+pub mod PartsFit
+pub mod FormsFit
+pub mod Faultless
+pub mod AcceptedTexts

@@ -8,3 +8,5 @@ pub mod ClosedSets
 pub mod Predictive
 pub mod PredictiveLaws
 pub mod WholeTexts
+pub mod LeastSets
+pub mod Accepted

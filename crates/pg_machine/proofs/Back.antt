@@ -1,8 +1,7 @@
 -- Soundness of a turn: what the machine comes to behind a turn it comes to before it.
-use Rattle.std.proofs.Common.{◌≡◌, ℕ, zero, suc, ◌+◌, List, [], ◌∷◌, ◌++◌, Bool, true, false, refl, subst, sym, ap, ◌∙◌, arith}
+use Rattle.std.proofs.Common.{◌≡◌, ℕ, zero, suc, ◌+◌, List, [], ◌∷◌, Bool, true, false, refl, subst, sym, ap, ◌∙◌, arith}
 use Rattle.std.specs.Prelude.{Option, Some, None, slice_get, ◌||◌}
 use Rattle.pg_tree.specs.Trees.{Tree}
-use Rattle.pg_tree.specs.declared.shape.Shape.{Shape}
 use Rattle.pg_grammar.specs.declared.form.Node.{Node}
 use Rattle.pg_grammar.specs.declared.form.Node.TheVariants as form
 use Rattle.pg_grammar.specs.declared.grammar.Rule as declared
@@ -15,14 +14,13 @@ use Rattle.pg_derive.specs.Answers as answers
 use Rattle.pg_derive.specs.Answers.{Given, Answers, entered, AnswersForm, AnswersParts, part, AfterPart, part_last, part_failed, part_stuck, part_ok, AnswersAlternatives, no_alternative, alternative, AfterAlternative, alternative_consumed, alternative_stands, alternative_waits, alternative_commits, alternative_failed, alternative_stuck, AnswersRounds, round, AfterRound, round_ended, round_failed, round_empty, round_stuck, round_ok, AnswersChain, chain, AfterFirst, first_failed, first_stuck, first_ok, AnswersLinks, link, AfterSeparator, separator_failed, separator_stuck, separator_ok, AfterOperand, operand_failed, operand_stuck, operand_ok}
 use Rattle.pg_derive.specs.Errors.{Error, nothing_said}
 use Rattle.pg_derive.specs.Outcomes.{Outcome, ok, failed, empty_round}
-use Rattle.pg_derive.specs.Reactions.{then_rest, then_round, noted, after_failure, unless_consumed, unless_begun, error_behind, as_finished}
-use Rattle.pg_derive.specs.declared.fold.Fold.{Fold}
+use Rattle.pg_derive.specs.Reactions.{then_rest, noted}
 use Rattle.pg_derive.specs.declared.fold.Fold.TheVariants.{FromLeft, FromRight}
 use Rattle.pg_derive.specs.declared.reading.Reading.{Reading}
 use Rattle.pg_derive.specs.declared.reading.Reading.TheVariants.{Library, Report}
-use Rattle.pg_machine.specs.Frames.{Before, none_before, before, behind_parts, with_part, Kept, none_kept, behind_kept, with_failure, with_empty_ok, behind_rounds, Chain, Linked, behind_links, Around, a_try, a_label, a_rule, a_text, a_skip, a_build, around, Frame, in_parts, in_choice, in_rounds, in_first, in_separator, in_operand, in_around}
-use Rattle.pg_machine.specs.Turns.{State, at_node, with_outcome, endless, next_alternative, enter_word, enter_rule, enter_form, enter_node, hand_empty_ok, hand_to_choice, hand_to_parts, hand_to_rounds, ended, first_linked, with_link, hand_to_first, hand_to_separator, next_link, hand_to_operand, hand, turn}
-use Rattle.pg_machine.specs.Finishes.{Gives, gives_parts, gives_choice, gives_rounds, gives_first, gives_separator, gives_operand, gives_around, Returns, returned, over, Finishes, entering, handing, HandedOn}
+use Rattle.pg_machine.specs.Frames.{Before, none_before, behind_parts, Kept, none_kept, behind_kept, with_failure, with_empty_ok, behind_rounds, Chain, Linked, behind_links, Around, a_try, a_label, a_rule, a_text, a_skip, a_build, around, Frame, in_parts, in_choice, in_rounds, in_first, in_separator, in_operand, in_around}
+use Rattle.pg_machine.specs.Turns.{at_node, with_outcome, next_alternative, enter_word, enter_rule, enter_form, enter_node, hand_empty_ok, hand_to_choice, hand_to_parts, hand_to_rounds, ended, with_link, hand_to_first, hand_to_separator, next_link, hand_to_operand, hand}
+use Rattle.pg_machine.specs.Finishes.{Gives, gives_parts, gives_choice, gives_rounds, gives_first, gives_separator, gives_operand, gives_around, Returns, over, Finishes, entering, handing, HandedOn}
 use Rattle.pg_machine.proofs.Joined.{behind_part, stuck_parts, behind_failure, behind_empty_ok, stuck_kept, behind_round, no_round, round_failed_so, rounds_none, behind_link, stuck_links, noted_more}
 
 -- so many rounds and their outcome

@@ -1,36 +1,31 @@
 -- The same of chains.
-use Rattle.std.proofs.Common.{◌≡◌, ℕ, zero, suc, ◌+◌, List, [], ◌∷◌, ◌++◌, Bool, true, false, refl, ap, sym, ◌∙◌, subst, append_assoc, append-nil, arith, length, take, drop}
+use Rattle.std.proofs.Common.{◌≡◌, ℕ, suc, List, [], ◌∷◌, ◌++◌, Bool, true, false, refl, ap, sym, ◌∙◌, append_assoc, append-nil, length, take}
 use Rattle.std.proofs.Math.Seq.{set-append_seam}
-use Rattle.std.specs.Prelude.{◌||◌, slice_set, Option, Some, None}
+use Rattle.std.specs.Prelude.{◌||◌, slice_set}
 use Rattle.pg_tree.specs.Trees.{Tree}
 use Rattle.pg_tree.specs.Built.{built}
 use Rattle.pg_tree.specs.declared.shape.Shape.{Shape}
 use Rattle.pg_grammar.specs.declared.trail.TrailItem.{TrailItem}
-use Rattle.pg_grammar.specs.declared.trail.TrailItem.TheVariants.{Alt, Rounds}
-use Rattle.pg_table.specs.Derives.{Spot, leaf_of, span}
+use Rattle.pg_grammar.specs.declared.trail.TrailItem.TheVariants.{Rounds}
+use Rattle.pg_table.specs.Derives.{Spot}
 use Rattle.pg_table.specs.Tables.{Table}
-use Rattle.pg_derive.specs.Answers.{Given}
 use Rattle.pg_derive.specs.Errors.{Error, merge, nothing_said}
-use Rattle.pg_derive.specs.Outcomes.{Outcome, ok, failed, empty_round}
-use Rattle.pg_derive.specs.Reactions.{error_behind, noted, then_rest, unless_begun, as_finished, finished, carried}
+use Rattle.pg_derive.specs.Outcomes.{ok, failed}
+use Rattle.pg_derive.specs.Reactions.{error_behind, noted, then_rest, unless_begun, as_finished, carried}
 use Rattle.pg_derive.specs.declared.fold.Fold.{Fold}
 use Rattle.pg_derive.specs.declared.fold.Fold.TheVariants.{FromLeft, FromRight}
-use Rattle.pg_derive.specs.declared.reading.Reading.{Reading}
-use Rattle.pg_derive.specs.declared.reading.Reading.TheVariants.{Library, Report}
-use Rattle.pg_machine.specs.Frames.{Before, none_before, before, behind_parts, Kept, none_kept, failed_kept, ok_kept, behind_kept, with_failure, with_empty_ok, Chain, Linked, folded, behind_links, Frame}
+use Rattle.pg_machine.specs.Frames.{Chain, Linked, folded, Frame}
 use Rattle.pg_machine.specs.Messages.{Said}
-use Rattle.pg_machine.specs.Shows.{plain, ShowsBefore, no_parts, some_parts, ShowsKept, nothing_kept, a_failure, an_empty_ok, Waits, none_wait, from_left, from_right, ShowsLinks, links, Stands, no_frames, stands_parts, stands_choice, stands_rounds, stands_first, stands_separator, stands_operand, Shows, shows_at, shows_fine, shows_failed, shows_stuck, shows_endless}
-use Rattle.pg_machine.specs.Tape.{spot_at, OnKept, no_kept, kept_failure, kept_empty_ok, OnChain, OnLinks, OnFrame, Tape, tape_at, tape_with, tape_endless, before_at, tape_next_part, tape_to_parts, tape_settled, tape_next_alternative, kept_why, kept_messages, kept_with_failure, kept_with_empty_ok, kept_held, tape_empty_ok, tape_to_choice, tape_to_rounds, built_behind, all_built, first_links, tape_to_first, end_why, end_messages, tape_ended, tape_to_separator, link_forest, link_waiting, link_left, more_links, tape_linked, tape_to_operand}
-use Rattle.pg_machine.specs.Turns.{State, at_node, with_outcome, endless, next_alternative, hand_empty_ok, hand_to_choice, hand_to_parts, hand_to_rounds, ended, first_linked, with_link, hand_to_first, hand_to_separator, next_link, hand_to_operand}
-use Rattle.pg_machine.specs.Why.{why_at, held_at, merged_why, merged_messages, why_behind, messages_behind, Says, Holds}
-use Rattle.pg_machine.specs.declared.frame.Before as declared
-use Rattle.pg_machine.specs.declared.frame.Reply.{Reply}
-use Rattle.pg_machine.specs.declared.frame.Reply.TheVariants.{Fine, Failed, EmptyRound}
+use Rattle.pg_machine.specs.Shows.{plain, Waits, none_wait, from_left, from_right, ShowsLinks, links, Stands, stands_separator, stands_operand, Shows, shows_at, shows_fine, shows_failed, shows_endless}
+use Rattle.pg_machine.specs.Tape.{spot_at, OnChain, OnLinks, OnFrame, tape_at, tape_with, built_behind, all_built, tape_to_first, tape_ended, tape_to_separator, link_forest, link_waiting, link_left, tape_linked, tape_to_operand}
+use Rattle.pg_machine.specs.Turns.{at_node, with_outcome, ended, with_link, hand_to_first, hand_to_separator, next_link, hand_to_operand}
+use Rattle.pg_machine.specs.Why.{held_at, Says, Holds}
+use Rattle.pg_machine.specs.declared.frame.Reply.TheVariants.{Fine, Failed}
 use Rattle.pg_machine.specs.declared.message_tape.Why.{Why}
 use Rattle.pg_machine.specs.declared.message_tape.Held.{Held}
 use Rattle.pg_machine.specs.Frames.{in_separator}
 use Rattle.pg_machine.specs.Tape.{on_separator}
-use Rattle.pg_machine.proofs.Merged.{drop_seam, take_seam, hold, nothing_says, alone, cut_said, merge_says, behind_says}
+use Rattle.pg_machine.proofs.Merged.{drop_seam, take_seam, hold, nothing_says, alone, merge_says, behind_says}
 use Rattle.pg_machine.proofs.Shown.{moved, turned, three}
 
 -- ---- what waits to be folded

@@ -1,9 +1,8 @@
 -- Characters that are read one after another.
-use Rattle.std.proofs.Common.{◌≡◌, ◌+◌, ◌-◌, ◌<◌, ◌≤◌, ℕ, zero, suc, List, [], ◌∷◌, Bool, true, false, nat_eq, refl, sym, ap, drop, take, length, arith, eq-eqb, eqb-true, subst, not, ◌∙◌, min, length-take}
+use Rattle.std.proofs.Common.{◌≡◌, ◌+◌, ℕ, zero, suc, List, [], ◌∷◌, Bool, true, false, nat_eq, refl, sym, ap, drop, take, arith, eq-eqb, eqb-true, not, ◌∙◌}
 use Rattle.std.specs.Prelude.{Some, None, slice_get, Option}
 use Rattle.std.specs.Option.{option_eq}
 use Rattle.std.specs.List.{prefix_len, take_while, common_prefix_len}
-use Rattle.std.proofs.lemmas.List.{take_min}
 
 -- what stands at a place begins what is left there
 pub dropped : (xs : List ℕ) (i x : ℕ) → slice_get xs i ≡ Some x → drop i xs ≡ x ∷ drop (i + 1) xs

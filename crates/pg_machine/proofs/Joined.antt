@@ -5,16 +5,16 @@ use Rattle.pg_tree.specs.Trees.{Tree}
 use Rattle.pg_grammar.specs.declared.trail.TrailItem.{TrailItem}
 use Rattle.pg_grammar.specs.declared.trail.TrailItem.TheVariants.{Rounds}
 use Rattle.pg_message.specs.Messages.{is_empty, with_messages}
-use Rattle.pg_message.specs.Errors.{later, merged}
+use Rattle.pg_message.specs.Errors.{merged}
 use Rattle.pg_message.specs.declared.error.ParseError.{ParseError}
 use Rattle.pg_message.proofs.Merging.{merged_assoc}
 use Rattle.pg_text.specs.Position.{start}
 use Rattle.pg_table.specs.Derives.{Spot}
 use Rattle.pg_derive.specs.Errors.{Error, merge, with_position, without_position}
 use Rattle.pg_derive.specs.Outcomes.{Outcome, ok, failed, empty_round}
-use Rattle.pg_derive.specs.Reactions.{error_behind, then_rest, then_round, noted, after_failure, unless_consumed, as_finished, with_forest, finished}
+use Rattle.pg_derive.specs.Reactions.{error_behind, then_rest, then_round, noted, after_failure, unless_consumed, as_finished}
 use Rattle.pg_machine.specs.Frames.{Before, none_before, before, behind_parts, with_part, Kept, none_kept, failed_kept, ok_kept, behind_kept, with_failure, with_empty_ok, behind_rounds, Chain, Linked, folded, behind_links}
-use Rattle.pg_machine.specs.Turns.{with_link, ended}
+use Rattle.pg_machine.specs.Turns.{with_link}
 
 -- ---- errors
 

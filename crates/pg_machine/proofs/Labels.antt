@@ -1,6 +1,6 @@
 -- Names in place of what was expected, on the list of messages.
 use Rattle.std.proofs.Common.{◌≡◌, List, [], ◌∷◌, ◌++◌, Bool, true, false, refl, ap, sym, ◌∙◌, subst, append_assoc, length, take, drop, ℕ}
-use Rattle.std.specs.Prelude.{◌==◌, if◌then◌else◌}
+use Rattle.std.specs.Prelude.{◌==◌}
 use Rattle.std.specs.Str.{encode_utf8_all}
 use Rattle.pg_message.specs.Messages.{Text, Messages, no_messages, is_empty}
 use Rattle.pg_message.specs.declared.answer.AnswerKind.TheVariants.{EmptyOk, EmptyError}

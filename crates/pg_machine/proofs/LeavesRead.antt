@@ -1,8 +1,8 @@
 -- What leaves put on the lists, by what they read.
-use Rattle.std.proofs.Common.{◌≡◌, ◌+◌, ◌<◌, ◌≤◌, ◌==◌, ℕ, zero, suc, List, [], ◌∷◌, ◌++◌, Bool, true, false, nat_eq, nat_lt, refl, sym, ap, ◌∙◌, drop, take, length, eq-eqb, arith, length-take, length-drop, if◌then◌else◌}
+use Rattle.std.proofs.Common.{◌≡◌, ◌+◌, ◌≤◌, ◌==◌, ℕ, zero, suc, List, [], ◌∷◌, Bool, true, false, nat_eq, nat_lt, refl, sym, ap, ◌∙◌, drop, take, length, eq-eqb, arith, length-take, length-drop, if◌then◌else◌}
 use Rattle.std.proofs.lemmas.Bool.Decides.{nat_tests}
 use Rattle.std.proofs.lemmas.Option.{slice_get_within}
-use Rattle.std.specs.Prelude.{Option, Some, None, slice_get, codes}
+use Rattle.std.specs.Prelude.{Option, Some, slice_get}
 use Rattle.std.specs.List.{list_any, common_prefix_len}
 use Rattle.std.specs.Str.{bytes_eq}
 use Rattle.pg_tree.specs.Trees.{Tree}
@@ -13,7 +13,7 @@ use Rattle.pg_grammar.specs.declared.trail.TrailItem.{TrailItem}
 use Rattle.pg_grammar.specs.declared.word_item.WordItem.{WordItem}
 use Rattle.pg_table.specs.Runs.{run_at}
 use Rattle.pg_table.specs.Tables.{Table}
-use Rattle.pg_derive.specs.Errors.{quote, next_text, seen_at, stopped_by, stopped_before, refused}
+use Rattle.pg_derive.specs.Errors.{quote, next_text, seen_at, stopped_before}
 use Rattle.pg_derive.specs.Leaves.{taken, satisfy_outcome, string_outcome, word_outcome, word_read, matched}
 use Rattle.pg_derive.specs.Outcomes.{failed}
 use Rattle.pg_machine.specs.Messages.{Said}

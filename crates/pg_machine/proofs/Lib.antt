@@ -13,3 +13,6 @@ pub mod Labels
 pub mod Turned
 pub mod Ready
 pub mod Running
+pub mod Places
+pub mod Going
+pub mod Whole

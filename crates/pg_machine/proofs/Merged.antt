@@ -1,22 +1,17 @@
 -- Errors on the list of messages are merged, kept and labelled as the relation's are.
-use Rattle.std.proofs.Common.{◌≡◌, ℕ, zero, suc, ◌+◌, List, [], ◌∷◌, ◌++◌, Bool, true, false, not, refl, ap, sym, ◌∙◌, subst, append_assoc, append-nil, arith, length, take, drop, length-append}
-use Rattle.std.proofs.Math.Seq.{take-append_seam}
-use Rattle.std.proofs.lemmas.List.Elements.{filter-append}
+use Rattle.std.proofs.Common.{◌≡◌, ℕ, suc, ◌+◌, List, [], ◌∷◌, ◌++◌, Bool, true, false, not, refl, ap, sym, ◌∙◌, subst, append_assoc, append-nil, arith, length, take, drop, length-append}
 use Rattle.std.proofs.lemmas.Bool.Decides.{nat_tests}
-use Rattle.std.specs.Prelude.{◌&&◌, ◌==◌, nat_lt, if◌then◌else◌, filter}
-use Rattle.std.specs.Str.{encode_utf8_all}
-use Rattle.pg_message.specs.Messages.{Text, Messages, no_messages, is_empty, with_text, with_texts, with_messages}
-use Rattle.pg_message.specs.Errors.{merged}
-use Rattle.pg_message.specs.declared.answer.AnswerKind.TheVariants.{ConsumedOk, ConsumedError, EmptyOk, EmptyError}
+use Rattle.std.specs.Prelude.{◌&&◌, ◌==◌, nat_lt, if◌then◌else◌}
+use Rattle.pg_message.specs.Messages.{Text, Messages, no_messages, is_empty, with_text, with_messages}
 use Rattle.pg_message.specs.declared.error.ParseError.{ParseError}
 use Rattle.pg_message.specs.declared.kind.MessageKind.{MessageKind}
 use Rattle.pg_message.specs.declared.kind.MessageKind.TheVariants.{SystemUnexpected, Unexpected, Expected, Plain}
 use Rattle.pg_message.proofs.TextLists.{with_texts-with_text, is_empty-with_texts}
 use Rattle.pg_text.specs.Position.{start}
-use Rattle.pg_derive.specs.Errors.{Error, merge, relabel, with_position, without_position, nothing_said}
+use Rattle.pg_derive.specs.Errors.{Error, merge, with_position, without_position, nothing_said}
 use Rattle.pg_derive.specs.Reactions.{error_behind}
-use Rattle.pg_machine.specs.Messages.{Said, with_said, with_all_said, error_of, is_expected, unexpected, named, relabelled}
-use Rattle.pg_machine.specs.Why.{why_at, held_at, unheld, Left, second, first, both, left_of, left_why, left_messages, left_here, merged_why, merged_messages, why_behind, messages_behind, Says, says, Holds, holds}
+use Rattle.pg_machine.specs.Messages.{Said, with_said, with_all_said, error_of}
+use Rattle.pg_machine.specs.Why.{why_at, held_at, Left, second, first, both, left_of, left_why, left_messages, left_here, merged_why, merged_messages, why_behind, messages_behind, Says, says, Holds, holds}
 use Rattle.pg_machine.specs.declared.message_tape.Held.{Held}
 use Rattle.pg_machine.specs.declared.message_tape.Why.{Why}
 

@@ -1,5 +1,5 @@
 -- Frames stay ready: their counts are bounded by the number of turns, and the builders that they name are offered.
-use Rattle.std.proofs.Common.{◌≡◌, ℕ, zero, suc, ◌+◌, ◌<◌, ◌≤◌, List, [], ◌∷◌, ◌++◌, Bool, true, false, arith, length, take, drop, refl}
+use Rattle.std.proofs.Common.{◌≡◌, ℕ, suc, ◌<◌, ◌≤◌, List, [], ◌∷◌, Bool, true, false, arith, length, take, drop, refl}
 use Rattle.std.specs.Prelude.{Option, Some, None, slice_get, ◌||◌}
 use Rattle.pg_tree.specs.Trees.{Tree}
 use Rattle.pg_pred.specs.Offer.{Offer}
@@ -17,7 +17,7 @@ use Rattle.pg_derive.specs.Outcomes.{Outcome}
 use Rattle.pg_derive.specs.declared.reading.Reading.{Reading}
 use Rattle.pg_derive.specs.declared.reading.Reading.TheVariants.{Library, Report}
 use Rattle.pg_machine.specs.Messages.{Said}
-use Rattle.pg_machine.specs.Tape.{OnKept, no_kept, kept_failure, kept_empty_ok, OnChain, OnLinks, OnFrame, on_parts, on_choice, on_rounds, on_first, on_separator, on_operand, on_try, on_label, on_rule, on_text, on_skip, on_build, Tape, tape_at, tape_with, tape_endless, spot_at, tape_leaf, joined_consumed, joined_why, joined_messages, tape_next_part, tape_to_parts, tape_settled, tape_next_alternative, kept_why, kept_messages, kept_with_failure, kept_with_empty_ok, kept_held, tape_empty_ok, tape_to_choice, tape_to_rounds, tape_to_first, tape_ended, tape_to_separator, link_forest, tape_linked, tape_to_operand, tape_hand, tape_chain, tape_rule, tape_word, tape_enter, tape_enter_at, tape_turn}
+use Rattle.pg_machine.specs.Tape.{OnKept, no_kept, kept_failure, kept_empty_ok, OnChain, OnLinks, OnFrame, on_parts, on_choice, on_rounds, on_first, on_separator, on_operand, on_try, on_label, on_rule, on_text, on_skip, on_build, Tape, tape_at, tape_with, tape_endless, tape_leaf, joined_consumed, joined_why, joined_messages, tape_next_part, tape_to_parts, tape_settled, tape_next_alternative, kept_messages, kept_with_failure, kept_with_empty_ok, kept_held, tape_empty_ok, tape_to_choice, tape_to_rounds, tape_to_first, tape_ended, tape_to_separator, link_forest, tape_linked, tape_to_operand, tape_hand, tape_rule, tape_word, tape_enter, tape_enter_at, tape_turn}
 use Rattle.pg_machine.specs.Ready.{IsReady, AreReady, IsTapeReady}
 use Rattle.pg_machine.specs.Why.{held_at, why_behind, messages_behind}
 use Rattle.pg_machine.specs.declared.frame.Before as before

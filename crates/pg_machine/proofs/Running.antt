@@ -1,10 +1,10 @@
 -- What holds of a run from the start rule, turn by turn, and what it ends with.
-use Rattle.std.proofs.Common.{◌≡◌, ℕ, zero, suc, ◌+◌, ◌*◌, ◌≤◌, ◌<◌, ◌-◌, ◌^◌, ◌⊎◌, inl, inr, List, [], ◌∷◌, ◌++◌, Bool, true, false, refl, sym, ap, subst, ◌∙◌, arith, length, drop}
+use Rattle.std.proofs.Common.{◌≡◌, ℕ, suc, ◌+◌, ◌≤◌, ◌<◌, ◌-◌, ◌^◌, ◌⊎◌, inl, inr, List, [], ◌++◌, true, false, refl, sym, ap, subst, ◌∙◌, arith, drop}
 use Rattle.std.specs.Prelude.{Option, Some, None, slice_get, option_map}
 use Rattle.pg_tree.specs.Trees.{Tree}
 use Rattle.pg_pred.specs.Offer.{Offer}
 use Rattle.pg_grammar.specs.Fits.{Fits}
-use Rattle.pg_grammar.specs.Grammar.{Grammar, rule_body}
+use Rattle.pg_grammar.specs.Grammar.{rule_body}
 use Rattle.pg_grammar.specs.declared.grammar.Rule as declared
 use Rattle.pg_grammar.specs.declared.trail.TrailItem.{TrailItem}
 use Rattle.pg_table.specs.Tables.{Table}
@@ -16,20 +16,18 @@ use Rattle.pg_derive.specs.Outcomes.{Outcome}
 use Rattle.pg_derive.proofs.Sound.{sound}
 use Rattle.pg_machine.specs.Frames.{Frame}
 use Rattle.pg_machine.specs.Messages.{Said, error_of}
-use Rattle.pg_machine.specs.Outcomes.{outcome_of, IsDerived, IsAnswer, IsOutcome, answer_on, IsStuck, IsUnanswered, IsAnswerOn, Ends}
-use Rattle.pg_machine.specs.Shows.{Stands, no_frames, stands_parts, stands_choice, stands_rounds, stands_first, stands_separator, stands_operand, stands_try, stands_label, stands_rule, stands_text, stands_skip, stands_build, Shows, shows_at, shows_fine, shows_failed, shows_stuck, shows_endless}
-use Rattle.pg_machine.specs.Tape.{spot_at, OnFrame, Tape, tape_at, tape_with, tape_endless, tape_turn, tape_is_last}
+use Rattle.pg_machine.specs.Outcomes.{outcome_of, IsDerived, IsOutcome, answer_on, IsStuck, IsUnanswered, Ends}
+use Rattle.pg_machine.specs.Shows.{no_frames, stands_parts, stands_choice, stands_rounds, stands_first, stands_separator, stands_operand, stands_try, stands_label, stands_rule, stands_text, stands_skip, stands_build, Shows, shows_at, shows_fine, shows_failed, shows_stuck, shows_endless}
+use Rattle.pg_machine.specs.Tape.{spot_at, OnFrame, Tape, tape_at, tape_turn, tape_is_last}
 use Rattle.pg_machine.specs.Ready.{IsTapeReady}
 use Rattle.pg_machine.specs.Turns.{State, at_node, with_outcome, endless, turn, is_last}
 use Rattle.pg_machine.specs.Why.{Says, says}
-use Rattle.pg_machine.specs.declared.answer.Answer.{Answer}
 use Rattle.pg_machine.specs.declared.answer.Outcome as ended
 use Rattle.pg_machine.specs.declared.answer.Outcome.TheVariants.{Answered, StepsUsed, EmptyRound}
-use Rattle.pg_machine.specs.declared.frame.Reply.TheVariants as reply
 use Rattle.pg_machine.specs.declared.message_tape.Why.{Why}
 use Rattle.pg_machine.proofs.Merged.{drop_seam}
 use Rattle.pg_machine.proofs.Ready.{turn_ready, tape_more}
-use Rattle.pg_machine.proofs.Runs.{Run, run_start, run_turn, run_answer, Stuck, run_stuck, run_short, run_endless}
+use Rattle.pg_machine.proofs.Runs.{Run, run_start, run_turn, run_answer, run_stuck, run_short, run_endless}
 use Rattle.pg_machine.proofs.Turned.{turn_shown, last_shown}
 
 -- the machine has this tape after so many turns, of at most so many, from the start rule at the start of the text
@@ -93,7 +91,7 @@ no_answer : {o : Outcome} → None ≡ Some o → ⊥
 no_answer e = absurd cc
 
 -- an answer on the tape is the outcome of the state
-answer_shown : {T : Table} {st : State} {x : Tape} {o : Outcome} → Shows T st x → answer_on T x ≡ Some o → st ≡ with_outcome o []
+pub answer_shown : {T : Table} {st : State} {x : Tape} {o : Outcome} → Shows T st x → answer_on T x ≡ Some o → st ≡ with_outcome o []
 answer_shown (shows_at h) e = absurd (no_answer e)
 answer_shown {T = T} {o = o} (shows_fine {w = w} {u = u} {c = c} {j = j} no_frames s) e =
     let f = said_there s in
@@ -131,11 +129,11 @@ answer_shown shows_stuck e = absurd (no_answer e)
 answer_shown shows_endless e = absurd (no_answer e)
 
 -- some frames, with the empty round handed to them
-record StuckState (st : State) : Type 0 where
-  frames : List Frame
-  is : st ≡ with_outcome outcome.empty_round frames
+pub record StuckState (st : State) : Type 0 where
+  pub frames : List Frame
+  pub is : st ≡ with_outcome outcome.empty_round frames
 
-stuck_shown : {T : Table} {st : State} {x : Tape} → Shows T st x → IsStuck x → StuckState st
+pub stuck_shown : {T : Table} {st : State} {x : Tape} → Shows T st x → IsStuck x → StuckState st
 stuck_shown (shows_at h) e = absurd e
 stuck_shown (shows_fine h s) e = absurd e
 stuck_shown (shows_failed w u h s) e = absurd e
@@ -143,7 +141,7 @@ stuck_shown (shows_stuck {fs = fs}) e = record { frames = fs; is = refl }
 stuck_shown shows_endless e = absurd e
 
 -- the last tape without an answer and without an empty round is the one without an end
-endless_shown : {T : Table} {st : State} {x : Tape} → Shows T st x → IsUnanswered x → tape_is_last x ≡ true → st ≡ endless
+pub endless_shown : {T : Table} {st : State} {x : Tape} → Shows T st x → IsUnanswered x → tape_is_last x ≡ true → st ≡ endless
 endless_shown (shows_at h) e l = cc
 endless_shown (shows_fine no_frames s) e l = absurd e
 endless_shown (shows_failed w u no_frames s) e l = absurd e

@@ -1,11 +1,11 @@
 -- Lists of messages: what is cut, closed and said anew.
-use Rattle.std.proofs.Common.{◌≡◌, ◌<◌, ◌≤◌, ◌+◌, ℕ, zero, suc, List, [], ◌∷◌, ◌++◌, Bool, true, false, not, refl, sym, ap, ◌∙◌, map, take, drop, length, append_assoc, append-nil, arith}
-use Rattle.std.specs.Prelude.{filter, Some, None, slice_get}
+use Rattle.std.proofs.Common.{◌≡◌, ◌≤◌, ◌+◌, ℕ, zero, suc, List, [], ◌∷◌, ◌++◌, true, false, refl, sym, ap, ◌∙◌, map, take, drop, length, append_assoc, append-nil, arith}
+use Rattle.std.specs.Prelude.{Some, slice_get}
 use Rattle.std.proofs.lemmas.List.{take-map, drop-map, map-append}
 use Rattle.pg_message.specs.Messages.{Text, Messages, has_text, of_kind, with_message}
 use Rattle.pg_message.specs.declared.kind.MessageKind.{MessageKind}
 use Rattle.pg_message.specs.declared.kind.MessageKind.TheVariants.{SystemUnexpected, Unexpected, Expected, Plain}
-use Rattle.pg_machine.specs.Messages.{Said, said_of, message_kind, with_said, with_all_said, error_of, is_expected, unexpected}
+use Rattle.pg_machine.specs.Messages.{Said, said_of, message_kind, with_said, is_expected, unexpected}
 use Rattle.pg_machine.specs.declared.message.Message.{Message}
 
 pub dropped_messages : (xs : List Message) (i : ℕ) (x : Message) → slice_get xs i ≡ Some x → drop i xs ≡ x ∷ drop (i + 1) xs

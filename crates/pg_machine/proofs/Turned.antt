@@ -1,5 +1,5 @@
 -- A turn of the machine over lists is a turn of the machine on plain values.
-use Rattle.std.proofs.Common.{◌≡◌, ℕ, zero, suc, ◌+◌, List, [], ◌∷◌, ◌++◌, Bool, true, false, refl, ap, sym, ◌∙◌, subst, append_assoc, append-nil, length, take, drop}
+use Rattle.std.proofs.Common.{◌≡◌, ℕ, suc, ◌+◌, List, [], ◌∷◌, ◌++◌, Bool, true, false, refl, subst, append-nil, length}
 use Rattle.std.specs.Prelude.{Option, Some, None, slice_get, codes, ◌==◌, nat_lt, if◌then◌else◌}
 use Rattle.std.specs.List.{list_any}
 use Rattle.std.specs.Str.{bytes_eq}
@@ -18,13 +18,13 @@ use Rattle.pg_grammar.specs.declared.word_item.WordItem.{WordItem}
 use Rattle.pg_table.specs.Runs.{run_at}
 use Rattle.pg_table.specs.Tables.{Table}
 use Rattle.pg_derive.specs.Answers.{Given}
-use Rattle.pg_derive.specs.Errors.{Error, nothing_said, quote, seen_at, stopped_by, stopped_before, refused, refused_before}
-use Rattle.pg_derive.specs.Leaves.{taken, satisfy_next, satisfy_outcome, word_read, word_next, word_outcome, not_followed_next, not_followed_outcome, matched, string_outcome, end_outcome}
-use Rattle.pg_derive.specs.Outcomes.{Outcome, ok, failed, empty_round}
+use Rattle.pg_derive.specs.Errors.{Error, quote, seen_at, stopped_by, stopped_before, refused, refused_before}
+use Rattle.pg_derive.specs.Leaves.{taken, satisfy_next, word_read, word_next, not_followed_next, matched, string_outcome, end_outcome}
+use Rattle.pg_derive.specs.Outcomes.{Outcome, ok, failed}
 use Rattle.pg_machine.specs.Frames.{Frame}
 use Rattle.pg_machine.specs.Messages.{Said, error_of}
 use Rattle.pg_machine.specs.Shows.{nothing_kept, Stands, no_frames, stands_parts, stands_choice, stands_rounds, stands_first, stands_separator, stands_operand, stands_try, stands_label, stands_rule, stands_text, stands_skip, stands_build, no_parts, Shows, shows_at, shows_fine, shows_failed, shows_stuck, shows_endless}
-use Rattle.pg_machine.specs.Tape.{spot_at, OnFrame, Tape, tape_leaf, listed, built_behind, tape_seq, tape_many, tape_chain, tape_rule, tape_word, tape_enter, tape_enter_at, tape_turn, tape_is_last}
+use Rattle.pg_machine.specs.Tape.{spot_at, OnFrame, Tape, tape_leaf, listed, built_behind, tape_rule, tape_word, tape_enter, tape_enter_at, tape_turn, tape_is_last}
 use Rattle.pg_machine.specs.Why.{why_at, Says}
 use Rattle.pg_machine.specs.Turns.{State, with_outcome, enter_word, enter_rule, enter_form, enter_node, turn, is_last}
 use Rattle.pg_machine.proofs.ChainsShown.{first_fine, first_failed, separator_fine, ended_shown, operand_fine, operand_failed}

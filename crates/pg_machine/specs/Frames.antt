@@ -1,5 +1,5 @@
 -- What nodes that were entered wait for, on plain values: each frame owns what came of its parts so far.
-use Rattle.std.specs.Prelude.{ℕ, List, [], ◌∷◌, ◌++◌, Bool, true, false, ◌||◌}
+use Rattle.std.specs.Prelude.{ℕ, List, [], ◌∷◌, ◌++◌, Bool, ◌||◌}
 use Rattle.pg_tree.specs.Trees.{Tree}
 use Rattle.pg_tree.specs.declared.shape.Shape.{Shape}
 use Rattle.pg_grammar.specs.declared.trail.TrailItem.{TrailItem}

@@ -8,3 +8,5 @@ pub mod Ready
 pub mod Shows
 pub mod View
 pub mod Outcomes
+pub mod Halting
+pub mod CheckedRuns

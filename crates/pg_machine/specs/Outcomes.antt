@@ -1,9 +1,6 @@
 -- What a run may end with.
-use Rattle.std.specs.Prelude.{◌≡◌, ◌<◌, ◌≤◌, ◌+◌, ◌*◌, ℕ, List, [], ◌∷◌, Bool, Option, Some, None, drop, slice_get}
-use Rattle.pg_tree.specs.Trees.{Tree}
+use Rattle.std.specs.Prelude.{◌≡◌, ◌<◌, ◌≤◌, ◌+◌, ◌*◌, ℕ, List, [], ◌∷◌, Bool, Option, Some, None, drop}
 use Rattle.pg_text.specs.Position.{position_of}
-use Rattle.pg_grammar.specs.declared.trail.TrailItem.{TrailItem}
-use Rattle.pg_grammar.specs.declared.grammar.Rule as declared
 use Rattle.pg_table.specs.Derives.{Spot, Derives}
 use Rattle.pg_table.specs.Tables.{Table}
 use Rattle.pg_derive.specs.Answers.{Given, AnswersStart}

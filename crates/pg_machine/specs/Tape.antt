@@ -1,5 +1,5 @@
 -- The machine over one forest, one trail and one list of messages: frames keep how long these lists were.
-use Rattle.std.specs.Prelude.{◌<◌, ◌-◌, ◌^◌, ℕ, suc, zero, ◌==◌, List, [], ◌∷◌, ◌++◌, length, take, drop, map, Option, Some, None, Bool, true, false, ◌||◌, slice_get, slice_set, if◌then◌else◌}
+use Rattle.std.specs.Prelude.{ℕ, suc, zero, ◌==◌, List, [], ◌∷◌, ◌++◌, length, take, drop, map, Option, Some, None, Bool, true, false, ◌||◌, slice_get, slice_set, if◌then◌else◌}
 use Rattle.pg_tree.specs.Built.{built}
 use Rattle.pg_tree.specs.Trees.{Tree}
 use Rattle.pg_tree.specs.declared.shape.Shape.{Shape}

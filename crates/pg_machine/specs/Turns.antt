@@ -1,5 +1,5 @@
 -- The machine on plain values: one turn enters a node, or hands an outcome to the topmost frame.
-use Rattle.std.specs.Prelude.{ℕ, zero, suc, ◌+◌, List, [], ◌∷◌, ◌++◌, Bool, true, false, ◌||◌, Option, Some, None, slice_get}
+use Rattle.std.specs.Prelude.{ℕ, zero, suc, List, [], ◌∷◌, ◌++◌, Bool, true, false, ◌||◌, Option, Some, None, slice_get}
 use Rattle.pg_tree.specs.Trees.{Tree}
 use Rattle.pg_grammar.specs.declared.form.Node.{Node}
 use Rattle.pg_grammar.specs.declared.form.Node.TheVariants as form
@@ -16,7 +16,7 @@ use Rattle.pg_derive.specs.Reactions.{noted, error_behind, unless_begun, carried
 use Rattle.pg_derive.specs.declared.fold.Fold.TheVariants.{FromLeft, FromRight}
 use Rattle.pg_derive.specs.declared.reading.Reading.{Reading}
 use Rattle.pg_derive.specs.declared.reading.Reading.TheVariants.{Library, Report}
-use Rattle.pg_machine.specs.Frames.{Before, none_before, behind_parts, with_part, Kept, none_kept, behind_kept, with_failure, with_empty_ok, behind_rounds, Chain, Linked, behind_links, Around, a_try, a_label, a_rule, a_text, a_skip, a_build, around, Frame, in_parts, in_choice, in_rounds, in_first, in_separator, in_operand, in_around}
+use Rattle.pg_machine.specs.Frames.{Before, none_before, behind_parts, with_part, Kept, none_kept, behind_kept, with_failure, with_empty_ok, Chain, Linked, behind_links, a_try, a_label, a_rule, a_text, a_skip, a_build, around, Frame, in_parts, in_choice, in_rounds, in_first, in_separator, in_operand, in_around}
 
 -- a node is to be entered, or an outcome to be handed to the topmost frame, or there is no outcome: a chain goes on without
 -- an end, or the node has no form that is run

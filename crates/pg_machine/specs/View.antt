@@ -1,5 +1,5 @@
 -- What the definitions see of the machine's values.
-use Rattle.std.specs.Prelude.{ℕ, List, [], ◌∷◌, reverse}
+use Rattle.std.specs.Prelude.{List, [], ◌∷◌, reverse}
 use Rattle.pg_tree.specs.Trees.{Tree}
 use Rattle.pg_grammar.specs.declared.trail.TrailItem.{TrailItem}
 use Rattle.pg_machine.specs.Messages.{Said}

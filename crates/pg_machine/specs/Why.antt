@@ -1,5 +1,5 @@
 -- The errors of answers as they lie on one list of messages.
-use Rattle.std.specs.Prelude.{ℕ, Bool, true, false, not, ◌&&◌, ◌==◌, nat_lt, if◌then◌else◌, List, [], ◌∷◌, ◌++◌, length, take, drop}
+use Rattle.std.specs.Prelude.{ℕ, Bool, true, false, not, ◌&&◌, ◌==◌, nat_lt, if◌then◌else◌, List, ◌++◌, length, take, drop}
 use Rattle.pg_derive.specs.Errors.{Error}
 use Rattle.pg_machine.specs.Messages.{Said, error_of}
 use Rattle.pg_machine.specs.declared.message_tape.Why.{Why}

@@ -214,7 +214,7 @@ fn behind<'m, 'a>(messages: &'m [Message<'a>], from: usize) -> &'m [Message<'a>]
 }
 
 /// The error at the place of which all this is said.
-fn told(
+pub(crate) fn told(
     alloc: Global,
     place: usize,
     position: Pos,

@@ -15,7 +15,7 @@ use Rattle.pg_grammar.proofs.Numbers.{bodies_are_nodes}
 use Rattle.pg_start.specs.declared.kind.StartKind.{StartKind}
 use Rattle.pg_sets.specs.First.{IsFirst, IsFirstOf}
 use Rattle.pg_sets.specs.First as first_of
-use Rattle.pg_sets.specs.Flows.{Flow, follow_of, flows_of_all, flows_of_some, flows_behind_parts, flows_of_alternatives, flows_of_chain, flows_of_only, try_flows, node_flows, with_flows, all_flows}
+use Rattle.pg_sets.specs.Flows.{Flow, follow_of, flows_of_all, flows_of_some, flows_of_next, flows_behind_parts, flows_of_alternatives, flows_of_chain, flows_of_only, try_flows, node_flows, with_flows, all_flows}
 use Rattle.pg_sets.specs.Follow.{StandsBefore, IsChain, HasOnly, IsFollow}
 use Rattle.pg_sets.specs.Follow as follow
 use Rattle.pg_sets.specs.Graphs.{has, numbers_at, IsReached}
@@ -33,6 +33,7 @@ use Rattle.pg_sets.specs.OwnStarts.{MarksKeys}
 use Rattle.pg_sets.proofs.Flowing.{IsIn, here, further, in_left, in_right, flows_length, edge_new, all_in}
 use Rattle.pg_sets.proofs.Heading.{MarksNullable, again_left}
 use Rattle.pg_sets.proofs.Lists.{all_get}
+use Rattle.pg_sets.proofs.Placing.{stands_next}
 use Rattle.pg_sets.proofs.Walking.{reached_below}
 
 -- ---- edges that are there
@@ -52,21 +53,15 @@ module _ (g : Grammar) (nullable : List Bool) (on : MarksNullable g nullable) wh
   first_in_some to (first_of.behind {part = p} {parts = ps} null later) then_so =
       first_in_some to later (λ u among is. then_so u (further (over p u to (flows_of_some nullable ps to) null among)) is)
 
-  first_in_all : {start : StartKind} {parts : List ℕ} {R : Type 0} (behind to : ℕ) → IsFirstOf g start parts
-      → ((u : ℕ) → IsIn u to (flows_of_all nullable parts behind to) → IsFirst g start u → R) → R
-  first_in_all behind to (first_of.here {part = p} is) then_so = then_so p here is
-  first_in_all behind to (first_of.behind {part = p} {parts = ps} null later) then_so =
-      first_in_all behind to later (λ u among is. then_so u (further (over p u to (flows_of_all nullable ps behind to) null among)) is)
-
   behind_all : {parts : List ℕ} (behind to : ℕ) → AllNullable g parts → IsIn behind to (flows_of_all nullable parts behind to)
   behind_all behind to nullable_of.none = here
   behind_all behind to (nullable_of.first {part = p} {parts = ps} null all) = further (over p behind to (flows_of_all nullable ps behind to) null (behind_all behind to all))
 
   behind_part : {q : ℕ} {rest parts : List ℕ} (p u x : ℕ) → StandsBefore q rest parts
-      → IsIn u x (flows_of_all nullable rest (follow_of (length g.nodes) p) (follow_of (length g.nodes) q)) → IsIn u x (flows_behind_parts nullable (length g.nodes) p parts)
+      → IsIn u x (flows_of_next nullable (length g.nodes) rest (follow_of (length g.nodes) p) (follow_of (length g.nodes) q)) → IsIn u x (flows_behind_parts nullable (length g.nodes) p parts)
   behind_part {q} {rest} p u x follow.here is = in_left (flows_behind_parts nullable (length g.nodes) p rest) is
   behind_part p u x (follow.further {first = r} {parts = ps} stands) is =
-      in_right (flows_of_all nullable ps (follow_of (length g.nodes) p) (follow_of (length g.nodes) r)) (behind_part p u x stands is)
+      in_right (flows_of_next nullable (length g.nodes) ps (follow_of (length g.nodes) p) (follow_of (length g.nodes) r)) (behind_part p u x stands is)
 
   alternative_first : (p : ℕ) (parts : List ℕ) (k q : ℕ) → slice_get parts k ≡ Some q → IsIn q p (flows_of_alternatives (length g.nodes) p parts)
   alternative_first p [] zero q e = absurd cc
@@ -209,6 +204,29 @@ module _ (g : Grammar) (start : StartKind) (nullable keys : List Bool) (on : Mar
   first_as : {s : StartKind} {p : ℕ} → s ≡ start → IsFirst g s p → IsReached graph roots p
   first_as {p = p} same is = first_met (subst (λ x. IsFirst g x p) same is)
 
+  -- along the parts of a sequence
+  along_part : {q : ℕ} {rest parts : List ℕ} (p u : ℕ) → slice_get g.nodes p ≡ Some (form.Seq parts) → StandsBefore q rest parts
+      → IsIn u (follow_of (length g.nodes) q) (flows_of_next nullable (length g.nodes) rest (follow_of (length g.nodes) p) (follow_of (length g.nodes) q))
+      → IsReached graph roots u → IsReached graph roots (follow_of (length g.nodes) q)
+  along_part {q} {rest} {parts} p u at stands is from =
+      to_follow_set p (form.Seq parts) u q at (stands_below g stands (below p (form.Seq parts) at))
+      (in_right (flows_of_some nullable parts p) (behind_part g nullable on p u (follow_of (length g.nodes) q) stands is)) from
+
+  over_next : (q r : ℕ) (rs : List ℕ) (behind : ℕ) → Nullable g r → IsIn (follow_of (length g.nodes) r) (follow_of (length g.nodes) q) (flows_of_next nullable (length g.nodes) (r ∷ rs) behind (follow_of (length g.nodes) q))
+  over_next q r rs behind null = further (over g nullable on r (follow_of (length g.nodes) r) (follow_of (length g.nodes) q) ((follow_of (length g.nodes) r, follow_of (length g.nodes) q) ∷ []) null here)
+
+  next_met : {s : StartKind} {q : ℕ} {rest parts : List ℕ} (p : ℕ) → slice_get g.nodes p ≡ Some (form.Seq parts) → StandsBefore q rest parts → s ≡ start → IsFirstOf g s rest
+      → IsReached graph roots (follow_of (length g.nodes) q)
+  next_met p at stands same (first_of.here {part = r} is) = along_part p r at stands here (first_as same is)
+  next_met {q = q} p at stands same (first_of.behind {part = r} {parts = rs} null later) =
+      along_part p (follow_of (length g.nodes) r) at stands (over_next q r rs (follow_of (length g.nodes) p) null) (next_met p at (stands_next stands) same later)
+
+  last_met : {q : ℕ} {rest parts : List ℕ} (p : ℕ) → slice_get g.nodes p ≡ Some (form.Seq parts) → StandsBefore q rest parts → AllNullable g rest
+      → IsReached graph roots (follow_of (length g.nodes) p) → IsReached graph roots (follow_of (length g.nodes) q)
+  last_met p at stands nullable_of.none from = along_part p (follow_of (length g.nodes) p) at stands here from
+  last_met {q = q} p at stands (nullable_of.first {part = r} {parts = rs} null all) from =
+      along_part p (follow_of (length g.nodes) r) at stands (over_next q r rs (follow_of (length g.nodes) p) null) (last_met p at (stands_next stands) all from)
+
   follow_as : {s : StartKind} {q : ℕ} → s ≡ start → IsFollow g s q → IsReached graph roots (follow_of (length g.nodes) q)
   follow_as same (follow.at_end {named} e) =
       let v = follow_of (length g.nodes) (rule_body named) in
@@ -219,16 +237,8 @@ module _ (g : Grammar) (start : StartKind) (nullable keys : List Bool) (on : Mar
   follow_as same (follow.used {p = p} {r = r} {named = named} at e f) =
       to_follow_set p (form.Rule r) (follow_of (length g.nodes) p) (rule_body named) at (body_below r named e)
       (use_flows p r (follow_of (length g.nodes) p) (follow_of (length g.nodes) (rule_body named)) named e (further here)) (follow_as same f)
-  follow_as same (follow.next p {q = q} {parts = parts} at stands f) =
-      first_in_all g nullable on (follow_of (length g.nodes) p) (follow_of (length g.nodes) q) f
-      (λ u is first.
-      to_follow_set p (form.Seq parts) u q at (stands_below g stands (below p (form.Seq parts) at))
-      (in_right (flows_of_some nullable parts p) (behind_part g nullable on p u (follow_of (length g.nodes) q) stands is)) (first_as same first))
-  follow_as same (follow.last {p = p} {q = q} {parts = parts} at stands all f) =
-      to_follow_set p (form.Seq parts) (follow_of (length g.nodes) p) q at (stands_below g stands (below p (form.Seq parts) at))
-      (in_right (flows_of_some nullable parts p)
-      (behind_part g nullable on p (follow_of (length g.nodes) p) (follow_of (length g.nodes) q) stands (behind_all g nullable on (follow_of (length g.nodes) p) (follow_of (length g.nodes) q) all)))
-      (follow_as same f)
+  follow_as same (follow.next p at stands f) = next_met p at stands same f
+  follow_as same (follow.last {p = p} at stands all f) = last_met p at stands all (follow_as same f)
   follow_as same (follow.alternative {p = p} {q = q} {parts = parts} k at e f) =
       to_follow_set p (form.Choice parts) (follow_of (length g.nodes) p) q at (all_get (λ r. r < length g.nodes) parts k q (below p (form.Choice parts) at) e)
       (alternative_follow g nullable on p parts k q e) (follow_as same f)

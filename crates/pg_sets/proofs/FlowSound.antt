@@ -12,7 +12,7 @@ use Rattle.pg_grammar.specs.declared.grammar.Rule as declared
 use Rattle.pg_start.specs.declared.kind.StartKind.{StartKind}
 use Rattle.pg_sets.specs.First.{IsFirst, IsFirstOf}
 use Rattle.pg_sets.specs.First as first_of
-use Rattle.pg_sets.specs.Flows.{Flow, follow_of, flows_of_all, flows_of_some, flows_behind_parts, flows_of_alternatives, flows_of_chain, flows_of_only, node_flows, with_flows, all_flows}
+use Rattle.pg_sets.specs.Flows.{Flow, follow_of, flows_of_all, flows_of_some, flows_of_next, flows_behind_parts, flows_of_alternatives, flows_of_chain, flows_of_only, node_flows, with_flows, all_flows}
 use Rattle.pg_sets.specs.Follow.{StandsBefore, IsChain, HasOnly, IsFollow}
 use Rattle.pg_sets.specs.Follow as follow
 use Rattle.pg_sets.specs.Marks.{is_marked}
@@ -26,6 +26,7 @@ use Rattle.pg_sets.specs.Graphs as walk
 use Rattle.pg_sets.proofs.Flowing.{IsIn, here, further, in_cases, edge_cases, all_told}
 use Rattle.pg_sets.proofs.Joining.{none_at}
 use Rattle.pg_sets.proofs.Lists.{all_get}
+use Rattle.pg_sets.proofs.Placing.{follow_comes, stands_next}
 use Rattle.pg_grammar.proofs.Each.{all-weaker}
 use Rattle.pg_grammar.proofs.Numbers.{parts_are_behind, bodies_are_nodes}
 use Rattle.pg_sets.proofs.Heading.{MarksNullable, again_shown}
@@ -105,19 +106,37 @@ module _ (g : Grammar) (start : StartKind) (nullable : List Bool) (on : MarksNul
   first_in (first_of.here {part = q} is) then_so = then_so q reached.first is
   first_in (first_of.behind null later) then_so = first_in later (λ q in_rest is. then_so q (reached.later null in_rest) is)
 
+  -- from what stands next in a sequence
+  next_sound : IsGrammar g → (p : ℕ) (whole : List ℕ) (q : ℕ) (qs : List ℕ) → slice_get g.nodes p ≡ Some (form.Seq whole) → StandsBefore q qs whole → Below g qs → p < length g.nodes
+      → (u x : ℕ) → IsIn u x (flows_of_next nullable (length g.nodes) qs (follow_of (length g.nodes) p) (follow_of (length g.nodes) q)) → Holds g start u → Holds g start x
+  next_sound grammar p whole q [] at stands below inside u x here from = to_follow g start q (λ few. follow.last at stands nullable_of.none (from_follow g start p inside from))
+  next_sound grammar p whole q [] at stands below inside u x (further none) from = elim none [ ]
+  next_sound grammar p whole q (r ∷ rs) at stands below inside u x here from = to_follow g start q (λ few. follow.next p at stands (first_of.here (from.first below.0)))
+  next_sound grammar p whole q (r ∷ rs) at stands below inside u x (further is) from = go (is_marked nullable r) refl is
+    where
+      over : {u x : ℕ} → Nullable g r → IsIn u x ((follow_of (length g.nodes) r, follow_of (length g.nodes) q) ∷ []) → Holds g start u → Holds g start x
+      over null here h =
+          to_follow g start q
+          (λ few.
+          elim (follow_comes g grammar p whole at (stands_next stands) (from_follow g start r below.0 h)) [
+            | inl first ↦ follow.next p at stands (first_of.behind null first)
+            | inr last ↦ follow.last at stands (nullable_of.first null last.0) last.1
+          ])
+      over null (further none) h = elim none [ ]
+
+      go : (b : Bool) → is_marked nullable r ≡ b → IsIn u x (cond b ((follow_of (length g.nodes) r, follow_of (length g.nodes) q) ∷ []) []) → Holds g start x
+      go true e i = over ((on r).0 e) i from
+      go false e i = elim i [ ]
+
   -- behind the parts of a sequence
-  behind_sound : (p : ℕ) (whole parts : List ℕ) → slice_get g.nodes p ≡ Some (form.Seq whole)
+  behind_sound : IsGrammar g → (p : ℕ) (whole parts : List ℕ) → slice_get g.nodes p ≡ Some (form.Seq whole)
       → ((q : ℕ) (rest : List ℕ) → StandsBefore q rest parts → StandsBefore q rest whole) → Below g parts → p < length g.nodes → (u x : ℕ)
       → IsIn u x (flows_behind_parts nullable (length g.nodes) p parts) → Holds g start u → Holds g start x
-  behind_sound p whole [] at tail below inside u x is from = elim is [ ]
-  behind_sound p whole (q ∷ qs) at tail below inside u x is from =
-      elim (in_cases u x (flows_of_all nullable qs (follow_of (length g.nodes) p) (follow_of (length g.nodes) q)) (flows_behind_parts nullable (length g.nodes) p qs) is) [
-        | inl one ↦
-            let stands = tail q qs follow.here in
-            all_sound qs (follow_of (length g.nodes) p) (follow_of (length g.nodes) q) u x below.1
-            (λ f. to_follow g start q (λ few. follow.next p at stands f))
-            (λ all h. to_follow g start q (λ few. follow.last at stands all (from_follow g start p inside h))) one from
-        | inr later ↦ behind_sound p whole qs at (λ r rest s. tail r rest (follow.further s)) below.1 inside u x later from
+  behind_sound grammar p whole [] at tail below inside u x is from = elim is [ ]
+  behind_sound grammar p whole (q ∷ qs) at tail below inside u x is from =
+      elim (in_cases u x (flows_of_next nullable (length g.nodes) qs (follow_of (length g.nodes) p) (follow_of (length g.nodes) q)) (flows_behind_parts nullable (length g.nodes) p qs) is) [
+        | inl one ↦ next_sound grammar p whole q qs at (tail q qs follow.here) below.1 inside u x one from
+        | inr later ↦ behind_sound grammar p whole qs at (λ r rest s. tail r rest (follow.further s)) below.1 inside u x later from
       ]
 
   -- of alternatives
@@ -246,7 +265,7 @@ module _ (g : Grammar) (start : StartKind) (nullable keys : List Bool) (on : Mar
         | inl first ↦
             some_sound g start nullable on parts p u x below
             (λ f. to_first g start p inside (first_in g start nullable on f (λ q r i. first_of.part at (λ k. elim k [ ]) (reached.seq r) i))) first from
-        | inr behind ↦ behind_sound g start nullable on p parts parts at (λ q rest s. s) below inside u x behind from
+        | inr behind ↦ behind_sound g start nullable on grammar p parts parts at (λ q rest s. s) below inside u x behind from
       ]
   node_sound p (form.Choice parts) at u x is from =
       alternatives_sound g start nullable on p parts parts at (λ k q e. record { place = k; there = e }) (parts_below p (form.Choice parts) at)

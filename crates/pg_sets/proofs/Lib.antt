@@ -19,3 +19,7 @@ pub mod Origin
 pub mod Adding
 pub mod Owned
 pub mod Ordered
+pub mod Growing
+pub mod HandingOn
+pub mod Spreading
+pub mod Placing

@@ -1,16 +1,16 @@
--- What is gathered from where starts come from is the first and the follow sets.
+-- What is spread from where starts come from is the first and the follow sets.
 use Rattle.std.proofs.Common.{◌≡◌, ℕ, zero, suc, ◌+◌, ◌<◌, Bool, true, List, [], ◌∷◌, Some, slice_get, length, map, take, drop, replicate, refl, sym, ap, subst, ◌∙◌, arith}
 use Rattle.std.specs.Prelude.{◌↔◌}
-use Rattle.std.specs.List.Sorted.{IsStrictlyIncreasing}
 use Rattle.std.proofs.lemmas.List.{length-map, length-replicate}
 use Rattle.pg_grammar.specs.Grammar.{Grammar, IsGrammar}
+use Rattle.pg_numbers.specs.Numbers.{contains, set_at}
 use Rattle.pg_start.specs.declared.kind.StartKind.{StartKind}
 use Rattle.pg_sets.specs.First.{IsFirst, IsFirstOf}
 use Rattle.pg_sets.specs.First as first_of
 use Rattle.pg_sets.specs.Flows.{follow_of, with_flows, all_flows}
 use Rattle.pg_sets.specs.Follow.{IsFollow}
 use Rattle.pg_sets.specs.Follow as follow_of_node
-use Rattle.pg_sets.specs.Graphs.{has, numbers_at, IsGathered}
+use Rattle.pg_sets.specs.Graphs.{has, numbers_at, AreSpread}
 use Rattle.pg_sets.specs.Listed.{start_of}
 use Rattle.pg_sets.specs.Origins.{AreListed}
 use Rattle.pg_sets.specs.OwnStarts.{MarksKeys}
@@ -25,16 +25,16 @@ use Rattle.pg_sets.proofs.Heading.{MarksNullable}
 
 -- ---- lists in two parts
 
-taken_at : (lists : List (List ℕ)) (count k : ℕ) → k < count → numbers_at (take count lists) k ≡ numbers_at lists k
-taken_at lists zero k below = absurd (omega arith)
+taken_at : (sets : List (List Bool)) (count k : ℕ) → k < count → set_at (take count sets) k ≡ set_at sets k
+taken_at sets zero k below = absurd (omega arith)
 taken_at [] (suc count) k below = refl
 taken_at (l ∷ ls) (suc count) zero below = refl
 taken_at (l ∷ ls) (suc count) (suc k) below = taken_at ls count k (omega arith)
 
-dropped_at : (lists : List (List ℕ)) (count k : ℕ) → numbers_at (drop count lists) k ≡ numbers_at lists (count + k)
-dropped_at lists zero k = let same : k ≡ 0 + k = omega arith in ap (numbers_at lists) same
+dropped_at : (sets : List (List Bool)) (count k : ℕ) → set_at (drop count sets) k ≡ set_at sets (count + k)
+dropped_at sets zero k = let same : k ≡ 0 + k = omega arith in ap (set_at sets) same
 dropped_at [] (suc count) k = cc
-dropped_at (l ∷ ls) (suc count) k = let next : suc (count + k) ≡ suc count + k = omega arith in dropped_at ls count k ∙ ap (numbers_at (l ∷ ls)) next
+dropped_at (l ∷ ls) (suc count) k = let next : suc (count + k) ≡ suc count + k = omega arith in dropped_at ls count k ∙ ap (set_at (l ∷ ls)) next
 
 -- ---- starts without their names
 
@@ -96,65 +96,63 @@ follow_comes (follow_of_node.last_term at is) = follow_comes is
 follow_comes (follow_of_node.only at has_only is) = follow_comes is
 
 module _ (g : Grammar) (nullable keys : List Bool) (on : MarksNullable g nullable) (tries : MarksKeys g keys) (grammar : IsGrammar g)
-    (graph roots sets : List (List ℕ)) (graph_is : graph ≡ with_flows (replicate (length g.nodes + length g.nodes) []) (all_flows g.rules nullable keys (length g.nodes) 0 g.nodes))
-    (starts : List ListedStart) (are : AreListed g starts roots) (gathered : IsGathered graph roots (length roots) sets) where
+    (graph roots : List (List ℕ)) (sets : List (List Bool)) (graph_is : graph ≡ with_flows (replicate (length g.nodes + length g.nodes) []) (all_flows g.rules nullable keys (length g.nodes) 0 g.nodes))
+    (starts : List ListedStart) (are : AreListed g starts roots) (spread : AreSpread graph roots sets) where
   pub graph_size : length graph ≡ length g.nodes + length g.nodes
   graph_size = ap length graph_is ∙ (flows_length (replicate (length g.nodes + length g.nodes) []) (all_flows g.rules nullable keys (length g.nodes) 0 g.nodes) ∙ length-replicate {A = List ℕ} (length g.nodes + length g.nodes) [])
 
-  firsts_of : (p k : ℕ) (start : StartKind) → p < length g.nodes → slice_get (map start_of starts) k ≡ Some start → (has (numbers_at sets p) k ≡ true) ↔ IsFirst g start p
-  firsts_of = first_sets g nullable keys on tries grammar graph roots sets graph_is (map start_of starts) (are_sources g starts roots are) gathered
+  firsts_of : (p k : ℕ) (start : StartKind) → p < length g.nodes → slice_get (map start_of starts) k ≡ Some start → (contains (set_at sets p) k ≡ true) ↔ IsFirst g start p
+  firsts_of = first_sets g nullable keys on tries grammar graph roots sets graph_is (map start_of starts) (are_sources g starts roots are) spread
 
   follows_of : (p k : ℕ) (start : StartKind) → p < length g.nodes → slice_get (map start_of starts) k ≡ Some start
-      → (has (numbers_at sets (follow_of (length g.nodes) p)) k ≡ true) ↔ IsFollow g start p
-  follows_of = follow_sets g nullable keys on tries grammar graph roots sets graph_is (map start_of starts) (are_sources g starts roots are) gathered
+      → (contains (set_at sets (follow_of (length g.nodes) p)) k ≡ true) ↔ IsFollow g start p
+  follows_of = follow_sets g nullable keys on tries grammar graph roots sets graph_is (map start_of starts) (are_sources g starts roots are) spread
 
-  first_place : (p : ℕ) → p < length g.nodes → numbers_at (take (length g.nodes) sets) p ≡ numbers_at sets p
+  first_place : (p : ℕ) → p < length g.nodes → set_at (take (length g.nodes) sets) p ≡ set_at sets p
   first_place p below = taken_at sets (length g.nodes) p below
 
-  follow_place : (p : ℕ) → p < length g.nodes → numbers_at (drop (length g.nodes) sets) p ≡ numbers_at sets (follow_of (length g.nodes) p)
-  follow_place p below = dropped_at sets (length g.nodes) p ∙ ap (numbers_at sets) (sym (follow_is (length g.nodes) p below))
+  follow_place : (p : ℕ) → p < length g.nodes → set_at (drop (length g.nodes) sets) p ≡ set_at sets (follow_of (length g.nodes) p)
+  follow_place p below = dropped_at sets (length g.nodes) p ∙ ap (set_at sets) (sym (follow_is (length g.nodes) p below))
 
-  bounded : (v k : ℕ) → v < length graph → has (numbers_at sets v) k ≡ true → k < length starts
-  bounded v k below h = let long = are.long in let few = ((gathered.members v k below).0 h).0 in omega arith
+  limited : (v : ℕ) → v < length graph → length (set_at sets v) ≡ length starts
+  limited v below = spread.limit v below ∙ are.long
 
   pub are_start_sets : AreStartSets g starts (take (length g.nodes) sets) (drop (length g.nodes) sets)
   are_start_sets = record {
     ordered = are.ordered;
     listed = are.listed;
     first = λ p start below. (
-      λ h. subst (λ s. IsFirst g s p) h.same ((firsts_of p h.number (start_of h.listed) below (unnamed starts h.number h.listed h.there)).0 (ap (λ ns. has ns h.number) (sym (first_place p below)) ∙ h.member)),
+      λ h. subst (λ s. IsFirst g s p) h.same ((firsts_of p h.number (start_of h.listed) below (unnamed starts h.number h.listed h.there)).0 (ap (λ set. contains set h.number) (sym (first_place p below)) ∙ h.member)),
       λ is.
           let comes = first_comes is in
           let at = are.all start comes.set comes.source in
           record {
             number = at.place;
             listed = at.listed;
-            member = ap (λ ns. has ns at.place) (first_place p below)
+            member = ap (λ set. contains set at.place) (first_place p below)
                 ∙ (firsts_of p at.place (start_of at.listed) below (unnamed starts at.place at.listed at.there)).1 (subst (λ s. IsFirst g s p) (sym at.same) is);
             there = at.there;
             same = at.same;
           },
     );
     follow = λ p start below. (
-      λ h. subst (λ s. IsFollow g s p) h.same ((follows_of p h.number (start_of h.listed) below (unnamed starts h.number h.listed h.there)).0 (ap (λ ns. has ns h.number) (sym (follow_place p below)) ∙ h.member)),
+      λ h. subst (λ s. IsFollow g s p) h.same ((follows_of p h.number (start_of h.listed) below (unnamed starts h.number h.listed h.there)).0 (ap (λ set. contains set h.number) (sym (follow_place p below)) ∙ h.member)),
       λ is.
           let comes = follow_comes is in
           let at = are.all start comes.set comes.source in
           record {
             number = at.place;
             listed = at.listed;
-            member = ap (λ ns. has ns at.place) (follow_place p below)
+            member = ap (λ set. contains set at.place) (follow_place p below)
                 ∙ (follows_of p at.place (start_of at.listed) below (unnamed starts at.place at.listed at.there)).1 (subst (λ s. IsFollow g s p) (sym at.same) is);
             there = at.there;
             same = at.same;
           },
     );
-    first_numbers = λ p k below h. let size = graph_size in bounded p k (omega arith) (ap (λ ns. has ns k) (sym (first_place p below)) ∙ h);
-    follow_numbers = λ p k below h.
+    first_limit = λ p below. let size = graph_size in ap length (first_place p below) ∙ limited p (omega arith);
+    follow_limit = λ p below.
         let size = graph_size in
         let place = follow_is (length g.nodes) p below in
-        bounded (follow_of (length g.nodes) p) k (omega arith) (ap (λ ns. has ns k) (sym (follow_place p below)) ∙ h);
-    first_ascending = λ p below. subst IsStrictlyIncreasing (sym (first_place p below)) (gathered.ascending p);
-    follow_ascending = λ p below. subst IsStrictlyIncreasing (sym (follow_place p below)) (gathered.ascending (follow_of (length g.nodes) p));
+        ap length (follow_place p below) ∙ limited (follow_of (length g.nodes) p) (omega arith);
     plain = are.plain;
   }

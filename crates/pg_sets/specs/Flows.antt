@@ -31,10 +31,15 @@ abbrev pub flows_of_some : List Bool → List ℕ → ℕ → List Flow
 flows_of_some nullable [] to = []
 flows_of_some nullable (q ∷ qs) to = (q, to) ∷ (if is_marked nullable q then flows_of_some nullable qs to else [])
 
+-- to a set from what stands next, and from what follows that if it is nullable; from another set where nothing stands next
+abbrev pub flows_of_next : List Bool → ℕ → List ℕ → ℕ → ℕ → List Flow
+flows_of_next nullable count [] behind to = (behind, to) ∷ []
+flows_of_next nullable count (q ∷ qs) behind to = (q, to) ∷ (if is_marked nullable q then (follow_of count q, to) ∷ [] else [])
+
 -- to the follow set of each part of a sequence
 abbrev pub flows_behind_parts : List Bool → ℕ → ℕ → List ℕ → List Flow
 flows_behind_parts nullable count p [] = []
-flows_behind_parts nullable count p (q ∷ qs) = flows_of_all nullable qs (follow_of count p) (follow_of count q) ++ flows_behind_parts nullable count p qs
+flows_behind_parts nullable count p (q ∷ qs) = flows_of_next nullable count qs (follow_of count p) (follow_of count q) ++ flows_behind_parts nullable count p qs
 
 -- to and from the sets of each alternative
 abbrev pub flows_of_alternatives : ℕ → ℕ → List ℕ → List Flow

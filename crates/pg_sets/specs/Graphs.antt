@@ -2,6 +2,7 @@
 use Rattle.std.specs.Prelude.{◌≡◌, ◌↔◌, ◌<◌, ◌==◌, ℕ, Bool, true, false, List, [], ◌∷◌, ◌++◌, length, slice_set, slice_index_or}
 use Rattle.std.specs.List.{list_any}
 use Rattle.std.specs.List.Sorted.{IsStrictlyIncreasing}
+use Rattle.pg_numbers.specs.Numbers.{contains, set_at}
 
 -- whether a number is among these
 abbrev pub has : List ℕ → ℕ → Bool
@@ -35,3 +36,9 @@ pub record IsGathered (graph roots : List (List ℕ)) (count : ℕ) (sets : List
   pub long : length sets ≡ length graph
   pub members : (v k : ℕ) → v < length graph → (has (numbers_at sets v) k ≡ true) ↔ ((k < count) × IsReached graph (numbers_at roots k) v)
   pub ascending : (v : ℕ) → IsStrictlyIncreasing (numbers_at sets v)
+
+-- for each vertex the numbers of the lists of roots from which it is reached, as a set of numbers below how many lists there are
+pub record AreSpread (graph roots : List (List ℕ)) (sets : List (List Bool)) : Type 0 where
+  pub long : length sets ≡ length graph
+  pub limit : (v : ℕ) → v < length graph → length (set_at sets v) ≡ length roots
+  pub members : (v k : ℕ) → v < length graph → (contains (set_at sets v) k ≡ true) ↔ ((k < length roots) × IsReached graph (numbers_at roots k) v)

@@ -18,3 +18,4 @@ pub mod Own
 pub mod Origins
 pub mod Sets
 pub mod PrintedStarts
+pub mod Spread

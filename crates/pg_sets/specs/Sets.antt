@@ -1,12 +1,12 @@
 -- The sets of a grammar.
 use Rattle.std.specs.Prelude.{◌≡◌, ◌↔◌, ◌<◌, ℕ, Bool, true, List, Option, Some, slice_get, length}
-use Rattle.std.specs.List.Sorted.{IsStrictlyIncreasing, IsStrictlySortedBy}
+use Rattle.std.specs.List.Sorted.{IsStrictlySortedBy}
 use Rattle.pg_grammar.specs.Grammar.{Grammar}
 use Rattle.pg_grammar.specs.declared.form.Node.{Node}
+use Rattle.pg_numbers.specs.Numbers.{contains, set_at}
 use Rattle.pg_start.specs.declared.kind.StartKind.{StartKind}
 use Rattle.pg_sets.specs.First.{IsFirst}
 use Rattle.pg_sets.specs.Follow.{IsFollow}
-use Rattle.pg_sets.specs.Graphs.{has, numbers_at}
 use Rattle.pg_sets.specs.Listed.{IsListed, start_order}
 use Rattle.pg_sets.specs.Marks.{is_marked}
 use Rattle.pg_sets.specs.Nullable.{Nullable}
@@ -16,35 +16,33 @@ use Rattle.pg_sets.specs.Ranks.{AreRanks}
 use Rattle.pg_sets.specs.Reached.{AreHeads}
 use Rattle.pg_sets.specs.declared.listed.ListedStart.{ListedStart}
 
--- a mark for each node that is nullable; the starts; for each node the numbers of the starts that are among its first and
--- of those that can follow it; for each rule its heads, and its rank
+-- a mark for each node that is nullable; the starts; for each node the set of the numbers of the starts that are among its
+-- first, and of those that can follow it; for each rule its heads, and its rank
 pub record Sets : Type 0 where
   pub nullable : List Bool
   pub starts : List ListedStart
-  pub firsts : List (List ℕ)
-  pub follows : List (List ℕ)
+  pub firsts : List (List Bool)
+  pub follows : List (List Bool)
   pub heads : List (List ℕ)
   pub ranks : List (Option ℕ)
 
--- the start has one of these numbers
-pub record HasStart (starts : List ListedStart) (numbers : List ℕ) (start : StartKind) : Type 0 where
+-- the start has a number in the set
+pub record HasStart (starts : List ListedStart) (set : List Bool) (start : StartKind) : Type 0 where
   pub number : ℕ
   pub listed : ListedStart
-  pub member : has numbers number ≡ true
+  pub member : contains set number ≡ true
   pub there : slice_get starts number ≡ Some listed
   pub same : listed.start ≡ start
 
--- these are the first and the follow sets of the grammar: the starts stand in their order, each once and under its name,
--- and the numbers of each set ascend
-pub record AreStartSets (g : Grammar) (starts : List ListedStart) (firsts follows : List (List ℕ)) : Type 0 where
+-- these are the first and the follow sets of the grammar: the starts stand in their order, each once and under its name, and
+-- sets are of numbers below how many starts there are
+pub record AreStartSets (g : Grammar) (starts : List ListedStart) (firsts follows : List (List Bool)) : Type 0 where
   pub ordered : IsStrictlySortedBy start_order starts
   pub listed : (k : ℕ) (listed : ListedStart) → slice_get starts k ≡ Some listed → IsListed g listed
-  pub first : (p : ℕ) (start : StartKind) → p < length g.nodes → HasStart starts (numbers_at firsts p) start ↔ IsFirst g start p
-  pub follow : (p : ℕ) (start : StartKind) → p < length g.nodes → HasStart starts (numbers_at follows p) start ↔ IsFollow g start p
-  pub first_numbers : (p k : ℕ) → p < length g.nodes → has (numbers_at firsts p) k ≡ true → k < length starts
-  pub follow_numbers : (p k : ℕ) → p < length g.nodes → has (numbers_at follows p) k ≡ true → k < length starts
-  pub first_ascending : (p : ℕ) → p < length g.nodes → IsStrictlyIncreasing (numbers_at firsts p)
-  pub follow_ascending : (p : ℕ) → p < length g.nodes → IsStrictlyIncreasing (numbers_at follows p)
+  pub first : (p : ℕ) (start : StartKind) → p < length g.nodes → HasStart starts (set_at firsts p) start ↔ IsFirst g start p
+  pub follow : (p : ℕ) (start : StartKind) → p < length g.nodes → HasStart starts (set_at follows p) start ↔ IsFollow g start p
+  pub first_limit : (p : ℕ) → p < length g.nodes → length (set_at firsts p) ≡ length starts
+  pub follow_limit : (p : ℕ) → p < length g.nodes → length (set_at follows p) ≡ length starts
   -- a character of a class, a word and a key have a start of their own
   pub plain : (p : ℕ) (n : Node) → slice_get g.nodes p ≡ Some n → IsPlain g n → (start : StartKind) × OwnStart g n start
 

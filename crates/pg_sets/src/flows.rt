@@ -4,7 +4,7 @@
 //! to its own first set and to the follow sets of its parts. A part that can be empty lets through what is behind it.
 ghost use Rattle.std.specs.Prelude.{◌≡◌, ◌≤◌, ◌+◌, [], ◌∷◌, ◌++◌, replicate, length, IfOk, OnOk};
 ghost use Rattle.pg_grammar.specs.Grammar.{IsGrammar};
-ghost use Rattle.pg_sets.specs.Flows.{follow_of, with_flows, flows_of_all, flows_of_some, flows_behind_parts, flows_of_alternatives, flows_of_chain, flows_of_only, flows_of_use, try_flows, node_flows, all_flows};
+ghost use Rattle.pg_sets.specs.Flows.{follow_of, with_flows, flows_of_all, flows_of_some, flows_of_next, flows_behind_parts, flows_of_alternatives, flows_of_chain, flows_of_only, flows_of_use, try_flows, node_flows, all_flows};
 
 use crate::marks::is_marked;
 use crate::numbers::{Numbers, empty_lists, join};
@@ -119,6 +119,31 @@ fn join_some(
     Ok(())
 }
 
+/// Adds the edges to a set from what stands next, and from what follows that if it can be empty; from another set where
+/// nothing stands next. A part is a part of one sequence at one place, so what follows it comes from there alone.
+fn join_next(
+    graph: &mut [Numbers],
+    nullable: &[bool],
+    count: usize,
+    parts: &[NodeId],
+    behind: usize,
+    to: usize,
+) -> Result<(), AllocError>
+    requires { count ≤ 8192 }
+    ensures { OnOk result (graph.new ≡ with_flows graph.old (flows_of_next nullable.now count parts.now behind to)) }
+{
+    match parts {
+        [] => join(graph, behind, to),
+        [next, ..] => {
+            join(graph, next.index(), to)?;
+            if is_marked(nullable, next.index()) {
+                join(graph, follow_of(count, next.index()), to)?;
+            }
+            Ok(())
+        }
+    }
+}
+
 /// Adds the edges of a sequence.
 fn join_seq(
     graph: &mut [Numbers],
@@ -134,9 +159,10 @@ fn join_seq(
     join_some(graph, nullable, parts, number)?;
     let mut rest = parts;
     while let Some((part, behind)) = rest.split_first() {
-        join_all(
+        join_next(
             graph,
             nullable,
+            count,
             behind,
             follow_of(count, number),
             follow_of(count, part.index()),

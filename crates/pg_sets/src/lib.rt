@@ -3,8 +3,8 @@
 //!
 //! [`Sets::compute`] works all of it out once; the calls of [`Sets`] take no memory. Every set is the least that its
 //! definition allows. Nullable nodes and ranks are found in rounds, until a round finds none; all other sets are told as a
-//! graph and walked (`walk.rt`). The starts of a grammar stand in one list, each once and in their order, so a set is an
-//! ascending list of numbers.
+//! graph, along which first and follow sets are handed on (`spread.rt`) and heads are walked (`walk.rt`). The starts of a
+//! grammar stand in one list, each once and in their order, so a first or a follow set is a set of numbers.
 #![tactic(auto)]
 
 mod classes;
@@ -23,6 +23,7 @@ mod printed;
 mod ranks;
 mod rules;
 mod sets;
+mod spread;
 mod start_sets;
 mod walk;
 mod words;

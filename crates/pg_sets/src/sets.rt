@@ -1,8 +1,9 @@
 //! The sets of a grammar, and the calls that read them.
 //!
-//! Callers see them as plain lists by the numbers of nodes and rules; `compute` says whose they are. Nothing writes them
+//! Callers see them as lists by the numbers of nodes and rules; `compute` says whose they are. Nothing writes them
 //! once they are made, and no call but `compute` takes memory.
-ghost use Rattle.std.specs.Prelude.{◌≡◌, IfOk};
+ghost use Rattle.std.specs.Prelude.{◌≡◌, [], IfOk};
+ghost use Rattle.pg_numbers.specs.Numbers.{set_at};
 ghost use Rattle.pg_sets.specs.Graphs.{numbers_at};
 ghost use Rattle.pg_sets.specs.Marks.{is_marked};
 ghost use Rattle.pg_sets.specs.Ranks.{rank_at};
@@ -11,11 +12,11 @@ use crate::heads::heads_of_rules;
 use crate::listed::ListedStart;
 use crate::marks::is_marked;
 use crate::nullable::nullable_nodes;
-use crate::numbers::{Numbers, numbers_at};
 use crate::ranks::{rank_at, ranks_of_rules};
 use crate::rules::{Rules, rules_at};
 use crate::start_sets::start_sets;
 use pg_grammar::{Grammar, NodeId, RuleId};
+use pg_numbers::NumberSet;
 use std::alloc::{AllocError, Global};
 use std::marker::Model;
 
@@ -24,18 +25,23 @@ use std::marker::Model;
 pub struct Sets {
     nullable: Vec<bool>,
     starts: Vec<ListedStart>,
-    firsts: Vec<Numbers>,
-    follows: Vec<Numbers>,
+    firsts: Vec<NumberSet>,
+    follows: Vec<NumberSet>,
     heads: Vec<Rules>,
     ranks: Vec<Option<u32>>,
+    /// The set of a node that isn't there.
+    none: NumberSet,
 }
 
 impl Model for Sets {
+    ghost use Rattle.std.specs.Prelude.{◌≡◌, []};
     ghost use Rattle.pg_sets.specs.Sets.{Sets as Lists};
 
     ghost Value = { Lists };
 
     ghost view = { λ sets. record { nullable = sets.nullable.items; starts = sets.starts.items; firsts = sets.firsts.items; follows = sets.follows.items; heads = sets.heads.items; ranks = sets.ranks.items } };
+
+    ghost invariant = { λ sets. sets.none ≡ [] };
 }
 
 impl Sets {
@@ -49,6 +55,7 @@ impl Sets {
         let found = start_sets(alloc, grammar, &nullable)?;
         let heads = heads_of_rules(alloc, grammar, &nullable)?;
         let ranks = ranks_of_rules(alloc, grammar, &heads)?;
+        let none = NumberSet::new(alloc, 0)?;
         Ok(Sets {
             nullable,
             starts: found.starts,
@@ -56,6 +63,7 @@ impl Sets {
             follows: found.follows,
             heads,
             ranks,
+            none,
         })
     }
 
@@ -67,25 +75,25 @@ impl Sets {
     }
 
     /// The starts of the grammar, each once: classes by their ranges, keys by text and then by what they exclude, words in
-    /// the order of their items, then the operators and the end. Sets give the numbers of starts in this list.
+    /// the order of their items, then the operators and the end. First and follow sets have the numbers of starts in this list.
     pub fn starts(&self) -> &[ListedStart]
         ensures { result.now ≡ self.now.starts }
     {
         self.starts.as_slice()
     }
 
-    /// The numbers of the starts that can begin what the node reads, from the lowest up, and so in the order of starts.
-    pub fn first(&self, node: NodeId) -> &[usize]
-        ensures { result.now ≡ numbers_at self.now.firsts node }
+    /// The numbers of the starts that can begin what the node reads.
+    pub fn first(&self, node: NodeId) -> &NumberSet
+        ensures { result.now ≡ set_at self.now.firsts node }
     {
-        numbers_at(&self.firsts, node.index())
+        set_at(&self.firsts, node.index(), &self.none)
     }
 
-    /// The numbers of the starts that can follow what the node reads, from the lowest up, and so in the order of starts.
-    pub fn follow(&self, node: NodeId) -> &[usize]
-        ensures { result.now ≡ numbers_at self.now.follows node }
+    /// The numbers of the starts that can follow what the node reads.
+    pub fn follow(&self, node: NodeId) -> &NumberSet
+        ensures { result.now ≡ set_at self.now.follows node }
     {
-        numbers_at(&self.follows, node.index())
+        set_at(&self.follows, node.index(), &self.none)
     }
 
     /// The rules whose use is reached in the rule's body before anything is consumed, from the lowest number up.
@@ -101,5 +109,16 @@ impl Sets {
         ensures { result ≡ rank_at self.now.ranks rule }
     {
         rank_at(&self.ranks, rule)
+    }
+}
+
+/// One of the sets; a set that isn't there is the one with no number.
+fn set_at<'a>(sets: &'a [NumberSet], set: usize, none: &'a NumberSet) -> &'a NumberSet
+    requires { none.now ≡ [] }
+    ensures { result.now ≡ set_at sets.now set }
+{
+    match sets.get(set) {
+        Some(numbers) => numbers,
+        None => none,
     }
 }

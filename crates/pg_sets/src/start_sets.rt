@@ -1,28 +1,28 @@
-//! First and follow sets: the starts that are reached along the edges of the sets (`flows.rt`), from where they come
-//! from (`origins.rt`).
+//! First and follow sets: the starts that come along the edges of the sets (`flows.rt`), from where they come from
+//! (`origins.rt`).
 ghost use Rattle.std.specs.Prelude.{◌≡◌, ◌↔◌, ℕ, true, IfOk};
 ghost use Rattle.pg_sets.specs.Marks.{is_marked};
 ghost use Rattle.pg_sets.specs.Nullable.{Nullable};
 ghost use Rattle.pg_sets.specs.Sets.{AreStartSets};
 
 use crate::flows::flow_graph;
-use crate::gather::gathered;
 use crate::keys::key_tries;
 use crate::listed::ListedStart;
-use crate::numbers::Numbers;
 use crate::origins::listed_starts;
+use crate::spread::spread;
 use pg_grammar::Grammar;
+use pg_numbers::NumberSet;
 use std::alloc::{AllocError, Global};
 
-/// The starts of a grammar, and for each node the numbers of those in its sets.
+/// The starts of a grammar, and for each node the numbers of those that are in its sets.
 #[derive(Debug, Drop)]
 pub(crate) struct StartSets {
     /// The starts in their order.
     pub(crate) starts: Vec<ListedStart>,
     /// For each node its first set.
-    pub(crate) firsts: Vec<Numbers>,
+    pub(crate) firsts: Vec<NumberSet>,
     /// For each node its follow set.
-    pub(crate) follows: Vec<Numbers>,
+    pub(crate) follows: Vec<NumberSet>,
 }
 
 /// The first and the follow sets of the grammar, by the marks of its nullable nodes. The only error is that memory ran
@@ -39,7 +39,7 @@ pub(crate) fn start_sets(
     let graph = flow_graph(alloc, grammar, nullable, keys.as_slice())?;
     let listing = listed_starts(alloc, grammar)?;
     let count = grammar.nodes().len();
-    let mut firsts = gathered(alloc, graph.as_slice(), listing.origins.as_slice())?;
+    let mut firsts = spread(alloc, graph.as_slice(), listing.origins.as_slice())?;
     prove!(count <= firsts.len());
     let follows = firsts.split_off(count)?;
     Ok(StartSets {

@@ -2,6 +2,7 @@
 
 use crate::form_word::form_word;
 use pg_grammar::{Grammar, NodeId, Rule, RuleId};
+use pg_numbers::NumberSet;
 use pg_pred::Registry;
 use pg_sets::{ListedStart, Sets, printed_start};
 use serde_json::Value;
@@ -49,8 +50,8 @@ fn start_count(grammar: &Grammar, sets: &Sets) -> usize {
     for number in 0..grammar.nodes().len() {
         let node = NodeId::new(number);
         count = count
-            .saturating_add(sets.first(node).len())
-            .saturating_add(sets.follow(node).len());
+            .saturating_add(sets.first(node).count())
+            .saturating_add(sets.follow(node).count());
     }
     count
 }
@@ -125,17 +126,17 @@ fn show_sets<R: AllocGlobal + Print>(
     println!(rt)
 }
 
-/// Prints the starts with these numbers, in brackets.
+/// Prints the starts whose numbers are in the set, in brackets.
 fn show_starts<R: AllocGlobal + Print>(
     rt: &R,
     grammar: &Grammar,
     starts: &[ListedStart],
-    numbers: &[usize],
+    set: &NumberSet,
 ) -> io::Result<()> {
     print!(rt; "[")?;
     let mut separator = "";
-    for number in numbers {
-        if let Some(start) = starts.get(*number) {
+    for (number, start) in starts.iter().enumerate() {
+        if set.contains(number) {
             print!(rt; "{separator}{}", printed_start(rt.alloc(), grammar, start)?)?;
             separator = SEPARATOR;
         }

@@ -1,18 +1,32 @@
 use Rattle.std.proofs.Common.{ℕ, List, subst, ◌∙◌}
+use Rattle.std.proofs.lemmas.Result.{on_ok_weaker}
 use Rattle.std.specs.Io.KnownBytes.{Appends}
+use Rattle.pg_tree.specs.Bytes.{AppendsFront}
 use Rattle.pg_pred.specs.Offer.{offer_of}
 use Rattle.pg_file.specs.Spells.{Spells}
+use Rattle.pg_bench.proofs.Results.{on_this_err}
 use Rattle.pg_bench.proofs.print.print_bytes.Goals as goal
 
-pub returns-in-Ok-write_bytes-clause-ok : goal.returns-in-Ok-write_bytes-clause-ok
-returns-in-Ok-write_bytes-clause-ok g c =
+pub returns-clause-ok : goal.returns-clause-ok
+returns-clause-ok g c =
     let offer = offer_of c.args.registry.now in
     let spelled = c.in_ok-grammar.ensures.ok in
-    record {
+    on_ok_weaker c.write_page.result
+    (λ written. record {
       grammar = c.in_ok-grammar.grammar;
       spelled = spelled;
       again = subst (λ (bytes : List ℕ). Spells offer bytes c.in_ok-grammar.grammar) c.in-Ok.ensures.bytes
           (c.in-Ok.ensures.spells offer c.args.grammar.now spelled.spells);
-      written = subst (λ (bytes : List ℕ). Appends (g.W.Write.contents c.args.writer.now.inner) (g.W.Write.contents c.write_bytes.new.writer.inner) bytes)
-          (c.as_slice.ensures.value ∙ c.in-Ok.ensures.bytes) c.in-Ok-write_bytes.ensures.ok;
+      written = subst (λ (bytes : List ℕ). Appends (g.W.Write.contents c.args.writer.now.inner) (g.W.Write.contents c.write_page.new.writer.inner) bytes)
+          (c.as_slice.ensures.value ∙ c.in-Ok.ensures.bytes) written;
+    }) c.write_page.ensures.ok
+
+pub returns-clause-front : goal.returns-clause-front
+returns-clause-front g c is =
+    let front = on_this_err c.write_page.result c.write_page.ensures.front is in
+    record {
+      grammar = c.in_ok-grammar.grammar;
+      spelled = c.in_ok-grammar.ensures.ok;
+      written = subst (λ (bytes : List ℕ). AppendsFront (g.W.Write.contents c.args.writer.now.inner) (g.W.Write.contents c.write_page.new.writer.inner) bytes)
+          (c.as_slice.ensures.value ∙ c.in-Ok.ensures.bytes) front;
     }

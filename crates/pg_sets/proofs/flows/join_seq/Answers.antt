@@ -1,5 +1,5 @@
 use Rattle.std.proofs.Common.{◌≡◌, ◌∷◌, sym, ap, ◌∙◌}
-use Rattle.pg_sets.specs.Flows.{follow_of, with_flows, flows_of_all, flows_of_some, flows_behind_parts}
+use Rattle.pg_sets.specs.Flows.{follow_of, with_flows, flows_of_next, flows_of_some, flows_behind_parts}
 use Rattle.pg_sets.proofs.Flowing.{with_flows-append}
 use Rattle.pg_sets.proofs.flows.join_seq.Goals as goal
 
@@ -17,13 +17,13 @@ loop-part-preserved c =
     let graph = c.loop-part.graph in
     let part = c.in-Some.part.now in
     let behind = c.in-Some.behind.now in
-    let flows = flows_of_all nullable behind (follow_of count number) (follow_of count part) in
+    let flows = flows_of_next nullable count behind (follow_of count number) (follow_of count part) in
     let others = flows_behind_parts nullable count number behind in
     let spelled : c.loop-part.rest.now ≡ part ∷ behind = c.in-Some.ensures.cases.0 in
     let from = c.follow_of.ensures in
     let to : c.follow_of-in-Some.result ≡ follow_of count part = c.follow_of-in-Some.ensures ∙ ap (follow_of count) c.index.ensures in
-    let after : c.join_all.new.graph ≡ with_flows graph flows =
-    c.in_ok-join_all.ensures
-    ∙ (ap (λ b. with_flows graph (flows_of_all nullable behind b c.follow_of-in-Some.result)) from ∙ ap (λ t. with_flows graph (flows_of_all nullable behind (follow_of count number) t)) to) in
+    let after : c.join_next.new.graph ≡ with_flows graph flows =
+    c.in_ok-join_next.ensures
+    ∙ (ap (λ b. with_flows graph (flows_of_next nullable count behind b c.follow_of-in-Some.result)) from ∙ ap (λ t. with_flows graph (flows_of_next nullable count behind (follow_of count number) t)) to) in
     ap (λ gr. with_flows gr others) after
     ∙ (sym (with_flows-append graph flows others) ∙ (ap (λ rest. with_flows graph (flows_behind_parts nullable count number rest)) (sym spelled) ∙ c.loop-part.invariant))

@@ -1,9 +1,8 @@
 use Rattle.std.proofs.Common.{◌≡◌, ◌∷◌, ◌-◌, ◌^◌, ap, subst, sym, ◌∙◌}
 use Rattle.std.proofs.lemmas.Result.{IfOk-weaker}
 use Rattle.pg_pred.specs.Offer.{offer_of}
-use Rattle.pg_table.specs.Tables.{Table}
 use Rattle.pg_derive.specs.Answers.{given}
-use Rattle.pg_machine.specs.Tape.{Tape, tape_with, tape_turn}
+use Rattle.pg_machine.specs.Tape.{tape_with, tape_turn}
 use Rattle.pg_machine.specs.Ready.{IsTapeReady}
 use Rattle.pg_machine.specs.View.{frame_of, stack_of, tape_of}
 use Rattle.pg_machine.proofs.Stack.{stack_pushed}

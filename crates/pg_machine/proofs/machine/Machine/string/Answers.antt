@@ -2,7 +2,6 @@ use Rattle.std.proofs.Common.{◌≡◌, ◌==◌, sym, ap, ◌∙◌, false, le
 use Rattle.std.specs.Prelude.{slice_get}
 use Rattle.std.specs.List.{common_prefix_len}
 use Rattle.std.proofs.lemmas.Result.{IfOk-weaker}
-use Rattle.std.proofs.lemmas.Bool.Decides.{nat_tests}
 use Rattle.pg_machine.specs.View.{stack_of, tape_of}
 use Rattle.pg_machine.proofs.LeavesRead.{string_taken, string_failed, other_length}
 use Rattle.pg_machine.proofs.machine.Machine.string.Goals as goal

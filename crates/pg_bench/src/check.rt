@@ -1,0 +1,101 @@
+//! From the bytes of a grammar file to whether its grammar is accepted, or all that is wrong with it.
+
+ghost use Rattle.std.specs.Prelude.{◌≡◌, false, true, IfOk, IfErr, OnOk, IsErrOf};
+ghost use Rattle.pg_pred.specs.Offer.{offer_of};
+ghost use Rattle.pg_predict.specs.Operators.{HasNoOperators};
+ghost use Rattle.pg_bench.specs.Checking.{IsChecked, IsPartlyChecked, IsCheckRefusal, IsJudged, lines_of};
+ghost use Rattle.pg_bench.specs.Parsed.{IsFileFault, IsMemory, SpellsNone, SpellsSome, SpellsOther, IsBehindFile, ComesBeforeWriting};
+
+use crate::fault::BenchFault;
+use crate::grammar_file::plain_grammar_of;
+use crate::output::write_page;
+use pg_grammar::Grammar;
+use pg_pred::Registry;
+use pg_predict::{CheckFault, Finding, check};
+use pg_tree::Meter;
+use std::alloc::{AllocError, Global};
+use std::io::Write;
+
+/// Writes whether the grammar that a file spells is accepted: the line `accepted`, or a line for each finding, in the order
+/// of rules, nodes, numbers and alternatives. The answer is whether it is. The registry has the predicates and builders that
+/// the file may name.
+///
+/// The meter has to be fresh of failures. A fault of the file, `NotRun` where its grammar reads or declares operators, and
+/// want of memory come before anything is written; then only the writer can fail.
+pub fn check_bytes<W: Write>(
+    alloc: Global,
+    grammar: &[u8],
+    registry: &Registry,
+    writer: &mut Meter<W>,
+) -> Result<bool, BenchFault>
+    requires { writer.old.failed ≡ false }
+
+    // What the check says of the grammar was written.
+    ensures ok { IfOk result (IsChecked (offer_of registry.now) grammar.now (W.contents writer.old.inner) (W.contents writer.new.inner)) }
+    ensures stays { OnOk result (writer.new.failed ≡ false) }
+
+    // The file spells no grammar, or one that reads or declares operators; or the writer failed behind a front of what it was
+    // to be given; or memory ran out.
+    ensures err { IfErr result IsCheckRefusal }
+    ensures file { IfErr result (λ fault. IsFileFault fault → SpellsNone (offer_of registry.now) grammar.now) }
+    ensures not_run { IsErrOf result BenchFault.NotRun → SpellsOther HasNoOperators (offer_of registry.now) grammar.now }
+    ensures runnable { IfErr result (λ fault. IsBehindFile fault → SpellsSome HasNoOperators (offer_of registry.now) grammar.now) }
+    ensures unwritten { IfErr result (λ fault. ComesBeforeWriting fault → writer.new ≡ writer.old) }
+    ensures writer { IsErrOf result BenchFault.Writer → writer.new.failed ≡ true }
+    ensures front { IsErrOf result BenchFault.Writer →
+        IsPartlyChecked (offer_of registry.now) grammar.now (W.contents writer.old.inner) (W.contents writer.new.inner) }
+{
+    let grammar = plain_grammar_of(alloc, grammar, registry)?;
+    let judgement = judged(alloc, grammar)?;
+    write_page(judgement.page.as_slice(), writer)?;
+    Ok(judgement.accepted)
+}
+
+/// What is printed of a grammar that was checked, and whether it is accepted.
+#[derive(Drop)]
+struct Judgement {
+    accepted: bool,
+    page: Vec<u8>,
+}
+
+/// What the check says of a grammar.
+#[tactic(auto, using(crate::proofs::Judged::judged_accepted, crate::proofs::Judged::judged_refused))]
+fn judged(alloc: Global, grammar: Grammar) -> Result<Judgement, BenchFault>
+    requires { HasNoOperators grammar }
+    ensures ok { IfOk result (λ judgement. IsJudged grammar judgement.accepted judgement.page.items) }
+    ensures err { IfErr result IsMemory }
+{
+    match check(alloc, grammar) {
+        Ok(_) => {
+            let Ok(page) = Vec::from_slice(alloc, b"accepted\n") else {
+                return Err(BenchFault::Memory);
+            };
+            Ok(Judgement {
+                accepted: true,
+                page,
+            })
+        }
+        Err(CheckFault::Refused(refused)) => {
+            let Ok(page) = page_of(alloc, refused.findings.as_slice()) else {
+                return Err(BenchFault::Memory);
+            };
+            Ok(Judgement {
+                accepted: false,
+                page,
+            })
+        }
+        Err(CheckFault::Memory(_)) => Err(BenchFault::Memory),
+    }
+}
+
+/// The lines of findings.
+fn page_of(alloc: Global, findings: &[Finding]) -> Result<Vec<u8>, AllocError>
+    ensures { IfOk result (λ page. page.items ≡ lines_of findings.now) }
+{
+    let mut page = Vec::new(alloc);
+    for finding in findings {
+        page.extend_from_slice(finding.line.as_bytes())?;
+        page.push(b'\n')?;
+    }
+    Ok(page)
+}

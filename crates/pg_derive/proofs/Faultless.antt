@@ -1,0 +1,141 @@
+-- A grammar at whose nodes nothing is wrong is predictive: its least sets show it.
+use Rattle.std.proofs.Common.{◌≡◌, ◌<◌, inl, inr, ℕ, List, Some, slice_get, length, sym, subst, ◌∙◌}
+use Rattle.std.specs.List.{Contains}
+use Rattle.std.proofs.lemmas.Option.{slice_get_within, same_Some}
+use Rattle.pg_grammar.specs.Grammar.{Grammar, IsGrammar}
+use Rattle.pg_grammar.specs.declared.class.ClassPart.{ClassPart}
+use Rattle.pg_grammar.specs.declared.form.Node.{Node}
+use Rattle.pg_grammar.specs.declared.form.Node.TheVariants as form
+use Rattle.pg_grammar.specs.declared.grammar.Rule as declared
+use Rattle.pg_grammar.specs.declared.used.BuilderUse.{BuilderUse}
+use Rattle.pg_start.specs.declared.kind.StartKind.TheVariants.{End}
+use Rattle.pg_sets.specs.First as of
+use Rattle.pg_sets.specs.Follow as follow
+use Rattle.pg_sets.specs.Nullable.{Nullable, NullableForm}
+use Rattle.pg_sets.specs.Nullable as null
+use Rattle.pg_sets.specs.OwnStarts.{IsKeyTry}
+use Rattle.pg_sets.specs.OwnStarts as own
+use Rattle.pg_sets.specs.Ranks.{Chain, head, heads}
+use Rattle.pg_sets.specs.Reached.{ReachedPart, Heads}
+use Rattle.pg_sets.specs.Reached as reached
+use Rattle.pg_sets.specs.Sets.{Sets, AreSets}
+use Rattle.pg_predict.specs.Conditions.{IsFaultless, IsLexeme, left_recursion, try_around_more}
+use Rattle.pg_predict.specs.Conditions as lexeme
+use Rattle.pg_predict.specs.Operators.{HasNoOperators}
+use Rattle.pg_derive.specs.Accepted.{AcceptedGrammarsArePredictive}
+use Rattle.pg_derive.specs.LeastSets.{node_sets}
+use Rattle.pg_derive.specs.Predictive.{PartFits, TryFits, of_part, RuleFits, Fits}
+use Rattle.pg_derive.proofs.FormsFit.{choice_fits, many_fits, left_fits, right_fits}
+use Rattle.pg_derive.proofs.LeastSets.{first_is, first_in, follow_is, follow_in}
+use Rattle.pg_derive.proofs.LeavesFit.{satisfy_meets, string_fits, word_meets, string_try, key_try}
+use Rattle.pg_derive.proofs.Levels.{rule_falls}
+use Rattle.pg_derive.proofs.LexemesDecided.{lexeme_decided}
+use Rattle.pg_derive.proofs.PartsFit.{are_parts, in_falls, part_fits, seq_fits}
+use Rattle.pg_derive.proofs.Quiet.{found}
+use Rattle.pg_derive.proofs.Whole.{is_whole, start_found}
+
+-- no rule heads itself
+first_rule : {g : Grammar} {a b : ℕ} → Chain g a b → (c : ℕ) × Heads g a c
+first_rule (head {b = b} h) = (b, h)
+first_rule (heads {b = b} h rest) = (b, h)
+
+pub acyclic : (g : Grammar) → IsFaultless g → (r : ℕ) → Chain g r r → ⊥
+acyclic g faultless r chain = let first = (first_rule chain).1 in faultless first.rule.body _ (left_recursion first.is_rule chain)
+
+-- a try around a character of a class or a word gives no key
+no_key_class : {g : Grammar} {q : ℕ} {class : List ClassPart} → slice_get g.nodes q ≡ Some (form.Satisfy class) → IsKeyTry g (form.Try q) → ⊥
+no_key_class {class = class} e (own.string {characters = s} f) = let same : form.Satisfy class ≡ form.String s = same_Some _ _ (sym e ∙ f) in absurd cc
+no_key_class {class = class} e (own.keyed k) = let same = same_Some (form.Satisfy class) _ (sym e ∙ k.both) in absurd cc
+
+no_key_word : {g : Grammar} {q w : ℕ} → slice_get g.nodes q ≡ Some (form.Word w) → IsKeyTry g (form.Try q) → ⊥
+no_key_word {w = w} e (own.string {characters = s} f) = let same : form.Word w ≡ form.String s = same_Some _ _ (sym e ∙ f) in absurd cc
+no_key_word {w = w} e (own.keyed k) = let same = same_Some (form.Word w) _ (sym e ∙ k.both) in absurd cc
+
+no_key_text : {g : Grammar} {q : ℕ} → IsKeyTry g (form.Text q) → ⊥
+no_key_text h = elim h [ ]
+
+no_key_skip : {g : Grammar} {q : ℕ} → IsKeyTry g (form.Skip q) → ⊥
+no_key_skip h = elim h [ ]
+
+no_key_build : {g : Grammar} {used : BuilderUse} {symbol : List ℕ} {q : ℕ} → IsKeyTry g (form.Build used symbol q) → ⊥
+no_key_build h = elim h [ ]
+
+no_key_label : {g : Grammar} {q : ℕ} {message : List ℕ} → IsKeyTry g (form.Label q message) → ⊥
+no_key_label h = elim h [ ]
+
+module _ (g : Grammar) (sets : Sets) (are : AreSets g sets) (grammar : IsGrammar g) (bare : HasNoOperators g) (faultless : IsFaultless g) where
+  none_on_cycle : (r : ℕ) → Chain g r r → ⊥
+  none_on_cycle = acyclic g faultless
+
+  try_part : (p q : ℕ) → slice_get g.nodes p ≡ Some (form.Try q) → (IsKeyTry g (form.Try q) → ⊥) → TryFits g (node_sets g sets) p q
+  try_part p q e no_key =
+      of_part (part_fits g sets are none_on_cycle p q (form.Try q) e (are_parts g grammar p (form.Try q) e).0 no_key reached.try (λ n. null.try n) (λ s h. follow.only e follow.try h))
+
+  try_falls : (p q : ℕ) → slice_get g.nodes p ≡ Some (form.Try q) → (node_sets g sets).level q < (node_sets g sets).level p
+  try_falls p q e = in_falls g sets are none_on_cycle p q (form.Try q) e (are_parts g grammar p (form.Try q) e).0 reached.try
+
+  lexeme_fits : (p q : ℕ) → slice_get g.nodes p ≡ Some (form.Try q) → IsLexeme g q → TryFits g (node_sets g sets) p q
+  lexeme_fits p q e (lexeme.string {text = s} f) = string_try g grammar sets are p q s e f (try_falls p q e)
+  lexeme_fits p q e (lexeme.keyed {text = s} {excluded = class} f) = key_try g grammar sets are p q s class e f (try_falls p q e)
+  lexeme_fits p q e (lexeme.satisfy f) = try_part p q e (no_key_class f)
+  lexeme_fits p q e (lexeme.word f) = try_part p q e (no_key_word f)
+
+  try_fits : (p q : ℕ) → slice_get g.nodes p ≡ Some (form.Try q) → TryFits g (node_sets g sets) p q
+  try_fits p q e =
+      let part = (are_parts g grammar p (form.Try q) e).0 in
+      let there = found g.nodes q part.inside in
+      elim (lexeme_decided g q there.0 there.1) [ inl is ↦ lexeme_fits p q e is | inr not ↦ absurd (faultless p _ (try_around_more e not)) ]
+
+  body_inside : (p r : ℕ) → slice_get g.nodes p ≡ Some (form.Rule r) → (named : declared.Rule) → slice_get g.rules r ≡ Some named → named.body < length g.nodes
+  body_inside p r e named at =
+      let is = (is_whole g grammar).rules p r e in
+      subst (λ (rule : declared.Rule). rule.body < length g.nodes) (same_Some is.0 named (sym is.1 ∙ at)) is.2
+
+  rule_fits : (p r : ℕ) → slice_get g.nodes p ≡ Some (form.Rule r) → RuleFits g (node_sets g sets) p r
+  rule_fits p r e = record { body = λ named at. fits named at (body_inside p r e named at) }
+    where
+      fits : (named : declared.Rule) → slice_get g.rules r ≡ Some named → named.body < length g.nodes → PartFits (node_sets g sets) p named.body
+      fits named at inside =
+          let below = slice_get_within g.nodes p (form.Rule r) e in
+          record {
+            empty = λ h. (are.nullable p).1 (null.at_node e (null.rule at ((are.nullable named.body).0 h)));
+            first = λ s h. first_in g sets are p below s (of.rule e at (first_is g sets are named.body inside s h));
+            follow = λ s h. follow_in g sets are named.body inside s (follow.used e at (follow_is g sets are p below s h));
+            falls = rule_falls g sets are none_on_cycle p r named e at;
+          }
+
+  fits : (p : ℕ) (n : Node) → slice_get g.nodes p ≡ Some n → Fits g (node_sets g sets) p n
+  fits p (form.Satisfy class) e = satisfy_meets g grammar sets are p class e
+  fits p (form.String s) e = string_fits g grammar sets are p s e
+  fits p (form.Seq parts) e = seq_fits g sets are none_on_cycle grammar p parts e
+  fits p (form.Choice parts) e = choice_fits g sets are none_on_cycle grammar faultless p parts e
+  fits p (form.Many q) e = many_fits g sets are none_on_cycle grammar faultless p q e
+  fits p (form.ChainLeft used q r) e = left_fits g sets are none_on_cycle grammar faultless p used q r e
+  fits p (form.ChainRight used q r) e = right_fits g sets are none_on_cycle grammar faultless p used q r e
+  fits p (form.Try q) e = try_fits p q e
+  fits p (form.NotFollowedBy class) e = (are.nullable p).1 (null.at_node e null.not_followed_by)
+  fits p form.EndOfText e = (are.nullable p).1 (null.at_node e null.end_of_text)
+  fits p (form.Word w) e = word_meets g grammar sets are p w e
+  fits p (form.Rule r) e = rule_fits p r e
+  fits p (form.Expression builders q) e = bare p (form.Expression builders q) e
+  fits p (form.Declare class) e = bare p (form.Declare class) e
+  fits p (form.Text q) e =
+      part_fits g sets are none_on_cycle p q (form.Text q) e (are_parts g grammar p (form.Text q) e).0 no_key_text reached.text (λ n. null.text n) (λ s h. follow.only e follow.text h)
+  fits p (form.Skip q) e =
+      part_fits g sets are none_on_cycle p q (form.Skip q) e (are_parts g grammar p (form.Skip q) e).0 no_key_skip reached.skip (λ n. null.skip n) (λ s h. follow.only e follow.skip h)
+  fits p (form.Build used symbol q) e =
+      part_fits g sets are none_on_cycle p q (form.Build used symbol q) e (are_parts g grammar p (form.Build used symbol q) e).0 no_key_build reached.build (λ n. null.build n)
+      (λ s h. follow.only e follow.build h)
+  fits p (form.Label q message) e =
+      part_fits g sets are none_on_cycle p q (form.Label q message) e (are_parts g grammar p (form.Label q message) e).0 no_key_label reached.label (λ n. null.label n)
+      (λ s h. follow.only e follow.label h)
+
+  -- the end of the text follows the start rule
+  end_follows : (start : declared.Rule) → slice_get g.rules g.start ≡ Some start → Contains ((node_sets g sets).follow start.body) End
+  end_follows start e =
+      let known = start_found g grammar in
+      let inside = subst (λ (rule : declared.Rule). rule.body < length g.nodes) (same_Some known.0 start (sym known.1 ∙ e)) known.2 in
+      follow_in g sets are start.body inside End (follow.at_end e)
+
+pub accepted : AcceptedGrammarsArePredictive
+accepted g sets grammar bare are faultless = record { nodes = fits g sets are grammar bare faultless; end = end_follows g sets are grammar bare faultless }

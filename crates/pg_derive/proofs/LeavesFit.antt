@@ -1,0 +1,141 @@
+-- Where a character, a string, a word or a key stands that a node reads, one of the node's first starts matches.
+use Rattle.std.proofs.Common.{◌≡◌, ◌<◌, ◌+◌, inl, inr, ℕ, zero, suc, List, [], ◌∷◌, Bool, true, false, cond, Some, slice_get, length, drop, refl, sym, ap, ◌∙◌, subst, arith}
+use Rattle.std.specs.Char.{IsScalar}
+use Rattle.std.specs.List.{take_while}
+use Rattle.std.specs.Str.{all_scalars}
+use Rattle.std.proofs.lemmas.Bool.{cases_Bool, and_parts}
+use Rattle.std.proofs.lemmas.List.Sums.{take_while-cons}
+use Rattle.std.proofs.lemmas.Option.{same_Some, slice_get_within}
+use Rattle.pg_class.proofs.Unique.{has-first}
+use Rattle.pg_class.specs.Ranges.{Range, has}
+use Rattle.pg_grammar.specs.ClassItems.{has_character}
+use Rattle.pg_grammar.specs.Grammar.{Grammar, IsGrammar}
+use Rattle.pg_grammar.specs.declared.class.ClassPart.{ClassPart}
+use Rattle.pg_grammar.specs.declared.form.Node.{Node}
+use Rattle.pg_grammar.specs.declared.form.Node.TheVariants as form
+use Rattle.pg_grammar.specs.declared.word_item.WordItem.{WordItem}
+use Rattle.pg_start.specs.Fronts.{run, is_reserved}
+use Rattle.pg_start.specs.Starts.{MatchesAt}
+use Rattle.pg_start.specs.declared.kind.StartKind.{StartKind}
+use Rattle.pg_start.specs.declared.kind.StartKind.TheVariants.{Class, Key, Word}
+use Rattle.pg_sets.proofs.Owned.{spelled}
+use Rattle.pg_sets.specs.First.{IsFirst}
+use Rattle.pg_sets.specs.First as of
+use Rattle.pg_sets.specs.Own as plain
+use Rattle.pg_sets.specs.OwnStarts.{IsClassOf, OwnStart, IsKeyed, IsKeyTry, ReservedAs}
+use Rattle.pg_sets.specs.OwnStarts as own
+use Rattle.pg_sets.specs.Sets.{Sets, AreSets}
+use Rattle.pg_table.specs.Runs.{HasAt, StandsAt, run_at}
+use Rattle.pg_derive.specs.ClosedSets.{SomeMatches}
+use Rattle.pg_derive.specs.LeastSets.{node_sets}
+use Rattle.pg_derive.specs.Predictive.{Meets, BeginsAt, IsSomeWordAt, StringFits, TryFits, of_string, of_key}
+use Rattle.pg_derive.proofs.LeastSets.{first_in}
+
+-- ---- characters of a text
+
+scalar_at : (text : List ℕ) (i c : ℕ) → all_scalars text ≡ true → slice_get text i ≡ Some c → IsScalar c
+scalar_at [] i c s e = cc
+scalar_at (x ∷ xs) zero c s e = let same : x ≡ c = cc in subst IsScalar same (and_parts _ _ s).0
+scalar_at (x ∷ xs) (suc i) c s e = scalar_at xs i c (and_parts _ _ s).1 e
+
+scalars_behind : (text : List ℕ) (i : ℕ) → all_scalars text ≡ true → all_scalars (drop i text) ≡ true
+scalars_behind text zero s = s
+scalars_behind [] (suc i) s = s
+scalars_behind (x ∷ xs) (suc i) s = scalars_behind xs i (and_parts _ _ s).1
+
+-- two tests that agree on characters have the same run
+same_run : (f h : ℕ → Bool) (text : List ℕ) → all_scalars text ≡ true → ((c : ℕ) → IsScalar c → f c ≡ h c) → take_while f text ≡ take_while h text
+same_run f h [] s agree = refl
+same_run f h (x ∷ xs) s agree =
+    let parts = and_parts _ _ s in
+    take_while-cons f x xs
+    ∙ (ap (λ b. cond b (x ∷ take_while f xs) []) (agree x parts.0)
+    ∙ (ap (λ t. cond (h x) (x ∷ t) []) (same_run f h xs parts.1 agree)
+    ∙ sym (take_while-cons h x xs)))
+
+-- the texts that are reserved in a start are those of the words
+same_reserved : {g : Grammar} {heads rest : List Range} {texts reserved : List (List ℕ)} → ReservedAs g heads rest texts reserved → (text : List ℕ) → is_reserved reserved text ≡ is_reserved texts text
+same_reserved (own.as_item reads first) text = reads.texts text
+same_reserved (own.as_written none) text = refl
+
+no_string_is_seq : {text parts : List ℕ} → form.String text ≡ form.Seq parts → ⊥
+no_string_is_seq e = absurd cc
+
+module _ (g : Grammar) (grammar : IsGrammar g) (sets : Sets) (are : AreSets g sets) where
+  matched : (p : ℕ) (n : Node) → slice_get g.nodes p ≡ Some n → (s : StartKind) → OwnStart g n s → (text : List ℕ) (place : ℕ) → MatchesAt s text place →
+      SomeMatches text ((node_sets g sets).first p) place
+  matched p n e s is text place there = record { start = s; among = first_in g sets are p (slice_get_within g.nodes p n e) s (of.own e is); there = there }
+
+  -- a character of a class
+  pub satisfy_meets : (p : ℕ) (class : List ClassPart) → slice_get g.nodes p ≡ Some (form.Satisfy class) → Meets (node_sets g sets) p (λ text place. HasAt g text class place)
+  satisfy_meets p class e text scalars place h = let own_start = are.start_sets.plain p (form.Satisfy class) e plain.satisfy in go own_start.0 own_start.1
+    where
+      go : (s : StartKind) → OwnStart g (form.Satisfy class) s → SomeMatches text ((node_sets g sets).first p) place
+      go s (own.satisfy {class = ranges} is) =
+          matched p (form.Satisfy class) e (Class ranges) (own.satisfy is) text place
+          (record { character = h.character; there = h.there; member = is.members h.character (scalar_at text place h.character scalars h.there) ∙ h.member })
+
+  -- a string
+  pub string_fits : (p : ℕ) (s : List ℕ) → slice_get g.nodes p ≡ Some (form.String s) → StringFits (node_sets g sets) p s
+  string_fits p s e = record { spelled = spelled g p s grammar e; first = λ text scalars place h. go s e text place h }
+    where
+      go : (s : List ℕ) → slice_get g.nodes p ≡ Some (form.String s) → (text : List ℕ) (place : ℕ) → BeginsAt text place s → SomeMatches text ((node_sets g sets).first p) place
+      go [] e text place h = let none = spelled g p [] grammar e in absurd (omega arith)
+      go (c ∷ cs) e text place h =
+          let first = h.first in
+          let same : c ≡ h.character = cc in
+          matched p (form.String (c ∷ cs)) e (Class ((c, c) ∷ [])) own.string text place
+          (record { character = c; there = h.there ∙ ap Some (sym same); member = has-first (c, c) [] c (omega arith) (omega arith) })
+
+  -- a word
+  pub word_meets : (p w : ℕ) → slice_get g.nodes p ≡ Some (form.Word w) → Meets (node_sets g sets) p (IsSomeWordAt g w)
+  word_meets p w e text scalars place h = let own_start = are.start_sets.plain p (form.Word w) e (plain.word h.named) in go own_start.0 own_start.1
+    where
+      go : (s : StartKind) → OwnStart g (form.Word w) s → SomeMatches text ((node_sets g sets).first p) place
+      go s (own.word {item = also} {heads = heads} {rest = rest} {reserved = reserved} at begins goes is) =
+          let one : also ≡ h.item = same_Some also h.item (sym at ∙ h.named) in
+          let there = h.there in
+          let scalar = scalar_at text place there.head scalars there.there in
+          let member : has_character g.classes also.head there.head ≡ true = ap (λ (i : WordItem). has_character g.classes i.head there.head) one ∙ there.member in
+          let runs : run rest (drop (suc place) text) ≡ run_at g text also.rest (suc place) =
+          same_run (has rest) (has_character g.classes also.rest) (drop (suc place) text) (scalars_behind text (suc place) scalars) goes.members in
+          let whole : there.head ∷ run rest (drop (suc place) text) ≡ h.word =
+          ap (λ t. there.head ∷ t) (runs ∙ ap (λ (i : WordItem). run_at g text i.rest (suc place)) one) ∙ sym there.whole in
+          let free : is_reserved also.reserved h.word ≡ false = ap (λ (i : WordItem). is_reserved i.reserved h.word) one ∙ there.free in
+          matched p (form.Word w) e (Word heads rest reserved) (own.word at begins goes is) text place (record {
+            head = there.head;
+            there = there.there;
+            member = begins.members there.head scalar ∙ member;
+            free = ap (is_reserved reserved) whole ∙ (same_reserved is h.word ∙ free);
+          })
+
+  -- ---- tries that give keys
+
+  pub string_try : (p q : ℕ) (s : List ℕ) → slice_get g.nodes p ≡ Some (form.Try q) → slice_get g.nodes q ≡ Some (form.String s) →
+      (node_sets g sets).level q < (node_sets g sets).level p → TryFits g (node_sets g sets) p q
+  string_try p q s e f falls = of_string f (spelled g q s grammar f) falls meets
+    where
+      meets : Meets (node_sets g sets) p (λ text place. StandsAt text place s)
+      meets text scalars place h = matched p (form.Try q) e (Key s []) (own.key f) text place (record { spelled = spelled g q s grammar f; there = h; ends = λ c at. refl })
+
+  key_meets : (p q : ℕ) (s : List ℕ) (excluded : List ClassPart) (class : List Range) → slice_get g.nodes p ≡ Some (form.Try q) → IsKeyed g q s excluded → IsClassOf g excluded class →
+      0 < length s → Meets (node_sets g sets) p (λ text place. StandsAt text place s × (HasAt g text excluded (place + length s) → ⊥))
+  key_meets p q s excluded class e keyed is long text scalars place h =
+      matched p (form.Try q) e (Key s class) (own.key_that_ends keyed is) text place (record { spelled = long; there = h.0; ends = ends })
+    where
+      ends : (c : ℕ) → slice_get text (place + length s) ≡ Some c → has class c ≡ false
+      ends c at =
+          elim (cases_Bool (has_character g.classes excluded c)) [
+            | inl member ↦ absurd (h.1 (record { character = c; there = at; member = member }))
+            | inr not ↦ is.members c (scalar_at text (place + length s) c scalars at) ∙ not
+          ]
+
+  pub key_try : (p q : ℕ) (s : List ℕ) (excluded : List ClassPart) → slice_get g.nodes p ≡ Some (form.Try q) → IsKeyed g q s excluded →
+      (node_sets g sets).level q < (node_sets g sets).level p → TryFits g (node_sets g sets) p q
+  key_try p q s excluded e keyed falls = let own_start = are.start_sets.plain p (form.Try q) e (plain.key (own.keyed keyed)) in go own_start.0 own_start.1
+    where
+      go : (start : StartKind) → OwnStart g (form.Try q) start → TryFits g (node_sets g sets) p q
+      go start (own.key {characters = text} at) = absurd (no_string_is_seq (same_Some (form.String text) (form.Seq (keyed.first ∷ keyed.second ∷ [])) (sym at ∙ keyed.both)))
+      go start (own.key_that_ends {characters = key} {excluded = class} {class = ranges} is members) =
+          let long = spelled g is.first key grammar is.string in
+          of_key is.both is.string is.ends long falls (key_meets p q key class ranges e is members long)

@@ -1,0 +1,53 @@
+-- Laws of grammars at whose nodes nothing is wrong, as one fact each.
+use Rattle.std.specs.Prelude.{◌≡◌, ℕ, List, Bool, true, length, nat_lt}
+use Rattle.std.specs.Str.{all_scalars}
+use Rattle.pg_tree.specs.Trees.{Tree}
+use Rattle.pg_grammar.specs.Grammar.{Grammar, IsGrammar}
+use Rattle.pg_grammar.specs.declared.trail.TrailItem.{TrailItem}
+use Rattle.pg_sets.specs.Sets.{Sets, AreSets}
+use Rattle.pg_predict.specs.Conditions.{IsFaultless}
+use Rattle.pg_predict.specs.Operators.{HasNoOperators}
+use Rattle.pg_table.specs.Derives.{DerivesText}
+use Rattle.pg_table.specs.Tables.{Table, ComesFrom}
+use Rattle.pg_derive.specs.Answers.{Given}
+use Rattle.pg_derive.specs.Errors.{Error}
+use Rattle.pg_derive.specs.LeastSets.{node_sets}
+use Rattle.pg_derive.specs.Outcomes.{ok, failed}
+use Rattle.pg_derive.specs.Predictive.{IsPredictive}
+use Rattle.pg_derive.specs.WholeTexts.{AnswersText, TextIsAnswered}
+
+-- if nothing is wrong at any node of a grammar, its least sets show that it is predictive
+abbrev pub AcceptedGrammarsArePredictive : Type 0
+AcceptedGrammarsArePredictive = (g : Grammar) (sets : Sets) → IsGrammar g → HasNoOperators g → AreSets g sets → IsFaultless g → IsPredictive g (node_sets g sets)
+
+-- ---- whole texts
+
+-- nothing is wrong with the grammar, whose sets these are; the text is one of characters
+pub record Accepts (G : Given) (sets : Sets) : Type 0 where
+  pub grammar : IsGrammar G.grammar
+  pub bare : HasNoOperators G.grammar
+  pub least : AreSets G.grammar sets
+  pub faultless : IsFaultless G.grammar
+  pub text : all_scalars G.text ≡ true
+
+-- each text is answered
+abbrev pub AcceptedGrammarsAnswer : Type 0
+AcceptedGrammarsAnswer = (G : Given) (sets : Sets) → Accepts G sets → (table : Table) → ComesFrom G.grammar table → TextIsAnswered G table
+
+-- a text that is derived is answered ok, with that forest and trail
+abbrev pub AcceptedGrammarsAnswerWhatTheyDerive : Type 0
+AcceptedGrammarsAnswerWhatTheyDerive = (G : Given) (sets : Sets) → Accepts G sets → (before after : Table) (forest : List Tree) (trail : List TrailItem) →
+    ComesFrom G.grammar before → DerivesText G.grammar G.text before after forest trail →
+    (e : Error) × (m : ℕ) × AnswersText G before (ok (nat_lt 0 (length G.text)) (record { place = length G.text; table = after }) forest trail e) m
+
+-- and so a text that is refused is derived in no way
+abbrev pub AcceptedGrammarsRefuseRightly : Type 0
+AcceptedGrammarsRefuseRightly = (G : Given) (sets : Sets) → Accepts G sets → (before : Table) (c : Bool) (e : Error) (m : ℕ) → ComesFrom G.grammar before →
+    AnswersText G before (failed c e) m →
+    (after : Table) (forest : List Tree) (trail : List TrailItem) → DerivesText G.grammar G.text before after forest trail → ⊥
+
+-- a text is derived in one way at most
+abbrev pub AcceptedGrammarsDeriveOnce : Type 0
+AcceptedGrammarsDeriveOnce = (G : Given) (sets : Sets) → Accepts G sets → (before after other : Table) (forest others : List Tree) (trail items : List TrailItem) →
+    ComesFrom G.grammar before → DerivesText G.grammar G.text before after forest trail → DerivesText G.grammar G.text before other others items →
+    (after ≡ other) × (forest ≡ others) × (trail ≡ items)

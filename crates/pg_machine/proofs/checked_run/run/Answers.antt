@@ -1,0 +1,35 @@
+use Rattle.std.proofs.Common.{sym, subst}
+use Rattle.std.proofs.lemmas.Result.{IfOk-weaker}
+use Rattle.pg_grammar.specs.Grammar.{Grammar}
+use Rattle.pg_derive.specs.Answers.{given}
+use Rattle.pg_derive.specs.declared.reading.Reading.TheVariants.{Library}
+use Rattle.pg_machine.specs.CheckedRuns.{IsStartAnswer}
+use Rattle.pg_machine.specs.Halting.{Halts}
+use Rattle.pg_machine.proofs.Going.{halts}
+use Rattle.pg_machine.proofs.Whole.{whole_if_ok, derived, refused}
+use Rattle.pg_machine.proofs.checked_run.run.Goals as goal
+
+pub invariant_of-run : goal.invariant_of-run
+invariant_of-run g c =
+    let is = sym c.accepted-grammar.ensures.grammar in
+    let text = c.args.text.now in
+    let table = c.args.table.now in
+    record { halts = subst (λ (g : Grammar). Halts (given Library g text) table) is (halts (given Library c.args.checked.now.grammar text) (c.args.checked.now.sets, c.accepted-grammar.ensures.accepts) table c.requires.table) }
+
+pub returns-clause-answer : goal.returns-clause-answer
+returns-clause-answer g c =
+    let text = c.args.text.now in
+    let table = c.args.table.now in
+    let started : IsStartAnswer (given Library c.args.checked.now.grammar text) table c.in_ok-answer.answer =
+    subst (λ (g : Grammar). IsStartAnswer (given Library g text) table c.in_ok-answer.answer) c.accepted-grammar.ensures.grammar c.in_ok-answer.ensures in
+    whole_if_ok (given Library c.args.checked.now.grammar text) table c.in_ok-answer.answer c.whole_answer.result started c.whole_answer.ensures.outcome c.whole_answer.ensures.position c.whole_answer.ensures.steps
+
+pub returns-clause-derived : goal.returns-clause-derived
+returns-clause-derived g c =
+    IfOk-weaker c.whole_answer.result _ _
+    (λ a h. derived (given Library c.args.checked.now.grammar c.args.text.now) (c.args.checked.now.sets, c.accepted-grammar.ensures.accepts) c.args.table.now c.requires.table a h) (returns-clause-answer g c)
+
+pub returns-clause-refused : goal.returns-clause-refused
+returns-clause-refused g c =
+    IfOk-weaker c.whole_answer.result _ _
+    (λ a h. refused (given Library c.args.checked.now.grammar c.args.text.now) (c.args.checked.now.sets, c.accepted-grammar.ensures.accepts) c.args.table.now c.requires.table a h) (returns-clause-answer g c)

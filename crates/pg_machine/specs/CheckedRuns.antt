@@ -1,0 +1,55 @@
+-- What a run of an accepted grammar says of a whole text.
+use Rattle.std.specs.Prelude.{◌≡◌, ◌==◌, ◌≤◌, ◌+◌, ◌-◌, ◌*◌, ◌^◌, ℕ, min, List, [], length, if◌then◌else◌, codes}
+use Rattle.pg_text.specs.Position.{position_of}
+use Rattle.pg_tree.specs.Trees.{Tree}
+use Rattle.pg_grammar.specs.Grammar.{Grammar}
+use Rattle.pg_grammar.specs.declared.trail.TrailItem.{TrailItem}
+use Rattle.pg_sets.specs.Sets.{Sets}
+use Rattle.pg_table.specs.Derives.{DerivesText}
+use Rattle.pg_table.specs.Tables.{Table}
+use Rattle.pg_derive.specs.Accepted.{Accepts}
+use Rattle.pg_derive.specs.Answers.{Given, AnswersStart}
+use Rattle.pg_derive.specs.Errors.{Error, seen_at, stopped_before, refused_before}
+use Rattle.pg_derive.specs.WholeTexts.{AnswersText}
+use Rattle.pg_machine.specs.Outcomes.{outcome_of}
+use Rattle.pg_machine.specs.declared.answer.Answer.{Answer}
+use Rattle.pg_machine.specs.declared.answer.Success.{Success}
+
+-- nothing is wrong with the grammar, as some sets show; the text is one of characters
+abbrev pub IsAccepted : Given → Type 0
+IsAccepted G = (sets : Sets) × Accepts G sets
+
+-- the answer is the relation's, of the start rule and the end of the text behind it, with its error's position, after about
+-- two turns for each node, which are counted up to the greatest number
+pub record IsTextAnswer (G : Given) (table : Table) (a : Answer) : Type 0 where
+  pub nodes : ℕ
+  pub answers : AnswersText G table (outcome_of a) nodes
+  pub position : a.error.position ≡ position_of G.text a.error.place
+  pub least : min (2 * nodes) (2 ^ 64 - 1) ≤ a.steps + 3
+  pub most : a.steps ≤ 2 * nodes
+
+-- the text is derived so, to its end, and in no other way
+pub record IsOnlyDerivation (g : Grammar) (text : List ℕ) (table : Table) (s : Success) : Type 0 where
+  pub end : s.place ≡ length text
+  pub derives : DerivesText g text table s.table s.forest s.trail
+  pub only : (after : Table) (forest : List Tree) (trail : List TrailItem) → DerivesText g text table after forest trail →
+      (s.table ≡ after) × (s.forest ≡ forest) × (s.trail ≡ trail)
+
+-- nothing derives the text
+abbrev pub IsUnderivable : Grammar → List ℕ → Table → Type 0
+IsUnderivable g text table = (after : Table) (forest : List Tree) (trail : List TrailItem) → ¬ (DerivesText g text table after forest trail)
+
+-- ---- on the way there
+
+-- the answer of the start rule alone
+pub record IsStartAnswer (G : Given) (table : Table) (a : Answer) : Type 0 where
+  pub nodes : ℕ
+  pub answers : AnswersStart G table (outcome_of a) nodes
+  pub position : a.error.position ≡ position_of G.text a.error.place
+  pub steps : a.steps ≡ min (2 * nodes - 1) (2 ^ 64 - 1)
+
+-- what is said where the text has to end, at its end and before it
+abbrev pub end_error : List ℕ → ℕ → Error
+end_error text place = if place == length text
+    then stopped_before (codes "end of input") [] place
+    else refused_before (codes "end of input") (seen_at text place) place

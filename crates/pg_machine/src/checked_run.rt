@@ -1,0 +1,153 @@
+//! Runs of a checked grammar over whole texts.
+//!
+//! At the nodes of a checked grammar nothing is wrong, so that the start rule has an answer to each text and the machine
+//! comes to it: the run goes on until it is there, however many turns that takes. Behind an ok answer the text has to end.
+
+ghost use Rattle.std.specs.Prelude.{◌≡◌, ◌≤◌, length, IfOk, IfSome, IfNone};
+ghost use Rattle.pg_grammar.specs.Fits.{Fits};
+ghost use Rattle.pg_pred.specs.Offer.{offer_of};
+ghost use Rattle.pg_table.specs.Tables.{ComesFrom};
+ghost use Rattle.pg_text.specs.Position.{position_of};
+ghost use Rattle.pg_derive.specs.Accepted.{Accepts};
+ghost use Rattle.pg_derive.specs.Answers.{given};
+ghost use Rattle.pg_derive.specs.Errors.{without_position};
+ghost use Rattle.pg_derive.specs.WholeTexts.{at_end};
+ghost use Rattle.pg_derive.specs.declared.reading.Reading.TheVariants.{Library};
+ghost use Rattle.pg_machine.specs.CheckedRuns.{IsAccepted, IsTextAnswer, IsStartAnswer, IsOnlyDerivation, IsUnderivable, end_error};
+ghost use Rattle.pg_machine.specs.Halting.{Halts, Halts-prop};
+ghost use Rattle.pg_machine.specs.Outcomes.{outcome_of};
+
+use crate::answer::{Answer, Outcome};
+use crate::frame::Mode;
+use crate::machine::Machine;
+use crate::message::Message;
+use crate::message_tape::told;
+use crate::probing::{ended, start_of};
+use pg_derive::Reading;
+use pg_grammar::Grammar;
+use pg_message::ParseError;
+use pg_pred::Registry;
+use pg_predict::Checked;
+use pg_table::Table;
+use pg_text::Text;
+use std::alloc::{AllocError, Global};
+
+/// Runs the start rule over the whole text, under the table, in the library's reading, until there is an answer: ok, with
+/// the one derivation of the text, or an error, and then nothing derives it. The answer's steps are the turns that it took,
+/// or the greatest number where they are more. The caller owes that the registry fits and that the table comes from the
+/// grammar. The only error is that memory ran out.
+pub fn run(
+    alloc: Global,
+    checked: &Checked,
+    text: &Text,
+    table: &Table,
+    registry: &Registry,
+) -> Result<Answer, AllocError>
+    requires fits { Fits (offer_of registry.now) checked.now.grammar }
+    requires table { ComesFrom checked.now.grammar table.now }
+    ensures answer { IfOk result (IsTextAnswer (given Library checked.now.grammar text.now) table.now) }
+    ensures derived { IfOk result (λ a. IfSome a.success (IsOnlyDerivation checked.now.grammar text.now table.now)) }
+    ensures refused { IfOk result (λ a. IfNone a.success (IsUnderivable checked.now.grammar text.now table.now)) }
+{
+    let grammar = accepted(checked, text);
+    let run = HaltingRun {
+        grammar,
+        text,
+        table,
+    };
+    let answer = run.answer(alloc, registry)?;
+    whole_answer(alloc, text, answer)
+}
+
+/// The grammar, with all that is known of it and of the text.
+fn accepted<'a>(checked: &'a Checked, text: &Text) -> &'a Grammar
+    ensures grammar { result.now ≡ checked.now.grammar }
+    ensures accepts { Accepts (given Library checked.now.grammar text.now) checked.now.sets }
+    ensures short { length text.now ≤ 4096 }
+{
+    let grammar = checked.grammar();
+    // These are called for what they say of their grammar and their text.
+    let _nodes = grammar.nodes();
+    let _characters = text.characters();
+    grammar
+}
+
+/// A run of the start rule that comes to an end.
+#[derive(Drop)]
+struct HaltingRun<'a> {
+    grammar: &'a Grammar,
+    text: &'a Text,
+    table: &'a Table,
+    ghost halts: { Halts (given Library grammar.now text.now) table.now } by { Halts-prop (given Library grammar.now text.now) table.now },
+}
+
+impl HaltingRun<'_> {
+    /// The answer of the start rule.
+    fn answer(&self, alloc: Global, registry: &Registry) -> Result<Answer, AllocError>
+        requires fits { Fits (offer_of registry.now) self.now.grammar.now }
+        requires short { length self.now.text.now ≤ 4096 }
+        requires accepted { IsAccepted (given Library self.now.grammar.now self.now.text.now) }
+        requires table { ComesFrom self.now.grammar.now self.now.table.now }
+        ensures { IfOk result (IsStartAnswer (given Library self.now.grammar.now self.now.text.now) self.now.table.now) }
+    {
+        let text = self.text;
+        let mut machine = Machine::new(alloc);
+        let mut mode = Mode::At(start_of(self.grammar), 0);
+        let mut steps: u64 = 0;
+        'turns: while !machine.is_over(&mode) {
+            mode = machine.step(alloc, self.grammar, registry, text, Reading::Library, mode)?;
+            steps = steps.saturating_add(1);
+        }
+        match ended(alloc, text, self.table, machine, mode, steps)? {
+            Outcome::Answered(answer) => Ok(answer),
+            Outcome::StepsUsed | Outcome::EmptyRound => unreachable!(),
+        }
+    }
+}
+
+/// The answer to a text that has to end behind what was read.
+fn whole_answer(alloc: Global, text: &Text, answer: Answer) -> Result<Answer, AllocError>
+    requires { answer.error.position ≡ position_of text.now answer.error.place }
+    ensures outcome { IfOk result (λ whole. outcome_of whole ≡ at_end text.now (outcome_of answer)) }
+    ensures position { IfOk result (λ whole. whole.error.position ≡ position_of text.now whole.error.place) }
+    ensures steps { IfOk result (λ whole. whole.steps ≡ answer.steps) }
+{
+    let Answer {
+        consumed,
+        mut error,
+        steps,
+        success,
+    } = answer;
+    let Some(success) = success else {
+        return Ok(Answer {
+            consumed,
+            error,
+            steps,
+            success: None,
+        });
+    };
+    let said = end_said(alloc, text, success.place)?;
+    error.merge(said)?;
+    let ends = success.place == text.len();
+    let success = if ends { Some(success) } else { None };
+    Ok(Answer {
+        consumed,
+        error,
+        steps,
+        success,
+    })
+}
+
+/// What is said at the place where the text has to end.
+fn end_said(alloc: Global, text: &Text, place: usize) -> Result<ParseError, AllocError>
+    ensures error { IfOk result (λ e. without_position e ≡ end_error text.now place) }
+    ensures position { IfOk result (λ e. e.position ≡ position_of text.now place) }
+{
+    let position = text.position(place.min(text.len()));
+    let seen = if place == text.len() {
+        Message::Stopped(None)
+    } else {
+        Message::Refused(text.char_at(place))
+    };
+    told(alloc, place, position, &[seen, Message::WantedEnd])
+}

@@ -1,0 +1,122 @@
+//! Runs of a grammar's start rule, on any grammar.
+
+ghost use Rattle.std.specs.Prelude.{◌≡◌, drop, slice_get, option_map, Some, IfOk};
+ghost use Rattle.pg_grammar.specs.Grammar.{rule_body};
+ghost use Rattle.pg_pred.specs.Offer.{offer_of};
+ghost use Rattle.pg_grammar.specs.Fits.{Fits};
+ghost use Rattle.pg_text.specs.Position.{position_of};
+ghost use Rattle.pg_derive.specs.Errors.{without_position};
+ghost use Rattle.pg_machine.specs.Messages.{error_of};
+ghost use Rattle.pg_machine.specs.Outcomes.{IsOutcome, Ends};
+ghost use Rattle.pg_derive.specs.Answers.{given};
+ghost use Rattle.pg_machine.specs.View.{tape_of};
+
+use crate::answer::{Answer, Outcome, Success};
+use crate::frame::{Mode, Reply};
+use crate::machine::Machine;
+use crate::message_tape::Why;
+use pg_derive::Reading;
+use pg_grammar::{Grammar, NodeId, Trail};
+use pg_message::ParseError;
+use pg_pred::Registry;
+use pg_table::Table;
+use pg_text::Text;
+use std::alloc::{AllocError, Global};
+
+/// Runs the start rule at the beginning of the text, under the table, in at most so many turns: each enters a node or
+/// hands an answer on. The answer has the table in a copy. P5 is answered only where no answer takes so few turns, also
+/// where the start rule has none, since a chain goes on without an end or an operator form is met. The caller owes that
+/// the registry fits. The only error is that memory ran out.
+pub fn probe<'a>(
+    alloc: Global,
+    grammar: &'a Grammar,
+    text: &'a Text,
+    table: &Table,
+    registry: &Registry,
+    max_steps: u64,
+    reading: Reading,
+) -> Result<Outcome, AllocError>
+    requires { Fits (offer_of registry.now) grammar.now }
+    ensures { IfOk result (IsOutcome (given reading grammar.now text.now) table.now max_steps) }
+{
+    let mut machine = Machine::new(alloc);
+    let mut mode = Mode::At(start_of(grammar), 0);
+    let mut steps: u64 = 0;
+    while steps < max_steps && !machine.is_over(&mode) {
+        mode = machine.step(alloc, grammar, registry, text, reading, mode)?;
+        steps += 1;
+    }
+    ended(alloc, text, table, machine, mode, steps)
+}
+
+/// The body of the start rule.
+pub(crate) fn start_of(grammar: &Grammar) -> NodeId
+    ensures { option_map rule_body (slice_get grammar.now.rules grammar.now.start) ≡ Some result }
+{
+    let start = grammar.start_rule().index();
+    grammar.rules()[start].body
+}
+
+/// What a run ends with after so many turns.
+pub(crate) fn ended(
+    alloc: Global,
+    text: &Text,
+    table: &Table,
+    machine: Machine<'_>,
+    mode: Mode,
+    steps: u64,
+) -> Result<Outcome, AllocError>
+    ensures { IfOk result (Ends text.now table.now (tape_of mode machine.entry) steps) }
+{
+    match mode {
+        Mode::At(_, _) => Ok(Outcome::StepsUsed),
+        Mode::With(reply) => match reply {
+            Reply::Fine { consumed, end, why } => {
+                if !machine.frames.is_empty() {
+                    return Ok(Outcome::StepsUsed);
+                }
+                let error = error(alloc, text, &machine, why)?;
+                let success = Some(Success {
+                    place: end,
+                    table: table.copy(alloc)?,
+                    forest: machine.forest,
+                    trail: Trail::from_items(machine.trail),
+                });
+                Ok(Outcome::Answered(Answer {
+                    consumed,
+                    error,
+                    steps,
+                    success,
+                }))
+            }
+            Reply::Failed { consumed, why } => {
+                if !machine.frames.is_empty() {
+                    return Ok(Outcome::StepsUsed);
+                }
+                let error = error(alloc, text, &machine, why)?;
+                Ok(Outcome::Answered(Answer {
+                    consumed,
+                    error,
+                    steps,
+                    success: None,
+                }))
+            }
+            Reply::EmptyRound => Ok(Outcome::EmptyRound),
+        },
+        Mode::Endless => Ok(Outcome::StepsUsed),
+    }
+}
+
+/// The error of the last answer, with its position.
+fn error(
+    alloc: Global,
+    text: &Text,
+    machine: &Machine<'_>,
+    why: Why,
+) -> Result<ParseError, AllocError>
+    ensures error { IfOk result (λ e. without_position e ≡ error_of why.place (drop why.from machine.now.messages)) }
+    ensures position { IfOk result (λ e. e.position ≡ position_of text.now why.place) }
+{
+    let position = text.position(why.place.min(text.len()));
+    machine.messages.error(alloc, why, position)
+}

@@ -1,0 +1,5 @@
+pub mod Bits
+pub mod Uniting
+pub mod Meeting
+pub mod Halves
+pub mod Counting

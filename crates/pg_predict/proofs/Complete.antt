@@ -1,0 +1,281 @@
+-- What is wrong is noted.
+use Rattle.std.proofs.Common.{◌≡◌, ℕ, suc, ◌+◌, ◌-◌, ◌<◌, Bool, true, false, List, [], ◌++◌, Option, Some, slice_get, length, refl, sym, ap, subst, ◌∙◌, arith}
+use Rattle.std.specs.Prelude.{not, ◌&&◌, nat_lt, if◌then◌else◌}
+use Rattle.std.specs.Option.{option_map_or}
+use Rattle.std.proofs.Math.Numerals.{add-one}
+use Rattle.std.proofs.lemmas.Bool.{and_from}
+use Rattle.std.proofs.lemmas.Option.{slice_get_within, get_or_from_slice_get}
+use Rattle.pg_grammar.specs.Grammar.{Grammar, IsGrammar}
+use Rattle.pg_grammar.specs.declared.form.Node.{Node}
+use Rattle.pg_grammar.specs.declared.form.Node.TheVariants as form
+use Rattle.pg_grammar.proofs.Numbers.{bodies_are_nodes}
+use Rattle.pg_sets.specs.Follow.{IsChain}
+use Rattle.pg_sets.specs.Follow as chain
+use Rattle.pg_sets.specs.Marks.{is_marked}
+use Rattle.pg_sets.specs.Nullable.{Nullable}
+use Rattle.pg_sets.specs.declared.listed.ListedStart.{ListedStart}
+use Rattle.pg_sets.proofs.Lists.{all_get}
+use Rattle.pg_predict.specs.Breaches.{condition_of, start_at}
+use Rattle.pg_predict.specs.Conditions.{Condition, LeftRecursion, EmptyRound, EmptyAlternative, AlternativesMeet, AlternativeMeetsFollow, RoundMeetsFollow, TryAroundMore, Violates, AreFirstToMeet, Begins, Follows, BeginsLink, EndsNullable, IsLexeme}
+use Rattle.pg_predict.specs.Conditions as violates
+use Rattle.pg_predict.specs.Judged.{Facts, noted, noted_meeting, all_below, part_at, node_meeting, follow_meeting, link_meeting, empty_alternative, empty_alternatives, meeting_alternatives, meetings_of_alternative, alternatives_that_meet, alternative_and_follow, alternatives_and_follow, ends_nullable, noted_chain, noted_form, noted_node}
+use Rattle.pg_predict.specs.Lexemes.{is_lexeme}
+use Rattle.pg_predict.specs.Shown.{AreFacts}
+use Rattle.pg_predict.specs.declared.breach.Breach.{Breach}
+use Rattle.pg_predict.specs.declared.breach.BreachKind.{BreachKind}
+use Rattle.pg_predict.specs.declared.breach.BreachKind.TheVariants as kind
+use Rattle.pg_predict.specs.declared.breach.Meeting.{Meeting}
+use Rattle.pg_predict.proofs.Lexeme.{lexeme_is}
+use Rattle.pg_predict.proofs.Lists.{In, in_left, in_right, all_below_has, noted_has, noted_meeting_has}
+use Rattle.pg_predict.proofs.Meanings.{MeetAt, first_numbers, first_there, follow_there, link_there, node_found, follow_found, link_found}
+use Rattle.pg_predict.proofs.Pairs.{pair_from}
+use Rattle.pg_predict.proofs.Sound.{parts_below}
+
+-- it is noted of a node
+pub record IsNoted (g : Grammar) (facts : Facts) (p : ℕ) (condition : Condition) : Type 0 where
+  pub kind : BreachKind
+  pub same : condition_of facts.sets.starts kind ≡ condition
+  pub noted_there : In (noted_node g facts p) (record { node = p; kind = kind })
+  pub below : p < length g.nodes
+
+-- a meeting that is found, and the starts with its numbers
+pub record IsFound (starts : List ListedStart) (o : Option Meeting) (s t : ListedStart) : Type 0 where
+  pub meeting : Meeting
+  pub found : o ≡ Some meeting
+  pub one : start_at starts meeting.one ≡ s
+  pub other : start_at starts meeting.other ≡ t
+
+test_below : (j k : ℕ) → j < k → nat_lt j k ≡ true
+test_below j k e = grind (arith, e)
+
+part_is : (parts : List ℕ) (k q : ℕ) → slice_get parts k ≡ Some q → part_at parts k ≡ q
+part_is parts k q e = get_or_from_slice_get parts k q 0 e
+
+module _ (g : Grammar) (facts : Facts) (are : AreFacts g facts) (grammar : IsGrammar g) where
+  marked : (q : ℕ) → Nullable g q → is_marked facts.sets.nullable q ≡ true
+  marked q null = (are.sets.nullable q).1 null
+
+  -- ---- first meetings
+
+  nodes_found : (q r : ℕ) (s t : ListedStart) → q < length g.nodes → r < length g.nodes → AreFirstToMeet g (Begins g q) (Begins g r) s t
+      → IsFound facts.sets.starts (node_meeting facts q r) s t
+  nodes_found q r s t q_below r_below is =
+      let first = first_numbers g facts are (Begins g q) (Begins g r) (first_there g facts are q q_below) (first_there g facts are r r_below) s t is in
+      record {
+        meeting = first.0;
+        found = pair_from (MeetAt facts.sets.starts (Begins g q) (Begins g r)) (node_meeting facts q r) first.0 (node_found g facts are q r q_below r_below) first.1;
+        one = first.2;
+        other = first.3;
+      }
+
+  with_follow : (q p : ℕ) (s t : ListedStart) → q < length g.nodes → p < length g.nodes → AreFirstToMeet g (Begins g q) (Follows g p) s t
+      → IsFound facts.sets.starts (follow_meeting facts q p) s t
+  with_follow q p s t q_below p_below is =
+      let first = first_numbers g facts are (Begins g q) (Follows g p) (first_there g facts are q q_below) (follow_there g facts are p p_below) s t is in
+      record {
+        meeting = first.0;
+        found = pair_from (MeetAt facts.sets.starts (Begins g q) (Follows g p)) (follow_meeting facts q p) first.0 (follow_found g facts are q p q_below p_below) first.1;
+        one = first.2;
+        other = first.3;
+      }
+
+  link_with_follow : (operand separator p : ℕ) (s t : ListedStart) → operand < length g.nodes → separator < length g.nodes → p < length g.nodes
+      → AreFirstToMeet g (BeginsLink g operand separator) (Follows g p) s t → IsFound facts.sets.starts (link_meeting facts operand separator p) s t
+  link_with_follow operand separator p s t o q below is =
+      let first = first_numbers g facts are (BeginsLink g operand separator) (Follows g p) (link_there g facts are operand separator o q) (follow_there g facts are p below) s t is in
+      record {
+        meeting = first.0;
+        found = pair_from (MeetAt facts.sets.starts (BeginsLink g operand separator) (Follows g p)) (link_meeting facts operand separator p) first.0
+            (link_found g facts are operand separator p o q below) first.1;
+        one = first.2;
+        other = first.3;
+      }
+
+  -- ---- nodes
+
+  -- what is noted of what stands at a node is noted of the node
+  at_form : (p : ℕ) (n : Node) (b : Breach) → slice_get g.nodes p ≡ Some n → In (noted_form g facts p n) b → In (noted_node g facts p) b
+  at_form p n b at is =
+      in_right (noted (is_marked facts.recursive p) p kind.LeftRecursion) (option_map_or (noted_form g facts p) (slice_get g.nodes p) []) b
+      (subst (λ (o : Option Node). In (option_map_or (noted_form g facts p) o []) b) (sym at) is)
+
+  -- the form of a chain
+  at_chain : (p operand separator : ℕ) (n : Node) (b : Breach) → slice_get g.nodes p ≡ Some n → IsChain operand separator n → In (noted_chain facts p operand separator) b
+      → In (noted_node g facts p) b
+  at_chain p operand separator n b at chain.left is = at_form p n b at is
+  at_chain p operand separator n b at chain.right is = at_form p n b at is
+
+  operand_below : (p operand separator : ℕ) (n : Node) → slice_get g.nodes p ≡ Some n → IsChain operand separator n → operand < length g.nodes
+  operand_below p operand separator n at chain.left = parts_below g p n 0 operand grammar at refl
+  operand_below p operand separator n at chain.right = parts_below g p n 0 operand grammar at refl
+
+  separator_below : (p operand separator : ℕ) (n : Node) → slice_get g.nodes p ≡ Some n → IsChain operand separator n → separator < length g.nodes
+  separator_below p operand separator n at chain.left = parts_below g p n 1 separator grammar at refl
+  separator_below p operand separator n at chain.right = parts_below g p n 1 separator grammar at refl
+
+  -- ---- choices
+
+  empty_noted : (p k q : ℕ) (parts : List ℕ) → slice_get g.nodes p ≡ Some (form.Choice parts) → slice_get parts k ≡ Some q → suc k < length parts → Nullable g q
+      → IsNoted g facts p (EmptyAlternative (suc k))
+  empty_noted p k q parts at part not_last null =
+      let b : Breach = record { node = p; kind = kind.EmptyAlternative (k + 1) } in
+      let test : is_marked facts.sets.nullable (part_at parts k) ≡ true = ap (is_marked facts.sets.nullable) (part_is parts k q part) ∙ marked q null in
+      let here = noted_has (is_marked facts.sets.nullable (part_at parts k)) p (kind.EmptyAlternative (k + 1)) test in
+      let below : k < length parts - 1 = omega arith in
+      let one = all_below_has (empty_alternative facts p parts) (length parts - 1) k b below here in
+      record {
+        kind = kind.EmptyAlternative (k + 1);
+        same = ap EmptyAlternative (add-one k);
+        noted_there = at_form p (form.Choice parts) b at
+            (in_left (empty_alternatives facts p parts) (alternatives_that_meet facts p parts ++ alternatives_and_follow facts p parts) b one);
+        below = slice_get_within g.nodes p (form.Choice parts) at;
+      }
+
+  pair_has : (p : ℕ) (parts : List ℕ) (j k : ℕ) (m : Meeting) → j < k → node_meeting facts (part_at parts j) (part_at parts k) ≡ Some m
+      → In (meeting_alternatives facts p parts j k) (record { node = p; kind = kind.AlternativesMeet (j + 1) (k + 1) m })
+  pair_has p parts j k m before found =
+      subst (λ (t : Bool). In (if t then noted_meeting (node_meeting facts (part_at parts j) (part_at parts k)) p (kind.AlternativesMeet (j + 1) (k + 1)) else [])
+      (record { node = p; kind = kind.AlternativesMeet (j + 1) (k + 1) m })) (sym (test_below j k before))
+      (noted_meeting_has (node_meeting facts (part_at parts j) (part_at parts k)) p (kind.AlternativesMeet (j + 1) (k + 1)) m found)
+
+  pair_noted : (p j k q r : ℕ) (parts : List ℕ) (s t : ListedStart) → slice_get g.nodes p ≡ Some (form.Choice parts) → j < k → slice_get parts j ≡ Some q → slice_get parts k ≡ Some r
+      → AreFirstToMeet g (Begins g q) (Begins g r) s t → IsNoted g facts p (AlternativesMeet (suc j) (suc k) s t)
+  pair_noted p j k q r parts s t at before one other first =
+      let starts = facts.sets.starts in
+      let q_below = parts_below g p (form.Choice parts) j q grammar at one in
+      let r_below = parts_below g p (form.Choice parts) k r grammar at other in
+      let found = nodes_found q r s t q_below r_below first in
+      let m = found.meeting in
+      let b : Breach = record { node = p; kind = kind.AlternativesMeet (j + 1) (k + 1) m } in
+      let e : node_meeting facts (part_at parts j) (part_at parts k) ≡ Some m =
+      ap (λ (x : ℕ). node_meeting facts x (part_at parts k)) (part_is parts j q one) ∙ (ap (node_meeting facts q) (part_is parts k r other) ∙ found.found) in
+      let inner = all_below_has (meeting_alternatives facts p parts j) (length parts) k b (slice_get_within parts k r other) (pair_has p parts j k m before e) in
+      let outer = all_below_has (meetings_of_alternative facts p parts) (length parts) j b (slice_get_within parts j q one) inner in
+      record {
+        kind = kind.AlternativesMeet (j + 1) (k + 1) m;
+        same =
+            ap (λ (i : ℕ). AlternativesMeet i (k + 1) (start_at starts m.one) (start_at starts m.other)) (add-one j)
+            ∙ (ap (λ (i : ℕ). AlternativesMeet (suc j) i (start_at starts m.one) (start_at starts m.other)) (add-one k)
+            ∙ (ap (λ (x : ListedStart). AlternativesMeet (suc j) (suc k) x (start_at starts m.other)) found.one ∙ ap (AlternativesMeet (suc j) (suc k) s) found.other));
+        noted_there = at_form p (form.Choice parts) b at
+            (in_right (empty_alternatives facts p parts) (alternatives_that_meet facts p parts ++ alternatives_and_follow facts p parts) b
+            (in_left (alternatives_that_meet facts p parts) (alternatives_and_follow facts p parts) b outer));
+        below = slice_get_within g.nodes p (form.Choice parts) at;
+      }
+
+  ends_test : (parts : List ℕ) → EndsNullable g parts → ends_nullable facts parts ≡ true
+  ends_test parts ends =
+      let long = ends.is_last in
+      let before : length parts - 1 ≡ ends.before = omega arith in
+      ap (λ (k : ℕ). is_marked facts.sets.nullable (part_at parts k)) before
+      ∙ (ap (is_marked facts.sets.nullable) (part_is parts ends.before ends.last ends.there) ∙ marked ends.last ends.nullable)
+
+  follow_noted : (p k q : ℕ) (parts : List ℕ) (s t : ListedStart) → slice_get g.nodes p ≡ Some (form.Choice parts) → slice_get parts k ≡ Some q → suc k < length parts
+      → EndsNullable g parts → AreFirstToMeet g (Begins g q) (Follows g p) s t → IsNoted g facts p (AlternativeMeetsFollow (suc k) s t)
+  follow_noted p k q parts s t at part not_last ends first =
+      let starts = facts.sets.starts in
+      let p_below = slice_get_within g.nodes p (form.Choice parts) at in
+      let q_below = parts_below g p (form.Choice parts) k q grammar at part in
+      let found = with_follow q p s t q_below p_below first in
+      let m = found.meeting in
+      let b : Breach = record { node = p; kind = kind.AlternativeMeetsFollow (k + 1) m } in
+      let e : follow_meeting facts (part_at parts k) p ≡ Some m = ap (λ (x : ℕ). follow_meeting facts x p) (part_is parts k q part) ∙ found.found in
+      let here = noted_meeting_has (follow_meeting facts (part_at parts k) p) p (kind.AlternativeMeetsFollow (k + 1)) m e in
+      let below : k < length parts - 1 = omega arith in
+      let one = all_below_has (alternative_and_follow facts p parts) (length parts - 1) k b below here in
+      let all : In (alternatives_and_follow facts p parts) b =
+      subst (λ (u : Bool). In (if u then all_below (alternative_and_follow facts p parts) (length parts - 1) else []) b) (sym (ends_test parts ends)) one in
+      record {
+        kind = kind.AlternativeMeetsFollow (k + 1) m;
+        same =
+            ap (λ (i : ℕ). AlternativeMeetsFollow i (start_at starts m.one) (start_at starts m.other)) (add-one k)
+            ∙ (ap (λ (x : ListedStart). AlternativeMeetsFollow (suc k) x (start_at starts m.other)) found.one ∙ ap (AlternativeMeetsFollow (suc k) s) found.other);
+        noted_there = at_form p (form.Choice parts) b at
+            (in_right (empty_alternatives facts p parts) (alternatives_that_meet facts p parts ++ alternatives_and_follow facts p parts) b
+            (in_right (alternatives_that_meet facts p parts) (alternatives_and_follow facts p parts) b all));
+        below = p_below;
+      }
+
+  -- ---- the others
+
+  round_same : (m : Meeting) (s t : ListedStart) → start_at facts.sets.starts m.one ≡ s → start_at facts.sets.starts m.other ≡ t
+      → condition_of facts.sets.starts (kind.RoundMeetsFollow m) ≡ RoundMeetsFollow s t
+  round_same m s t one other = ap (λ (x : ListedStart). RoundMeetsFollow x (start_at facts.sets.starts m.other)) one ∙ ap (RoundMeetsFollow s) other
+
+  not_lexeme : (q : ℕ) → (IsLexeme g q → ⊥) → not (is_lexeme g q) ≡ true
+  not_lexeme q none = go (is_lexeme g q) (lexeme_is g q).0
+    where
+      go : (t : Bool) → (t ≡ true → IsLexeme g q) → not t ≡ true
+      go true is = absurd (none (is refl))
+      go false is = refl
+
+  pub violation_noted : (p : ℕ) (condition : Condition) → Violates g p condition → IsNoted g facts p condition
+  violation_noted p condition (violates.left_recursion {r} {rule} there circle) =
+      let test = (are.recursive rule.body).1 (record { number = r; rule = rule; there = there; body = refl; chain = circle }) in
+      record {
+        kind = kind.LeftRecursion;
+        same = refl;
+        noted_there = in_left (noted (is_marked facts.recursive rule.body) rule.body kind.LeftRecursion) (option_map_or (noted_form g facts rule.body) (slice_get g.nodes rule.body) [])
+            (record { node = rule.body; kind = kind.LeftRecursion }) (noted_has (is_marked facts.recursive rule.body) rule.body kind.LeftRecursion test);
+        below = all_get (λ one. one.body < length g.nodes) g.rules r rule (bodies_are_nodes g.rules g.nodes grammar.bodies) there;
+      }
+  violation_noted p condition (violates.empty_round {q = q} at null) =
+      let b : Breach = record { node = p; kind = kind.EmptyRound } in
+      record {
+        kind = kind.EmptyRound;
+        same = refl;
+        noted_there = at_form p (form.Many q) b at
+            (in_left (noted (is_marked facts.sets.nullable q) p kind.EmptyRound) (noted_meeting (follow_meeting facts q p) p kind.RoundMeetsFollow) b
+            (noted_has (is_marked facts.sets.nullable q) p kind.EmptyRound (marked q null)));
+        below = slice_get_within g.nodes p (form.Many q) at;
+      }
+  violation_noted p condition (violates.empty_link {operand = operand} {separator = separator} {n = n} at is_chain null_s null_o) =
+      let b : Breach = record { node = p; kind = kind.EmptyRound } in
+      let test = and_from (is_marked facts.sets.nullable separator) (is_marked facts.sets.nullable operand) (marked separator null_s) (marked operand null_o) in
+      record {
+        kind = kind.EmptyRound;
+        same = refl;
+        noted_there = at_chain p operand separator n b at is_chain
+            (in_left (noted (is_marked facts.sets.nullable separator && is_marked facts.sets.nullable operand) p kind.EmptyRound)
+            (noted_meeting (link_meeting facts operand separator p) p kind.RoundMeetsFollow) b
+            (noted_has (is_marked facts.sets.nullable separator && is_marked facts.sets.nullable operand) p kind.EmptyRound test));
+        below = slice_get_within g.nodes p n at;
+      }
+  violation_noted p condition (violates.empty_alternative {k = k} {q = q} {parts = parts} at part not_last null) = empty_noted p k q parts at part not_last null
+  violation_noted p condition (violates.alternatives_meet {j = j} {k = k} {q = q} {r = r} {parts = parts} {s = s} {t = t} at before one other first) =
+      pair_noted p j k q r parts s t at before one other first
+  violation_noted p condition (violates.alternative_meets_follow {k = k} {q = q} {parts = parts} {s = s} {t = t} at part not_last ends first) =
+      follow_noted p k q parts s t at part not_last ends first
+  violation_noted p condition (violates.round_meets_follow {q = q} {s = s} {t = t} at first) =
+      let p_below = slice_get_within g.nodes p (form.Many q) at in
+      let found = with_follow q p s t (parts_below g p (form.Many q) 0 q grammar at refl) p_below first in
+      let b : Breach = record { node = p; kind = kind.RoundMeetsFollow found.meeting } in
+      record {
+        kind = kind.RoundMeetsFollow found.meeting;
+        same = round_same found.meeting s t found.one found.other;
+        noted_there = at_form p (form.Many q) b at
+            (in_right (noted (is_marked facts.sets.nullable q) p kind.EmptyRound) (noted_meeting (follow_meeting facts q p) p kind.RoundMeetsFollow) b
+            (noted_meeting_has (follow_meeting facts q p) p kind.RoundMeetsFollow found.meeting found.found));
+        below = p_below;
+      }
+  violation_noted p condition (violates.link_meets_follow {operand = operand} {separator = separator} {n = n} {s = s} {t = t} at is_chain first) =
+      let p_below = slice_get_within g.nodes p n at in
+      let found = link_with_follow operand separator p s t (operand_below p operand separator n at is_chain) (separator_below p operand separator n at is_chain) p_below first in
+      let b : Breach = record { node = p; kind = kind.RoundMeetsFollow found.meeting } in
+      record {
+        kind = kind.RoundMeetsFollow found.meeting;
+        same = round_same found.meeting s t found.one found.other;
+        noted_there = at_chain p operand separator n b at is_chain
+            (in_right (noted (is_marked facts.sets.nullable separator && is_marked facts.sets.nullable operand) p kind.EmptyRound)
+            (noted_meeting (link_meeting facts operand separator p) p kind.RoundMeetsFollow) b
+            (noted_meeting_has (link_meeting facts operand separator p) p kind.RoundMeetsFollow found.meeting found.found));
+        below = p_below;
+      }
+  violation_noted p condition (violates.try_around_more {q = q} at none) =
+      let b : Breach = record { node = p; kind = kind.TryAroundMore } in
+      record {
+        kind = kind.TryAroundMore;
+        same = refl;
+        noted_there = at_form p (form.Try q) b at (noted_has (not (is_lexeme g q)) p kind.TryAroundMore (not_lexeme q none));
+        below = slice_get_within g.nodes p (form.Try q) at;
+      }

@@ -1,0 +1,14 @@
+pub mod Least
+pub mod FirstMeetings
+pub mod AllBelow
+pub mod MetSets
+pub mod Chains
+pub mod Numbered
+pub mod Pairs
+pub mod Lists
+pub mod Meanings
+pub mod Lexeme
+pub mod Sound
+pub mod Complete
+pub mod Violations
+pub mod Unsuspected

@@ -1,0 +1,31 @@
+-- Grammars that were checked.
+use Rattle.std.specs.Prelude.{◌≡◌, ◌<◌, length}
+use Rattle.pg_grammar.specs.Grammar.{Grammar}
+use Rattle.pg_sets.specs.Sets.{Sets, AreSets}
+use Rattle.pg_predict.specs.Conditions.{IsFaultless}
+use Rattle.pg_predict.specs.Findings.{AreFindings}
+use Rattle.pg_predict.specs.Operators.{HasNoOperators}
+use Rattle.pg_predict.specs.declared.checking.CheckFault.{CheckFault}
+use Rattle.pg_predict.specs.declared.checking.CheckFault.TheVariants as fault
+use Rattle.pg_predict.specs.declared.checking.Refused as declared
+
+pub record GrammarWithSets : Type 0 where
+  pub grammar : Grammar
+  pub sets : Sets
+
+-- the sets are the grammar's, nothing is wrong with it, and no text reads or declares operators
+pub record IsChecked (checked : GrammarWithSets) : Type 0 where
+  pub sets : AreSets checked.grammar checked.sets
+  pub faultless : IsFaultless checked.grammar
+  pub plain : HasNoOperators checked.grammar
+
+-- the grammar is handed back with all that is wrong with it, which is something
+pub record IsRefused (g : Grammar) (refused : declared.Refused) : Type 0 where
+  pub same : refused.grammar ≡ g
+  pub findings : AreFindings g refused.findings.items
+  pub some : 0 < length refused.findings.items
+
+-- why a grammar isn't accepted: it is refused, or memory ran out, and it is handed back
+abbrev pub IsFaultOf : Grammar → CheckFault → Type 0
+IsFaultOf g (fault.Refused refused) = IsRefused g refused
+IsFaultOf g (fault.Memory grammar) = grammar ≡ g

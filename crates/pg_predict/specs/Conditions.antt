@@ -1,0 +1,106 @@
+-- What can be wrong at a node of a grammar, so that what comes next in a text doesn't tell a parser which way to go.
+use Rattle.std.specs.Prelude.{◌≡◌, ◌<◌, ℕ, suc, List, [], ◌∷◌, Some, slice_get, length}
+use Rattle.std.specs.declared.cmp.Ordering.TheVariants.{Less}
+use Rattle.pg_grammar.specs.Grammar.{Grammar}
+use Rattle.pg_grammar.specs.declared.class.ClassPart.{ClassPart}
+use Rattle.pg_grammar.specs.declared.form.Node.{Node}
+use Rattle.pg_grammar.specs.declared.form.Node.TheVariants as form
+use Rattle.pg_grammar.specs.declared.grammar.Rule as declared
+use Rattle.pg_start.specs.Apart.{Apart}
+use Rattle.pg_start.specs.declared.kind.StartKind.{StartKind}
+use Rattle.pg_sets.specs.First.{IsFirst, IsFirstOf}
+use Rattle.pg_sets.specs.Follow.{IsFollow, IsChain}
+use Rattle.pg_sets.specs.Listed.{IsListed, start_order}
+use Rattle.pg_sets.specs.Nullable.{Nullable}
+use Rattle.pg_sets.specs.OwnStarts.{IsKeyed}
+use Rattle.pg_sets.specs.Ranks.{Chain}
+use Rattle.pg_sets.specs.declared.listed.ListedStart.{ListedStart}
+
+-- what is wrong; alternatives count from 1
+pub data Condition : Type 0 where
+  LeftRecursion : Condition
+  EmptyRound : Condition
+  EmptyAlternative : ℕ → Condition
+  AlternativesMeet : ℕ → ℕ → ListedStart → ListedStart → Condition
+  AlternativeMeetsFollow : ℕ → ListedStart → ListedStart → Condition
+  RoundMeetsFollow : ListedStart → ListedStart → Condition
+  TryAroundMore : Condition
+
+-- one thing that is wrong: the number of a node in the grammar, and what
+pub record Violation : Type 0 where
+  pub node : ℕ
+  pub condition : Condition
+
+-- ---- meetings
+
+-- a start of the one kind and a start of the other aren't apart
+pub record Meet (g : Grammar) (One Other : StartKind → Type 0) (s t : ListedStart) : Type 0 where
+  pub one_listed : IsListed g s
+  pub other_listed : IsListed g t
+  pub one : One s.start
+  pub other : Other t.start
+  pub together : Apart s.start t.start → ⊥
+
+-- they are the first two: by the order of starts of the one, and then of the other
+pub record AreFirstToMeet (g : Grammar) (One Other : StartKind → Type 0) (s t : ListedStart) : Type 0 where
+  pub meet : Meet g One Other s t
+  pub first_one : (x y : ListedStart) → Meet g One Other x y → start_order x s ≡ Less → ⊥
+  pub first_other : (y : ListedStart) → Meet g One Other s y → start_order y t ≡ Less → ⊥
+
+-- the starts of a node, those that follow it, and those of a chain's round, which is a separator and an operand
+abbrev pub Begins : Grammar → ℕ → StartKind → Type 0
+Begins g p start = IsFirst g start p
+
+abbrev pub Follows : Grammar → ℕ → StartKind → Type 0
+Follows g p start = IsFollow g start p
+
+abbrev pub BeginsLink : Grammar → ℕ → ℕ → StartKind → Type 0
+BeginsLink g operand separator start = IsFirstOf g start (separator ∷ operand ∷ [])
+
+-- ---- parts
+
+-- the node is a lexeme, which is all that a try may go back from: a string, a string with a class that doesn't follow it, a
+-- character of a class, or a word
+pub data IsLexeme (g : Grammar) (p : ℕ) : Type 0 where
+  string : {text : List ℕ} → slice_get g.nodes p ≡ Some (form.String text) → IsLexeme g p
+  keyed : {text : List ℕ} {excluded : List ClassPart} → IsKeyed g p text excluded → IsLexeme g p
+  satisfy : {class : List ClassPart} → slice_get g.nodes p ≡ Some (form.Satisfy class) → IsLexeme g p
+  word : {w : ℕ} → slice_get g.nodes p ≡ Some (form.Word w) → IsLexeme g p
+
+-- the last of these alternatives can be empty
+pub record EndsNullable (g : Grammar) (parts : List ℕ) : Type 0 where
+  pub before : ℕ
+  pub last : ℕ
+  pub is_last : suc before ≡ length parts
+  pub there : slice_get parts before ≡ Some last
+  pub nullable : Nullable g last
+
+-- ---- what is wrong where
+
+pub data Violates (g : Grammar) : ℕ → Condition → Type 0 where
+  -- the rule with this body heads itself, in one step or more
+  left_recursion : {r : ℕ} {rule : declared.Rule} → slice_get g.rules r ≡ Some rule → Chain g r r → Violates g rule.body LeftRecursion
+  -- a round of a repetition can be empty
+  empty_round : {p q : ℕ} → slice_get g.nodes p ≡ Some (form.Many q) → Nullable g q → Violates g p EmptyRound
+  empty_link : {p operand separator : ℕ} {n : Node} → slice_get g.nodes p ≡ Some n → IsChain operand separator n → Nullable g separator → Nullable g operand
+      → Violates g p EmptyRound
+  -- an alternative can be empty and isn't the last
+  empty_alternative : {p k q : ℕ} {parts : List ℕ} → slice_get g.nodes p ≡ Some (form.Choice parts) → slice_get parts k ≡ Some q → suc k < length parts → Nullable g q
+      → Violates g p (EmptyAlternative (suc k))
+  -- two alternatives have starts that aren't apart
+  alternatives_meet : {p j k q r : ℕ} {parts : List ℕ} {s t : ListedStart} → slice_get g.nodes p ≡ Some (form.Choice parts) → j < k → slice_get parts j ≡ Some q
+      → slice_get parts k ≡ Some r → AreFirstToMeet g (Begins g q) (Begins g r) s t → Violates g p (AlternativesMeet (suc j) (suc k) s t)
+  -- the last alternative can be empty, and another has a start that isn't apart from one that follows the choice
+  alternative_meets_follow : {p k q : ℕ} {parts : List ℕ} {s t : ListedStart} → slice_get g.nodes p ≡ Some (form.Choice parts) → slice_get parts k ≡ Some q
+      → suc k < length parts → EndsNullable g parts → AreFirstToMeet g (Begins g q) (Follows g p) s t → Violates g p (AlternativeMeetsFollow (suc k) s t)
+  -- a round has a start that isn't apart from one that follows the repetition
+  round_meets_follow : {p q : ℕ} {s t : ListedStart} → slice_get g.nodes p ≡ Some (form.Many q) → AreFirstToMeet g (Begins g q) (Follows g p) s t
+      → Violates g p (RoundMeetsFollow s t)
+  link_meets_follow : {p operand separator : ℕ} {n : Node} {s t : ListedStart} → slice_get g.nodes p ≡ Some n → IsChain operand separator n
+      → AreFirstToMeet g (BeginsLink g operand separator) (Follows g p) s t → Violates g p (RoundMeetsFollow s t)
+  -- a try stands around more than a lexeme
+  try_around_more : {p q : ℕ} → slice_get g.nodes p ≡ Some (form.Try q) → (IsLexeme g q → ⊥) → Violates g p TryAroundMore
+
+-- nothing is wrong at any node: the grammar is predictive
+abbrev pub IsFaultless : Grammar → Type 0
+IsFaultless g = (p : ℕ) (condition : Condition) → Violates g p condition → ⊥

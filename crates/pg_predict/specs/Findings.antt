@@ -1,0 +1,122 @@
+-- What is said of a grammar that isn't accepted.
+use Rattle.std.specs.Prelude.{◌≡◌, ◌+◌, ◌-◌, ◌↔◌, ℕ, nat_le, List, [], ◌∷◌, ◌++◌, map, codes, count_by, slice_get, string_bytes}
+use Rattle.std.specs.Cmp.Lexicographic.{slice_cmp}
+use Rattle.std.specs.Fmt.{decimal}
+use Rattle.std.specs.List.{Contains}
+use Rattle.std.specs.List.Sorted.{IsStrictlySortedBy}
+use Rattle.std.specs.Option.{option_map_or}
+use Rattle.std.specs.Ordering.{nat_cmp, on}
+use Rattle.std.specs.Str.{encode_utf8_all}
+use Rattle.std.specs.declared.cmp.Ordering.{Ordering}
+use Rattle.pg_grammar.specs.Grammar.{Grammar, rule_body}
+use Rattle.pg_grammar.specs.declared.grammar.Rule.{Rule}
+use Rattle.pg_sets.specs.PrintedStarts.{start_text}
+use Rattle.pg_sets.specs.declared.listed.ListedStart.{ListedStart}
+use Rattle.pg_predict.specs.Conditions.{Condition, LeftRecursion, EmptyRound, EmptyAlternative, AlternativesMeet, AlternativeMeetsFollow, RoundMeetsFollow, TryAroundMore, Violation, Violates}
+use Rattle.pg_predict.specs.declared.finding.Finding.{Finding}
+
+-- ---- the order
+
+-- the number of a condition
+abbrev pub condition_number : Condition → ℕ
+condition_number LeftRecursion = 1
+condition_number EmptyRound = 2
+condition_number (EmptyAlternative k) = 3
+condition_number (AlternativesMeet j k s t) = 4
+condition_number (AlternativeMeetsFollow k s t) = 5
+condition_number (RoundMeetsFollow s t) = 6
+condition_number TryAroundMore = 10
+
+-- the alternatives that it names
+abbrev pub alternatives_of : Condition → List ℕ
+alternatives_of LeftRecursion = []
+alternatives_of EmptyRound = []
+alternatives_of (EmptyAlternative k) = k ∷ []
+alternatives_of (AlternativesMeet j k s t) = j ∷ k ∷ []
+alternatives_of (AlternativeMeetsFollow k s t) = k ∷ []
+alternatives_of (RoundMeetsFollow s t) = []
+alternatives_of TryAroundMore = []
+
+-- by the number of the node, which stand rule by rule, then by the number of the condition, then by the alternatives
+abbrev pub violation_key : Violation → List ℕ
+violation_key violation = violation.node ∷ condition_number violation.condition ∷ alternatives_of violation.condition
+
+abbrev pub violation_order : Violation → Violation → Ordering
+violation_order = on violation_key (slice_cmp nat_cmp)
+
+-- all that is wrong with a grammar, each once and in order
+pub record AreViolations (g : Grammar) (violations : List Violation) : Type 0 where
+  pub ordered : IsStrictlySortedBy violation_order violations
+  pub members : (v : Violation) → Contains violations v ↔ Violates g v.node v.condition
+
+-- ---- the texts
+
+-- two starts that meet
+abbrev pub meeting_text : Grammar → ListedStart → ListedStart → List ℕ
+meeting_text g s t = start_text g s ++ (codes " and " ++ start_text g t)
+
+abbrev pub condition_text : Grammar → Condition → List ℕ
+condition_text g LeftRecursion = codes "C1 left recursion"
+condition_text g EmptyRound = codes "C2 repeated part can be empty"
+condition_text g (EmptyAlternative k) = codes "C3 alternative " ++ (decimal k ++ codes " can be empty and is not last")
+condition_text g (AlternativesMeet j k s t) = codes "C4 alternatives " ++ (decimal j ++ (codes " and " ++ (decimal k ++ (codes " meet at " ++ meeting_text g s t))))
+condition_text g (AlternativeMeetsFollow k s t) = codes "C5 alternative " ++ (decimal k ++ (codes " meets the follow set at " ++ meeting_text g s t))
+condition_text g (RoundMeetsFollow s t) = codes "C6 repetition meets its follow set at " ++ meeting_text g s t
+condition_text g TryAroundMore = codes "C10 try around more than a lexeme"
+
+-- ---- the places
+
+-- the number of the rule that a node stands in: the last whose body isn't behind the node
+abbrev pub rule_of : List Rule → ℕ → ℕ
+rule_of rules p = count_by (λ rule. nat_le (rule_body rule) p) rules - 1
+
+-- its name
+abbrev pub name_text : Rule → List ℕ
+name_text rule = encode_utf8_all rule.name
+
+abbrev pub name_of : List Rule → ℕ → List ℕ
+name_of rules r = option_map_or name_text (slice_get rules r) []
+
+-- its body
+
+abbrev pub body_of : List Rule → ℕ → ℕ
+body_of rules r = option_map_or rule_body (slice_get rules r) 0
+
+-- a node's number among those of its rule, from 1
+abbrev pub number_in_rule : List Rule → ℕ → ℕ
+number_in_rule rules p = p - body_of rules (rule_of rules p) + 1
+
+-- ---- findings
+
+-- a rule, from 0, a node in it, from 1, the number of a condition, and a line
+pub record Saying : Type 0 where
+  pub rule : ℕ
+  pub node : ℕ
+  pub number : ℕ
+  pub line : List ℕ
+
+-- what a finding says
+abbrev pub said : Finding → Saying
+said finding = record { rule = finding.rule; node = finding.node; number = finding.number; line = string_bytes finding.line }
+
+-- a rule's name, the number of a node in it, and a text
+abbrev pub placed_text : List ℕ → ℕ → List ℕ → List ℕ
+placed_text name node text = name ++ (codes ":" ++ (decimal node ++ (codes ": " ++ text)))
+
+abbrev pub line_of : Grammar → Violation → List ℕ
+line_of g v = placed_text (name_of g.rules (rule_of g.rules v.node)) (number_in_rule g.rules v.node) (condition_text g v.condition)
+
+-- what is said of a violation
+abbrev pub saying_of : Grammar → Violation → Saying
+saying_of g v = record {
+  rule = rule_of g.rules v.node;
+  node = number_in_rule g.rules v.node;
+  number = condition_number v.condition;
+  line = line_of g v;
+}
+
+-- all findings of a grammar
+pub record AreFindings (g : Grammar) (findings : List Finding) : Type 0 where
+  pub violations : List Violation
+  pub all : AreViolations g violations
+  pub says : map said findings ≡ map (saying_of g) violations

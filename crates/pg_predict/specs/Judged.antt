@@ -1,0 +1,132 @@
+-- What is noted of a grammar, a condition a line, from sets of numbers.
+use Rattle.std.specs.Prelude.{◌+◌, ◌-◌, ℕ, zero, suc, Bool, true, false, not, ◌&&◌, nat_lt, if◌then◌else◌, List, [], ◌∷◌, ◌++◌, length, Option, Some, None, slice_get, slice_index_or}
+use Rattle.std.specs.Option.{option_map_or}
+use Rattle.pg_grammar.specs.Grammar.{Grammar}
+use Rattle.pg_grammar.specs.declared.form.Node.{Node}
+use Rattle.pg_grammar.specs.declared.form.Node.TheVariants as form
+use Rattle.pg_numbers.specs.Numbers.{set_at}
+use Rattle.pg_sets.specs.Marks.{is_marked}
+use Rattle.pg_sets.specs.Sets.{Sets}
+use Rattle.pg_predict.specs.Lexemes.{is_lexeme}
+use Rattle.pg_predict.specs.Meetings.{first_meeting, earlier}
+use Rattle.pg_predict.specs.declared.breach.Breach.{Breach}
+use Rattle.pg_predict.specs.declared.breach.BreachKind.{BreachKind}
+use Rattle.pg_predict.specs.declared.breach.BreachKind.TheVariants as kind
+use Rattle.pg_predict.specs.declared.breach.Meeting.{Meeting}
+
+-- ---- what is asked
+
+-- the sets of a grammar, marks on the bodies of rules that head themselves, and for each start the set of those that aren't
+-- apart from it
+pub record Facts : Type 0 where
+  pub sets : Sets
+  pub recursive : List Bool
+  pub meetings : List (List Bool)
+
+-- the first meeting of two nodes, of a node and what follows another, of a round of a chain and what follows the chain
+abbrev pub node_meeting : Facts → ℕ → ℕ → Option Meeting
+node_meeting facts q r = first_meeting facts.meetings (set_at facts.sets.firsts q) (set_at facts.sets.firsts r)
+
+abbrev pub follow_meeting : Facts → ℕ → ℕ → Option Meeting
+follow_meeting facts q p = first_meeting facts.meetings (set_at facts.sets.firsts q) (set_at facts.sets.follows p)
+
+abbrev pub link_meeting : Facts → ℕ → ℕ → ℕ → Option Meeting
+link_meeting facts operand separator p =
+    if is_marked facts.sets.nullable separator then earlier (follow_meeting facts separator p) (follow_meeting facts operand p) else follow_meeting facts separator p
+
+-- ---- what is noted
+
+-- a breach where a test holds
+abbrev pub noted : Bool → ℕ → BreachKind → List Breach
+noted true p what = record { node = p; kind = what } ∷ []
+noted false p what = []
+
+-- a breach of a meeting, if there is one
+abbrev pub noted_meeting : Option Meeting → ℕ → (Meeting → BreachKind) → List Breach
+noted_meeting None p what = []
+noted_meeting (Some meeting) p what = record { node = p; kind = what meeting } ∷ []
+
+-- what is noted for the numbers below a limit, one after another
+abbrev pub all_below : (ℕ → List Breach) → ℕ → List Breach
+all_below note zero = []
+all_below note (suc n) = all_below note n ++ note n
+
+-- ---- choices
+
+abbrev pub part_at : List ℕ → ℕ → ℕ
+part_at parts k = slice_index_or parts k 0
+
+abbrev pub empty_alternative : Facts → ℕ → List ℕ → ℕ → List Breach
+empty_alternative facts p parts k = noted (is_marked facts.sets.nullable (part_at parts k)) p (kind.EmptyAlternative (k + 1))
+
+abbrev pub meeting_alternatives : Facts → ℕ → List ℕ → ℕ → ℕ → List Breach
+meeting_alternatives facts p parts j k =
+    if nat_lt j k then noted_meeting (node_meeting facts (part_at parts j) (part_at parts k)) p (kind.AlternativesMeet (j + 1) (k + 1)) else []
+
+abbrev pub meetings_of_alternative : Facts → ℕ → List ℕ → ℕ → List Breach
+meetings_of_alternative facts p parts j = all_below (meeting_alternatives facts p parts j) (length parts)
+
+abbrev pub alternative_and_follow : Facts → ℕ → List ℕ → ℕ → List Breach
+alternative_and_follow facts p parts k = noted_meeting (follow_meeting facts (part_at parts k) p) p (kind.AlternativeMeetsFollow (k + 1))
+
+-- whether the last alternative is nullable
+abbrev pub ends_nullable : Facts → List ℕ → Bool
+ends_nullable facts parts = is_marked facts.sets.nullable (part_at parts (length parts - 1))
+
+-- the three conditions on choices
+abbrev pub empty_alternatives : Facts → ℕ → List ℕ → List Breach
+empty_alternatives facts p parts = all_below (empty_alternative facts p parts) (length parts - 1)
+
+abbrev pub alternatives_that_meet : Facts → ℕ → List ℕ → List Breach
+alternatives_that_meet facts p parts = all_below (meetings_of_alternative facts p parts) (length parts)
+
+abbrev pub alternatives_and_follow : Facts → ℕ → List ℕ → List Breach
+alternatives_and_follow facts p parts = if ends_nullable facts parts then all_below (alternative_and_follow facts p parts) (length parts - 1) else []
+
+abbrev pub noted_choice : Facts → ℕ → List ℕ → List Breach
+noted_choice facts p parts = empty_alternatives facts p parts ++ (alternatives_that_meet facts p parts ++ alternatives_and_follow facts p parts)
+
+-- ---- repetitions
+
+abbrev pub noted_many : Facts → ℕ → ℕ → List Breach
+noted_many facts p q = noted (is_marked facts.sets.nullable q) p kind.EmptyRound ++ noted_meeting (follow_meeting facts q p) p kind.RoundMeetsFollow
+
+abbrev pub noted_chain : Facts → ℕ → ℕ → ℕ → List Breach
+noted_chain facts p operand separator =
+    noted (is_marked facts.sets.nullable separator && is_marked facts.sets.nullable operand) p kind.EmptyRound
+    ++ noted_meeting (link_meeting facts operand separator p) p kind.RoundMeetsFollow
+
+-- ---- tries
+
+abbrev pub noted_try : Grammar → ℕ → ℕ → List Breach
+noted_try g p q = noted (not (is_lexeme g q)) p kind.TryAroundMore
+
+-- ---- all forms
+
+abbrev pub noted_form : Grammar → Facts → ℕ → Node → List Breach
+noted_form g facts p (form.Satisfy class) = []
+noted_form g facts p (form.String text) = []
+noted_form g facts p (form.Seq parts) = []
+noted_form g facts p (form.Choice parts) = noted_choice facts p parts
+noted_form g facts p (form.Many part) = noted_many facts p part
+noted_form g facts p (form.ChainLeft used operand separator) = noted_chain facts p operand separator
+noted_form g facts p (form.ChainRight used operand separator) = noted_chain facts p operand separator
+noted_form g facts p (form.Try part) = noted_try g p part
+noted_form g facts p (form.NotFollowedBy class) = []
+noted_form g facts p form.EndOfText = []
+noted_form g facts p (form.Word word) = []
+noted_form g facts p (form.Rule rule) = []
+noted_form g facts p (form.Expression builders term) = []
+noted_form g facts p (form.Declare class) = []
+noted_form g facts p (form.Text part) = []
+noted_form g facts p (form.Skip part) = []
+noted_form g facts p (form.Build used symbol part) = []
+noted_form g facts p (form.Label part message) = []
+
+-- what is noted at a node: first whether it is the body of a rule that heads itself
+abbrev pub noted_node : Grammar → Facts → ℕ → List Breach
+noted_node g facts p = noted (is_marked facts.recursive p) p kind.LeftRecursion ++ option_map_or (noted_form g facts p) (slice_get g.nodes p) []
+
+-- at all nodes
+abbrev pub noted_grammar : Grammar → Facts → List Breach
+noted_grammar g facts = all_below (noted_node g facts) (length g.nodes)

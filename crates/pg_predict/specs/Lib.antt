@@ -1,0 +1,10 @@
+pub mod Operators
+pub mod Conditions
+pub mod Findings
+pub mod Breaches
+pub mod Lexemes
+pub mod Meetings
+pub mod Judged
+pub mod Suspects
+pub mod Shown
+pub mod Checked

@@ -1,0 +1,135 @@
+//! Findings: what is said of a broken condition.
+ghost use Rattle.std.specs.Prelude.{◌≡◌, ◌<◌, List, map, IfOk, string_bytes};
+ghost use Rattle.std.specs.List.{All};
+ghost use Rattle.pg_sets.specs.declared.listed.ListedStart.{ListedStart};
+ghost use Rattle.pg_predict.specs.Breaches.{condition_of, violation_of};
+ghost use Rattle.pg_predict.specs.Findings.{condition_number, rule_of, name_of, body_of, number_in_rule, placed_text, said, saying_of};
+
+use crate::breach::{Breach, BreachKind};
+use crate::texts::breach_text;
+use pg_grammar::{Grammar, Rule};
+use pg_sets::ListedStart;
+use std::alloc::{AllocError, Global};
+
+/// What is wrong at a node of a grammar, and what to print of it.
+#[derive(Debug, Drop)]
+pub struct Finding {
+    /// The number of the rule, from 0 in file order.
+    pub rule: usize,
+    /// The node's number in the rule's body, from 1, in preorder.
+    pub node: usize,
+    /// The number of the condition: 1 to 6, or 10.
+    pub number: usize,
+    /// The rule's name, the node's number and the text of what is wrong, without a line feed.
+    pub line: String,
+}
+
+/// What is said of these. The only error is that memory ran out.
+pub(crate) fn findings_of(
+    alloc: Global,
+    grammar: &Grammar,
+    starts: &[ListedStart],
+    breaches: &[Breach],
+) -> Result<Vec<Finding>, AllocError>
+    requires { All (λ breach. breach.node < 8192) breaches.now }
+    ensures { IfOk result (λ findings. map said findings.items ≡ map (λ breach. saying_of grammar.now (violation_of starts.now breach)) breaches.now) }
+{
+    let mut findings = Vec::new(alloc);
+    for breach in breaches {
+        findings.push(finding_of(alloc, grammar, starts, breach)?)?;
+    }
+    Ok(findings)
+}
+
+/// What is said of a broken condition. The only error is that memory ran out.
+fn finding_of(
+    alloc: Global,
+    grammar: &Grammar,
+    starts: &[ListedStart],
+    breach: &Breach,
+) -> Result<Finding, AllocError>
+    requires { breach.now.node < 8192 }
+    ensures { IfOk result (λ finding. said finding ≡ saying_of grammar.now (violation_of starts.now breach.now)) }
+{
+    let rules = grammar.rules();
+    let rule = rule_of(rules, breach.node);
+    let node = number_in_rule(rules, breach.node);
+    let text = breach_text(alloc, grammar, starts, &breach.kind)?;
+    let line = line_of(alloc, rules, rule, node, text.as_str())?;
+    Ok(Finding {
+        rule,
+        node,
+        number: condition_number(&breach.kind),
+        line,
+    })
+}
+
+/// The rule's name, the node's number in it, and the text. The only error is that memory ran out.
+fn line_of(
+    alloc: Global,
+    rules: &[Rule],
+    rule: usize,
+    node: usize,
+    text: &str,
+) -> Result<String, AllocError>
+    ensures { IfOk result (λ line. string_bytes line ≡ placed_text (name_of rules.now rule) node text.now) }
+{
+    let name = name_of(alloc, rules, rule)?;
+    format!(in alloc; "{name}:{node}: {text}")
+}
+
+/// A rule's name. The only error is that memory ran out.
+fn name_of(alloc: Global, rules: &[Rule], rule: usize) -> Result<String, AllocError>
+    ensures { IfOk result (λ name. string_bytes name ≡ name_of rules.now rule) }
+{
+    match rules.get(rule) {
+        Some(rule) => format!(in alloc; "{}", rule.name),
+        None => Ok(String::new(alloc)),
+    }
+}
+
+/// A node's number among those of its rule, from 1.
+fn number_in_rule(rules: &[Rule], node: usize) -> usize
+    requires { node < 8192 }
+    ensures { result ≡ number_in_rule rules.now node }
+{
+    node.saturating_sub(body_of(rules, rule_of(rules, node))) + 1
+}
+
+/// The number of the last rule whose body isn't behind a node.
+fn rule_of(rules: &[Rule], node: usize) -> usize
+    ensures { result ≡ rule_of rules.now node }
+{
+    let mut count: usize = 0;
+    for rule in rules {
+        if rule.body.index() <= node {
+            count += 1;
+        }
+    }
+    count.saturating_sub(1)
+}
+
+/// The number of the node that is a rule's body.
+fn body_of(rules: &[Rule], rule: usize) -> usize
+    ensures { result ≡ body_of rules.now rule }
+{
+    match rules.get(rule) {
+        Some(rule) => rule.body.index(),
+        None => 0,
+    }
+}
+
+/// The number of a condition.
+fn condition_number(kind: &BreachKind) -> usize
+    ensures { (starts : List ListedStart) → result ≡ condition_number (condition_of starts kind.now) }
+{
+    match kind {
+        BreachKind::LeftRecursion => 1,
+        BreachKind::EmptyRound => 2,
+        BreachKind::EmptyAlternative(_) => 3,
+        BreachKind::AlternativesMeet(_, _, _) => 4,
+        BreachKind::AlternativeMeetsFollow(_, _) => 5,
+        BreachKind::RoundMeetsFollow(_) => 6,
+        BreachKind::TryAroundMore => 10,
+    }
+}

@@ -1,0 +1,129 @@
+//! What a grammar is judged by: its sets, the rules that head themselves, and the starts that meet.
+//!
+//! Each question of a condition is answered here, and in one place.
+ghost use Rattle.std.specs.Prelude.{◌≡◌, IfOk, is_some};
+ghost use Rattle.pg_numbers.specs.Numbers.{set_at};
+ghost use Rattle.pg_sets.specs.Marks.{is_marked};
+ghost use Rattle.pg_predict.specs.Judged.{node_meeting, follow_meeting, link_meeting};
+ghost use Rattle.pg_predict.specs.Meetings.{first_meeting};
+ghost use Rattle.pg_predict.specs.Shown.{AreFacts};
+
+use crate::breach::Meeting;
+use crate::marks::is_marked;
+use crate::meetings::{earlier, first_meeting};
+use crate::met_starts::met_starts;
+use crate::recursion::recursive_bodies;
+use pg_grammar::{Grammar, NodeId};
+use pg_numbers::NumberSet;
+use pg_sets::{ListedStart, Sets};
+use std::alloc::{AllocError, Global};
+use std::marker::Model;
+
+/// The facts of a grammar, seen as marks and sets by the numbers of nodes and starts.
+#[derive(Debug, Drop)]
+pub(crate) struct Judge {
+    sets: Sets,
+    recursive: Vec<bool>,
+    meetings: Vec<NumberSet>,
+}
+
+impl Model for Judge {
+    ghost use Rattle.pg_predict.specs.Judged.{Facts};
+
+    ghost Value = { Facts };
+
+    ghost view = { λ judge. record { sets = judge.sets; recursive = judge.recursive.items; meetings = judge.meetings.items } };
+}
+
+impl Judge {
+    /// The facts of a grammar. The only error is that memory ran out.
+    pub(crate) fn of(alloc: Global, grammar: &Grammar) -> Result<Judge, AllocError>
+        ensures { IfOk result (λ judge. AreFacts grammar.now judge) }
+    {
+        let sets = Sets::compute(alloc, grammar)?;
+        let recursive = recursive_bodies(alloc, grammar, &sets)?;
+        let meetings = met_starts(alloc, sets.starts())?;
+        Ok(Judge {
+            sets,
+            recursive,
+            meetings,
+        })
+    }
+
+    /// The sets, for whoever keeps them.
+    pub(crate) fn into_sets(self) -> Sets
+        ensures { result ≡ self.sets }
+    {
+        self.sets
+    }
+
+    /// The starts of the grammar.
+    pub(crate) fn starts(&self) -> &[ListedStart]
+        ensures { result.now ≡ self.now.sets.starts }
+    {
+        self.sets.starts()
+    }
+
+    /// The starts of a node.
+    pub(crate) fn first(&self, node: NodeId) -> &NumberSet
+        ensures { result.now ≡ set_at self.now.sets.firsts node }
+    {
+        self.sets.first(node)
+    }
+
+    /// Whether a start of the one set meets one of the other.
+    pub(crate) fn meets(&self, one: &NumberSet, other: &NumberSet) -> bool
+        ensures { result ≡ is_some (first_meeting self.now.meetings one.now other.now) }
+    {
+        first_meeting(&self.meetings, one, other).is_some()
+    }
+
+    /// Whether a node is nullable.
+    pub(crate) fn is_nullable(&self, node: NodeId) -> bool
+        ensures { result ≡ is_marked self.now.sets.nullable node }
+    {
+        self.sets.nullable(node)
+    }
+
+    /// Whether a node is the body of a rule that heads itself.
+    pub(crate) fn is_recursive(&self, node: usize) -> bool
+        ensures { result ≡ is_marked self.now.recursive node }
+    {
+        is_marked(&self.recursive, node)
+    }
+
+    /// The first meeting of a start of one node and a start of another.
+    pub(crate) fn node_meeting(&self, one: NodeId, other: NodeId) -> Option<Meeting>
+        ensures { result ≡ node_meeting self.now one other }
+    {
+        first_meeting(&self.meetings, self.sets.first(one), self.sets.first(other))
+    }
+
+    /// The first meeting of a start of one node and a start that follows another.
+    pub(crate) fn follow_meeting(&self, part: NodeId, node: NodeId) -> Option<Meeting>
+        ensures { result ≡ follow_meeting self.now part node }
+    {
+        first_meeting(
+            &self.meetings,
+            self.sets.first(part),
+            self.sets.follow(node),
+        )
+    }
+
+    /// The first meeting of a start of a round of a chain, a separator and an operand, and a start that follows the chain.
+    pub(crate) fn link_meeting(
+        &self,
+        operand: NodeId,
+        separator: NodeId,
+        node: NodeId,
+    ) -> Option<Meeting>
+        ensures { result ≡ link_meeting self.now operand separator node }
+    {
+        let met = self.follow_meeting(separator, node);
+        if self.is_nullable(separator) {
+            earlier(met, self.follow_meeting(operand, node))
+        } else {
+            met
+        }
+    }
+}

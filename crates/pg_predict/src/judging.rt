@@ -1,0 +1,102 @@
+//! Judging a grammar: each node in its order, by the conditions on its form.
+ghost use Rattle.std.specs.Prelude.{◌≡◌, ◌<◌, ◌++◌, Some, slice_get, length, IfOk, OnOk};
+ghost use Rattle.pg_grammar.specs.Grammar.{IsGrammar};
+ghost use Rattle.pg_predict.specs.Judged.{noted_form, noted_try, noted_node, noted_grammar};
+ghost use Rattle.pg_predict.specs.Shown.{AreFacts};
+
+use crate::breach::{Breach, BreachKind};
+use crate::choices::judge_choice;
+use crate::judge::Judge;
+use crate::noting::note_where;
+use crate::repetitions::{judge_chain, judge_many};
+use crate::tries::is_lexeme;
+use pg_grammar::{Grammar, Node, NodeId};
+use std::alloc::{AllocError, Global};
+
+/// All that is wrong with a grammar, by the order of nodes. The only error is that memory ran out.
+#[tactic(auto, using(crate::proofs::AllBelow::all_below_first))]
+pub(crate) fn judge_grammar(
+    alloc: Global,
+    grammar: &Grammar,
+    judge: &Judge,
+) -> Result<Vec<Breach>, AllocError>
+    requires { AreFacts grammar.now judge.now }
+    ensures breaches { IfOk result (λ breaches. breaches.items ≡ noted_grammar grammar.now judge.now) }
+    ensures grammar { IfOk result (λ _. IsGrammar grammar.now) }
+{
+    let mut breaches = Vec::new(alloc);
+    for number in 0..grammar.nodes().len() {
+        judge_node(alloc, grammar, judge, number, &mut breaches)?;
+    }
+    Ok(breaches)
+}
+
+/// Judges a node. The only error is that memory ran out.
+fn judge_node(
+    alloc: Global,
+    grammar: &Grammar,
+    judge: &Judge,
+    number: usize,
+    breaches: &mut Vec<Breach>,
+) -> Result<(), AllocError>
+    requires facts { AreFacts grammar.now judge.now }
+    requires grammar { IsGrammar grammar.now }
+    requires node { number < length grammar.now.nodes }
+    ensures { OnOk result (breaches.new.items ≡ breaches.old.items ++ noted_node grammar.now judge.now number) }
+{
+    let recursive = judge.is_recursive(number);
+    note_where(recursive, number, BreachKind::LeftRecursion, breaches)?;
+    let node = NodeId::new(number);
+    judge_form(alloc, grammar, judge, node, grammar.node(node), breaches)
+}
+
+/// Judges what stands at a node. The only error is that memory ran out.
+#[tactic(auto, using(crate::proofs::Unsuspected::limits_of))]
+fn judge_form(
+    alloc: Global,
+    grammar: &Grammar,
+    judge: &Judge,
+    node: NodeId,
+    form: &Node,
+    breaches: &mut Vec<Breach>,
+) -> Result<(), AllocError>
+    requires facts { AreFacts grammar.now judge.now }
+    requires grammar { IsGrammar grammar.now }
+    requires form { slice_get grammar.now.nodes node ≡ Some form.now }
+    ensures { OnOk result (breaches.new.items ≡ breaches.old.items ++ noted_form grammar.now judge.now node form.now) }
+{
+    match form {
+        Node::Choice(parts) => judge_choice(alloc, judge, node, parts.as_slice(), breaches),
+        Node::Many(part) => judge_many(judge, node, *part, breaches),
+        Node::ChainLeft(_, operand, separator) | Node::ChainRight(_, operand, separator) => {
+            judge_chain(judge, node, *operand, *separator, breaches)
+        }
+        Node::Try(part) => judge_try(grammar, node, *part, breaches),
+        // C7 to C9 judge these two; whoever checks a grammar owes that it has none of them yet.
+        Node::Expression(_, _) | Node::Declare(_) => Ok(()),
+        Node::Satisfy(_)
+        | Node::String(_)
+        | Node::Seq(_)
+        | Node::NotFollowedBy(_)
+        | Node::EndOfText
+        | Node::Word(_)
+        | Node::Rule(_)
+        | Node::Text(_)
+        | Node::Skip(_)
+        | Node::Build(_, _, _)
+        | Node::Label(_, _) => Ok(()),
+    }
+}
+
+/// Judges a try: it may stand around a lexeme alone (C10). The only error is that memory ran out.
+fn judge_try(
+    grammar: &Grammar,
+    node: NodeId,
+    part: NodeId,
+    breaches: &mut Vec<Breach>,
+) -> Result<(), AllocError>
+    ensures { OnOk result (breaches.new.items ≡ breaches.old.items ++ noted_try grammar.now node part) }
+{
+    let more = !is_lexeme(grammar, part);
+    note_where(more, node.index(), BreachKind::TryAroundMore, breaches)
+}

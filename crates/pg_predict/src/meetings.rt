@@ -1,0 +1,62 @@
+//! Which starts meet: those that aren't apart.
+//!
+//! Whether two starts are apart is asked once of each pair, and kept as a set for each start. After that a meeting of two
+//! sets is found word by word.
+ghost use Rattle.std.specs.Prelude.{◌≡◌};
+ghost use Rattle.pg_predict.specs.Meetings.{least_met, first_meeting, earlier};
+
+use crate::breach::Meeting;
+use pg_numbers::NumberSet;
+
+/// The first start of the one set that meets one of the other, and the first of the other that it meets. For each start the
+/// meetings have those that meet it.
+pub(crate) fn first_meeting(
+    meetings: &[NumberSet],
+    one: &NumberSet,
+    other: &NumberSet,
+) -> Option<Meeting>
+    ensures { result ≡ first_meeting meetings.now one.now other.now }
+{
+    let mut from = 0;
+    while let Some(start) = one.next(from) {
+        if start >= meetings.len() {
+            return None;
+        }
+        match least_met(meetings, other, start) {
+            Some(met) => {
+                return Some(Meeting {
+                    one: start,
+                    other: met,
+                });
+            }
+            None => from = start + 1,
+        }
+    }
+    None
+}
+
+/// The first start of the set that a start meets.
+#[tactic(auto, using(crate::proofs::FirstMeetings::common_least, crate::proofs::FirstMeetings::past_least))]
+fn least_met(meetings: &[NumberSet], other: &NumberSet, start: usize) -> Option<usize>
+    ensures { result ≡ least_met meetings.now other.now start }
+{
+    match meetings.get(start) {
+        Some(met) => met.first_common(other),
+        None => None,
+    }
+}
+
+/// The meeting whose first start comes first.
+pub(crate) fn earlier(meeting: Option<Meeting>, other: Option<Meeting>) -> Option<Meeting>
+    ensures { result ≡ earlier meeting other }
+{
+    match (meeting, other) {
+        (None, other) => other,
+        (Some(meeting), None) => Some(meeting),
+        (Some(meeting), Some(other)) => Some(if meeting.one <= other.one {
+            meeting
+        } else {
+            other
+        }),
+    }
+}

@@ -1,0 +1,55 @@
+//! Repetitions: a round must not be empty (C2), and must not begin like what follows (C6).
+ghost use Rattle.std.specs.Prelude.{◌≡◌, ◌++◌, OnOk};
+ghost use Rattle.pg_predict.specs.Judged.{noted_meeting, noted_many, noted_chain};
+
+use crate::breach::{Breach, BreachKind, Meeting};
+use crate::judge::Judge;
+use crate::noting::note_where;
+use pg_grammar::NodeId;
+use std::alloc::AllocError;
+
+/// Judges a many, whose round is its part. The only error is that memory ran out.
+pub(crate) fn judge_many(
+    judge: &Judge,
+    node: NodeId,
+    part: NodeId,
+    breaches: &mut Vec<Breach>,
+) -> Result<(), AllocError>
+    ensures { OnOk result (breaches.new.items ≡ breaches.old.items ++ noted_many judge.now node part) }
+{
+    let empty = judge.is_nullable(part);
+    note_where(empty, node.index(), BreachKind::EmptyRound, breaches)?;
+    note_round(judge.follow_meeting(part, node), node, breaches)
+}
+
+/// Judges a chain, whose round is a separator and an operand. The only error is that memory ran out.
+pub(crate) fn judge_chain(
+    judge: &Judge,
+    node: NodeId,
+    operand: NodeId,
+    separator: NodeId,
+    breaches: &mut Vec<Breach>,
+) -> Result<(), AllocError>
+    ensures { OnOk result (breaches.new.items ≡ breaches.old.items ++ noted_chain judge.now node operand separator) }
+{
+    let empty_link = judge.is_nullable(separator) && judge.is_nullable(operand);
+    note_where(empty_link, node.index(), BreachKind::EmptyRound, breaches)?;
+    note_round(judge.link_meeting(operand, separator, node), node, breaches)
+}
+
+/// Notes that a round meets what follows the repetition, if it does. The only error is that memory ran out.
+fn note_round(
+    meeting: Option<Meeting>,
+    node: NodeId,
+    breaches: &mut Vec<Breach>,
+) -> Result<(), AllocError>
+    ensures { OnOk result (breaches.new.items ≡ breaches.old.items ++ noted_meeting meeting node BreachKind.RoundMeetsFollow) }
+{
+    if let Some(met) = meeting {
+        breaches.push(Breach {
+            node: node.index(),
+            kind: BreachKind::RoundMeetsFollow(met),
+        })?;
+    }
+    Ok(())
+}

@@ -1,0 +1,6 @@
+use Rattle.std.proofs.Common.{arith}
+use Rattle.pg_sets.proofs.Spreading.{nobody_waits}
+use Rattle.pg_sets.proofs.spread.next_waiting.Goals as goal
+
+pub returns : goal.returns
+returns c = nobody_waits c.args.waits.now (λ k few. c.loop-at-2.invariant k (omega arith))
