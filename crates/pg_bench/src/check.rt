@@ -1,9 +1,9 @@
 //! From the bytes of a grammar file to whether its grammar is accepted, or all that is wrong with it.
 
-ghost use Rattle.std.specs.Prelude.{◌≡◌, false, true, IfOk, IfErr, OnOk, IsErrOf};
+ghost use Rattle.std.specs.Prelude.{◌≡◌, ◌++◌, false, true, IfOk, IfErr, OnOk, IsErrOf};
 ghost use Rattle.pg_pred.specs.Offer.{offer_of};
 ghost use Rattle.pg_predict.specs.Operators.{HasNoOperators};
-ghost use Rattle.pg_bench.specs.Checking.{IsChecked, IsPartlyChecked, IsCheckRefusal, IsJudged, lines_of};
+ghost use Rattle.pg_bench.specs.Checking.{IsChecked, IsPartlyChecked, IsCheckRefusal, IsJudged, line_of, lines_of};
 ghost use Rattle.pg_bench.specs.Parsed.{IsFileFault, IsMemory, SpellsNone, SpellsSome, SpellsOther, IsBehindFile, ComesBeforeWriting};
 
 use crate::fault::BenchFault;
@@ -94,8 +94,16 @@ fn page_of(alloc: Global, findings: &[Finding]) -> Result<Vec<u8>, AllocError>
 {
     let mut page = Vec::new(alloc);
     for finding in findings {
-        page.extend_from_slice(finding.line.as_bytes())?;
-        page.push(b'\n')?;
+        push_line(&mut page, finding)?;
     }
     Ok(page)
+}
+
+/// Adds the line of a finding to a page.
+fn push_line(page: &mut Vec<u8>, finding: &Finding) -> Result<(), AllocError>
+    ensures { OnOk result (page.new.items ≡ page.old.items ++ line_of finding.now) }
+{
+    page.extend_from_slice(finding.line.as_bytes())?;
+    page.push(b'\n')?;
+    Ok(())
 }
