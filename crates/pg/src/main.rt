@@ -1,9 +1,9 @@
 //! The program `pgw`.
 //!
-//! The files are opened in the order of the words, and only then read. Results go to standard
-//! output, and everything else to standard error, one line a fault. The exit status is 0 for a
-//! result, 1 for a grammar that isn't accepted, a text that doesn't parse or a probe that isn't ok, 2 for
-//! words or files that can't be used, and 3 for memory; if standard error takes nothing, it stays what it was.
+//! The files are opened in the order of the words, and only then read. Results go to standard output, and everything else
+//! to standard error: a line for a fault or a finding, and a parse error as Text.Parsec prints it. The exit status is 0 for a
+//! result, 1 for a grammar that isn't accepted, a text that doesn't parse or a probe that isn't ok, 2 for words or files that
+//! can't be used, and 3 for memory; if standard error takes nothing, it stays what it was.
 #![tactic(auto)]
 
 mod categories;
@@ -265,7 +265,7 @@ fn print_report<R: AllocGlobal + Eprint>(
 ) -> Result<u8, AllocError> {
     let told = reporting::report(rt.alloc(), fault, grammar, text)?;
     for line in &told.lines {
-        say(rt, line);
+        let _ = rt.eprint(line);
     }
     Ok(told.status)
 }

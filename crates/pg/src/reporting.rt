@@ -1,19 +1,22 @@
 //! What the program says of a fault, and the exit status that goes with it.
 //!
 //! A fault of a file begins with the file's name as the caller gave it, so that an editor can jump
-//! to it. The program's `main` prints the lines to standard error, each with a line feed. `Report` stands in a module
+//! to it. The program's `main` prints the lines to standard error. `Report` stands in a module
 //! of its own, since names of one module may not differ only in case.
 
 ghost use Rattle.std.specs.Prelude.{◌≡◌, [], ◌∷◌, ◌++◌, map, IfOk};
 ghost use Rattle.std.specs.String.{string_bytes};
 ghost use Rattle.pg.specs.Status.{status_of};
-ghost use Rattle.pg.specs.Texts.{front_of, line_of};
+ghost use Rattle.pg.specs.Texts.{front_of, line_of, finding_line, lines_of};
 
 use crate::report::Report;
 use pg_bench::BenchFault;
+use pg_message::render;
+use pg_predict::Finding;
 use std::alloc::{AllocError, Global};
 
-/// The report of a fault in a run over files of these names.
+/// The report of a fault in a run over files of these names: a line for each finding of a grammar that is refused, a parse
+/// error as Text.Parsec prints it, and one line for each other fault.
 pub fn report(
     alloc: Global,
     fault: &BenchFault,
@@ -21,20 +24,58 @@ pub fn report(
     text: &str,
 ) -> Result<Report, AllocError>
     ensures status { IfOk result (λ told. told.status ≡ status_of fault.now) }
-    ensures lines { IfOk result (λ told. map string_bytes told.lines.items
-        ≡ line_of fault.now grammar.now text.now ∷ []) }
+    ensures lines { IfOk result (λ told. map string_bytes told.lines.items ≡ lines_of fault.now grammar.now text.now) }
 {
     let status = status(fault);
-    let mut lines = Vec::new(alloc);
-    lines.push(line(alloc, fault, grammar, text)?)?;
+    let lines = lines(alloc, fault, grammar, text)?;
     Ok(Report { status, lines })
+}
+
+fn lines(
+    alloc: Global,
+    fault: &BenchFault,
+    grammar: &str,
+    text: &str,
+) -> Result<Vec<String>, AllocError>
+    ensures { IfOk result (λ lines. map string_bytes lines.items ≡ lines_of fault.now grammar.now text.now) }
+{
+    match fault {
+        BenchFault::Refused(findings) => finding_lines(alloc, findings.as_slice()),
+        BenchFault::ParseError(error) => single(alloc, render(alloc, error, text)?),
+        BenchFault::File(_)
+        | BenchFault::NotRun
+        | BenchFault::Reader
+        | BenchFault::NotUtf8
+        | BenchFault::TooLong
+        | BenchFault::Writer
+        | BenchFault::Memory => single(alloc, line(alloc, fault, grammar, text)?),
+    }
+}
+
+fn finding_lines(alloc: Global, findings: &[Finding]) -> Result<Vec<String>, AllocError>
+    ensures { IfOk result (λ lines. map string_bytes lines.items ≡ map finding_line findings.now) }
+{
+    let mut lines = Vec::new(alloc);
+    for finding in findings {
+        let line = &finding.line;
+        lines.push(format!(in alloc; "{line}\n")?)?;
+    }
+    Ok(lines)
+}
+
+fn single(alloc: Global, line: String) -> Result<Vec<String>, AllocError>
+    ensures { IfOk result (λ lines. map string_bytes lines.items ≡ string_bytes line ∷ []) }
+{
+    let mut lines = Vec::new(alloc);
+    lines.push(line)?;
+    Ok(lines)
 }
 
 fn status(fault: &BenchFault) -> u8
     ensures { result ≡ status_of fault.now }
 {
     match fault {
-        BenchFault::NoParse => 1,
+        BenchFault::Refused(_) | BenchFault::ParseError(_) => 1,
         BenchFault::File(_)
         | BenchFault::NotRun
         | BenchFault::Reader
@@ -50,7 +91,7 @@ fn line(alloc: Global, fault: &BenchFault, grammar: &str, text: &str) -> Result<
     ensures { IfOk result (λ line. string_bytes line ≡ line_of fault.now grammar.now text.now) }
 {
     let (name, mark) = front(fault, grammar, text);
-    let line = format!(in alloc; "{name}{mark}{fault}")?;
+    let line = format!(in alloc; "{name}{mark}{fault}\n")?;
     Ok(line)
 }
 
@@ -60,9 +101,12 @@ fn front<'a>(fault: &BenchFault, grammar: &'a str, text: &'a str) -> (&'a str, &
 {
     match fault {
         BenchFault::File(_) => (grammar, ":"),
-        BenchFault::NotRun => (grammar, ": "),
-        BenchFault::Reader | BenchFault::NotUtf8 | BenchFault::TooLong => (text, ": "),
-        BenchFault::NoParse | BenchFault::Writer | BenchFault::Memory => ("", ""),
+        BenchFault::NotRun | BenchFault::Refused(_) => (grammar, ": "),
+        BenchFault::Reader
+        | BenchFault::NotUtf8
+        | BenchFault::TooLong
+        | BenchFault::ParseError(_) => (text, ": "),
+        BenchFault::Writer | BenchFault::Memory => ("", ""),
     }
 }
 
@@ -70,6 +114,7 @@ fn front<'a>(fault: &BenchFault, grammar: &'a str, text: &'a str) -> (&'a str, &
 mod tests {
     use super::*;
     use pg_file::{FaultKind, FileFault};
+    use pg_message::{MessageKind, ParseError};
     use pg_text::Pos;
     use std::test::Fail;
 
@@ -82,16 +127,61 @@ mod tests {
         let kind = FaultKind::NameTwice;
         let fault = BenchFault::File(FileFault { kind, position });
         let told = report(rt.alloc(), &fault, "g.pgw", "t")?;
-        assert_eq!(rt; told.lines[0].as_str(), "g.pgw:3:14: F5 name defined twice");
+        assert_eq!(rt;
+            told.lines[0].as_str(),
+            "g.pgw:3:14: F5 name defined twice\n"
+        );
         Ok(())
     }
 
     #[test]
     fn names_the_text_where_it_is_at_fault(rt: HostRuntime) -> Result<(), Fail> {
         let unread = report(rt.alloc(), &BenchFault::Reader, "g", "dir/t")?;
-        assert_eq!(rt; unread.lines[0].as_str(), "dir/t: X1 cannot read");
-        let unmatched = report(rt.alloc(), &BenchFault::NoParse, "g", "t")?;
-        assert_eq!(rt; unmatched.lines[0].as_str(), "no parse");
+        assert_eq!(rt; unread.lines[0].as_str(), "dir/t: X1 cannot read\n");
+        Ok(())
+    }
+
+    #[test]
+    fn prints_an_error_as_parsec_does(rt: HostRuntime) -> Result<(), Fail> {
+        let position = Pos { line: 1, column: 3 };
+        let mut error = ParseError::new(rt.alloc(), 2, position);
+        error.add(MessageKind::SystemUnexpected, String::new(rt.alloc()))?;
+        error.add(
+            MessageKind::Expected,
+            String::from_str(rt.alloc(), "digit")?,
+        )?;
+        let told = report(rt.alloc(), &BenchFault::ParseError(error), "g", "t")?;
+        assert_eq!(rt; told.status, 1);
+        let wanted = "\"t\" (line 1, column 3):\nunexpected end of input\nexpecting digit\n";
+        assert_eq!(rt; told.lines[0].as_str(), wanted);
+        assert_eq!(rt; told.lines.len(), 1);
+        Ok(())
+    }
+
+    #[test]
+    fn prints_a_line_for_each_finding(rt: HostRuntime) -> Result<(), Fail> {
+        let alloc = rt.alloc();
+        let first = Finding {
+            rule: 0,
+            node: 1,
+            number: 1,
+            line: String::from_str(alloc, "a:1: C1 left recursion")?,
+        };
+        let second = Finding {
+            rule: 1,
+            node: 2,
+            number: 2,
+            line: String::from_str(alloc, "b:2: C2 repeated part can be empty")?,
+        };
+        let findings = vec![in alloc; first, second]?;
+        let told = report(alloc, &BenchFault::Refused(findings), "g", "t")?;
+        assert_eq!(rt; told.status, 1);
+        assert_eq!(rt; told.lines.len(), 2);
+        assert_eq!(rt; told.lines[0].as_str(), "a:1: C1 left recursion\n");
+        assert_eq!(rt;
+            told.lines[1].as_str(),
+            "b:2: C2 repeated part can be empty\n"
+        );
         Ok(())
     }
 }

@@ -23,7 +23,7 @@ const HELP_OF_CHECK: &str =
 Example: pgw check examples/color.g";
 
 const HELP_OF_PARSE: &str =
-    "Exit status: 0 parsed, 1 no parse, 2 trouble (words or files that can't be used), 3 out of memory
+    "Exit status: 0 parsed, 1 findings or a parse error, 2 trouble (words or files that can't be used), 3 out of memory
 
 Example: pgw parse examples/time.g examples/time.txt";
 

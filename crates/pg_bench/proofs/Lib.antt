@@ -1,6 +1,5 @@
-pub mod Spans
 pub mod Fronts
 pub mod Shown
-pub mod Texts
+pub mod Parses
 pub mod Results
 pub mod Judged

@@ -12,7 +12,7 @@ use Rattle.pg_predict.specs.Findings.{AreFindings}
 use Rattle.pg_predict.specs.Operators.{HasNoOperators}
 use Rattle.pg_predict.specs.declared.finding.Finding.{Finding}
 use Rattle.pg_bench.specs.declared.fault.BenchFault.{BenchFault}
-use Rattle.pg_bench.specs.declared.fault.BenchFault.TheVariants.{File, NotRun, Reader, NotUtf8, TooLong, NoParse, Writer, Memory}
+use Rattle.pg_bench.specs.declared.fault.BenchFault.TheVariants.{File, NotRun, Refused, Reader, NotUtf8, TooLong, ParseError, Writer, Memory}
 
 -- a finding's line
 abbrev pub line_of : Finding → List ℕ
@@ -51,9 +51,10 @@ pub record IsPartlyChecked (offer : Offer) (file : List ℕ) (writer held : Opti
 abbrev pub IsCheckRefusal : BenchFault → Type 0
 IsCheckRefusal (File fault) = Unit {0}
 IsCheckRefusal NotRun = Unit {0}
+IsCheckRefusal (Refused findings) = ⊥
 IsCheckRefusal Reader = ⊥
 IsCheckRefusal NotUtf8 = ⊥
 IsCheckRefusal TooLong = ⊥
-IsCheckRefusal NoParse = ⊥
+IsCheckRefusal (ParseError error) = ⊥
 IsCheckRefusal Writer = Unit {0}
 IsCheckRefusal Memory = Unit {0}

@@ -1,5 +1,4 @@
-pub mod Running
-pub mod Outcomes
+pub mod Promise
 pub mod Parsed
 pub mod Printing
 pub mod Texts

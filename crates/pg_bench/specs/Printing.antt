@@ -7,7 +7,7 @@ use Rattle.pg_grammar.specs.Grammar.{Grammar}
 use Rattle.pg_file.specs.Spells.{Spells, SpellsWithinLimits}
 use Rattle.pg_file.specs.Printed.{printed}
 use Rattle.pg_bench.specs.declared.fault.BenchFault.{BenchFault}
-use Rattle.pg_bench.specs.declared.fault.BenchFault.TheVariants.{File, NotRun, Reader, NotUtf8, TooLong, NoParse, Writer, Memory}
+use Rattle.pg_bench.specs.declared.fault.BenchFault.TheVariants.{File, NotRun, Refused, Reader, NotUtf8, TooLong, ParseError, Writer, Memory}
 
 -- the canonical form of the grammar that the file spells was written, and spells that grammar again
 pub record IsPrinted (offer : Offer) (file : List ℕ) (writer held : Option (List ℕ)) : Type 0 where
@@ -26,9 +26,10 @@ pub record IsPartlyPrinted (offer : Offer) (file : List ℕ) (writer held : Opti
 abbrev pub IsPrintRefusal : BenchFault → Type 0
 IsPrintRefusal (File fault) = Unit {0}
 IsPrintRefusal NotRun = ⊥
+IsPrintRefusal (Refused findings) = ⊥
 IsPrintRefusal Reader = ⊥
 IsPrintRefusal NotUtf8 = ⊥
 IsPrintRefusal TooLong = ⊥
-IsPrintRefusal NoParse = ⊥
+IsPrintRefusal (ParseError error) = ⊥
 IsPrintRefusal Writer = Unit {0}
 IsPrintRefusal Memory = Unit {0}

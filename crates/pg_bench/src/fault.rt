@@ -8,29 +8,32 @@ ghost use Rattle.std.specs.Prelude.{Some};
 ghost use Rattle.pg_bench.specs.Texts.{fault_text};
 
 use pg_file::FileFault;
+use pg_message::ParseError;
+use pg_predict::Finding;
 use std::error::Error;
 use std::fmt;
 
 /// Why a run ended without its result.
 ///
 /// The faults are judged in the order of the variants from `File` to `Writer`, and the first that
-/// holds is the run's. Up to `NoParse` nothing has been written. `Memory` can come at any step, always
+/// holds is the run's. Up to `ParseError` nothing has been written. `Memory` can come at any step, always
 /// before the first byte is written.
 #[derive(Debug, Drop)]
 pub enum BenchFault {
     /// The grammar file is no grammar. The text's reader has not been asked yet.
     File(FileFault),
-    /// The grammar file is read, and its grammar holds what isn't run yet: a form, or a rule that isn't defined above where
-    /// it is named.
+    /// The grammar file is read, and its grammar reads or declares operators, which isn't checked or run yet.
     NotRun,
+    /// The grammar isn't accepted. These are all its findings, at least one. The text's reader has not been asked yet.
+    Refused(Vec<Finding>),
     /// The text's reader answered an error, or gave over 16,384 bytes, more than the longest text can have.
     Reader,
     /// The text's bytes are not UTF-8. It comes before `TooLong` where both hold.
     NotUtf8,
     /// The text has over 4,096 characters.
     TooLong,
-    /// The grammar's start doesn't match the whole text.
-    NoParse,
+    /// The grammar doesn't derive the text; this is the error of its start rule, or of the end that was to come behind it.
+    ParseError(ParseError),
     /// The writer answered an error or took nothing. A front of the result may have been written.
     Writer,
     /// Memory ran out.
@@ -44,10 +47,11 @@ impl fmt::Display for BenchFault {
         match self {
             BenchFault::File(fault) => write!(f, "{fault}"),
             BenchFault::NotRun => f.write_str("X2 not run yet"),
+            BenchFault::Refused(_) => f.write_str("not accepted"),
             BenchFault::Reader => f.write_str("X1 cannot read"),
             BenchFault::NotUtf8 => f.write_str("P1 not UTF-8"),
             BenchFault::TooLong => f.write_str("P2 text too long"),
-            BenchFault::NoParse => f.write_str("no parse"),
+            BenchFault::ParseError(_) => f.write_str("no parse"),
             BenchFault::Writer => f.write_str("W1 cannot write"),
             BenchFault::Memory => f.write_str("out of memory"),
         }

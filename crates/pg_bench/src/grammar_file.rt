@@ -1,17 +1,18 @@
 //! The grammar that a file spells, or why a run has none.
 
-ghost use Rattle.std.specs.Prelude.{IfOk, IfErr, IsErrOf};
+ghost use Rattle.std.specs.Prelude.{◌≡◌, IfOk, IfErr, IsErrOf};
 ghost use Rattle.pg_pred.specs.Offer.{offer_of};
 ghost use Rattle.pg_grammar.specs.Fits.{Fits};
 ghost use Rattle.pg_file.specs.Spells.{SpellsWithinLimits};
 ghost use Rattle.pg_predict.specs.Operators.{HasNoOperators};
-ghost use Rattle.pg_bench.specs.Parsed.{IsFileFault, IsFileRefusal, IsPlainRefusal, SpellsNone, SpellsOther};
+ghost use Rattle.pg_bench.specs.Parsed.{IsFileFault, IsFileRefusal, IsFindingRefusal, IsGrammarRefusal, IsPlainRefusal, SpellsNone, SpellsOther, IfRefused, AreFindingsOf};
+ghost use Rattle.pg_bench.specs.Promise.{IsAccepted};
 
 use crate::fault::BenchFault;
 use pg_file::FileError;
 use pg_grammar::Grammar;
 use pg_pred::Registry;
-use pg_predict::has_no_operators;
+use pg_predict::{CheckFault, Checked, check, has_no_operators};
 use std::alloc::Global;
 
 /// The grammar that the bytes of a file spell.
@@ -46,5 +47,35 @@ pub fn plain_grammar_of(
         Ok(grammar)
     } else {
         Err(BenchFault::NotRun)
+    }
+}
+
+/// The same of a grammar that is accepted: `Refused` with its findings where it isn't.
+#[tactic(auto, using(crate::proofs::Parses::refused_file))]
+pub fn checked_of(alloc: Global, bytes: &[u8], registry: &Registry) -> Result<Checked, BenchFault>
+    ensures ok { IfOk result (λ checked. SpellsWithinLimits (offer_of registry.now) bytes.now checked.grammar) }
+    ensures fits { IfOk result (λ checked. Fits (offer_of registry.now) checked.grammar) }
+    ensures accepted { IfOk result (λ checked. IsAccepted checked.grammar) }
+    ensures err { IfErr result IsGrammarRefusal }
+    ensures none { IfErr result (λ fault. IsFileFault fault → SpellsNone (offer_of registry.now) bytes.now) }
+    ensures not_run { IsErrOf result BenchFault.NotRun → SpellsOther HasNoOperators (offer_of registry.now) bytes.now }
+    ensures refused { IfErr result (IfRefused (AreFindingsOf (offer_of registry.now) bytes.now)) }
+{
+    let grammar = plain_grammar_of(alloc, bytes, registry)?;
+    accepted(alloc, grammar)
+}
+
+/// A grammar that is accepted, or all that is wrong with it.
+#[tactic(auto, using(crate::proofs::Parses::accepted_grammar))]
+fn accepted(alloc: Global, grammar: Grammar) -> Result<Checked, BenchFault>
+    requires { HasNoOperators grammar }
+    ensures same { IfOk result (λ checked. checked.grammar ≡ grammar) }
+    ensures accepted { IfOk result (λ checked. IsAccepted checked.grammar) }
+    ensures err { IfErr result (IsFindingRefusal grammar) }
+{
+    match check(alloc, grammar) {
+        Ok(checked) => Ok(checked),
+        Err(CheckFault::Refused(refused)) => Err(BenchFault::Refused(refused.findings)),
+        Err(CheckFault::Memory(_)) => Err(BenchFault::Memory),
     }
 }

@@ -9,17 +9,15 @@
 mod check;
 mod fault;
 mod grammar_file;
+mod initial;
 mod input;
 mod output;
 mod page;
 mod parse;
 mod print;
 mod probe;
-mod runner;
-mod running;
 #[cfg(test)]
 mod tests;
-mod utf8;
 
 pub use check::check_bytes;
 pub use fault::BenchFault;

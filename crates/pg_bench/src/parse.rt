@@ -1,7 +1,8 @@
 //! From the bytes of a grammar file and of a text to the bytes of the text's forest.
 //!
-//! The steps come one after another: the grammar file is read, then the text, then the text is parsed, and only then
-//! the forest is written. So a refusal by an earlier step has neither read nor written what a later one would have.
+//! The steps come one after another: the grammar file is read and its grammar checked, then the text is read, then it is
+//! parsed, and only then the forest is written. So a refusal by an earlier step has neither read nor written what a later
+//! one would have.
 
 ghost use Rattle.std.specs.Prelude.{◌≡◌, ◌≤◌, ◌<◌, ◌+◌, ◌*◌, ◌⊎◌, [], ◌∷◌, ◌++◌, false, true, length, IfOk, IfErr, OnOk, IsErrOf};
 ghost use Rattle.std.specs.Str.{chars, IsUtf8};
@@ -11,29 +12,34 @@ ghost use Rattle.pg_grammar.specs.Fits.{Fits};
 ghost use Rattle.pg_tree.specs.Json.{json};
 ghost use Rattle.pg_tree.specs.Meter.{saturating_sum};
 ghost use Rattle.pg_tree.specs.Bytes.{AppendsFront};
-ghost use Rattle.pg_bench.specs.Running.{Runs};
-ghost use Rattle.pg_bench.specs.Parsed.{IsTextOf, IsParsed, SpellsNone, SpellsSome, SpellsOther, ReadsText, IsParseRefusal, IsWriteRefusal, IsBehindFile, IsBehindReader, IsFileFault, IsPartlyWritten, ComesBeforeWriting};
+ghost use Rattle.pg_file.specs.Spells.{HasInitialTable};
+ghost use Rattle.pg_predict.specs.Operators.{HasNoOperators};
+ghost use Rattle.pg_bench.specs.Promise.{IsAccepted, IsForestOfText};
+ghost use Rattle.pg_bench.specs.Parsed.{IsParsed, IsForestOf, IsForestOfBytes, IsErrorOf, IsForestRefusal, IsReadingRefusal, AreFindingsOf, IfRefused, IfParseError, ComesBeforeReading, SpellsNone, SpellsSome, SpellsOther, ReadsText, IsParseRefusal, IsRunRefusal, IsWriteRefusal, IsBehindFile, IsBehindReader, IsFileFault, IsPartlyWritten, ComesBeforeWriting};
 
 use crate::fault::BenchFault;
-use crate::grammar_file::grammar_of;
+use crate::grammar_file::checked_of;
+use crate::initial::initial_table;
 use crate::input::{read_text, text_of};
-use crate::runner::run;
-use crate::running::runs;
-use pg_grammar::Grammar;
+use pg_machine::{Answer, run};
 use pg_pred::Registry;
-use pg_text::LIMIT;
+use pg_predict::Checked;
+use pg_text::{LIMIT, Text};
 use pg_tree::{Forest, Meter, WriteFault, write_bytes, write_json};
 use std::alloc::Global;
 use std::io::{Read, Write};
 
 /// Parses the text that a reader gives by the grammar that a file spells, and writes the forest's JSON and a line feed.
-/// The registry has the predicates and builders that the file may name.
+/// A grammar is run only where nothing is wrong with it. Then a text has a forest exactly where the grammar derives it under
+/// its initial table, it is that forest that is written, and there is no second derivation. The registry has the predicates
+/// and builders that the file may name.
 ///
-/// Both meters have to be fresh of failures. The faults come in the order of [`BenchFault`]: a fault of the file, and
-/// `NotRun` where its grammar holds what isn't run yet, before the reader is asked at all; then the reader's, then those
-/// of its bytes, `NoParse` where the grammar's start rule doesn't parse the whole text, and the writer's. Up to `NoParse`,
-/// and where memory runs out, nothing is written. A text of over 16,384 bytes can't be one of 4,096 characters, so no
-/// more is read of it.
+/// Both meters have to be fresh of failures. The faults come in the order of [`BenchFault`]: a fault of the file, `NotRun`
+/// where its grammar reads or declares operators, and `Refused` with all that is wrong with it, before the reader is asked at
+/// all; then the reader's, then those of its bytes, `ParseError` where the grammar doesn't derive the text, and the writer's.
+/// Up to `ParseError`, and where memory runs out, nothing is written. A text of over 16,384 bytes can't be one of 4,096
+/// characters, so no more is read of it.
+#[tactic(auto, using(crate::proofs::Parses::file_claims, crate::proofs::Parses::not_run_claims, crate::proofs::Parses::refused_claims, crate::proofs::Parses::accepted_claims, crate::proofs::Parses::error_claims))]
 pub fn parse_bytes<R: Read, W: Write>(
     alloc: Global,
     grammar: &[u8],
@@ -44,18 +50,17 @@ pub fn parse_bytes<R: Read, W: Write>(
     requires reader { reader.old.failed ≡ false }
     requires writer { writer.old.failed ≡ false }
 
-    // The whole of the reader's bytes is a text that the grammar derives, and its forest was written.
+    // The whole of the reader's bytes is a text that the grammar derives, in one way, and its forest was written.
     ensures ok { OnOk result (IsParsed (offer_of registry.now) grammar.now (R.remaining reader.old.inner) (R.remaining reader.new.inner)
         (W.contents writer.old.inner) (W.contents writer.new.inner)) }
 
-    // A fault of the file comes first, and every other one only where the file spells a grammar.
+    // A fault of the file comes first, and every other one only where the file spells a grammar: one that reads or declares
+    // operators, one that is refused with all its findings, or else an accepted one.
     ensures file { IfErr result (λ fault. IsFileFault fault → SpellsNone (offer_of registry.now) grammar.now) }
-    ensures unread { IfErr result (λ fault. IsFileFault fault → reader.new ≡ reader.old) }
-    ensures runnable { IfErr result (λ fault. IsBehindFile fault → SpellsSome Runs (offer_of registry.now) grammar.now) }
-
-    // The file spells a grammar, and not all of it is run.
-    ensures not_run { IsErrOf result BenchFault.NotRun → SpellsOther Runs (offer_of registry.now) grammar.now }
-    ensures unasked { IsErrOf result BenchFault.NotRun → reader.new ≡ reader.old }
+    ensures not_run { IsErrOf result BenchFault.NotRun → SpellsOther HasNoOperators (offer_of registry.now) grammar.now }
+    ensures refused { IfErr result (IfRefused (AreFindingsOf (offer_of registry.now) grammar.now)) }
+    ensures unread { IfErr result (λ fault. ComesBeforeReading fault → reader.new ≡ reader.old) }
+    ensures accepted { IfErr result (λ fault. IsBehindFile fault → SpellsSome IsAccepted (offer_of registry.now) grammar.now) }
 
     // The reader failed, or gave more than the limit.
     ensures reader { IsErrOf result BenchFault.Reader →
@@ -66,8 +71,10 @@ pub fn parse_bytes<R: Read, W: Write>(
         ReadsText (R.remaining reader.old.inner) (R.remaining reader.new.inner) (λ bytes. ¬ (IsUtf8 bytes)) }
     ensures too_long { IsErrOf result BenchFault.TooLong →
         ReadsText (R.remaining reader.old.inner) (R.remaining reader.new.inner) (λ bytes. IsUtf8 bytes × (LIMIT < length (chars bytes))) }
-    ensures no_parse { IsErrOf result BenchFault.NoParse →
-        ReadsText (R.remaining reader.old.inner) (R.remaining reader.new.inner) (λ bytes. IsUtf8 bytes × (length (chars bytes) ≤ LIMIT)) }
+
+    // Nothing derives the text, and the error is the start rule's, or that of the end behind it.
+    ensures parse_error { IfErr result (IfParseError (IsErrorOf (offer_of registry.now) grammar.now
+        (R.remaining reader.old.inner) (R.remaining reader.new.inner))) }
 
     // In every other case the reader didn't fail.
     ensures reader_stays { OnOk result (reader.new.failed ≡ false) }
@@ -82,32 +89,97 @@ pub fn parse_bytes<R: Read, W: Write>(
 
     ensures asked { reader.new.calls ≤ saturating_sum reader.old.calls (4 * LIMIT + 1) }
 {
-    let grammar = grammar_of(alloc, grammar, registry)?;
-    if !runs(&grammar) {
-        return Err(BenchFault::NotRun);
-    }
-    let bytes = read_text(alloc, reader)?;
-    let forest = forest_of(alloc, &grammar, registry, bytes.as_slice())?;
+    let forest = forest_of_files(alloc, grammar, registry, reader)?;
     write_line(alloc, &forest, writer)
 }
 
+/// The forest of the text that a reader gives, by the grammar that a file spells.
+#[tactic(auto, using(crate::proofs::Parses::forest_of_file, crate::proofs::Parses::grammar_refused, crate::proofs::Parses::reading_refused_file))]
+fn forest_of_files<R: Read>(
+    alloc: Global,
+    grammar: &[u8],
+    registry: &Registry,
+    reader: &mut Meter<R>,
+) -> Result<Forest, BenchFault>
+    requires { reader.old.failed ≡ false }
+    ensures ok { IfOk result (IsForestOf (offer_of registry.now) grammar.now (R.remaining reader.old.inner) (R.remaining reader.new.inner)) }
+    ensures err { IfErr result (IsForestRefusal (offer_of registry.now) grammar.now (R.remaining reader.old.inner) (R.remaining reader.new.inner)) }
+    ensures unread { IfErr result (λ fault. ComesBeforeReading fault → reader.new ≡ reader.old) }
+    ensures reader { IsErrOf result BenchFault.Reader →
+        (reader.new.failed ≡ true) ⊎ (saturating_sum reader.old.bytes (4 * LIMIT + 1) ≤ reader.new.bytes) }
+    ensures stays { OnOk result (reader.new.failed ≡ false) }
+    ensures well { IfErr result (λ fault. IsBehindReader fault → reader.new.failed ≡ false) }
+    ensures asked { reader.new.calls ≤ saturating_sum reader.old.calls (4 * LIMIT + 1) }
+{
+    let checked = checked_of(alloc, grammar, registry)?;
+    match forest_of_reader(alloc, &checked, registry, reader) {
+        Ok(forest) => Ok(forest),
+        Err(fault) => Err(fault),
+    }
+}
+
+/// The forest of the text that a reader gives.
+#[tactic(auto, using(crate::proofs::Parses::read_refused, crate::proofs::Parses::parse_refused))]
+fn forest_of_reader<R: Read>(
+    alloc: Global,
+    checked: &Checked,
+    registry: &Registry,
+    reader: &mut Meter<R>,
+) -> Result<Forest, BenchFault>
+    requires fits { Fits (offer_of registry.now) checked.now.grammar }
+    requires table { HasInitialTable checked.now.grammar }
+    requires reader { reader.old.failed ≡ false }
+    ensures ok { IfOk result (λ forest. ReadsText (R.remaining reader.old.inner) (R.remaining reader.new.inner)
+        (λ bytes. IsForestOfBytes checked.now.grammar bytes forest)) }
+    ensures err { IfErr result (IsReadingRefusal checked.now.grammar (R.remaining reader.old.inner) (R.remaining reader.new.inner)) }
+    ensures reader { IsErrOf result BenchFault.Reader →
+        (reader.new.failed ≡ true) ⊎ (saturating_sum reader.old.bytes (4 * LIMIT + 1) ≤ reader.new.bytes) }
+    ensures stays { OnOk result (reader.new.failed ≡ false) }
+    ensures well { IfErr result (λ fault. IsBehindReader fault → reader.new.failed ≡ false) }
+    ensures asked { reader.new.calls ≤ saturating_sum reader.old.calls (4 * LIMIT + 1) }
+{
+    let bytes = read_text(alloc, reader)?;
+    forest_of(alloc, checked, registry, bytes.as_slice())
+}
+
 /// The forest of the text that bytes spell.
-#[tactic(auto, using(crate::proofs::Texts::text_derived, crate::proofs::Texts::text_refused))]
+#[tactic(auto, using(crate::proofs::Parses::bytes_forest, crate::proofs::Parses::bytes_refused, crate::proofs::Parses::text_refused))]
 fn forest_of(
     alloc: Global,
-    grammar: &Grammar,
+    checked: &Checked,
     registry: &Registry,
     bytes: &[u8],
 ) -> Result<Forest, BenchFault>
-    requires { Fits (offer_of registry.now) grammar.now }
-    ensures ok { IfOk result (IsTextOf grammar.now bytes.now) }
-    ensures err { IfErr result (IsParseRefusal bytes.now) }
+    requires fits { Fits (offer_of registry.now) checked.now.grammar }
+    requires table { HasInitialTable checked.now.grammar }
+    ensures ok { IfOk result (IsForestOfBytes checked.now.grammar bytes.now) }
+    ensures err { IfErr result (IsParseRefusal checked.now.grammar bytes.now) }
 {
     let text = text_of(alloc, bytes)?;
-    match run(alloc, grammar, registry, &text) {
-        Ok(Some(forest)) => Ok(forest),
-        Ok(None) => Err(BenchFault::NoParse),
-        Err(_) => Err(BenchFault::Memory),
+    forest_of_text(alloc, checked, registry, &text)
+}
+
+/// The forest of a text.
+#[tactic(auto, using(crate::proofs::Parses::found_forest, crate::proofs::Parses::found_error))]
+fn forest_of_text(
+    alloc: Global,
+    checked: &Checked,
+    registry: &Registry,
+    text: &Text,
+) -> Result<Forest, BenchFault>
+    requires fits { Fits (offer_of registry.now) checked.now.grammar }
+    requires table { HasInitialTable checked.now.grammar }
+    ensures ok { IfOk result (IsForestOfText checked.now.grammar text.now) }
+    ensures err { IfErr result (IsRunRefusal checked.now.grammar text.now) }
+{
+    let table = initial_table(alloc, checked.grammar())?;
+    let Ok(answer) = run(alloc, checked, text, &table, registry) else {
+        return Err(BenchFault::Memory);
+    };
+    let Answer { error, success, .. } = answer;
+    match success {
+        Some(success) => Ok(success.forest),
+        None => Err(BenchFault::ParseError(error)),
     }
 }
 

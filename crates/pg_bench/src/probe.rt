@@ -2,17 +2,17 @@
 
 ghost use Rattle.std.specs.Prelude.{◌≡◌, ◌≤◌, ◌<◌, ◌+◌, ◌*◌, ◌⊎◌, false, true, length, IfOk, IfErr, OnOk, IsErrOf};
 ghost use Rattle.std.specs.Str.{chars, IsUtf8};
-ghost use Rattle.pg_table.specs.Tables.{initial, whole};
 ghost use Rattle.pg_pred.specs.Offer.{offer_of};
 ghost use Rattle.pg_grammar.specs.Fits.{Fits};
 ghost use Rattle.pg_file.specs.Spells.{HasInitialTable};
 ghost use Rattle.pg_tree.specs.Meter.{saturating_sum};
 ghost use Rattle.pg_predict.specs.Operators.{HasNoOperators};
-ghost use Rattle.pg_bench.specs.Parsed.{SpellsNone, SpellsSome, SpellsOther, ReadsText, IsBehindFile, IsBehindReader, IsFileFault, IsTextRefusal, IsMemory, ComesBeforeWriting};
+ghost use Rattle.pg_bench.specs.Parsed.{SpellsNone, SpellsSome, SpellsOther, ReadsText, IsBehindFile, IsBehindReader, IsFileFault, IfParseError, IfRefused, IsTextRefusal, ComesBeforeWriting};
 ghost use Rattle.pg_bench.specs.Probing.{IsProbed, IsPartlyProbed, IsShownOf};
 
 use crate::fault::BenchFault;
 use crate::grammar_file::plain_grammar_of;
+use crate::initial::initial_table;
 use crate::input::{read_text, text_of};
 use crate::output::write_page;
 use crate::page::{is_ok, page_of};
@@ -20,7 +20,6 @@ use pg_derive::Reading;
 use pg_grammar::Grammar;
 use pg_machine::probe;
 use pg_pred::Registry;
-use pg_table::{InitialFault, Table};
 use pg_text::LIMIT;
 use pg_tree::Meter;
 use std::alloc::Global;
@@ -32,7 +31,7 @@ use std::io::{Read, Write};
 /// `name` in it; or `P5 steps used up`, where no answer comes within `max_steps` turns, or `P6 empty repetition`, each on
 /// lines of its own. The registry has the predicates and builders that the file may name.
 ///
-/// Both meters have to be fresh of failures. The faults come in the order of [`BenchFault`], without `NoParse`: a fault of the
+/// Both meters have to be fresh of failures. The faults come in the order of [`BenchFault`], without `Refused` and `ParseError`: a fault of the
 /// file, and `NotRun` where its grammar reads or declares operators, before the reader is asked at all; then the reader's,
 /// then those of its bytes, and the writer's. Before the last, and where memory runs out, nothing is written.
 pub fn probe_bytes<R: Read, W: Write>(
@@ -70,7 +69,8 @@ pub fn probe_bytes<R: Read, W: Write>(
         ReadsText (R.remaining reader.old.inner) (R.remaining reader.new.inner) (λ bytes. ¬ (IsUtf8 bytes)) }
     ensures too_long { IsErrOf result BenchFault.TooLong →
         ReadsText (R.remaining reader.old.inner) (R.remaining reader.new.inner) (λ bytes. IsUtf8 bytes × (LIMIT < length (chars bytes))) }
-    ensures parsed { ¬ (IsErrOf result BenchFault.NoParse) }
+    ensures parsed { IfErr result (IfParseError (λ error. ⊥)) }
+    ensures unchecked { IfErr result (IfRefused (λ findings. ⊥)) }
 
     // In every other case the reader didn't fail.
     ensures reader_stays { OnOk result (reader.new.failed ≡ false) }
@@ -133,17 +133,4 @@ fn shown_of(
     };
     let accepted = is_ok(&outcome);
     Ok(Shown { accepted, page })
-}
-
-/// The initial operator table of a grammar that has one.
-fn initial_table(alloc: Global, grammar: &Grammar) -> Result<Table, BenchFault>
-    requires { HasInitialTable grammar.now }
-    ensures ok { IfOk result (λ table. initial grammar.now ≡ whole table) }
-    ensures err { IfErr result IsMemory }
-{
-    match Table::of(alloc, grammar) {
-        Ok(table) => Ok(table),
-        Err(InitialFault::NotAdmitted { .. }) => unreachable!(),
-        Err(InitialFault::Memory) => Err(BenchFault::Memory),
-    }
 }

@@ -122,11 +122,42 @@ fn does_not_ask_the_reader_where_the_file_is_at_fault(rt: HostRuntime) -> Result
 }
 
 #[test]
-fn does_not_ask_the_reader_where_a_form_is_not_run(rt: HostRuntime) -> Result<(), Fail> {
-    let (outcome, calls, written) = asked(rt.alloc(), b"start a; a = many(satisfy(\"x\"));")?;
+fn does_not_ask_the_reader_where_operators_are_declared(rt: HostRuntime) -> Result<(), Fail> {
+    let grammar = b"operators \"+\" gap \" \"; start a; a = declare(\"a\"..\"z\");";
+    let (outcome, calls, written) = asked(rt.alloc(), grammar)?;
     assert!(rt; matches!(outcome, Err(BenchFault::NotRun)));
     assert_eq!(rt; calls, 0);
     assert!(rt; written.is_empty());
+    Ok(())
+}
+
+#[test]
+fn does_not_ask_the_reader_where_the_grammar_is_refused(rt: HostRuntime) -> Result<(), Fail> {
+    let grammar = b"start a; a = choice(string(\"let\"), string(\"lambda\"));";
+    let (outcome, calls, written) = asked(rt.alloc(), grammar)?;
+    let Err(BenchFault::Refused(findings)) = outcome else {
+        return Err(Fail::new("no findings"));
+    };
+    assert_eq!(rt; findings.len(), 1);
+    let wanted = "a:1: C4 alternatives 1 and 2 meet at class U+006C and class U+006C";
+    assert_eq!(rt; findings[0].line.as_str(), wanted);
+    assert_eq!(rt; calls, 0);
+    assert!(rt; written.is_empty());
+    Ok(())
+}
+
+#[test]
+fn writes_nothing_where_the_text_does_not_parse(rt: HostRuntime) -> Result<(), Fail> {
+    for (text, place) in [("(7", 2), ("(7))", 3), ("(y)", 1), ("", 0)] {
+        let mut reader = Meter::new(text.as_bytes());
+        let mut writer = Meter::new(Vec::<u8>::new(rt.alloc()));
+        let outcome = parsed(rt.alloc(), GRAMMAR, &mut reader, &mut writer)?;
+        let Err(BenchFault::ParseError(error)) = outcome else {
+            return Err(Fail::new("no parse error"));
+        };
+        assert_eq!(rt; error.place, place);
+        assert!(rt; writer.into_inner().is_empty());
+    }
     Ok(())
 }
 

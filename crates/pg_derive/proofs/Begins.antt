@@ -1,5 +1,5 @@
--- A derivation that consumes begins where one of the node's first starts matches; where one consumes nothing, the node is
--- nullable.
+-- A derivation that consumes nothing shows that the node is nullable; one that consumes begins, under a table of the grammar,
+-- where one of the node's first starts matches.
 use Rattle.std.proofs.Common.{◌≡◌, ◌<◌, ◌≤◌, ◌⊎◌, inl, inr, ℕ, zero, suc, List, [], ◌∷◌, true, false, refl, sym, ◌∙◌, ap, subst, length, Some, slice_get, arith, le_refl}
 use Rattle.std.specs.List.{Contains}
 use Rattle.std.specs.Str.{all_scalars}
@@ -9,57 +9,75 @@ use Rattle.pg_grammar.specs.declared.form.Node.{Node}
 use Rattle.pg_grammar.specs.declared.trail.TrailItem.{TrailItem}
 use Rattle.pg_start.specs.Starts.{MatchesAt}
 use Rattle.pg_start.specs.declared.kind.StartKind.{StartKind}
+use Rattle.pg_table.specs.Tables.{ComesFrom}
 use Rattle.pg_table.specs.Derives.{Spot, Link, Derives, at_node, DerivesForm, satisfy, string, word, not_followed_by, end_of_text, seq, choice, many, chain_left, chain_right, try, label, rule, text as as_text, skip, build, expression, declare, DerivesParts, no_part, first_part, DerivesRounds, no_round, first_round, DerivesLinks, no_link, first_link}
 use Rattle.pg_derive.specs.ClosedSets.{NodeSets, SomeMatches, AllNullable, BeginsParts}
 use Rattle.pg_derive.specs.Predictive.{PartFits, TryFits, of_part, of_string, of_key, AlternativesFit, ManyFits, ChainFits, Fits}
 use Rattle.pg_derive.proofs.Inverted.{form_at, spans_string, spans_key, first_stands, forward, forward_parts, forward_rounds, forward_links}
 
-pub data Beginning (text : List ℕ) (Empty : Type 0) (IsStart : StartKind → Type 0) (a b : Spot) : Type 0 where
-  still : a ≡ b → Empty → Beginning text Empty IsStart a b
-  moves : a.place < b.place → (s : StartKind) → IsStart s → MatchesAt s text a.place → Beginning text Empty IsStart a b
+-- one of these starts matches at the place
+pub record Begun (text : List ℕ) (IsStart : StartKind → Type 0) (place : ℕ) : Type 0 where
+  pub start : StartKind
+  pub among : IsStart start
+  pub there : MatchesAt start text place
 
-pub widened : {text : List ℕ} {E F : Type 0} {S T : StartKind → Type 0} {a b : Spot} → (E → F) → ((s : StartKind) → S s → T s) →
-    Beginning text E S a b → Beginning text F T a b
+-- the same at a spot under a table of the grammar
+abbrev pub BegunUnder : Grammar → List ℕ → (StartKind → Type 0) → Spot → Type 0
+BegunUnder g text IsStart a = ComesFrom g a.table → Begun text IsStart a.place
+
+pub data Beginning (g : Grammar) (text : List ℕ) (Empty : Type 0) (IsStart : StartKind → Type 0) (a b : Spot) : Type 0 where
+  still : a ≡ b → Empty → Beginning g text Empty IsStart a b
+  moves : a.place < b.place → BegunUnder g text IsStart a → Beginning g text Empty IsStart a b
+
+-- of more starts
+more_begun : (g : Grammar) (text : List ℕ) (S T : StartKind → Type 0) (a : Spot) → ((s : StartKind) → S s → T s) → BegunUnder g text S a → BegunUnder g text T a
+more_begun g text S T a f h from = let m = h from in record { start = m.start; among = f m.start m.among; there = m.there }
+
+-- at a spot that is the same
+elsewhere : (g : Grammar) (text : List ℕ) (S : StartKind → Type 0) {a b : Spot} → a ≡ b → BegunUnder g text S b → BegunUnder g text S a
+elsewhere g text S e h = subst (λ (x : Spot). BegunUnder g text S x) (sym e) h
+
+pub widened : {g : Grammar} {text : List ℕ} {E F : Type 0} {S T : StartKind → Type 0} {a b : Spot} → (E → F) → ((s : StartKind) → S s → T s) →
+    Beginning g text E S a b → Beginning g text F T a b
 widened f g (still e x) = still e (f x)
-widened f g (moves l s b h) = moves l s (g s b) h
+widened f g (moves l h) = moves l (more_begun _ _ _ _ _ g h)
 
-abbrev pub BeginsNode : NodeSets → List ℕ → ℕ → Spot → Spot → Type 0
-BeginsNode sets text p a b = Beginning text (sets.nullable p ≡ true) (Contains (sets.first p)) a b
+abbrev pub BeginsNode : Grammar → NodeSets → List ℕ → ℕ → Spot → Spot → Type 0
+BeginsNode g sets text p a b = Beginning g text (sets.nullable p ≡ true) (Contains (sets.first p)) a b
 
-abbrev pub BeginsList : NodeSets → List ℕ → List ℕ → Spot → Spot → Type 0
-BeginsList sets text ps a b = Beginning text (AllNullable sets ps) (BeginsParts sets ps) a b
+abbrev pub BeginsList : Grammar → NodeSets → List ℕ → List ℕ → Spot → Spot → Type 0
+BeginsList g sets text ps a b = Beginning g text (AllNullable sets ps) (BeginsParts sets ps) a b
 
-by_matching : (sets : NodeSets) (text : List ℕ) (p : ℕ) {a b : Spot} → a.place < b.place → SomeMatches text (sets.first p) a.place → BeginsNode sets text p a b
-by_matching sets text p l m = moves l m.start m.among m.there
+by_matching : (g : Grammar) (sets : NodeSets) (text : List ℕ) (p : ℕ) {a b : Spot} → a.place < b.place → SomeMatches text (sets.first p) a.place → BeginsNode g sets text p a b
+by_matching g sets text p l m = moves l (λ from. record { start = m.start; among = m.among; there = m.there })
 
-elsewhere : (text : List ℕ) {a b : Spot} (s : StartKind) → a ≡ b → MatchesAt s text b.place → MatchesAt s text a.place
-elsewhere text s e h = subst (λ (x : Spot). MatchesAt s text x.place) (sym e) h
+pub joined : (g : Grammar) (sets : NodeSets) (text : List ℕ) (p : ℕ) (ps : List ℕ) {a b c : Spot} → b.place ≤ c.place → BeginsNode g sets text p a b → BeginsList g sets text ps b c →
+    BeginsList g sets text (p ∷ ps) a c
+joined g sets text p ps l (still e n) (still f ns) = still (e ∙ f) (n, ns)
+joined g sets text p ps l (still e n) (moves m h) =
+    let same = ap (λ (x : Spot). x.place) e in moves (omega arith) (more_begun _ _ (BeginsParts sets ps) _ _ (λ s b. inr (n, b)) (elsewhere _ _ _ e h))
+joined g sets text p ps l (moves m h) rest = moves (omega arith) (more_begun _ _ (Contains (sets.first p)) _ _ (λ s b. inl b) h)
 
-pub joined : (sets : NodeSets) (text : List ℕ) (p : ℕ) (ps : List ℕ) {a b c : Spot} → b.place ≤ c.place → BeginsNode sets text p a b → BeginsList sets text ps b c →
-    BeginsList sets text (p ∷ ps) a c
-joined sets text p ps l (still e n) (still f ns) = still (e ∙ f) (n, ns)
-joined sets text p ps l (still e n) (moves m s b h) = let same = ap (λ (x : Spot). x.place) e in moves (omega arith) s (inr (n, b)) (elsewhere _ s e h)
-joined sets text p ps l (moves m s b h) rest = moves (omega arith) s (inl b) h
+pub consumes : (g : Grammar) (sets : NodeSets) (text : List ℕ) (p : ℕ) {a b : Spot} → sets.nullable p ≡ false → BeginsNode g sets text p a b → a.place < b.place
+consumes g sets text p full (still e n) = absurd (cc)
+consumes g sets text p full (moves l h) = l
 
-pub consumes : (sets : NodeSets) (text : List ℕ) (p : ℕ) {a b : Spot} → sets.nullable p ≡ false → BeginsNode sets text p a b → a.place < b.place
-consumes sets text p full (still e n) = absurd (cc)
-consumes sets text p full (moves l s b h) = l
-
-a_round : {sets : NodeSets} {text : List ℕ} {p q : ℕ} {a b c : Spot} → ManyFits sets p q → b.place ≤ c.place → BeginsNode sets text q a b → BeginsNode sets text p a c
+a_round : {g : Grammar} {sets : NodeSets} {text : List ℕ} {p q : ℕ} {a b c : Spot} → ManyFits sets p q → b.place ≤ c.place → BeginsNode g sets text q a b → BeginsNode g sets text p a c
 a_round f l (still e n) = let full = f.full in absurd (cc)
-a_round f l (moves m s b h) = moves (omega arith) s (f.first s b) h
+a_round f l (moves m h) = moves (omega arith) (more_begun _ _ _ _ _ f.first h)
 
 -- an operand, and then nothing or a round
-a_chain : {sets : NodeSets} {text : List ℕ} {p q r : ℕ} {a b c : Spot} → ChainFits sets p q r → b.place ≤ c.place → BeginsNode sets text q a b →
-    (b ≡ c) ⊎ BeginsList sets text (r ∷ q ∷ []) b c → BeginsNode sets text p a c
-a_chain f l (moves m s b h) rest = moves (omega arith) s (f.first s b) h
+a_chain : {g : Grammar} {sets : NodeSets} {text : List ℕ} {p q r : ℕ} {a b c : Spot} → ChainFits sets p q r → b.place ≤ c.place → BeginsNode g sets text q a b →
+    (b ≡ c) ⊎ BeginsList g sets text (r ∷ q ∷ []) b c → BeginsNode g sets text p a c
+a_chain f l (moves m h) rest = moves (omega arith) (more_begun _ _ _ _ _ f.first h)
 a_chain f l (still e n) (inl x) = still (e ∙ x) (f.empty n)
 a_chain f l (still e n) (inr (still x y)) = absurd (f.full y)
-a_chain f l (still e n) (inr (moves m s b h)) = let same = ap (λ (x : Spot). x.place) e in moves (omega arith) s (f.next n s b) (elsewhere _ s e h)
+a_chain f l (still e n) (inr (moves m h)) =
+    let same = ap (λ (x : Spot). x.place) e in moves (omega arith) (more_begun _ _ _ _ _ (f.next n) (elsewhere _ _ _ e h))
 
-longer : (sets : NodeSets) (text : List ℕ) (ps : List ℕ) {a b c : Spot} → b.place ≤ c.place → (AllNullable sets ps → ⊥) → BeginsList sets text ps a b → BeginsList sets text ps a c
-longer sets text ps l full (still e n) = absurd (full n)
-longer sets text ps l full (moves m s b h) = moves (omega arith) s b h
+longer : (g : Grammar) (sets : NodeSets) (text : List ℕ) (ps : List ℕ) {a b c : Spot} → b.place ≤ c.place → (AllNullable sets ps → ⊥) → BeginsList g sets text ps a b → BeginsList g sets text ps a c
+longer g sets text ps l full (still e n) = absurd (full n)
+longer g sets text ps l full (moves m h) = moves (omega arith) h
 
 pub alternative_fits : (sets : NodeSets) (p : ℕ) (ps : List ℕ) → AlternativesFit sets p ps → (k q : ℕ) → slice_get ps k ≡ Some q → PartFits sets p q
 alternative_fits sets p [] f k q e = absurd (cc)
@@ -67,31 +85,31 @@ alternative_fits sets p (r ∷ ps) f zero q e = let same : r ≡ q = cc in subst
 alternative_fits sets p (r ∷ ps) f (suc k) q e = alternative_fits sets p ps f.2 k q e
 
 module _ (g : Grammar) (s : List ℕ) (scalars : all_scalars s ≡ true) (sets : NodeSets) (good : (p : ℕ) (n : Node) → slice_get g.nodes p ≡ Some n → Fits g sets p n) where
-  in_part : {p q : ℕ} {a b : Spot} → PartFits sets p q → BeginsNode sets s q a b → BeginsNode sets s p a b
+  in_part : {p q : ℕ} {a b : Spot} → PartFits sets p q → BeginsNode g sets s q a b → BeginsNode g sets s p a b
   in_part f d = widened f.empty f.first d
 
-  in_try : {p q : ℕ} {a b : Spot} {v : List Tree} {t : List TrailItem} → Derives g s q a b v t → BeginsNode sets s q a b → TryFits g sets p q → BeginsNode sets s p a b
+  in_try : {p q : ℕ} {a b : Spot} {v : List Tree} {t : List TrailItem} → Derives g s q a b v t → BeginsNode g sets s q a b → TryFits g sets p q → BeginsNode g sets s p a b
   in_try d h (of_part f) = in_part f h
   in_try {p = p} {a = a} {b = b} d h (of_string {s = cs} e l falls m) =
       let spans = spans_string (form_at d e) in
       let ends = ap (λ (x : Spot). x.place) spans.end in
-      by_matching sets s p (omega arith) (m s scalars a.place spans.stands)
+      by_matching g sets s p (omega arith) (m s scalars a.place spans.stands)
   in_try {p = p} {a = a} {b = b} d h (of_key {s = cs} e first second l falls m) =
       let spans = spans_key (form_at d e) first second in
       let ends = ap (λ (x : Spot). x.place) spans.end in
-      by_matching sets s p (omega arith) (m s scalars a.place (spans.stands, spans.bare))
+      by_matching g sets s p (omega arith) (m s scalars a.place (spans.stands, spans.bare))
 
   mutual
-    pub begins : {p : ℕ} {a b : Spot} {v : List Tree} {t : List TrailItem} → Derives g s p a b v t → BeginsNode sets s p a b
+    pub begins : {p : ℕ} {a b : Spot} {v : List Tree} {t : List TrailItem} → Derives g s p a b v t → BeginsNode g sets s p a b
     begins (at_node {p = p} {n = n} e d) = begins_form d p (good p n e)
 
-    begins_form : {n : Node} {a b : Spot} {v : List Tree} {t : List TrailItem} → DerivesForm g s n a b v t → (p : ℕ) → Fits g sets p n → BeginsNode sets s p a b
-    begins_form (satisfy {a = a} has) p f = by_matching sets s p (omega arith) (f s scalars a.place has)
+    begins_form : {n : Node} {a b : Spot} {v : List Tree} {t : List TrailItem} → DerivesForm g s n a b v t → (p : ℕ) → Fits g sets p n → BeginsNode g sets s p a b
+    begins_form (satisfy {a = a} has) p f = by_matching g sets s p (omega arith) (f s scalars a.place has)
     begins_form (string {characters = cs} {a = a} h) p f =
-        let l = f.spelled in by_matching sets s p (omega arith) (f.first s scalars a.place (first_stands s cs a.place f.spelled h))
+        let l = f.spelled in by_matching g sets s p (omega arith) (f.first s scalars a.place (first_stands s cs a.place f.spelled h))
     begins_form (word {w = w} {item = item} {s = cs} {a = a} e is) p f =
         let counted = ap length is.whole in
-        by_matching sets s p (omega arith) (f s scalars a.place (record { item = item; named = e; word = cs; there = is }))
+        by_matching g sets s p (omega arith) (f s scalars a.place (record { item = item; named = e; word = cs; there = is }))
     begins_form (not_followed_by h) p f = still refl f
     begins_form (end_of_text h) p f = still refl f
     begins_form (seq d) p f = widened f.empty f.first (begins_parts d)
@@ -108,16 +126,16 @@ module _ (g : Grammar) (s : List ℕ) (scalars : all_scalars s ≡ true) (sets :
     begins_form (expression e x d) p f = absurd f
     begins_form (declare e x d) p f = absurd f
 
-    pub begins_parts : {ps : List ℕ} {a b : Spot} {v : List Tree} {t : List TrailItem} → DerivesParts g s ps a b v t → BeginsList sets s ps a b
+    pub begins_parts : {ps : List ℕ} {a b : Spot} {v : List Tree} {t : List TrailItem} → DerivesParts g s ps a b v t → BeginsList g sets s ps a b
     begins_parts no_part = still refl tt
-    begins_parts (first_part {p = p} {parts = ps} d ds) = joined sets s p ps (forward_parts ds) (begins d) (begins_parts ds)
+    begins_parts (first_part {p = p} {parts = ps} d ds) = joined g sets s p ps (forward_parts ds) (begins d) (begins_parts ds)
 
-    pub begins_rounds : {q n : ℕ} {a b : Spot} {v : List Tree} {t : List TrailItem} → DerivesRounds g s q n a b v t → (p : ℕ) → ManyFits sets p q → BeginsNode sets s p a b
+    pub begins_rounds : {q n : ℕ} {a b : Spot} {v : List Tree} {t : List TrailItem} → DerivesRounds g s q n a b v t → (p : ℕ) → ManyFits sets p q → BeginsNode g sets s p a b
     begins_rounds no_round p f = still refl f.empty
     begins_rounds (first_round d ds) p f = a_round f (forward_rounds ds) (begins d)
 
     pub begins_links : {q r n : ℕ} {a b : Spot} {links : List Link} {t : List TrailItem} → DerivesLinks g s q r n a b links t → (p : ℕ) → ChainFits sets p q r →
-        (a ≡ b) ⊎ BeginsList sets s (r ∷ q ∷ []) a b
+        (a ≡ b) ⊎ BeginsList g sets s (r ∷ q ∷ []) a b
     begins_links no_link p f = inl refl
     begins_links (first_link {p = q} {s = r} d e ds) p f =
-        inr (longer sets s (r ∷ q ∷ []) (forward_links ds) f.full (joined sets s r (q ∷ []) (forward e) (begins d) (joined sets s q [] (le_refl _) (begins e) (still refl tt))))
+        inr (longer g sets s (r ∷ q ∷ []) (forward_links ds) f.full (joined g sets s r (q ∷ []) (forward e) (begins d) (joined g sets s q [] (le_refl _) (begins e) (still refl tt))))

@@ -1,4 +1,4 @@
--- A derivation that ends where a start of the node's follow set matches is what the node answers.
+-- A derivation from a table of the grammar that ends where a start of the node's follow set matches is what the node answers.
 use Rattle.std.proofs.Common.{◌≡◌, ◌+◌, ◌<◌, ◌≤◌, ◌⊎◌, inl, inr, ℕ, zero, suc, List, [], ◌∷◌, ◌++◌, Bool, true, false, ◌||◌, refl, sym, ◌∙◌, ap, subst, length, Some, slice_get, arith, le_trans, append_assoc, append-nil, add-zero}
 use Rattle.std.specs.Prelude.{nat_lt}
 use Rattle.std.specs.List.{Contains, AllByRecursion}
@@ -14,6 +14,7 @@ use Rattle.pg_start.specs.declared.kind.StartKind.{StartKind}
 use Rattle.pg_start.proofs.Meeting.{never_meet}
 use Rattle.pg_table.specs.Derives.{Spot, behind, leaf_of, Link, Derives, DerivesForm, DerivesParts, DerivesRounds, DerivesLinks}
 use Rattle.pg_table.specs.Derives as derives
+use Rattle.pg_table.specs.Tables.{ComesFrom}
 use Rattle.pg_table.specs.Runs.{HasAt, StandsAt}
 use Rattle.pg_grammar.specs.declared.class.ClassPart.{ClassPart}
 use Rattle.pg_derive.specs.Answers.{Given, Answers, entered, AnswersForm, satisfy, string, word, not_followed_by, end_of_text, nothing, seq, choice, many, chain_left, chain_right, try, label, rule, text as as_text, skip, build, AnswersParts, part, part_last, part_ok, AnswersAlternatives, no_alternative, alternative, alternative_consumed, alternative_stands, alternative_waits, alternative_failed, AnswersRounds, round, round_ended, round_ok, AnswersChain, chain, first_ok, AnswersLinks, link, separator_failed, separator_ok, operand_failed, operand_ok}
@@ -27,9 +28,9 @@ use Rattle.pg_derive.specs.declared.reading.Reading.TheVariants.{Library, Report
 use Rattle.pg_derive.proofs.ChainsDerived.{folded, folded_none, folded_more}
 use Rattle.pg_derive.specs.ClosedSets.{NodeSets, SomeMatches, Within, AllApart, PartsFollowed}
 use Rattle.pg_derive.specs.Predictive.{TryFits, of_part, of_string, of_key, ComesBefore, AlternativesFit, ManyFits, ChainFits, Fits}
-use Rattle.pg_derive.proofs.Begins.{still, moves, BeginsNode, BeginsList, alternative_fits, consumes, begins, begins_parts, begins_links}
+use Rattle.pg_derive.proofs.Begins.{Begun, still, moves, BeginsNode, BeginsList, alternative_fits, consumes, begins, begins_parts, begins_links}
 use Rattle.pg_derive.proofs.Flags.{moved, stayed, both_moved}
-use Rattle.pg_derive.proofs.Inverted.{form_at, spans_string, spans_key, forward, forward_parts, forward_rounds, forward_links}
+use Rattle.pg_derive.proofs.Inverted.{form_at, spans_string, spans_key, forward, comes_on, forward_parts, forward_rounds, forward_links}
 use Rattle.pg_derive.proofs.LeavesAnswered.{StaysOk, satisfy_ok, word_ok, string_ok, not_followed_ok, end_ok}
 use Rattle.pg_derive.proofs.Quiet.{IsWhole, refuses, skips, NoStart, QuietNode, quiet}
 
@@ -62,6 +63,9 @@ widen w m = record { start = m.start; among = w m.start m.among; there = m.there
 elsewhere : (text : List ℕ) (xs : List StartKind) {a b : Spot} → a ≡ b → SomeMatches text xs b.place → SomeMatches text xs a.place
 elsewhere text xs e m = subst (λ (x : Spot). SomeMatches text xs x.place) (sym e) m
 
+matching : {text : List ℕ} {xs : List StartKind} {i : ℕ} → Begun text (Contains xs) i → SomeMatches text xs i
+matching h = record { start = h.start; among = h.among; there = h.there }
+
 pub contains_got : (ps : List ℕ) (k q : ℕ) → slice_get ps k ≡ Some q → Contains ps q
 contains_got ps k q e = (k, slice_get_within ps k q e, get_or_from_slice_get ps k q q e)
 
@@ -75,14 +79,17 @@ module _ (G : Given) (scalars : all_scalars G.text ≡ true) (whole : IsWhole G.
   abbrev IsNode : ℕ → Type 0
   IsNode q = q < length G.grammar.nodes
 
+  abbrev Comes : Spot → Type 0
+  Comes a = ComesFrom G.grammar a.table
+
   kept_out : (i : ℕ) (xs ys : List StartKind) → AllApart xs ys → SomeMatches G.text ys i → NoStart G.text (Contains xs) i
   kept_out i xs ys h m s b x = never_meet s m.start (h s m.start b m.among) G.text scalars i x m.there
 
-  pub begun : {p : ℕ} {a b : Spot} {v : List Tree} {t : List TrailItem} → Derives G.grammar G.text p a b v t → BeginsNode sets G.text p a b
+  pub begun : {p : ℕ} {a b : Spot} {v : List Tree} {t : List TrailItem} → Derives G.grammar G.text p a b v t → BeginsNode G.grammar sets G.text p a b
   begun d = begins G.grammar G.text scalars sets good d
 
-  pub passes : (q : ℕ) (a : Spot) → IsNode q → sets.nullable q ≡ false → NoStart G.text (Contains (sets.first q)) a.place → (e : Error) × (m : ℕ) × Answers G q a (failed false e) m
-  passes q a there full bare = go (quiet G scalars whole sets good q a there bare)
+  pub passes : (q : ℕ) (a : Spot) → Comes a → IsNode q → sets.nullable q ≡ false → NoStart G.text (Contains (sets.first q)) a.place → (e : Error) × (m : ℕ) × Answers G q a (failed false e) m
+  passes q a from there full bare = go (quiet G scalars whole sets good q a from there bare)
     where
       go : QuietNode G scalars whole sets q a → (e : Error) × (m : ℕ) × Answers G q a (failed false e) m
       go (refuses e m run) = (e, m, run)
@@ -90,22 +97,22 @@ module _ (G : Given) (scalars : all_scalars G.text ≡ true) (whole : IsWhole G.
 
   -- ---- sequences
 
-  part_behind : (q : ℕ) (b c : Spot) (qs : List ℕ) (follow : List StartKind) → PartsFollowed sets follow (q ∷ qs) → BeginsList sets G.text qs b c →
+  part_behind : (q : ℕ) (b c : Spot) → Comes b → (qs : List ℕ) (follow : List StartKind) → PartsFollowed sets follow (q ∷ qs) → BeginsList G.grammar sets G.text qs b c →
       SomeMatches G.text follow c.place → SomeMatches G.text (sets.follow q) b.place
-  part_behind q b c qs follow f (still e ns) m = elsewhere G.text (sets.follow q) e (widen (f.1 ns) m)
-  part_behind q b c qs follow f (moves l s x h) m = record { start = s; among = f.0 s x; there = h }
+  part_behind q b c from qs follow f (still e ns) m = elsewhere G.text (sets.follow q) e (widen (f.1 ns) m)
+  part_behind q b c from qs follow f (moves l h) m = let s = h from in record { start = s.start; among = f.0 s.start s.among; there = s.there }
 
   -- ---- choices
 
-  pub alternative_refused : (p q r : ℕ) (a b : Spot) → ComesBefore sets p q r → BeginsNode sets G.text r a b → SomeMatches G.text (sets.follow p) b.place →
+  pub alternative_refused : (p q r : ℕ) (a b : Spot) → Comes a → ComesBefore sets p q r → BeginsNode G.grammar sets G.text r a b → SomeMatches G.text (sets.follow p) b.place →
       NoStart G.text (Contains (sets.first q)) a.place
-  alternative_refused p q r a b f (still e n) m = kept_out a.place (sets.first q) (sets.follow p) (f.follow n) (elsewhere G.text (sets.follow p) e m)
-  alternative_refused p q r a b f (moves l s x h) m = kept_out a.place (sets.first q) (sets.first r) f.first (record { start = s; among = x; there = h })
+  alternative_refused p q r a b from f (still e n) m = kept_out a.place (sets.first q) (sets.follow p) (f.follow n) (elsewhere G.text (sets.follow p) e m)
+  alternative_refused p q r a b from f (moves l h) m = kept_out a.place (sets.first q) (sets.first r) f.first (matching (h from))
 
   -- the alternative that is taken
-  taken_here : (p q n : ℕ) (a b : Spot) (v : List Tree) (t : List TrailItem) (qs : List ℕ) → AlternativesFit sets p (q ∷ qs) → BeginsNode sets G.text q a b → IsOk (Answers G q a) a b v t →
+  taken_here : (p q n : ℕ) (a b : Spot) (v : List Tree) (t : List TrailItem) (qs : List ℕ) → AlternativesFit sets p (q ∷ qs) → BeginsNode G.grammar sets G.text q a b → IsOk (Answers G q a) a b v t →
       IsOk (AnswersAlternatives G n (q ∷ qs) a) a b v (Alt n ∷ t)
-  taken_here p q n a b v t qs f (moves l s x h) r =
+  taken_here p q n a b v t qs f (moves l h) r =
       ok_moved _ a b v (Alt n ∷ t) r.error _ l (alternative (subst (λ c. Answers G q a (ok c b v t r.error) r.count) (moved l) r.run) alternative_consumed)
   taken_here p q n a b v t [] f (still e x) r = go G.reading refl
     where
@@ -121,61 +128,62 @@ module _ (G : Given) (scalars : all_scalars G.text ≡ true) (whole : IsWhole G.
   taken_here p q n a b v t (other ∷ qs) f (still e x) r =
       let full = (f.1 other (zero, omega arith, refl)).full in absurd (cc)
 
-  reached : (p q : ℕ) (a b : Spot) (v : List Tree) (t : List TrailItem) → BeginsNode sets G.text q a b → SomeMatches G.text (sets.follow p) b.place → IsOk (Answers G q a) a b v t →
+  reached : (p q : ℕ) (a b : Spot) (v : List Tree) (t : List TrailItem) → Comes a → BeginsNode G.grammar sets G.text q a b → SomeMatches G.text (sets.follow p) b.place → IsOk (Answers G q a) a b v t →
       (ps : List ℕ) (n k : ℕ) → AlternativesFit sets p ps → AllByRecursion IsNode ps → slice_get ps k ≡ Some q → IsOk (AnswersAlternatives G n ps a) a b v (Alt (n + k) ∷ t)
-  reached p q a b v t h m r [] n k f there e = absurd (cc)
-  reached p q a b v t h m r (x ∷ ps) n zero f there e =
+  reached p q a b v t from h m r [] n k f there e = absurd (cc)
+  reached p q a b v t from h m r (x ∷ ps) n zero f there e =
       let same : x ≡ q = cc in
-      let here = taken_here p x n a b v t ps f (subst (λ y. BeginsNode sets G.text y a b) (sym same) h) (subst (λ y. IsOk (Answers G y a) a b v t) (sym same) r) in
+      let here = taken_here p x n a b v t ps f (subst (λ y. BeginsNode G.grammar sets G.text y a b) (sym same) h) (subst (λ y. IsOk (Answers G y a) a b v t) (sym same) r) in
       subst (λ i. IsOk (AnswersAlternatives G n (x ∷ ps) a) a b v (Alt i ∷ t)) (sym (add-zero n)) here
-  reached p q a b v t h m r (x ∷ ps) n (suc k) f there e =
+  reached p q a b v t from h m r (x ∷ ps) n (suc k) f there e =
       let before = f.1 q (contains_got ps k q e) in
-      let rest = reached p q a b v t h m r ps (suc n) k f.2 there.1 e in
-      let fails = passes x a there.0 before.full (alternative_refused p x q a b before h m) in
+      let rest = reached p q a b v t from h m r ps (suc n) k f.2 there.1 e in
+      let fails = passes x a from there.0 before.full (alternative_refused p x q a b from before h m) in
       let number : suc n + k ≡ n + suc k = omega arith in
       subst (λ i. IsOk (AnswersAlternatives G n (x ∷ ps) a) a b v (Alt i ∷ t)) number
       (record { error = _; count = _; run = alternative fails.2 (alternative_failed rest.run) })
 
   -- ---- repetitions
 
-  round_behind : (p : ℕ) {q n : ℕ} {b c : Spot} {v : List Tree} {t : List TrailItem} → DerivesRounds G.grammar G.text q n b c v t → ManyFits sets p q →
+  round_behind : (p : ℕ) {q n : ℕ} {b c : Spot} {v : List Tree} {t : List TrailItem} → DerivesRounds G.grammar G.text q n b c v t → Comes b → ManyFits sets p q →
       SomeMatches G.text (sets.follow p) c.place → SomeMatches G.text (sets.follow q) b.place
-  round_behind p derives.no_round f m = widen f.follow m
-  round_behind p (derives.first_round {p = q} {a = b} {b = c} d ds) f m = go (begun d)
+  round_behind p derives.no_round from f m = widen f.follow m
+  round_behind p (derives.first_round {p = q} {a = b} {b = c} d ds) from f m = go (begun d)
     where
-      go : BeginsNode sets G.text q b c → SomeMatches G.text (sets.follow q) b.place
+      go : BeginsNode G.grammar sets G.text q b c → SomeMatches G.text (sets.follow q) b.place
       go (still e n) = let full = f.full in absurd (cc)
-      go (moves l s x h) = record { start = s; among = f.again s x; there = h }
+      go (moves l h) = let s = h from in record { start = s.start; among = f.again s.start s.among; there = s.there }
 
   -- ---- chains
 
   -- behind an operand
-  link_behind : (p q r : ℕ) (b c : Spot) → ChainFits sets p q r → (b ≡ c) ⊎ BeginsList sets G.text (r ∷ q ∷ []) b c → SomeMatches G.text (sets.follow p) c.place →
+  link_behind : (p q r : ℕ) (b c : Spot) → Comes b → ChainFits sets p q r → (b ≡ c) ⊎ BeginsList G.grammar sets G.text (r ∷ q ∷ []) b c → SomeMatches G.text (sets.follow p) c.place →
       SomeMatches G.text (sets.follow q) b.place
-  link_behind p q r b c f (inl e) m = elsewhere G.text (sets.follow q) e (widen f.follow m)
-  link_behind p q r b c f (inr (still e n)) m = absurd (f.full n)
-  link_behind p q r b c f (inr (moves l s x h)) m = record { start = s; among = f.again s x; there = h }
+  link_behind p q r b c from f (inl e) m = elsewhere G.text (sets.follow q) e (widen f.follow m)
+  link_behind p q r b c from f (inr (still e n)) m = absurd (f.full n)
+  link_behind p q r b c from f (inr (moves l h)) m = let s = h from in record { start = s.start; among = f.again s.start s.among; there = s.there }
 
   -- behind a separator
-  operand_behind : (p q r : ℕ) (b c z : Spot) → ChainFits sets p q r → BeginsNode sets G.text q b c → (c ≡ z) ⊎ BeginsList sets G.text (r ∷ q ∷ []) c z →
+  operand_behind : (p q r : ℕ) (b c z : Spot) → Comes b → ChainFits sets p q r → BeginsNode G.grammar sets G.text q b c → (c ≡ z) ⊎ BeginsList G.grammar sets G.text (r ∷ q ∷ []) c z →
       SomeMatches G.text (sets.follow p) z.place → SomeMatches G.text (sets.follow r) b.place
-  operand_behind p q r b c z f (moves l s x h) rest m = record { start = s; among = f.between s x; there = h }
-  operand_behind p q r b c z f (still e n) (inl d) m = elsewhere G.text (sets.follow r) (e ∙ d) (widen (f.over_last n) m)
-  operand_behind p q r b c z f (still e n) (inr (still d o)) m = absurd (f.full o)
-  operand_behind p q r b c z f (still e n) (inr (moves l s x h)) m =
-      elsewhere G.text (sets.follow r) e (record { start = s; among = f.over_next n s x; there = h })
+  operand_behind p q r b c z from f (moves l h) rest m = let s = h from in record { start = s.start; among = f.between s.start s.among; there = s.there }
+  operand_behind p q r b c z from f (still e n) (inl d) m = elsewhere G.text (sets.follow r) (e ∙ d) (widen (f.over_last n) m)
+  operand_behind p q r b c z from f (still e n) (inr (still d o)) m = absurd (f.full o)
+  operand_behind p q r b c z from f (still e n) (inr (moves l h)) m =
+      let s = h (subst (λ (x : Spot). Comes x) e from) in
+      elsewhere G.text (sets.follow r) e (record { start = s.start; among = f.over_next n s.start s.among; there = s.there })
 
   -- a link consumes
-  pub link_moves : (p q r : ℕ) (a b c : Spot) → ChainFits sets p q r → b.place ≤ c.place → BeginsNode sets G.text r a b → BeginsNode sets G.text q b c → a.place < c.place
-  link_moves p q r a b c f l (moves m s x h) second = omega arith
-  link_moves p q r a b c f l (still e n) (moves m s x h) = let same = ap (λ (z : Spot). z.place) e in omega arith
+  pub link_moves : (p q r : ℕ) (a b c : Spot) → ChainFits sets p q r → b.place ≤ c.place → BeginsNode G.grammar sets G.text r a b → BeginsNode G.grammar sets G.text q b c → a.place < c.place
+  link_moves p q r a b c f l (moves m h) second = omega arith
+  link_moves p q r a b c f l (still e n) (moves m h) = let same = ap (λ (z : Spot). z.place) e in omega arith
   link_moves p q r a b c f l (still e n) (still d o) = absurd (f.full (n, (o, tt)))
 
   -- no link comes any more
-  no_more : (fold : Fold) (shape : Shape) (p q r : ℕ) (left : List Tree) (a : Spot) → IsNode q → IsNode r → ChainFits sets p q r → SomeMatches G.text (sets.follow p) a.place →
+  no_more : (fold : Fold) (shape : Shape) (p q r : ℕ) (left : List Tree) (a : Spot) → Comes a → IsNode q → IsNode r → ChainFits sets p q r → SomeMatches G.text (sets.follow p) a.place →
       IsOk (AnswersLinks G fold shape q r left zero a) a a left []
-  no_more fold shape p q r left a is_q is_r f m =
-      go (quiet G scalars whole sets good r a is_r (λ s b x. never_meet s m.start (f.apart s m.start (inl b) m.among) G.text scalars a.place x m.there))
+  no_more fold shape p q r left a from is_q is_r f m =
+      go (quiet G scalars whole sets good r a from is_r (λ s b x. never_meet s m.start (f.apart s m.start (inl b) m.among) G.text scalars a.place x m.there))
     where
       Result : Type 0
       Result = IsOk (AnswersLinks G fold shape q r left zero a) a a left []
@@ -189,7 +197,7 @@ module _ (G : Given) (scalars : all_scalars G.text ≡ true) (whole : IsWhole G.
       go (refuses e i separator) = ok_stayed _ a left [] _ _ (link separator separator_failed)
       go (skips er w u e i separator) =
           behind_separator er w u e i separator
-          (quiet G scalars whole sets good q a is_q (λ s b x. never_meet s m.start (f.apart s m.start (inr (er, inl b)) m.among) G.text scalars a.place x m.there))
+          (quiet G scalars whole sets good q a from is_q (λ s b x. never_meet s m.start (f.apart s m.start (inr (er, inl b)) m.among) G.text scalars a.place x m.there))
 
   -- a link more, between an operand and the links behind it
   one_more : (fold : Fold) (shape : Shape) (q r n : ℕ) (left v w : List Tree) (links : List Link) (a b c d : Spot) (t u items : List TrailItem) →
@@ -241,84 +249,85 @@ module _ (G : Given) (scalars : all_scalars G.text ≡ true) (whole : IsWhole G.
       let h = spans_key (form_at d e) first second in renamed _ a h.end h.forest h.trail (key_tried q x y s class a e first second spelled h.stands h.bare)
 
   mutual
-    pub complete : {p : ℕ} {a b : Spot} {v : List Tree} {t : List TrailItem} → Derives G.grammar G.text p a b v t → SomeMatches G.text (sets.follow p) b.place → IsOk (Answers G p a) a b v t
-    complete (derives.at_node {p = p} {n = n} e d) m =
-        let r = complete_form d p e (good p n e) m in record { error = r.error; count = _; run = entered e r.run }
+    pub complete : {p : ℕ} {a b : Spot} {v : List Tree} {t : List TrailItem} → Derives G.grammar G.text p a b v t → Comes a → SomeMatches G.text (sets.follow p) b.place → IsOk (Answers G p a) a b v t
+    complete (derives.at_node {p = p} {n = n} e d) from m =
+        let r = complete_form d from p e (good p n e) m in record { error = r.error; count = _; run = entered e r.run }
 
-    complete_form : {n : Node} {a b : Spot} {v : List Tree} {t : List TrailItem} → DerivesForm G.grammar G.text n a b v t → (p : ℕ) → slice_get G.grammar.nodes p ≡ Some n →
+    complete_form : {n : Node} {a b : Spot} {v : List Tree} {t : List TrailItem} → DerivesForm G.grammar G.text n a b v t → Comes a → (p : ℕ) → slice_get G.grammar.nodes p ≡ Some n →
         Fits G.grammar sets p n → SomeMatches G.text (sets.follow p) b.place → IsOk (AnswersForm G n a) a b v t
-    complete_form (derives.satisfy {class = class} {a = a} has) p e f m =
+    complete_form (derives.satisfy {class = class} {a = a} has) from p e f m =
         ok_moved _ a _ _ [] _ _ (omega arith) (subst (λ o. AnswersForm G (form.Satisfy class) a o zero) (satisfy_ok G.grammar G.text class a has) satisfy)
-    complete_form (derives.string {characters = s} {a = a} h) p e f m =
+    complete_form (derives.string {characters = s} {a = a} h) from p e f m =
         let spelled = f.spelled in
         ok_moved _ a _ _ [] _ _ (omega arith) (subst (λ o. AnswersForm G (form.String s) a o zero) (string_ok G.text s a h) string)
-    complete_form (derives.word {w = w} {item = item} {s = s} {a = a} there is) p e f m =
+    complete_form (derives.word {w = w} {item = item} {s = s} {a = a} there is) from p e f m =
         let counted = ap length is.whole in
         ok_moved _ a _ _ [] _ _ (omega arith) (subst (λ o. AnswersForm G (form.Word w) a o zero) (word_ok G.grammar G.text item a s is) (word there))
-    complete_form (derives.not_followed_by {class = class} {a = a} h) p e f m = stays _ a _ _ not_followed_by (not_followed_ok G.grammar G.text class a h)
-    complete_form (derives.end_of_text {a = a} h) p e f m = stays _ a _ _ end_of_text (end_ok G.text a h)
-    complete_form (derives.seq {parts = []} derives.no_part) p e f m = ok_stayed _ _ [] [] _ _ nothing
-    complete_form (derives.seq {parts = q ∷ qs} d) p e f m =
-        let r = complete_parts d (sets.follow p) f.follow m in record { error = r.error; count = r.count; run = seq r.run }
-    complete_form (derives.choice {parts = ps} {k = k} {p = q} {a = a} {b = b} {forest = v} {trail = t} x d) p e f m =
+    complete_form (derives.not_followed_by {class = class} {a = a} h) from p e f m = stays _ a _ _ not_followed_by (not_followed_ok G.grammar G.text class a h)
+    complete_form (derives.end_of_text {a = a} h) from p e f m = stays _ a _ _ end_of_text (end_ok G.text a h)
+    complete_form (derives.seq {parts = []} derives.no_part) from p e f m = ok_stayed _ _ [] [] _ _ nothing
+    complete_form (derives.seq {parts = q ∷ qs} d) from p e f m =
+        let r = complete_parts d from (sets.follow p) f.follow m in record { error = r.error; count = r.count; run = seq r.run }
+    complete_form (derives.choice {parts = ps} {k = k} {p = q} {a = a} {b = b} {forest = v} {trail = t} x d) from p e f m =
         let part_fits = alternative_fits sets p ps f k q x in
-        let r = reached p q a b v t (begun d) m (complete d (widen part_fits.follow m)) ps (suc zero) k f (whole.parts p _ e) x in
+        let r = reached p q a b v t from (begun d) m (complete d from (widen part_fits.follow m)) ps (suc zero) k f (whole.parts p _ e) x in
         let number : suc zero + k ≡ suc k = omega arith in
         subst (λ i. IsOk (AnswersForm G (form.Choice ps) a) a b v (Alt i ∷ t)) number (record { error = r.error; count = r.count; run = choice r.run })
-    complete_form (derives.many {p = q} d) p e f m =
-        let r = complete_rounds d p (whole.parts p _ e).0 f m in record { error = r.error; count = r.count; run = many r.run }
-    complete_form (derives.chain_left {used = used} {p = q} {s = r} {a = a} {b = b} {c = c} {trail = t} {items = u} d ds) p e f m =
+    complete_form (derives.many {p = q} d) from p e f m =
+        let r = complete_rounds d from p (whole.parts p _ e).0 f m in record { error = r.error; count = r.count; run = many r.run }
+    complete_form (derives.chain_left {used = used} {p = q} {s = r} {a = a} {b = b} {c = c} {trail = t} {items = u} d ds) from p e f m =
         let there = whole.parts p _ e in
-        let operand = complete d (link_behind p q r b c f (begins_links G.grammar G.text scalars sets good ds p f) m) in
-        let links = complete_links FromLeft used.shape ds p there.0 there.1.0 f _ m in
+        let operand = complete d from (link_behind p q r b c (comes_on d from) f (begins_links G.grammar G.text scalars sets good ds p f) m) in
+        let links = complete_links FromLeft used.shape ds (comes_on d from) p there.0 there.1.0 f _ m in
         let r = chained FromLeft used.shape q r _ _ _ a b c t u (forward d) (forward_links ds) operand links in
         record { error = r.error; count = r.count; run = chain_left r.run }
-    complete_form (derives.chain_right {used = used} {p = q} {s = r} {a = a} {b = b} {c = c} {trail = t} {items = u} d ds) p e f m =
+    complete_form (derives.chain_right {used = used} {p = q} {s = r} {a = a} {b = b} {c = c} {trail = t} {items = u} d ds) from p e f m =
         let there = whole.parts p _ e in
-        let operand = complete d (link_behind p q r b c f (begins_links G.grammar G.text scalars sets good ds p f) m) in
-        let links = complete_links FromRight used.shape ds p there.0 there.1.0 f _ m in
+        let operand = complete d from (link_behind p q r b c (comes_on d from) f (begins_links G.grammar G.text scalars sets good ds p f) m) in
+        let links = complete_links FromRight used.shape ds (comes_on d from) p there.0 there.1.0 f _ m in
         let r = chained FromRight used.shape q r _ _ _ a b c t u (forward d) (forward_links ds) operand links in
         record { error = r.error; count = r.count; run = chain_right r.run }
-    complete_form (derives.try {p = q} d) p e f m = complete_try d (λ k. complete d k) p f m
-    complete_form (derives.label d) p e f m = let r = complete d (widen f.follow m) in record { error = _; count = r.count; run = label r.run }
-    complete_form (derives.rule {named = named} x d) p e f m = let r = complete d (widen (f.body named x).follow m) in record { error = r.error; count = r.count; run = rule x r.run }
-    complete_form (derives.text d) p e f m = let r = complete d (widen f.follow m) in record { error = r.error; count = r.count; run = as_text r.run }
-    complete_form (derives.skip d) p e f m = let r = complete d (widen f.follow m) in record { error = r.error; count = r.count; run = skip r.run }
-    complete_form (derives.build d) p e f m = let r = complete d (widen f.follow m) in record { error = r.error; count = r.count; run = build r.run }
-    complete_form (derives.expression x y d) p e f m = absurd f
-    complete_form (derives.declare x y d) p e f m = absurd f
+    complete_form (derives.try {p = q} d) from p e f m = complete_try d (λ k. complete d from k) p f m
+    complete_form (derives.label d) from p e f m = let r = complete d from (widen f.follow m) in record { error = _; count = r.count; run = label r.run }
+    complete_form (derives.rule {named = named} x d) from p e f m = let r = complete d from (widen (f.body named x).follow m) in record { error = r.error; count = r.count; run = rule x r.run }
+    complete_form (derives.text d) from p e f m = let r = complete d from (widen f.follow m) in record { error = r.error; count = r.count; run = as_text r.run }
+    complete_form (derives.skip d) from p e f m = let r = complete d from (widen f.follow m) in record { error = r.error; count = r.count; run = skip r.run }
+    complete_form (derives.build d) from p e f m = let r = complete d from (widen f.follow m) in record { error = r.error; count = r.count; run = build r.run }
+    complete_form (derives.expression x y d) from p e f m = absurd f
+    complete_form (derives.declare x y d) from p e f m = absurd f
 
-    complete_parts : {q : ℕ} {qs : List ℕ} {a b : Spot} {v : List Tree} {t : List TrailItem} → DerivesParts G.grammar G.text (q ∷ qs) a b v t → (follow : List StartKind) →
+    complete_parts : {q : ℕ} {qs : List ℕ} {a b : Spot} {v : List Tree} {t : List TrailItem} → DerivesParts G.grammar G.text (q ∷ qs) a b v t → Comes a → (follow : List StartKind) →
         PartsFollowed sets follow (q ∷ qs) → SomeMatches G.text follow b.place → IsOk (AnswersParts G q qs a) a b v t
-    complete_parts (derives.first_part {p = q} {parts = []} {a = a} {b = b} {forest = v} {trail = t} d derives.no_part) follow f m =
-        let r = complete d (part_behind q b b [] follow f (still refl tt) m) in
+    complete_parts (derives.first_part {p = q} {parts = []} {a = a} {b = b} {forest = v} {trail = t} d derives.no_part) from follow f m =
+        let r = complete d from (part_behind q b b (comes_on d from) [] follow f (still refl tt) m) in
         renamed _ a refl (append-nil v) (append-nil t) (record { error = r.error; count = _; run = part r.run part_last })
-    complete_parts (derives.first_part {p = q} {parts = x ∷ xs} {a = a} {b = b} {c = c} {forest = v} {others = w} {trail = t} {items = u} d ds) follow f m =
-        let first = complete d (part_behind q b c (x ∷ xs) follow f (begins_parts G.grammar G.text scalars sets good ds) m) in
-        let rest = complete_parts ds follow f.2 m in
+    complete_parts (derives.first_part {p = q} {parts = x ∷ xs} {a = a} {b = b} {c = c} {forest = v} {others = w} {trail = t} {items = u} d ds) from follow f m =
+        let first = complete d from (part_behind q b c (comes_on d from) (x ∷ xs) follow f (begins_parts G.grammar G.text scalars sets good ds) m) in
+        let rest = complete_parts ds (comes_on d from) follow f.2 m in
         ok_flag _ a c _ (v ++ w) (t ++ u) _ _ (both_moved (forward d) (forward_parts ds)) (part first.run (part_ok rest.run))
 
-    complete_rounds : {q n : ℕ} {a b : Spot} {v : List Tree} {t : List TrailItem} → DerivesRounds G.grammar G.text q n a b v t → (p : ℕ) → IsNode q → ManyFits sets p q →
+    complete_rounds : {q n : ℕ} {a b : Spot} {v : List Tree} {t : List TrailItem} → DerivesRounds G.grammar G.text q n a b v t → Comes a → (p : ℕ) → IsNode q → ManyFits sets p q →
         SomeMatches G.text (sets.follow p) b.place → IsOk (AnswersRounds G q n a) a b v t
-    complete_rounds (derives.no_round {p = q} {a = a}) p there f m =
-        let fails = passes q a there f.full (kept_out a.place (sets.first q) (sets.follow p) f.apart m) in
+    complete_rounds (derives.no_round {p = q} {a = a}) from p there f m =
+        let fails = passes q a from there f.full (kept_out a.place (sets.first q) (sets.follow p) f.apart m) in
         ok_stayed _ a [] [] _ _ (round fails.2 round_ended)
-    complete_rounds (derives.first_round {p = q} {a = a} {b = b} {c = c} {forest = v} {others = w} {trail = t} {items = u} d ds) p there f m =
-        let first = complete d (round_behind p ds f m) in
-        let rest = complete_rounds ds p there f m in
-        let l : a.place < b.place = consumes sets G.text q f.full (begun d) in
+    complete_rounds (derives.first_round {p = q} {a = a} {b = b} {c = c} {forest = v} {others = w} {trail = t} {items = u} d ds) from p there f m =
+        let first = complete d from (round_behind p ds (comes_on d from) f m) in
+        let rest = complete_rounds ds (comes_on d from) p there f m in
+        let l : a.place < b.place = consumes G.grammar sets G.text q f.full (begun d) in
         let onward = forward_rounds ds in
         let consumed = subst (λ x. Answers G q a (ok x b v t first.error) first.count) (moved l) first.run in
         ok_moved _ a c (v ++ w) (t ++ u) _ _ (omega arith) (round consumed (round_ok rest.run))
 
-    complete_links : (fold : Fold) (shape : Shape) {q r n : ℕ} {a b : Spot} {links : List Link} {t : List TrailItem} → DerivesLinks G.grammar G.text q r n a b links t → (p : ℕ) → IsNode q → IsNode r →
+    complete_links : (fold : Fold) (shape : Shape) {q r n : ℕ} {a b : Spot} {links : List Link} {t : List TrailItem} → DerivesLinks G.grammar G.text q r n a b links t → Comes a → (p : ℕ) → IsNode q → IsNode r →
         ChainFits sets p q r → (left : List Tree) → SomeMatches G.text (sets.follow p) b.place → IsOk (AnswersLinks G fold shape q r left n a) a b (folded fold shape left links) t
-    complete_links fold shape (derives.no_link {p = q} {s = r} {a = a}) p is_q is_r f left m =
-        renamed _ a refl (folded_none fold shape left) refl (no_more fold shape p q r left a is_q is_r f m)
-    complete_links fold shape (derives.first_link {p = q} {s = r} {n = n} {a = a} {b = b} {c = c} {d = z} {separator = v} {operand = w} {links = links} {trail = t} {items = u} {others = o} d e ds) p is_q is_r f left m =
+    complete_links fold shape (derives.no_link {p = q} {s = r} {a = a}) from p is_q is_r f left m =
+        renamed _ a refl (folded_none fold shape left) refl (no_more fold shape p q r left a from is_q is_r f m)
+    complete_links fold shape (derives.first_link {p = q} {s = r} {n = n} {a = a} {b = b} {c = c} {d = z} {separator = v} {operand = w} {links = links} {trail = t} {items = u} {others = o} d e ds) from p is_q is_r f left m =
+        let middle = comes_on d from in
+        let last = comes_on e middle in
         let onward = begins_links G.grammar G.text scalars sets good ds p f in
-        let after = link_behind p q r c z f onward m in
-        let separator = complete d (operand_behind p q r b c z f (begun e) onward m) in
-        let operand = complete e after in
-        let rest = complete_links fold shape ds p is_q is_r f (carried fold shape left v w) m in
+        let separator = complete d from (operand_behind p q r b c z middle f (begun e) onward m) in
+        let operand = complete e middle (link_behind p q r c z last f onward m) in
+        let rest = complete_links fold shape ds last p is_q is_r f (carried fold shape left v w) m in
         one_more fold shape q r n left v w links a b c z t u o (forward d) (forward e) (forward_links ds) (link_moves p q r a b c f (forward e) (begun d) (begun e)) separator operand rest

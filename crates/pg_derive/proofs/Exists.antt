@@ -1,5 +1,5 @@
--- In a predictive grammar each node answers at each place: no run goes on without an end, and no repetition meets a round that
--- consumes nothing.
+-- In a predictive grammar each node answers at each place, under each table of the grammar: no run goes on without an end, and no
+-- repetition meets a round that consumes nothing.
 use Rattle.std.proofs.Common.{◌≡◌, ◌+◌, ◌<◌, ◌≤◌, ◌⊎◌, ℕ, zero, suc, List, [], ◌∷◌, Bool, true, false, ◌||◌, refl, ◌∙◌, ap, length, Option, Some, None, slice_get, ◌==◌, if◌then◌else◌, arith, le_refl}
 use Rattle.std.specs.Prelude.{nat_lt}
 use Rattle.std.specs.List.{AllByRecursion, list_any}
@@ -17,6 +17,7 @@ use Rattle.pg_grammar.specs.declared.form.Node.TheVariants as form
 use Rattle.pg_grammar.specs.declared.grammar.Rule as declared
 use Rattle.pg_grammar.specs.declared.trail.TrailItem.{TrailItem}
 use Rattle.pg_table.specs.Derives.{Spot, Derives}
+use Rattle.pg_table.specs.Tables.{ComesFrom}
 use Rattle.pg_table.proofs.Onward.{leads_on}
 use Rattle.pg_derive.specs.Answers.{Given, Answers, entered, AnswersForm, satisfy, string, word, not_followed_by, end_of_text, nothing, seq, choice, many, chain_left, chain_right, try, label, rule, text as as_text, skip, build, AnswersParts, part, part_last, part_failed, part_ok, AnswersAlternatives, no_alternative, alternative, alternative_consumed, alternative_stands, alternative_waits, alternative_commits, alternative_failed, AnswersRounds, round, round_ended, round_failed, round_ok, AnswersChain, chain, first_failed, first_ok, AnswersLinks, link, separator_failed, separator_ok, operand_failed, operand_ok}
 use Rattle.pg_derive.specs.Errors.{Error}
@@ -33,6 +34,7 @@ use Rattle.pg_derive.specs.Predictive.{PartFits, TryFits, of_part, of_string, of
 use Rattle.pg_derive.proofs.Begins.{still, moves, BeginsNode}
 use Rattle.pg_derive.proofs.Complete.{begun, link_moves}
 use Rattle.pg_derive.proofs.Flags.{moved, both_moved}
+use Rattle.pg_derive.proofs.Inverted.{comes_on}
 use Rattle.pg_derive.proofs.Moves.{tells}
 use Rattle.pg_derive.proofs.Quiet.{IsWhole, found}
 
@@ -92,8 +94,9 @@ end_answers text a = answers_if (a.place == length text) _ _ tt tt
 module _ (G : Given) (scalars : all_scalars G.text ≡ true) (whole : IsWhole G.grammar) (sets : NodeSets)
     (good : (p : ℕ) (n : Node) → slice_get G.grammar.nodes p ≡ Some n → Fits G.grammar sets p n)
     (spelled : (p : ℕ) (s : List ℕ) → slice_get G.grammar.nodes p ≡ Some (form.String s) → 0 < length s) where
-  abbrev InText : Spot → Type 0
-  InText a = a.place ≤ length G.text
+  -- a place in the text, under a table of the grammar
+  abbrev IsSpot : Spot → Type 0
+  IsSpot a = (a.place ≤ length G.text) × ComesFrom G.grammar a.table
 
   abbrev AreNodes : List ℕ → Type 0
   AreNodes qs = AllByRecursion (λ q. q < length G.grammar.nodes) qs
@@ -104,7 +107,7 @@ module _ (G : Given) (scalars : all_scalars G.text ≡ true) (whole : IsWhole G.
     lower : a.place ≡ b.place → sets.level q < sets.level p → Nearer p a q b
 
   abbrev Nearby : ℕ → Spot → Type 0
-  Nearby p a = (q : ℕ) → q < length G.grammar.nodes → (b : Spot) → InText b → Nearer p a q b → Settles (Answers G q b)
+  Nearby p a = (q : ℕ) → q < length G.grammar.nodes → (b : Spot) → IsSpot b → Nearer p a q b → Settles (Answers G q b)
 
   -- parts at b, with a the place where p began
   data Ahead (p : ℕ) (a b : Spot) (qs : List ℕ) : Type 0 where
@@ -118,23 +121,23 @@ module _ (G : Given) (scalars : all_scalars G.text ≡ true) (whole : IsWhole G.
   derived : {q : ℕ} {a b : Spot} {c : Bool} {v : List Tree} {t : List TrailItem} {e : Error} {m : ℕ} → Answers G q a (ok c b v t e) m → Derives G.grammar G.text q a b v t
   derived d = sound d
 
-  ends_in_text : {q : ℕ} {a b : Spot} {c : Bool} {v : List Tree} {t : List TrailItem} {e : Error} {m : ℕ} → Answers G q a (ok c b v t e) m → InText a → InText b
-  ends_in_text d h = (leads_on (derived d)).within h
+  ends_at_spot : {q : ℕ} {a b : Spot} {c : Bool} {v : List Tree} {t : List TrailItem} {e : Error} {m : ℕ} → Answers G q a (ok c b v t e) m → IsSpot a → IsSpot b
+  ends_at_spot d h = let on = derived d in ((leads_on on).within h.0, comes_on on h.1)
 
-  begins_at : {q : ℕ} {a b : Spot} {c : Bool} {v : List Tree} {t : List TrailItem} {e : Error} {m : ℕ} → Answers G q a (ok c b v t e) m → BeginsNode sets G.text q a b
+  begins_at : {q : ℕ} {a b : Spot} {c : Bool} {v : List Tree} {t : List TrailItem} {e : Error} {m : ℕ} → Answers G q a (ok c b v t e) m → BeginsNode G.grammar sets G.text q a b
   begins_at d = begun G scalars whole sets good (derived d)
 
   -- the parts behind one that was ok
   rest_ahead : {p : ℕ} {a b z : Spot} {q : ℕ} {qs : List ℕ} {c : Bool} {v : List Tree} {t : List TrailItem} {e : Error} {m : ℕ} → Ahead p a b (q ∷ qs) → Answers G q b (ok c z v t e) m → Ahead p a z qs
   rest_ahead {b = b} {z = z} {q = q} h run = go h (begins_at run)
     where
-      go : {p : ℕ} {a : Spot} {qs : List ℕ} → Ahead p a b (q ∷ qs) → BeginsNode sets G.text q b z → Ahead p a z qs
+      go : {p : ℕ} {a : Spot} {qs : List ℕ} → Ahead p a b (q ∷ qs) → BeginsNode G.grammar sets G.text q b z → Ahead p a z qs
       go (beyond l) (still e n) = let same = ap (λ (x : Spot). x.place) e in beyond (omega arith)
-      go (beyond l) (moves m s x k) = beyond (omega arith)
+      go (beyond l) (moves m k) = beyond (omega arith)
       go (beside e f) (still d n) = beside (e ∙ ap (λ (x : Spot). x.place) d) (f.1 n)
-      go (beside e f) (moves m s x k) = beyond (omega arith)
+      go (beside e f) (moves m k) = beyond (omega arith)
 
-  settle_parts : (p : ℕ) (a : Spot) → Nearby p a → (q : ℕ) (qs : List ℕ) (b : Spot) → InText b → AreNodes (q ∷ qs) → Ahead p a b (q ∷ qs) → Settles (AnswersParts G q qs b)
+  settle_parts : (p : ℕ) (a : Spot) → Nearby p a → (q : ℕ) (qs : List ℕ) (b : Spot) → IsSpot b → AreNodes (q ∷ qs) → Ahead p a b (q ∷ qs) → Settles (AnswersParts G q qs b)
   settle_parts p a near q [] b within there h = go (near q there.0 b within (first_ahead h))
     where
       go : Settles (Answers G q b) → Settles (AnswersParts G q [] b)
@@ -146,11 +149,11 @@ module _ (G : Given) (scalars : all_scalars G.text ≡ true) (whole : IsWhole G.
       more run (settles_ok d y w u f i rest) = settles_ok _ y _ _ _ _ (part run (part_ok rest))
       more run (settles_failed d f i rest) = settles_failed _ _ _ (part run (part_ok rest))
 
-      go : Settles (Answers G q b) → ((z : Spot) → InText z → Ahead p a z (r ∷ rs) → Settles (AnswersParts G r rs z)) → Settles (AnswersParts G q (r ∷ rs) b)
-      go (settles_ok c z v t e m run) rest = more run (rest z (ends_in_text run within) (rest_ahead h run))
+      go : Settles (Answers G q b) → ((z : Spot) → IsSpot z → Ahead p a z (r ∷ rs) → Settles (AnswersParts G r rs z)) → Settles (AnswersParts G q (r ∷ rs) b)
+      go (settles_ok c z v t e m run) rest = more run (rest z (ends_at_spot run within) (rest_ahead h run))
       go (settles_failed c e m run) rest = settles_failed c e _ (part run part_failed)
 
-  settle_alternatives : (p : ℕ) (a : Spot) → Nearby p a → InText a → (k : ℕ) (qs : List ℕ) → AlternativesFit sets p qs → AreNodes qs → Settles (AnswersAlternatives G k qs a)
+  settle_alternatives : (p : ℕ) (a : Spot) → Nearby p a → IsSpot a → (k : ℕ) (qs : List ℕ) → AlternativesFit sets p qs → AreNodes qs → Settles (AnswersAlternatives G k qs a)
   settle_alternatives p a near within k [] f there = settles_failed _ _ _ no_alternative
   settle_alternatives p a near within k (q ∷ qs) f there =
       go (near q there.0 a within (lower refl f.0.falls)) (settle_alternatives p a near within (suc k) qs f.2 there.1)
@@ -185,14 +188,14 @@ module _ (G : Given) (scalars : all_scalars G.text ≡ true) (whole : IsWhole G.
   abbrev SomeRounds : ℕ → Spot → Outcome → ℕ → Type 0
   SomeRounds q b o m = (k : ℕ) × AnswersRounds G q k b o m
 
-  settle_rounds : (p : ℕ) (a : Spot) → Nearby p a → (q : ℕ) → q < length G.grammar.nodes → ManyFits sets p q → (n : ℕ) (b : Spot) → InText b → length G.text < n + b.place → Ahead p a b (q ∷ []) →
+  settle_rounds : (p : ℕ) (a : Spot) → Nearby p a → (q : ℕ) → q < length G.grammar.nodes → ManyFits sets p q → (n : ℕ) (b : Spot) → IsSpot b → length G.text < n + b.place → Ahead p a b (q ∷ []) →
       Settles (SomeRounds q b)
-  settle_rounds p a near q there f zero b within l h = absurd (omega arith)
+  settle_rounds p a near q there f zero b within l h = let inside = within.0 in absurd (omega arith)
   settle_rounds p a near q there f (suc n) b within l h = go (near q there b within (first_ahead h)) (λ z x y k. settle_rounds p a near q there f n z x y k)
     where
-      moves_on : {z : Spot} → BeginsNode sets G.text q b z → b.place < z.place
+      moves_on : {z : Spot} → BeginsNode G.grammar sets G.text q b z → b.place < z.place
       moves_on (still e x) = let full = f.full in absurd (cc)
-      moves_on (moves m s x k) = m
+      moves_on (moves m k) = m
 
       ahead : {z : Spot} → b.place < z.place → Ahead p a b (q ∷ []) → Ahead p a z (q ∷ [])
       ahead m (beyond x) = beyond (omega arith)
@@ -206,11 +209,11 @@ module _ (G : Given) (scalars : all_scalars G.text ≡ true) (whole : IsWhole G.
       consumed true l h run = run
       consumed false l h run = let far = moved l in absurd (cc)
 
-      go : Settles (Answers G q b) → ((z : Spot) → InText z → length G.text < n + z.place → Ahead p a z (q ∷ []) → Settles (SomeRounds q z)) → Settles (SomeRounds q b)
+      go : Settles (Answers G q b) → ((z : Spot) → IsSpot z → length G.text < n + z.place → Ahead p a z (q ∷ []) → Settles (SomeRounds q z)) → Settles (SomeRounds q b)
       go (settles_ok c z v t e m run) rest =
           let x = moves_on (begins_at run) in
           let flag = (tells G spelled run).0 in
-          more (consumed c x flag run) (rest z (ends_in_text run within) (omega arith) (ahead x h))
+          more (consumed c x flag run) (rest z (ends_at_spot run within) (omega arith) (ahead x h))
       go (settles_failed true e m run) rest = settles_failed true e _ (zero, round run round_failed)
       go (settles_failed false e m run) rest = settles_ok false b [] [] e _ (zero, round run round_ended)
 
@@ -219,8 +222,8 @@ module _ (G : Given) (scalars : all_scalars G.text ≡ true) (whole : IsWhole G.
   SomeLinks fold shape q r left b o m = (k : ℕ) × AnswersLinks G fold shape q r left k b o m
 
   settle_links : (p : ℕ) (a : Spot) → Nearby p a → (fold : Fold) (shape : Shape) (q r : ℕ) → q < length G.grammar.nodes → r < length G.grammar.nodes → ChainFits sets p q r →
-      (n : ℕ) (left : List Tree) (b : Spot) → InText b → length G.text < n + b.place → Ahead p a b (r ∷ q ∷ []) → Settles (SomeLinks fold shape q r left b)
-  settle_links p a near fold shape q r is_q is_r f zero left b within l h = absurd (omega arith)
+      (n : ℕ) (left : List Tree) (b : Spot) → IsSpot b → length G.text < n + b.place → Ahead p a b (r ∷ q ∷ []) → Settles (SomeLinks fold shape q r left b)
+  settle_links p a near fold shape q r is_q is_r f zero left b within l h = let inside = within.0 in absurd (omega arith)
   settle_links p a near fold shape q r is_q is_r f (suc n) left b within l h =
       go (near r is_r b within (first_ahead h)) (λ left z x y k. settle_links p a near fold shape q r is_q is_r f n left z x y k)
     where
@@ -228,7 +231,7 @@ module _ (G : Given) (scalars : all_scalars G.text ≡ true) (whole : IsWhole G.
       Result = Settles (SomeLinks fold shape q r left b)
 
       Again : Type 0
-      Again = (left : List Tree) (z : Spot) → InText z → length G.text < n + z.place → Ahead p a z (r ∷ q ∷ []) → Settles (SomeLinks fold shape q r left z)
+      Again = (left : List Tree) (z : Spot) → IsSpot z → length G.text < n + z.place → Ahead p a z (r ∷ q ∷ []) → Settles (SomeLinks fold shape q r left z)
 
       ahead : {z : Spot} → b.place < z.place → Ahead p a b (r ∷ q ∷ []) → Ahead p a z (r ∷ q ∷ [])
       ahead m (beyond x) = beyond (omega arith)
@@ -246,14 +249,14 @@ module _ (G : Given) (scalars : all_scalars G.text ≡ true) (whole : IsWhole G.
           let x = link_moves G scalars whole sets good p q r b z y f second.1 (begins_at separator) (begins_at operand) in
           let both = both_moved first.1 second.1 in
           let consumed : (c || d) ≡ true = ap (λ k. k || d) first.0 ∙ ap (λ k. nat_lt b.place z.place || k) second.0 ∙ both ∙ moved x in
-          more separator operand consumed (again (carried fold shape left v w) y (ends_in_text operand (ends_in_text separator within)) (omega arith) (ahead x h))
+          more separator operand consumed (again (carried fold shape left v w) y (ends_at_spot operand (ends_at_spot separator within)) (omega arith) (ahead x h))
       linked separator (settles_failed d g j operand) again = settles_begun _ _ b left _ _ (zero, link separator (separator_ok operand operand_failed))
 
       go : Settles (Answers G r b) → Again → Result
-      go (settles_ok c z v t e m run) again = linked run (near q is_q z (ends_in_text run within) (first_ahead (rest_ahead h run))) again
+      go (settles_ok c z v t e m run) again = linked run (near q is_q z (ends_at_spot run within) (first_ahead (rest_ahead h run))) again
       go (settles_failed c e m run) again = settles_begun _ c b left e _ (zero, link run separator_failed)
 
-  settle_chain : (p : ℕ) (a : Spot) → Nearby p a → InText a → (fold : Fold) (shape : Shape) (q r : ℕ) → q < length G.grammar.nodes → r < length G.grammar.nodes → ChainFits sets p q r →
+  settle_chain : (p : ℕ) (a : Spot) → Nearby p a → IsSpot a → (fold : Fold) (shape : Shape) (q r : ℕ) → q < length G.grammar.nodes → r < length G.grammar.nodes → ChainFits sets p q r →
       Settles (λ o m. (k : ℕ) × AnswersChain G fold shape q r k a o m)
   settle_chain p a near within fold shape q r is_q is_r f = go (near q is_q a within (lower refl f.falls.0))
     where
@@ -267,7 +270,7 @@ module _ (G : Given) (scalars : all_scalars G.text ≡ true) (whole : IsWhole G.
       go : Settles (Answers G q a) → Result
       go (settles_ok c b v t e m run) =
           let ahead : Ahead p a b (r ∷ q ∷ []) = rest_ahead (beside refl f.falls) run in
-          linked run (settle_links p a near fold shape q r is_q is_r f (suc (length G.text)) v b (ends_in_text run within) (omega arith) ahead)
+          linked run (settle_links p a near fold shape q r is_q is_r f (suc (length G.text)) v b (ends_at_spot run within) (omega arith) ahead)
       go (settles_failed c e m run) = settles_failed c e _ (zero, chain run first_failed)
 
   -- a leaf's one outcome is an answer
@@ -276,7 +279,7 @@ module _ (G : Given) (scalars : all_scalars G.text ≡ true) (whole : IsWhole G.
   by_outcome n a (failed c e) m run h = settles_failed c e m run
   by_outcome n a empty_round m run h = absurd h
 
-  module _ (p : ℕ) (a : Spot) (near : Nearby p a) (within : InText a) where
+  module _ (p : ℕ) (a : Spot) (near : Nearby p a) (within : IsSpot a) where
     at_part : (q : ℕ) → PartFits sets p q → q < length G.grammar.nodes → Settles (Answers G q a)
     at_part q f there = near q there a within (lower refl f.falls)
 
@@ -364,22 +367,22 @@ module _ (G : Given) (scalars : all_scalars G.text ≡ true) (whole : IsWhole G.
 
   -- at the places from which less than n characters are left
   abbrev Late : ℕ → Type 0
-  Late n = (q : ℕ) → q < length G.grammar.nodes → (b : Spot) → InText b → length G.text < n + b.place → Settles (Answers G q b)
+  Late n = (q : ℕ) → q < length G.grammar.nodes → (b : Spot) → IsSpot b → length G.text < n + b.place → Settles (Answers G q b)
 
   near_low : (n k q : ℕ) (b : Spot) → Late n → length G.text < suc n + b.place → sets.level q < suc k →
-      ((r : ℕ) → r < length G.grammar.nodes → (c : Spot) → InText c → length G.text < suc n + c.place → sets.level r < k → Settles (Answers G r c)) → Nearby q b
+      ((r : ℕ) → r < length G.grammar.nodes → (c : Spot) → IsSpot c → length G.text < suc n + c.place → sets.level r < k → Settles (Answers G r c)) → Nearby q b
   near_low n k q b late l m low r is c inside (further x) = late r is c inside (omega arith)
   near_low n k q b late l m low r is c inside (lower e x) = low r is c inside (omega arith) (omega arith)
 
-  settle_low : (n : ℕ) → Late n → (k q : ℕ) → q < length G.grammar.nodes → (b : Spot) → InText b → length G.text < suc n + b.place → sets.level q < k → Settles (Answers G q b)
+  settle_low : (n : ℕ) → Late n → (k q : ℕ) → q < length G.grammar.nodes → (b : Spot) → IsSpot b → length G.text < suc n + b.place → sets.level q < k → Settles (Answers G q b)
   settle_low n late zero q there b within l m = absurd (omega arith)
   settle_low n late (suc k) q there b within l m =
       let here = found G.grammar.nodes q there in
       settle_at q b (near_low n k q b late l m (λ r is c inside x y. settle_low n late k r is c inside x y)) within here.0 here.1
 
   settle_late : (n : ℕ) → Late n
-  settle_late zero q there b within l = absurd (omega arith)
+  settle_late zero q there b within l = let inside = within.0 in absurd (omega arith)
   settle_late (suc n) q there b within l = settle_low n (settle_late n) (suc (sets.level q)) q there b within l (le_refl _)
 
-  pub settle : (p : ℕ) → p < length G.grammar.nodes → (a : Spot) → InText a → Settles (Answers G p a)
+  pub settle : (p : ℕ) → p < length G.grammar.nodes → (a : Spot) → IsSpot a → Settles (Answers G p a)
   settle p there a within = settle_late (suc (length G.text)) p there a within (omega arith)

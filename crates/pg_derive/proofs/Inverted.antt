@@ -8,6 +8,8 @@ use Rattle.pg_grammar.specs.declared.form.Node.TheVariants as form
 use Rattle.pg_grammar.specs.declared.trail.TrailItem.{TrailItem}
 use Rattle.pg_table.specs.Derives.{Spot, behind, leaf_of, Link, Derives, at_node, DerivesForm, string, not_followed_by, seq, DerivesParts, no_part, first_part, DerivesRounds, no_round, first_round, DerivesLinks, no_link, first_link}
 use Rattle.pg_table.specs.Runs.{HasAt, StandsAt}
+use Rattle.pg_table.specs.Tables.{ComesFrom}
+use Rattle.pg_table.proofs.Added.{still_comes}
 use Rattle.pg_table.proofs.Onward.{leads_on}
 use Rattle.pg_derive.specs.Predictive.{BeginsAt}
 use Rattle.pg_derive.proofs.LeavesAnswered.{head_there}
@@ -77,6 +79,10 @@ first_stands text (x ∷ s) i l h = go (drop i text) refl h
 
 pub forward : {g : Grammar} {text : List ℕ} {p : ℕ} {a b : Spot} {v : List Tree} {t : List TrailItem} → Derives g text p a b v t → a.place ≤ b.place
 forward d = (leads_on d).onward
+
+-- a table of the grammar leads to one
+pub comes_on : {g : Grammar} {text : List ℕ} {p : ℕ} {a b : Spot} {v : List Tree} {t : List TrailItem} → Derives g text p a b v t → ComesFrom g a.table → ComesFrom g b.table
+comes_on {g = g} {a = a} {b = b} d from = let on = leads_on d in still_comes g a.table b.table on.further from on.proper on.added
 
 pub forward_parts : {g : Grammar} {text ps : List ℕ} {a b : Spot} {v : List Tree} {t : List TrailItem} → DerivesParts g text ps a b v t → a.place ≤ b.place
 forward_parts no_part = le_refl _

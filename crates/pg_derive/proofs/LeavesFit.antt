@@ -67,7 +67,7 @@ module _ (g : Grammar) (grammar : IsGrammar g) (sets : Sets) (are : AreSets g se
   matched p n e s is text place there = record { start = s; among = first_in g sets are p (slice_get_within g.nodes p n e) s (of.own e is); there = there }
 
   -- a character of a class
-  pub satisfy_meets : (p : ℕ) (class : List ClassPart) → slice_get g.nodes p ≡ Some (form.Satisfy class) → Meets (node_sets g sets) p (λ text place. HasAt g text class place)
+  pub satisfy_meets : (p : ℕ) (class : List ClassPart) → slice_get g.nodes p ≡ Some (form.Satisfy class) → Meets ((node_sets g sets).first p) (λ text place. HasAt g text class place)
   satisfy_meets p class e text scalars place h = let own_start = are.start_sets.plain p (form.Satisfy class) e plain.satisfy in go own_start.0 own_start.1
     where
       go : (s : StartKind) → OwnStart g (form.Satisfy class) s → SomeMatches text ((node_sets g sets).first p) place
@@ -88,7 +88,7 @@ module _ (g : Grammar) (grammar : IsGrammar g) (sets : Sets) (are : AreSets g se
           (record { character = c; there = h.there ∙ ap Some (sym same); member = has-first (c, c) [] c (omega arith) (omega arith) })
 
   -- a word
-  pub word_meets : (p w : ℕ) → slice_get g.nodes p ≡ Some (form.Word w) → Meets (node_sets g sets) p (IsSomeWordAt g w)
+  pub word_meets : (p w : ℕ) → slice_get g.nodes p ≡ Some (form.Word w) → Meets ((node_sets g sets).first p) (IsSomeWordAt g w)
   word_meets p w e text scalars place h = let own_start = are.start_sets.plain p (form.Word w) e (plain.word h.named) in go own_start.0 own_start.1
     where
       go : (s : StartKind) → OwnStart g (form.Word w) s → SomeMatches text ((node_sets g sets).first p) place
@@ -115,11 +115,11 @@ module _ (g : Grammar) (grammar : IsGrammar g) (sets : Sets) (are : AreSets g se
       (node_sets g sets).level q < (node_sets g sets).level p → TryFits g (node_sets g sets) p q
   string_try p q s e f falls = of_string f (spelled g q s grammar f) falls meets
     where
-      meets : Meets (node_sets g sets) p (λ text place. StandsAt text place s)
+      meets : Meets ((node_sets g sets).first p) (λ text place. StandsAt text place s)
       meets text scalars place h = matched p (form.Try q) e (Key s []) (own.key f) text place (record { spelled = spelled g q s grammar f; there = h; ends = λ c at. refl })
 
   key_meets : (p q : ℕ) (s : List ℕ) (excluded : List ClassPart) (class : List Range) → slice_get g.nodes p ≡ Some (form.Try q) → IsKeyed g q s excluded → IsClassOf g excluded class →
-      0 < length s → Meets (node_sets g sets) p (λ text place. StandsAt text place s × (HasAt g text excluded (place + length s) → ⊥))
+      0 < length s → Meets ((node_sets g sets).first p) (λ text place. StandsAt text place s × (HasAt g text excluded (place + length s) → ⊥))
   key_meets p q s excluded class e keyed is long text scalars place h =
       matched p (form.Try q) e (Key s class) (own.key_that_ends keyed is) text place (record { spelled = long; there = h.0; ends = ends })
     where

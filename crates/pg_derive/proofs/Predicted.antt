@@ -19,7 +19,7 @@ use Rattle.pg_derive.proofs.Whole.{is_whole}
 
 pub answered : DerivationsAreAnswers
 answered G sets h p a b forest trail from d m =
-    let r = complete G h.text (is_whole G.grammar h.grammar) sets h.predictive.nodes d m in
+    let r = complete G h.text (is_whole G.grammar h.grammar) sets h.predictive.nodes d from m in
     record { error = r.error; count = r.count; answers = r.run }
 
 pub ok_ends : {c d : Bool} {b z : Spot} {v w : List Tree} {t u : List TrailItem} {e f : Error} → ok c b v t e ≡ ok d z w u f → (b ≡ z) × (v ≡ w) × (t ≡ u)
@@ -35,7 +35,7 @@ pub spelled : (G : Given) (sets : NodeSets) → Predicts G sets → (p : ℕ) (s
 spelled G sets h p s e = let f : StringFits sets p s = h.predictive.nodes p (form.String s) e in f.spelled
 
 pub exist : AnswersExist
-exist G sets h p there a from within = go (settle G h.text (is_whole G.grammar h.grammar) sets h.predictive.nodes (spelled G sets h) p there a within)
+exist G sets h p there a from within = go (settle G h.text (is_whole G.grammar h.grammar) sets h.predictive.nodes (spelled G sets h) p there a (within, from))
   where
     go : Settles (Answers G p a) → HasAnswer G p a
     go (settles_ok c b v t e m run) = is_ok c b v t e m run
@@ -58,14 +58,14 @@ not_lost G sets h p parts x j k q r l first second a b e m forest trail from fai
     let before = before_at sets p parts (h.predictive.nodes p (form.Choice parts) x) j k q r l first second in
     let there = all_got (λ q. q < length G.grammar.nodes) parts (whole.parts p (form.Choice parts) x) j q first in
     let start = begun G h.text whole sets h.predictive.nodes d in
-    let bare = alternative_refused G h.text whole sets h.predictive.nodes p q r a b before start n in
-    let passed = passes G h.text whole sets h.predictive.nodes q a there before.full bare in
+    let bare = alternative_refused G h.text whole sets h.predictive.nodes p q r a b from before start n in
+    let passed = passes G h.text whole sets h.predictive.nodes q a from there before.full bare in
     no_both (same fails passed.2).outcome
 
 pub rounds_consume : RoundsConsume
 rounds_consume G sets h p q x a b forest trail d =
     let f : ManyFits sets p q = h.predictive.nodes p (form.Many q) x in
-    consumes sets G.text q f.full (begun G h.text (is_whole G.grammar h.grammar) sets h.predictive.nodes d)
+    consumes G.grammar sets G.text q f.full (begun G h.text (is_whole G.grammar h.grammar) sets h.predictive.nodes d)
 
 pub links_consume : LinksConsume
 links_consume G sets h p q r used x a b c forest others trail items d e = go (fits x)

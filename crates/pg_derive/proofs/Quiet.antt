@@ -1,4 +1,5 @@
--- Where no first start of a node matches, the node consumes nothing: it fails, or it is nullable and stays where it is.
+-- Where no first start of a node matches, the node consumes nothing under a table of the grammar: it fails, or it is nullable
+-- and stays where it is.
 use Rattle.std.proofs.Common.{◌≡◌, ◌<◌, ◌≤◌, ◌⊎◌, inl, inr, ℕ, zero, suc, List, [], ◌∷◌, true, false, refl, subst, length, Some, slice_get, arith, le_refl}
 use Rattle.std.specs.List.{Contains, AllByRecursion}
 use Rattle.std.specs.Str.{all_scalars}
@@ -14,6 +15,7 @@ use Rattle.pg_grammar.specs.declared.word_item.WordItem.{WordItem}
 use Rattle.pg_start.specs.Starts.{MatchesAt}
 use Rattle.pg_start.specs.declared.kind.StartKind.{StartKind}
 use Rattle.pg_table.specs.Derives.{Spot}
+use Rattle.pg_table.specs.Tables.{ComesFrom}
 use Rattle.pg_derive.specs.Answers.{Given, Answers, entered, AnswersForm, satisfy, string, word, not_followed_by, end_of_text, nothing, seq, choice, many, chain_left, chain_right, try, label, rule, text as as_text, skip, build, AnswersParts, part, part_last, part_failed, part_ok, AnswersAlternatives, no_alternative, alternative, alternative_stands, alternative_waits, alternative_failed, round, round_ended, AnswersChain, chain, first_failed, first_ok, link, separator_failed, separator_ok, operand_failed}
 use Rattle.pg_derive.specs.Errors.{Error}
 use Rattle.pg_derive.specs.Outcomes.{Outcome, ok, failed}
@@ -158,7 +160,7 @@ module _ (G : Given) (scalars : all_scalars G.text ≡ true) (whole : IsWhole G.
   by_failing : (a : Spot) (p q : ℕ) → NodeFails G q a → QuietForm (form.Try q) p a
   by_failing a p q h = refuses h.error _ (try h.answers)
 
-  module _ (n : ℕ) (a : Spot) (lower : Lower n a) (p : ℕ) (l : sets.level p < suc n) (bare : NoStart G.text (Contains (sets.first p)) a.place) where
+  module _ (n : ℕ) (a : Spot) (from : ComesFrom G.grammar a.table) (lower : Lower n a) (p : ℕ) (l : sets.level p < suc n) (bare : NoStart G.text (Contains (sets.first p)) a.place) where
     quiet_part : (q : ℕ) → PartFits sets p q → q < length G.grammar.nodes → QuietNode q a
     quiet_part q f there = lower q (let falls = f.falls in omega arith) there (λ s b. bare s (f.first s b))
 
@@ -239,17 +241,17 @@ module _ (G : Given) (scalars : all_scalars G.text ≡ true) (whole : IsWhole G.
         go (skips x v t e m run) = skips (f.empty x) v t _ _ (label run)
 
   module _ (good : (p : ℕ) (n : Node) → slice_get G.grammar.nodes p ≡ Some n → Fits G.grammar sets p n) where
-    quiet_at : (n : ℕ) (a : Spot) → Lower n a → (p : ℕ) → sets.level p < suc n → NoStart G.text (Contains (sets.first p)) a.place →
+    quiet_at : (n : ℕ) (a : Spot) → ComesFrom G.grammar a.table → Lower n a → (p : ℕ) → sets.level p < suc n → NoStart G.text (Contains (sets.first p)) a.place →
         (f : Node) → slice_get G.grammar.nodes p ≡ Some f → QuietNode p a
-    quiet_at n a lower p l bare f e = go (quiet_form n a lower p l bare f e (good p f e))
+    quiet_at n a from lower p l bare f e = go (quiet_form n a from lower p l bare f e (good p f e))
       where
         go : QuietForm f p a → QuietNode p a
         go (refuses x m run) = refuses x _ (entered e run)
         go (skips y v t x m run) = skips y v t x _ (entered e run)
 
-    pub quiet_below : (n : ℕ) (a : Spot) → Lower n a
-    quiet_below zero a p l there bare = absurd (omega arith)
-    quiet_below (suc n) a p l there bare = let f = found G.grammar.nodes p there in quiet_at n a (quiet_below n a) p l bare f.0 f.1
+    pub quiet_below : (n : ℕ) (a : Spot) → ComesFrom G.grammar a.table → Lower n a
+    quiet_below zero a from p l there bare = absurd (omega arith)
+    quiet_below (suc n) a from p l there bare = let f = found G.grammar.nodes p there in quiet_at n a from (quiet_below n a from) p l bare f.0 f.1
 
-    pub quiet : (p : ℕ) (a : Spot) → p < length G.grammar.nodes → NoStart G.text (Contains (sets.first p)) a.place → QuietNode p a
-    quiet p a there bare = quiet_below (suc (sets.level p)) a p (le_refl _) there bare
+    pub quiet : (p : ℕ) (a : Spot) → ComesFrom G.grammar a.table → p < length G.grammar.nodes → NoStart G.text (Contains (sets.first p)) a.place → QuietNode p a
+    quiet p a from there bare = quiet_below (suc (sets.level p)) a from p (le_refl _) there bare

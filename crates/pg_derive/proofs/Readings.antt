@@ -12,6 +12,7 @@ use Rattle.pg_grammar.specs.declared.trail.TrailItem.{TrailItem}
 use Rattle.pg_grammar.specs.declared.trail.TrailItem.TheVariants.{Alt}
 use Rattle.pg_message.proofs.Nothing.{merged-nothing}
 use Rattle.pg_table.specs.Derives.{Spot}
+use Rattle.pg_table.specs.Tables.{ComesFrom}
 use Rattle.pg_derive.specs.Answers.{Given, Answers, entered, AnswersForm, satisfy, string, word, not_followed_by, end_of_text, nothing, seq, choice, many, chain_left, chain_right, try, label, rule, text as as_text, skip, build, AnswersParts, part, AfterPart, part_last, part_failed, part_stuck, part_ok, AnswersAlternatives, no_alternative, alternative, AfterAlternative, alternative_consumed, alternative_stands, alternative_waits, alternative_commits, alternative_failed, alternative_stuck, AnswersRounds, round, AfterRound, round_ended, round_failed, round_empty, round_stuck, round_ok, AnswersChain, chain, AfterFirst, first_failed, first_stuck, first_ok, AnswersLinks, link, AfterSeparator, separator_failed, separator_stuck, separator_ok, AfterOperand, operand_failed, operand_stuck, operand_ok}
 use Rattle.pg_derive.specs.ClosedSets.{NodeSets}
 use Rattle.pg_derive.specs.Errors.{Error, with_position, without_position, merge, nothing_said}
@@ -50,9 +51,9 @@ module _ (G : Given) (scalars : all_scalars G.text ≡ true) (whole : IsWhole G.
   empty_nullable : {q : ℕ} {a b : Spot} {v : List Tree} {t : List TrailItem} {e : Error} {m : ℕ} → Answers L q a (ok false b v t e) m → sets.nullable q ≡ true
   empty_nullable {q = q} {a = a} {b = b} d = go (begun L scalars whole sets good (sound d)) (tells L spells d).0
     where
-      go : BeginsNode sets G.text q a b → false ≡ nat_lt a.place b.place → sets.nullable q ≡ true
+      go : BeginsNode G.grammar sets G.text q a b → false ≡ nat_lt a.place b.place → sets.nullable q ≡ true
       go (still e n) flag = n
-      go (moves l s x h) flag = let far = moved l in absurd (cc)
+      go (moves l h) flag = let far = moved l in absurd (cc)
 
   mutual
     report : {p : ℕ} {a : Spot} {o : Outcome} {m : ℕ} → Answers L p a o m → Answers R p a o m
@@ -137,7 +138,7 @@ module _ (G : Given) (scalars : all_scalars G.text ≡ true) (whole : IsWhole G.
     report_after_operand (operand_ok x d) = operand_ok x (report_links d)
 
   -- what the report's reading answers is what the library's does, since that answers, and there is one answer
-  library : {p : ℕ} {a : Spot} {o : Outcome} {m : ℕ} → p < length G.grammar.nodes → a.place ≤ length G.text → Answers R p a o m → Answers L p a o m
+  library : {p : ℕ} {a : Spot} {o : Outcome} {m : ℕ} → p < length G.grammar.nodes → (a.place ≤ length G.text) × ComesFrom G.grammar a.table → Answers R p a o m → Answers L p a o m
   library {p = p} {a = a} {o = o} {m = m} there within d = go (settle L scalars whole sets good spells p there a within)
     where
       found : {q : Outcome} {n : ℕ} → Answers L p a q n → Answers L p a o m
@@ -158,5 +159,5 @@ readings_agree G sets h one other p there a o m from within d = go one other d
     go : (one other : Reading) → Answers (as_read one G) p a o m → Answers (as_read other G) p a o m
     go Library Library d = d
     go Library Report d = report G h.text whole sets h.predictive.nodes (spelled G sets h) d
-    go Report Library d = library G h.text whole sets h.predictive.nodes (spelled G sets h) there within d
+    go Report Library d = library G h.text whole sets h.predictive.nodes (spelled G sets h) there (within, from) d
     go Report Report d = d

@@ -17,9 +17,9 @@ use Rattle.pg_derive.specs.ClosedSets.{NodeSets, SomeMatches, Within, AllApart, 
 
 -- ---- leaves
 
--- wherever this stands in a text, one of the node's first starts matches
-abbrev pub Meets : NodeSets → ℕ → (List ℕ → ℕ → Type 0) → Type 0
-Meets sets p Is = (text : List ℕ) → all_scalars text ≡ true → (place : ℕ) → Is text place → SomeMatches text (sets.first p) place
+-- wherever this stands in a text, one of the starts matches
+abbrev pub Meets : List StartKind → (List ℕ → ℕ → Type 0) → Type 0
+Meets starts Is = (text : List ℕ) → all_scalars text ≡ true → (place : ℕ) → Is text place → SomeMatches text starts place
 
 -- the first character of some characters stands at the place
 pub record BeginsAt (text : List ℕ) (place : ℕ) (characters : List ℕ) : Type 0 where
@@ -37,7 +37,7 @@ pub record IsSomeWordAt (g : Grammar) (w : ℕ) (text : List ℕ) (place : ℕ) 
 -- a string has a character
 pub record StringFits (sets : NodeSets) (p : ℕ) (characters : List ℕ) : Type 0 where
   pub spelled : 0 < length characters
-  pub first : Meets sets p (λ text place. BeginsAt text place characters)
+  pub first : Meets (sets.first p) (λ text place. BeginsAt text place characters)
 
 -- ---- forms with one part
 
@@ -52,11 +52,11 @@ pub record PartFits (sets : NodeSets) (p q : ℕ) : Type 0 where
 pub data TryFits (g : Grammar) (sets : NodeSets) (p q : ℕ) : Type 0 where
   of_part : PartFits sets p q → TryFits g sets p q
   of_string : {s : List ℕ} → slice_get g.nodes q ≡ Some (form.String s) → 0 < length s → sets.level q < sets.level p →
-      Meets sets p (λ text place. StandsAt text place s) → TryFits g sets p q
+      Meets (sets.first p) (λ text place. StandsAt text place s) → TryFits g sets p q
   of_key : {x y : ℕ} {s : List ℕ} {class : List ClassPart} →
       slice_get g.nodes q ≡ Some (form.Seq (x ∷ y ∷ [])) → slice_get g.nodes x ≡ Some (form.String s) →
       slice_get g.nodes y ≡ Some (form.NotFollowedBy class) → 0 < length s → sets.level q < sets.level p →
-      Meets sets p (λ text place. StandsAt text place s × (HasAt g text class (place + length s) → ⊥)) → TryFits g sets p q
+      Meets (sets.first p) (λ text place. StandsAt text place s × (HasAt g text class (place + length s) → ⊥)) → TryFits g sets p q
 
 pub record RuleFits (g : Grammar) (sets : NodeSets) (p r : ℕ) : Type 0 where
   pub body : (named : declared.Rule) → slice_get g.rules r ≡ Some named → PartFits sets p named.body
@@ -111,7 +111,7 @@ pub record ChainFits (sets : NodeSets) (p q r : ℕ) : Type 0 where
 
 -- by what stands at the node; grammars with expressions or declarations aren't judged yet
 abbrev pub Fits : Grammar → NodeSets → ℕ → Node → Type 0
-Fits g sets p (form.Satisfy class) = Meets sets p (λ text place. HasAt g text class place)
+Fits g sets p (form.Satisfy class) = Meets (sets.first p) (λ text place. HasAt g text class place)
 Fits g sets p (form.String s) = StringFits sets p s
 Fits g sets p (form.Seq parts) = SeqFits sets p parts
 Fits g sets p (form.Choice parts) = AlternativesFit sets p parts
@@ -121,7 +121,7 @@ Fits g sets p (form.ChainRight used q r) = ChainFits sets p q r
 Fits g sets p (form.Try q) = TryFits g sets p q
 Fits g sets p (form.NotFollowedBy class) = sets.nullable p ≡ true
 Fits g sets p form.EndOfText = sets.nullable p ≡ true
-Fits g sets p (form.Word w) = Meets sets p (IsSomeWordAt g w)
+Fits g sets p (form.Word w) = Meets (sets.first p) (IsSomeWordAt g w)
 Fits g sets p (form.Rule r) = RuleFits g sets p r
 Fits g sets p (form.Expression builders q) = ⊥
 Fits g sets p (form.Declare class) = ⊥

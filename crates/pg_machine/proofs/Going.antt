@@ -22,7 +22,7 @@ use Rattle.pg_derive.proofs.Faultless.{accepted}
 use Rattle.pg_derive.proofs.Predicted.{exist, spelled}
 use Rattle.pg_derive.proofs.Unique.{same}
 use Rattle.pg_derive.proofs.Whole.{start_found}
-use Rattle.pg_machine.specs.CheckedRuns.{IsAccepted, IsStartAnswer}
+use Rattle.pg_machine.specs.CheckedRuns.{HasAcceptedGrammar, IsStartAnswer}
 use Rattle.pg_machine.specs.Halting.{tape_before, IsLastAfter, Halts, turns_left}
 use Rattle.pg_machine.specs.Messages.{Said}
 use Rattle.pg_machine.specs.Outcomes.{outcome_of, Ends}
@@ -58,17 +58,17 @@ choice_few i (n ∷ nodes) h zero ps e =
     omega (arith, size, length-take (node_part_count n) behind, roots_few (suc i) (map node_part_count nodes), length_counts nodes)
 choice_few i (n ∷ nodes) h (suc p) ps e = let l = choice_few (suc i) nodes h.1 p ps e in omega arith
 
-predicts : (G : Given) (h : IsAccepted G) → Predicts G (node_sets G.grammar h.0)
+predicts : (G : Given) (h : HasAcceptedGrammar G) → Predicts G (node_sets G.grammar h.0)
 predicts G h = let a = h.1 in record { grammar = a.grammar; predictive = accepted G.grammar h.0 a.grammar a.bare a.least a.faultless; text = a.text }
 
-pub bounded : (G : Given) → IsAccepted G → IsBounded G.grammar 8192
+pub bounded : (G : Given) → HasAcceptedGrammar G → IsBounded G.grammar 8192
 bounded G h = record {
   spelled = spelled G (node_sets G.grammar h.0) (predicts G h);
   few = λ p ps e. let l = choice_few 0 G.grammar.nodes h.1.grammar.preorder p ps e in let m = h.1.grammar.few_nodes in omega arith;
 }
 
 -- the start rule has an answer
-answered : (G : Given) → IsAccepted G → (T : Table) → ComesFrom G.grammar T → (rule : declared.Rule) → slice_get G.grammar.rules G.grammar.start ≡ Some rule → HasAnswer G rule.body (spot_at T 0)
+answered : (G : Given) → HasAcceptedGrammar G → (T : Table) → ComesFrom G.grammar T → (rule : declared.Rule) → slice_get G.grammar.rules G.grammar.start ≡ Some rule → HasAnswer G rule.body (spot_at T 0)
 answered G h T from rule e =
     let start = start_found G.grammar h.1.grammar in
     let is : start.0 ≡ rule = cc in
@@ -77,20 +77,20 @@ answered G h T from rule e =
 -- ---- the run halts
 
 -- now, or after one turn and those that follow
-last_or : (G : Given) (T : Table) (x : Tape) (b : Bool) → tape_is_last x ≡ b → (tape_is_last x ≡ false → (k : ℕ) × IsLastAfter G T k (tape_turn G T x)) → (k : ℕ) × IsLastAfter G T k x
-last_or G T x true e later = (zero, e)
-last_or G T x false e later = let r = later e in (suc r.0, (e, r.1))
+last_or : (G : Given) (x : Tape) (b : Bool) → tape_is_last x ≡ b → (tape_is_last x ≡ false → (k : ℕ) × IsLastAfter G k (tape_turn G x)) → (k : ℕ) × IsLastAfter G k x
+last_or G x true e later = (zero, e)
+last_or G x false e later = let r = later e in (suc r.0, (e, r.1))
 
 -- no run is longer than twice the nodes of its outcome
-ends_within : (G : Given) (T : Table) (p : ℕ) (a : Spot) (o : Outcome) (m : ℕ) → Answers G p a o m → (fuel n : ℕ) (st : State) (x : Tape) → Shows T st x → Run G p a n st → 2 * m < n + fuel →
-    (k : ℕ) × IsLastAfter G T k x
-ends_within G T p a o m d zero n st x s r l = let short = run_short G p a n st r o m d in absurd (omega arith)
-ends_within G T p a o m d (suc fuel) n st x s r l =
-    last_or G T x (tape_is_last x) refl (λ e.
+ends_within : (G : Given) (p : ℕ) (a : Spot) (o : Outcome) (m : ℕ) → Answers G p a o m → (fuel n : ℕ) (st : State) (x : Tape) → Shows st x → Run G p a n st → 2 * m < n + fuel →
+    (k : ℕ) × IsLastAfter G k x
+ends_within G p a o m d zero n st x s r l = let short = run_short G p a n st r o m d in absurd (omega arith)
+ends_within G p a o m d (suc fuel) n st x s r l =
+    last_or G x (tape_is_last x) refl (λ e.
     let going : is_last st ≡ false = last_shown s ∙ e in
-    ends_within G T p a o m d fuel (suc n) (turn G st) (tape_turn G T x) (turn_shown G T s going) (run_turn G p a n st going r) (omega arith))
+    ends_within G p a o m d fuel (suc n) (turn G st) (tape_turn G x) (turn_shown G s going) (run_turn G p a n st going r) (omega arith))
 
-pub halts : (G : Given) → IsAccepted G → (T : Table) → ComesFrom G.grammar T → Halts G T
+pub halts : (G : Given) → HasAcceptedGrammar G → (T : Table) → ComesFrom G.grammar T → Halts G T
 halts G h T from = go (answered G h T from start.0 start.1)
   where
     start : (named : declared.Rule) × (slice_get G.grammar.rules G.grammar.start ≡ Some named) × (named.body < length G.grammar.nodes)
@@ -98,9 +98,9 @@ halts G h T from = go (answered G h T from start.0 start.1)
 
     found : (o : Outcome) (m : ℕ) → Answers G start.0.body (spot_at T 0) o m → Halts G T
     found o m d =
-        let r = ends_within G T start.0.body (spot_at T 0) o m d (suc (2 * m)) 0 (at_node start.0.body (spot_at T 0) []) (tape_at start.0.body 0 [] [] [] []) (shows_at no_frames)
+        let r = ends_within G start.0.body (spot_at T 0) o m d (suc (2 * m)) 0 (at_node start.0.body (spot_at T 0) []) (tape_at start.0.body 0 [] [] [] [] T) (shows_at no_frames)
         (run_start G start.0.body (spot_at T 0)) (omega arith) in
-        (r.0, subst (λ (o : Option declared.Rule). IsLastAfter G T r.0 (tape_before o)) (sym start.1) r.1)
+        (r.0, subst (λ (o : Option declared.Rule). IsLastAfter G r.0 (tape_before T o)) (sym start.1) r.1)
 
     go : HasAnswer G start.0.body (spot_at T 0) → Halts G T
     go (is_ok c b v t e m d) = found (outcome.ok c b v t e) m d
@@ -116,24 +116,24 @@ pub record Going (offer : Offer) (G : Given) (T : Table) (most steps : ℕ) (x :
   pub placed : IsTapePlaced (length G.text) 8192 x
   pub left : ℕ
   pub within : left ≤ most
-  pub last : IsLastAfter G T left x
+  pub last : IsLastAfter G left x
 
-begins : (o : Option declared.Rule) (body : ℕ) → option_map rule_body o ≡ Some body → tape_before o ≡ tape_at body 0 [] [] [] []
-begins None body h = absurd cc
-begins (Some rule) body h = let is : rule.body ≡ body = cc in ap (λ p. tape_at p 0 [] [] [] []) is
+begins : (T : Table) (o : Option declared.Rule) (body : ℕ) → option_map rule_body o ≡ Some body → tape_before T o ≡ tape_at body 0 [] [] [] [] T
+begins T None body h = absurd cc
+begins T (Some rule) body h = let is : rule.body ≡ body = cc in ap (λ p. tape_at p 0 [] [] [] [] T) is
 
-pub going_begins : (offer : Offer) (G : Given) (T : Table) (h : Halts G T) (body : ℕ) (fs : List OnFrame) (v : List Tree) (t : List TrailItem) (x : List Said) →
-    option_map rule_body (slice_get G.grammar.rules G.grammar.start) ≡ Some body → fs ≡ [] → v ≡ [] → t ≡ [] → x ≡ [] → Going offer G T h.0 0 (tape_at body 0 fs v t x)
-going_begins offer G T h body fs v t x e f i k m =
-    let is : tape_at body 0 [] [] [] [] ≡ tape_at body 0 fs v t x = cc in
+pub going_begins : (offer : Offer) (G : Given) (T : Table) (h : Halts G T) (body : ℕ) (fs : List OnFrame) (v : List Tree) (t : List TrailItem) (x : List Said) (U : Table) →
+    option_map rule_body (slice_get G.grammar.rules G.grammar.start) ≡ Some body → fs ≡ [] → v ≡ [] → t ≡ [] → x ≡ [] → U ≡ T → Going offer G T h.0 0 (tape_at body 0 fs v t x U)
+going_begins offer G T h body fs v t x U e f i k m l =
+    let is : tape_at body 0 [] [] [] [] T ≡ tape_at body 0 fs v t x U = cc in
     record {
       turns = 0;
       counted = refl;
-      running = running_begins offer G T 0 body fs v t x e f i k m;
+      running = running_begins offer G T 0 body fs v t x U e f i k m l;
       placed = subst (IsTapePlaced (length G.text) 8192) is (omega arith, tt);
       left = h.0;
       within = omega arith;
-      last = subst (IsLastAfter G T h.0) (begins (slice_get G.grammar.rules G.grammar.start) body e ∙ is) h.1;
+      last = subst (IsLastAfter G h.0) (begins T (slice_get G.grammar.rules G.grammar.start) body e ∙ is) h.1;
     }
 
 running_more : (offer : Offer) (G : Given) (T : Table) (n : ℕ) (x : Tape) → Running offer G T n n x → Running offer G T (n + 1) n x
@@ -148,47 +148,47 @@ running_more offer G T n x r = record {
 }
 
 -- one turn less is left
-one_less : (G : Given) (T : Table) (left : ℕ) (x : Tape) → tape_is_last x ≡ false → IsLastAfter G T left x → (k : ℕ) × (left ≡ suc k) × IsLastAfter G T k (tape_turn G T x)
-one_less G T zero x going h = cc
-one_less G T (suc k) x going h = (k, refl, h.1)
+one_less : (G : Given) (left : ℕ) (x : Tape) → tape_is_last x ≡ false → IsLastAfter G left x → (k : ℕ) × (left ≡ suc k) × IsLastAfter G k (tape_turn G x)
+one_less G zero x going h = cc
+one_less G (suc k) x going h = (k, refl, h.1)
 
 counted_on : (turns n m : ℕ) → n ≡ min turns (2 ^ 64 - 1) → m ≡ min (n + 1) (2 ^ 64 - 1) → m ≡ min (turns + 1) (2 ^ 64 - 1)
 counted_on turns n m e f = omega arith
 
 pub going_turn : (offer : Offer) (G : Given) (T : Table) (most n m : ℕ) (x y : Tape) → Fits offer G.grammar → IsBounded G.grammar 8192 → Going offer G T most n x → tape_is_last x ≡ false →
-    y ≡ tape_turn G T x → m ≡ min (n + 1) (2 ^ 64 - 1) → Going offer G T most m y
+    y ≡ tape_turn G x → m ≡ min (n + 1) (2 ^ 64 - 1) → Going offer G T most m y
 going_turn offer G T most n m x y fits few r going e next =
-    let less = one_less G T r.left x going r.last in
+    let less = one_less G r.left x going r.last in
     let one = less.1 in
     let within = r.within in
     record {
       turns = r.turns + 1;
       counted = counted_on r.turns n m r.counted next;
       running = running_turn offer G T (r.turns + 1) r.turns x y fits (running_more offer G T r.turns x r.running) (omega arith) going e;
-      placed = subst (IsTapePlaced (length G.text) 8192) (sym e) (turn_placed G T 8192 few x r.placed);
+      placed = subst (IsTapePlaced (length G.text) 8192) (sym e) (turn_placed G 8192 few x r.placed);
       left = less.0;
       within = omega arith;
-      last = subst (IsLastAfter G T less.0) (sym e) less.2;
+      last = subst (IsLastAfter G less.0) (sym e) less.2;
     }
 
 pub going_ready : (offer : Offer) (G : Given) (T : Table) (most n : ℕ) (x : Tape) → length G.text ≤ 4096 → Going offer G T most n x → IsTapeReady offer (2 ^ 64 - 1) x
 going_ready offer G T most n x short r = tape_roomy (length G.text) 8192 offer (suc r.turns) (2 ^ 64 - 1) (omega arith) (omega arith) x r.placed r.running.ready
 
-left_is : (G : Given) (T : Table) (most k : ℕ) (x : Tape) → k ≤ most → IsLastAfter G T k x → turns_left G T most x ≡ k
-left_is G T zero zero x l h = refl
-left_is G T zero (suc k) x l h = absurd (omega arith)
-left_is G T (suc most) zero x l h = ap (λ b. if b then zero else suc (turns_left G T most (tape_turn G T x))) h
-left_is G T (suc most) (suc k) x l h =
-    ap (λ b. if b then zero else suc (turns_left G T most (tape_turn G T x))) h.0 ∙ ap suc (left_is G T most k (tape_turn G T x) (omega arith) h.1)
+left_is : (G : Given) (most k : ℕ) (x : Tape) → k ≤ most → IsLastAfter G k x → turns_left G most x ≡ k
+left_is G zero zero x l h = refl
+left_is G zero (suc k) x l h = absurd (omega arith)
+left_is G (suc most) zero x l h = ap (λ b. if b then zero else suc (turns_left G most (tape_turn G x))) h
+left_is G (suc most) (suc k) x l h =
+    ap (λ b. if b then zero else suc (turns_left G most (tape_turn G x))) h.0 ∙ ap suc (left_is G most k (tape_turn G x) (omega arith) h.1)
 
-pub going_falls : (offer : Offer) (G : Given) (T : Table) (most n : ℕ) (x y : Tape) → Going offer G T most n x → tape_is_last x ≡ false → y ≡ tape_turn G T x →
-    turns_left G T most y < turns_left G T most x
+pub going_falls : (offer : Offer) (G : Given) (T : Table) (most n : ℕ) (x y : Tape) → Going offer G T most n x → tape_is_last x ≡ false → y ≡ tape_turn G x →
+    turns_left G most y < turns_left G most x
 going_falls offer G T most n x y r going e =
-    let less = one_less G T r.left x going r.last in
+    let less = one_less G r.left x going r.last in
     let one = less.1 in
     let within = r.within in
-    let now = left_is G T most r.left x r.within r.last in
-    let next = left_is G T most less.0 y (omega arith) (subst (IsLastAfter G T less.0) (sym e) less.2) in
+    let now = left_is G most r.left x r.within r.last in
+    let next = left_is G most less.0 y (omega arith) (subst (IsLastAfter G less.0) (sym e) less.2) in
     omega arith
 
 -- ---- how it ends
@@ -207,8 +207,8 @@ never_endless : {G : Given} {p : ℕ} {a : Spot} → HasAnswer G p a → ((o : O
 never_endless (is_ok c b v t e m d) none = none (outcome.ok c b v t e) m d
 never_endless (has_failed c e m d) none = none (outcome.failed c e) m d
 
-pub going_ends : (offer : Offer) (G : Given) (T : Table) (most steps : ℕ) (x : Tape) (o : ended.Outcome) → IsAccepted G → ComesFrom G.grammar T → Going offer G T most steps x → tape_is_last x ≡ true →
-    Ends G.text T x steps o → ComesTo G T o
+pub going_ends : (offer : Offer) (G : Given) (T : Table) (most steps : ℕ) (x : Tape) (o : ended.Outcome) → HasAcceptedGrammar G → ComesFrom G.grammar T → Going offer G T most steps x → tape_is_last x ≡ true →
+    Ends G.text x steps o → ComesTo G T o
 going_ends offer G T most steps x (Answered a) h from g last e =
     let r = g.running in
     let i = answer_shown r.shows e.outcome in

@@ -24,19 +24,19 @@ other_length n m h = grind (arith, nat_tests)
 
 module _ (fs : List OnFrame) (v : List Tree) (t : List TrailItem) (x : List Said) (table : Table) (tape : Tape) where
   pub satisfy_taken : (g : Grammar) (text : List ℕ) (class : List ClassPart) (i c : ℕ) → slice_get text i ≡ Some c → has_character g.classes class c ≡ true →
-      tape ≡ tape_leaf (taken (spot_at table i) (c ∷ [])) fs v t x → tape ≡ tape_leaf (satisfy_outcome g text class (spot_at table i)) fs v t x
+      tape ≡ tape_leaf (taken (spot_at table i) (c ∷ [])) fs v t x table → tape ≡ tape_leaf (satisfy_outcome g text class (spot_at table i)) fs v t x table
   satisfy_taken g text class i c there member is = rw (there, member) is
 
   pub string_taken : (text s : List ℕ) (i : ℕ) → common_prefix_len nat_eq s (drop i text) ≡ length s →
-      tape ≡ tape_leaf (taken (spot_at table i) s) fs v t x → tape ≡ tape_leaf (string_outcome text s (spot_at table i)) fs v t x
+      tape ≡ tape_leaf (taken (spot_at table i) s) fs v t x table → tape ≡ tape_leaf (string_outcome text s (spot_at table i)) fs v t x table
   string_taken text s i whole is = let test : (matched text s i == length s) ≡ true = eq-eqb (matched text s i) (length s) whole in rw test is
 
   pub string_failed : (text s : List ℕ) (i n : ℕ) → common_prefix_len nat_eq s (drop i text) ≡ n → (n == length s) ≡ false → (next : Option ℕ) → next ≡ slice_get (drop i text) n →
-      tape ≡ tape_leaf (failed (nat_lt 0 n) (stopped_before (quote s) (next_text next) i)) fs v t x → tape ≡ tape_leaf (string_outcome text s (spot_at table i)) fs v t x
+      tape ≡ tape_leaf (failed (nat_lt 0 n) (stopped_before (quote s) (next_text next) i)) fs v t x table → tape ≡ tape_leaf (string_outcome text s (spot_at table i)) fs v t x table
   string_failed text s i n count test next e is =
-      is ∙ ap (λ o. tape_leaf (failed (nat_lt 0 n) (stopped_before (quote s) (next_text o) i)) fs v t x) e ∙ ap (λ o. tape_leaf (failed (nat_lt 0 n) (stopped_before (quote s) (next_text o) i)) fs v t x) (got text i n)
-      ∙ ap (λ (b : Bool). tape_leaf (if b then taken (spot_at table i) s else failed (nat_lt 0 n) (stopped_before (quote s) (seen_at text (i + n)) i)) fs v t x) (sym test)
-      ∙ ap (λ k. tape_leaf (if k == length s then taken (spot_at table i) s else failed (nat_lt 0 k) (stopped_before (quote s) (seen_at text (i + k)) i)) fs v t x) (sym count)
+      is ∙ ap (λ o. tape_leaf (failed (nat_lt 0 n) (stopped_before (quote s) (next_text o) i)) fs v t x table) e ∙ ap (λ o. tape_leaf (failed (nat_lt 0 n) (stopped_before (quote s) (next_text o) i)) fs v t x table) (got text i n)
+      ∙ ap (λ (b : Bool). tape_leaf (if b then taken (spot_at table i) s else failed (nat_lt 0 n) (stopped_before (quote s) (seen_at text (i + n)) i)) fs v t x table) (sym test)
+      ∙ ap (λ k. tape_leaf (if k == length s then taken (spot_at table i) s else failed (nat_lt 0 k) (stopped_before (quote s) (seen_at text (i + k)) i)) fs v t x table) (sym count)
     where
       got : (xs : List ℕ) (i n : ℕ) → slice_get (drop i xs) n ≡ slice_get xs (i + n)
       got xs zero n = let z : n ≡ 0 + n = omega arith in ap (slice_get xs) z
@@ -44,11 +44,11 @@ module _ (fs : List OnFrame) (v : List Tree) (t : List TrailItem) (x : List Said
       got (y ∷ xs) (suc i) n = let z : suc (i + n) ≡ suc i + n = omega arith in got xs i n ∙ ap (slice_get (y ∷ xs)) z
 
   pub word_told : (g : Grammar) (text : List ℕ) (item : WordItem) (i c : ℕ) (word : List ℕ) → slice_get text i ≡ Some c → has_character g.classes item.head c ≡ true →
-      word ≡ c ∷ run_at g text item.rest (suc i) → tape ≡ tape_leaf (word_read item (spot_at table i) word) fs v t x → tape ≡ tape_leaf (word_outcome g text item (spot_at table i)) fs v t x
-  word_told g text item i c word there member whole is = rw (there, member) (is ∙ ap (λ s. tape_leaf (word_read item (spot_at table i) s) fs v t x) whole)
+      word ≡ c ∷ run_at g text item.rest (suc i) → tape ≡ tape_leaf (word_read item (spot_at table i) word) fs v t x table → tape ≡ tape_leaf (word_outcome g text item (spot_at table i)) fs v t x table
+  word_told g text item i c word there member whole is = rw (there, member) (is ∙ ap (λ s. tape_leaf (word_read item (spot_at table i) s) fs v t x table) whole)
 
   pub word_taken_whole : (item : WordItem) (i : ℕ) (s : List ℕ) → list_any (λ reserved. bytes_eq reserved s) item.reserved ≡ false →
-      tape ≡ tape_leaf (taken (spot_at table i) s) fs v t x → tape ≡ tape_leaf (word_read item (spot_at table i) s) fs v t x
+      tape ≡ tape_leaf (taken (spot_at table i) s) fs v t x table → tape ≡ tape_leaf (word_read item (spot_at table i) s) fs v t x table
   word_taken_whole item i s free is = rw free is
 
 -- a word ends within the text

@@ -35,45 +35,45 @@ pub record Running (offer : Offer) (G : Given) (T : Table) (most steps : ℕ) (x
   pub rule : declared.Rule
   pub is_start : slice_get G.grammar.rules G.grammar.start ≡ Some rule
   pub state : State
-  pub shows : Shows T state x
+  pub shows : Shows state x
   pub run : Run G rule.body (spot_at T 0) steps state
   pub ready : IsTapeReady offer (suc steps) x
   pub within : steps ≤ most
 
-pub running_start : (offer : Offer) (G : Given) (T : Table) (most : ℕ) (rule : declared.Rule) (fs : List OnFrame) (v : List Tree) (t : List TrailItem) (x : List Said) → slice_get G.grammar.rules G.grammar.start ≡ Some rule →
-    fs ≡ [] → v ≡ [] → t ≡ [] → x ≡ [] → Running offer G T most 0 (tape_at rule.body 0 fs v t x)
-running_start offer G T most rule fs v t x there e f h k =
+pub running_start : (offer : Offer) (G : Given) (T : Table) (most : ℕ) (rule : declared.Rule) (fs : List OnFrame) (v : List Tree) (t : List TrailItem) (x : List Said) (U : Table) → slice_get G.grammar.rules G.grammar.start ≡ Some rule →
+    fs ≡ [] → v ≡ [] → t ≡ [] → x ≡ [] → U ≡ T → Running offer G T most 0 (tape_at rule.body 0 fs v t x U)
+running_start offer G T most rule fs v t x U there e f h k l =
     let z : 0 ≤ most = omega arith in
-    let r : Running offer G T most 0 (tape_at rule.body 0 [] [] [] []) =
+    let r : Running offer G T most 0 (tape_at rule.body 0 [] [] [] [] T) =
     record { rule = rule; is_start = there; state = at_node rule.body (spot_at T 0) []; shows = shows_at no_frames; run = run_start G rule.body (spot_at T 0); ready = tt; within = z } in
-    let q : tape_at rule.body 0 [] [] [] [] ≡ tape_at rule.body 0 fs v t x = cc in
+    let q : tape_at rule.body 0 [] [] [] [] T ≡ tape_at rule.body 0 fs v t x U = cc in
     subst (Running offer G T most 0) q r
 
 -- the same of the body that the start rule has
-pub running_begins : (offer : Offer) (G : Given) (T : Table) (most body : ℕ) (fs : List OnFrame) (v : List Tree) (t : List TrailItem) (x : List Said) → option_map rule_body (slice_get G.grammar.rules G.grammar.start) ≡ Some body →
-    fs ≡ [] → v ≡ [] → t ≡ [] → x ≡ [] → Running offer G T most 0 (tape_at body 0 fs v t x)
-running_begins offer G T most body fs v t x h e f i k = of_rule (slice_get G.grammar.rules G.grammar.start) refl h
+pub running_begins : (offer : Offer) (G : Given) (T : Table) (most body : ℕ) (fs : List OnFrame) (v : List Tree) (t : List TrailItem) (x : List Said) (U : Table) → option_map rule_body (slice_get G.grammar.rules G.grammar.start) ≡ Some body →
+    fs ≡ [] → v ≡ [] → t ≡ [] → x ≡ [] → U ≡ T → Running offer G T most 0 (tape_at body 0 fs v t x U)
+running_begins offer G T most body fs v t x U h e f i k l = of_rule (slice_get G.grammar.rules G.grammar.start) refl h
   where
-    of_rule : (o : Option declared.Rule) → slice_get G.grammar.rules G.grammar.start ≡ o → option_map rule_body o ≡ Some body → Running offer G T most 0 (tape_at body 0 fs v t x)
+    of_rule : (o : Option declared.Rule) → slice_get G.grammar.rules G.grammar.start ≡ o → option_map rule_body o ≡ Some body → Running offer G T most 0 (tape_at body 0 fs v t x U)
     of_rule None there h = cc
     of_rule (Some rule) there h =
         let same : rule.body ≡ body = cc in
-        subst (λ n. Running offer G T most 0 (tape_at n 0 fs v t x)) same (running_start offer G T most rule fs v t x there e f i k)
+        subst (λ n. Running offer G T most 0 (tape_at n 0 fs v t x U)) same (running_start offer G T most rule fs v t x U there e f i k l)
 
-pub running_turn : (offer : Offer) (G : Given) (T : Table) (most n : ℕ) (x y : Tape) → Fits offer G.grammar → Running offer G T most n x → n < most → tape_is_last x ≡ false → y ≡ tape_turn G T x →
+pub running_turn : (offer : Offer) (G : Given) (T : Table) (most n : ℕ) (x y : Tape) → Fits offer G.grammar → Running offer G T most n x → n < most → tape_is_last x ≡ false → y ≡ tape_turn G x →
     Running offer G T most (n + 1) y
 running_turn offer G T most n x y fits r l f e =
     let more : suc n ≤ most = omega arith in
     let positive : 0 < suc n = omega arith in
     let one : suc n ≡ n + 1 = omega arith in
     let going : is_last r.state ≡ false = last_shown r.shows ∙ f in
-    let next : Running offer G T most (suc n) (tape_turn G T x) = record {
+    let next : Running offer G T most (suc n) (tape_turn G x) = record {
       rule = r.rule;
       is_start = r.is_start;
       state = turn G r.state;
-      shows = turn_shown G T r.shows going;
+      shows = turn_shown G r.shows going;
       run = run_turn G r.rule.body (spot_at T 0) n r.state going r.run;
-      ready = turn_ready offer (suc n) G T x fits positive r.ready;
+      ready = turn_ready offer (suc n) G x fits positive r.ready;
       within = more;
     } in
     subst (λ k. Running offer G T most k y) one (subst (Running offer G T most (suc n)) (sym e) next)
@@ -91,40 +91,40 @@ no_answer : {o : Outcome} → None ≡ Some o → ⊥
 no_answer e = absurd cc
 
 -- an answer on the tape is the outcome of the state
-pub answer_shown : {T : Table} {st : State} {x : Tape} {o : Outcome} → Shows T st x → answer_on T x ≡ Some o → st ≡ with_outcome o []
+pub answer_shown : {st : State} {x : Tape} {o : Outcome} → Shows st x → answer_on x ≡ Some o → st ≡ with_outcome o []
 answer_shown (shows_at h) e = absurd (no_answer e)
-answer_shown {T = T} {o = o} (shows_fine {w = w} {u = u} {c = c} {j = j} no_frames s) e =
+answer_shown {o = o} (shows_fine {w = w} {u = u} {U = U} {c = c} {j = j} no_frames s d) e =
     let f = said_there s in
-    let g : outcome.ok c (spot_at T j) w u _ ≡ o = cc in
+    let g : outcome.ok c (spot_at U j) w u _ ≡ o = cc in
     ap (λ (o : Outcome). with_outcome o []) g
-answer_shown {o = o} (shows_failed {c = c} w u no_frames s) e =
+answer_shown {o = o} (shows_failed {c = c} w u no_frames s d) e =
     let f = said_there s in
     let g : outcome.failed c _ ≡ o = cc in
     ap (λ (o : Outcome). with_outcome o []) g
-answer_shown (shows_fine (stands_parts h k) s) e = absurd (no_answer e)
-answer_shown (shows_fine (stands_choice h k) s) e = absurd (no_answer e)
-answer_shown (shows_fine (stands_rounds item h) s) e = absurd (no_answer e)
-answer_shown (shows_fine (stands_first item h) s) e = absurd (no_answer e)
-answer_shown (shows_fine (stands_separator h k) s) e = absurd (no_answer e)
-answer_shown (shows_fine (stands_operand h k m) s) e = absurd (no_answer e)
-answer_shown (shows_fine (stands_try h) s) e = absurd (no_answer e)
-answer_shown (shows_fine (stands_label h) s) e = absurd (no_answer e)
-answer_shown (shows_fine (stands_rule h) s) e = absurd (no_answer e)
-answer_shown (shows_fine (stands_text h) s) e = absurd (no_answer e)
-answer_shown (shows_fine (stands_skip h) s) e = absurd (no_answer e)
-answer_shown (shows_fine (stands_build h) s) e = absurd (no_answer e)
-answer_shown (shows_failed w u (stands_parts h k) s) e = absurd (no_answer e)
-answer_shown (shows_failed w u (stands_choice h k) s) e = absurd (no_answer e)
-answer_shown (shows_failed w u (stands_rounds item h) s) e = absurd (no_answer e)
-answer_shown (shows_failed w u (stands_first item h) s) e = absurd (no_answer e)
-answer_shown (shows_failed w u (stands_separator h k) s) e = absurd (no_answer e)
-answer_shown (shows_failed w u (stands_operand h k m) s) e = absurd (no_answer e)
-answer_shown (shows_failed w u (stands_try h) s) e = absurd (no_answer e)
-answer_shown (shows_failed w u (stands_label h) s) e = absurd (no_answer e)
-answer_shown (shows_failed w u (stands_rule h) s) e = absurd (no_answer e)
-answer_shown (shows_failed w u (stands_text h) s) e = absurd (no_answer e)
-answer_shown (shows_failed w u (stands_skip h) s) e = absurd (no_answer e)
-answer_shown (shows_failed w u (stands_build h) s) e = absurd (no_answer e)
+answer_shown (shows_fine (stands_parts h k) s d) e = absurd (no_answer e)
+answer_shown (shows_fine (stands_choice h k) s d) e = absurd (no_answer e)
+answer_shown (shows_fine (stands_rounds item h l) s d) e = absurd (no_answer e)
+answer_shown (shows_fine (stands_first item h) s d) e = absurd (no_answer e)
+answer_shown (shows_fine (stands_separator h k) s d) e = absurd (no_answer e)
+answer_shown (shows_fine (stands_operand h k m l) s d) e = absurd (no_answer e)
+answer_shown (shows_fine (stands_try h) s d) e = absurd (no_answer e)
+answer_shown (shows_fine (stands_label h) s d) e = absurd (no_answer e)
+answer_shown (shows_fine (stands_rule h) s d) e = absurd (no_answer e)
+answer_shown (shows_fine (stands_text h) s d) e = absurd (no_answer e)
+answer_shown (shows_fine (stands_skip h) s d) e = absurd (no_answer e)
+answer_shown (shows_fine (stands_build h) s d) e = absurd (no_answer e)
+answer_shown (shows_failed w u (stands_parts h k) s d) e = absurd (no_answer e)
+answer_shown (shows_failed w u (stands_choice h k) s d) e = absurd (no_answer e)
+answer_shown (shows_failed w u (stands_rounds item h l) s d) e = absurd (no_answer e)
+answer_shown (shows_failed w u (stands_first item h) s d) e = absurd (no_answer e)
+answer_shown (shows_failed w u (stands_separator h k) s d) e = absurd (no_answer e)
+answer_shown (shows_failed w u (stands_operand h k m l) s d) e = absurd (no_answer e)
+answer_shown (shows_failed w u (stands_try h) s d) e = absurd (no_answer e)
+answer_shown (shows_failed w u (stands_label h) s d) e = absurd (no_answer e)
+answer_shown (shows_failed w u (stands_rule h) s d) e = absurd (no_answer e)
+answer_shown (shows_failed w u (stands_text h) s d) e = absurd (no_answer e)
+answer_shown (shows_failed w u (stands_skip h) s d) e = absurd (no_answer e)
+answer_shown (shows_failed w u (stands_build h) s d) e = absurd (no_answer e)
 answer_shown shows_stuck e = absurd (no_answer e)
 answer_shown shows_endless e = absurd (no_answer e)
 
@@ -133,42 +133,42 @@ pub record StuckState (st : State) : Type 0 where
   pub frames : List Frame
   pub is : st ≡ with_outcome outcome.empty_round frames
 
-pub stuck_shown : {T : Table} {st : State} {x : Tape} → Shows T st x → IsStuck x → StuckState st
+pub stuck_shown : {st : State} {x : Tape} → Shows st x → IsStuck x → StuckState st
 stuck_shown (shows_at h) e = absurd e
-stuck_shown (shows_fine h s) e = absurd e
-stuck_shown (shows_failed w u h s) e = absurd e
+stuck_shown (shows_fine h s d) e = absurd e
+stuck_shown (shows_failed w u h s d) e = absurd e
 stuck_shown (shows_stuck {fs = fs}) e = record { frames = fs; is = refl }
 stuck_shown shows_endless e = absurd e
 
 -- the last tape without an answer and without an empty round is the one without an end
-pub endless_shown : {T : Table} {st : State} {x : Tape} → Shows T st x → IsUnanswered x → tape_is_last x ≡ true → st ≡ endless
+pub endless_shown : {st : State} {x : Tape} → Shows st x → IsUnanswered x → tape_is_last x ≡ true → st ≡ endless
 endless_shown (shows_at h) e l = cc
-endless_shown (shows_fine no_frames s) e l = absurd e
-endless_shown (shows_failed w u no_frames s) e l = absurd e
-endless_shown (shows_fine (stands_parts h k) s) e l = cc
-endless_shown (shows_fine (stands_choice h k) s) e l = cc
-endless_shown (shows_fine (stands_rounds item h) s) e l = cc
-endless_shown (shows_fine (stands_first item h) s) e l = cc
-endless_shown (shows_fine (stands_separator h k) s) e l = cc
-endless_shown (shows_fine (stands_operand h k m) s) e l = cc
-endless_shown (shows_fine (stands_try h) s) e l = cc
-endless_shown (shows_fine (stands_label h) s) e l = cc
-endless_shown (shows_fine (stands_rule h) s) e l = cc
-endless_shown (shows_fine (stands_text h) s) e l = cc
-endless_shown (shows_fine (stands_skip h) s) e l = cc
-endless_shown (shows_fine (stands_build h) s) e l = cc
-endless_shown (shows_failed w u (stands_parts h k) s) e l = cc
-endless_shown (shows_failed w u (stands_choice h k) s) e l = cc
-endless_shown (shows_failed w u (stands_rounds item h) s) e l = cc
-endless_shown (shows_failed w u (stands_first item h) s) e l = cc
-endless_shown (shows_failed w u (stands_separator h k) s) e l = cc
-endless_shown (shows_failed w u (stands_operand h k m) s) e l = cc
-endless_shown (shows_failed w u (stands_try h) s) e l = cc
-endless_shown (shows_failed w u (stands_label h) s) e l = cc
-endless_shown (shows_failed w u (stands_rule h) s) e l = cc
-endless_shown (shows_failed w u (stands_text h) s) e l = cc
-endless_shown (shows_failed w u (stands_skip h) s) e l = cc
-endless_shown (shows_failed w u (stands_build h) s) e l = cc
+endless_shown (shows_fine no_frames s d) e l = absurd e
+endless_shown (shows_failed w u no_frames s d) e l = absurd e
+endless_shown (shows_fine (stands_parts h k) s d) e l = cc
+endless_shown (shows_fine (stands_choice h k) s d) e l = cc
+endless_shown (shows_fine (stands_rounds item h b) s d) e l = cc
+endless_shown (shows_fine (stands_first item h) s d) e l = cc
+endless_shown (shows_fine (stands_separator h k) s d) e l = cc
+endless_shown (shows_fine (stands_operand h k m b) s d) e l = cc
+endless_shown (shows_fine (stands_try h) s d) e l = cc
+endless_shown (shows_fine (stands_label h) s d) e l = cc
+endless_shown (shows_fine (stands_rule h) s d) e l = cc
+endless_shown (shows_fine (stands_text h) s d) e l = cc
+endless_shown (shows_fine (stands_skip h) s d) e l = cc
+endless_shown (shows_fine (stands_build h) s d) e l = cc
+endless_shown (shows_failed w u (stands_parts h k) s d) e l = cc
+endless_shown (shows_failed w u (stands_choice h k) s d) e l = cc
+endless_shown (shows_failed w u (stands_rounds item h b) s d) e l = cc
+endless_shown (shows_failed w u (stands_first item h) s d) e l = cc
+endless_shown (shows_failed w u (stands_separator h k) s d) e l = cc
+endless_shown (shows_failed w u (stands_operand h k m b) s d) e l = cc
+endless_shown (shows_failed w u (stands_try h) s d) e l = cc
+endless_shown (shows_failed w u (stands_label h) s d) e l = cc
+endless_shown (shows_failed w u (stands_rule h) s d) e l = cc
+endless_shown (shows_failed w u (stands_text h) s d) e l = cc
+endless_shown (shows_failed w u (stands_skip h) s d) e l = cc
+endless_shown (shows_failed w u (stands_build h) s d) e l = cc
 endless_shown shows_stuck e l = absurd e
 endless_shown shows_endless e l = refl
 
@@ -183,7 +183,7 @@ started {G = G} {T = T} {o = o} {m = m} rule e a =
     let same : a.start ≡ rule = cc in subst (λ (r : declared.Rule). Answers G r.body (spot_at T 0) o m) same a.body
 
 pub running_ends : (offer : Offer) (G : Given) (T : Table) (most n : ℕ) (x : Tape) (o : ended.Outcome) → Running offer G T most n x →
-    Ends G.text T x n o → (most ≤ n) ⊎ (tape_is_last x ≡ true) → IsOutcome G T most o
+    Ends G.text x n o → (most ≤ n) ⊎ (tape_is_last x ≡ true) → IsOutcome G T most o
 running_ends offer G T most n x (Answered a) r e h =
     let i = answer_shown r.shows e.outcome in
     let w = run_answer G r.rule.body (spot_at T 0) n (outcome_of a) (subst (Run G r.rule.body (spot_at T 0) n) i r.run) in

@@ -4,6 +4,7 @@ use Rattle.std.proofs.lemmas.Bool.Decides.{nat_tests}
 use Rattle.std.specs.Prelude.{◌==◌}
 use Rattle.pg_tree.specs.Trees.{Tree}
 use Rattle.pg_grammar.specs.declared.trail.TrailItem.{TrailItem}
+use Rattle.pg_table.specs.Tables.{Table}
 use Rattle.pg_machine.specs.Messages.{Said}
 use Rattle.pg_machine.specs.Outcomes.{IsUnanswered}
 use Rattle.pg_machine.specs.Tape.{OnFrame, tape_with, tape_is_last}
@@ -27,15 +28,15 @@ not_empty : (n : ℕ) → (suc n == 0) ≡ false
 not_empty n = grind (arith, nat_tests)
 
 -- an answer is the last one where no frame is left
-pub last_fine : (c : Bool) (j : ℕ) (why : Why) (fs : List Frame) (v : List Tree) (t : List TrailItem) (x : List Said) → (length fs == 0) ≡ tape_is_last (tape_with (Fine c j why) (stack_of fs) v t x)
-last_fine c j why [] v t x = refl
-last_fine c j why (f ∷ fs) v t x =
-    let r = some_stack [] (frame_of f) fs in not_empty (length fs) ∙ ap (λ (gs : List OnFrame). tape_is_last (tape_with (Fine c j why) gs v t x)) (sym r.2)
+pub last_fine : (c : Bool) (j : ℕ) (why : Why) (fs : List Frame) (v : List Tree) (t : List TrailItem) (x : List Said) (T : Table) → (length fs == 0) ≡ tape_is_last (tape_with (Fine c j why) (stack_of fs) v t x T)
+last_fine c j why [] v t x T = refl
+last_fine c j why (f ∷ fs) v t x T =
+    let r = some_stack [] (frame_of f) fs in not_empty (length fs) ∙ ap (λ (gs : List OnFrame). tape_is_last (tape_with (Fine c j why) gs v t x T)) (sym r.2)
 
-pub last_failed : (c : Bool) (why : Why) (fs : List Frame) (v : List Tree) (t : List TrailItem) (x : List Said) → (length fs == 0) ≡ tape_is_last (tape_with (Failed c why) (stack_of fs) v t x)
-last_failed c why [] v t x = refl
-last_failed c why (f ∷ fs) v t x =
-    let r = some_stack [] (frame_of f) fs in not_empty (length fs) ∙ ap (λ (gs : List OnFrame). tape_is_last (tape_with (Failed c why) gs v t x)) (sym r.2)
+pub last_failed : (c : Bool) (why : Why) (fs : List Frame) (v : List Tree) (t : List TrailItem) (x : List Said) (T : Table) → (length fs == 0) ≡ tape_is_last (tape_with (Failed c why) (stack_of fs) v t x T)
+last_failed c why [] v t x T = refl
+last_failed c why (f ∷ fs) v t x T =
+    let r = some_stack [] (frame_of f) fs in not_empty (length fs) ∙ ap (λ (gs : List OnFrame). tape_is_last (tape_with (Failed c why) gs v t x T)) (sym r.2)
 
 -- no frame
 pub none_left : (fs : List Frame) → (length fs == 0) ≡ true → stack_of fs ≡ []
@@ -47,8 +48,8 @@ some_left [] h = absurd cc
 some_left (f ∷ fs) h = some_stack [] (frame_of f) fs
 
 -- an answer that isn't the last one
-pub unanswered_fine : (c : Bool) (j : ℕ) (why : Why) (fs : List Frame) (v : List Tree) (t : List TrailItem) (x : List Said) → (length fs == 0) ≡ false → IsUnanswered (tape_with (Fine c j why) (stack_of fs) v t x)
-unanswered_fine c j why fs v t x h = let r = some_left fs h in subst (λ (gs : List OnFrame). IsUnanswered (tape_with (Fine c j why) gs v t x)) (sym r.2) tt
+pub unanswered_fine : (c : Bool) (j : ℕ) (why : Why) (fs : List Frame) (v : List Tree) (t : List TrailItem) (x : List Said) (T : Table) → (length fs == 0) ≡ false → IsUnanswered (tape_with (Fine c j why) (stack_of fs) v t x T)
+unanswered_fine c j why fs v t x T h = let r = some_left fs h in subst (λ (gs : List OnFrame). IsUnanswered (tape_with (Fine c j why) gs v t x T)) (sym r.2) tt
 
-pub unanswered_failed : (c : Bool) (why : Why) (fs : List Frame) (v : List Tree) (t : List TrailItem) (x : List Said) → (length fs == 0) ≡ false → IsUnanswered (tape_with (Failed c why) (stack_of fs) v t x)
-unanswered_failed c why fs v t x h = let r = some_left fs h in subst (λ (gs : List OnFrame). IsUnanswered (tape_with (Failed c why) gs v t x)) (sym r.2) tt
+pub unanswered_failed : (c : Bool) (why : Why) (fs : List Frame) (v : List Tree) (t : List TrailItem) (x : List Said) (T : Table) → (length fs == 0) ≡ false → IsUnanswered (tape_with (Failed c why) (stack_of fs) v t x T)
+unanswered_failed c why fs v t x T h = let r = some_left fs h in subst (λ (gs : List OnFrame). IsUnanswered (tape_with (Failed c why) gs v t x T)) (sym r.2) tt

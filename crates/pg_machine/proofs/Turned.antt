@@ -23,7 +23,7 @@ use Rattle.pg_derive.specs.Leaves.{taken, satisfy_next, word_read, word_next, no
 use Rattle.pg_derive.specs.Outcomes.{Outcome, ok, failed}
 use Rattle.pg_machine.specs.Frames.{Frame}
 use Rattle.pg_machine.specs.Messages.{Said, error_of}
-use Rattle.pg_machine.specs.Shows.{nothing_kept, Stands, no_frames, stands_parts, stands_choice, stands_rounds, stands_first, stands_separator, stands_operand, stands_try, stands_label, stands_rule, stands_text, stands_skip, stands_build, no_parts, Shows, shows_at, shows_fine, shows_failed, shows_stuck, shows_endless}
+use Rattle.pg_machine.specs.Shows.{same_table, nothing_kept, Stands, no_frames, stands_parts, stands_choice, stands_rounds, stands_first, stands_separator, stands_operand, stands_try, stands_label, stands_rule, stands_text, stands_skip, stands_build, no_parts, Shows, shows_at, shows_fine, shows_failed, shows_stuck, shows_endless}
 use Rattle.pg_machine.specs.Tape.{spot_at, OnFrame, Tape, tape_leaf, listed, built_behind, tape_rule, tape_word, tape_enter, tape_enter_at, tape_turn, tape_is_last}
 use Rattle.pg_machine.specs.Why.{why_at, Says}
 use Rattle.pg_machine.specs.Turns.{State, with_outcome, enter_word, enter_rule, enter_form, enter_node, turn, is_last}
@@ -91,31 +91,31 @@ built_seam : (shape : Shape) (symbol : List ℕ) (v w : List Tree) → built_beh
 built_seam shape symbol v w = let a = take_seam v w in let b = drop_seam v w in cc
 
 module _ {T : Table} where
-  leaf_shown : {fs : List Frame} {gs : List OnFrame} {v : List Tree} {t : List TrailItem} {x : List Said} {o : Outcome} → IsLeaf T o → Stands T fs gs v t x → Shows T (with_outcome o fs) (tape_leaf o gs v t x)
-  leaf_shown {x = x} (leaf_ok {e = e} j is) h = shows_fine h (subst (λ (w : Error). Says x (why_at e.place (length x)) w (x ++ listed e.messages)) is (just_says x (listed e.messages) e.place))
+  leaf_shown : {fs : List Frame} {gs : List OnFrame} {v : List Tree} {t : List TrailItem} {x : List Said} {o : Outcome} → IsLeaf T o → Stands fs gs v t x T → Shows (with_outcome o fs) (tape_leaf o gs v t x T)
+  leaf_shown {x = x} (leaf_ok {e = e} j is) h = shows_fine h (subst (λ (w : Error). Says x (why_at e.place (length x)) w (x ++ listed e.messages)) is (just_says x (listed e.messages) e.place)) same_table
   leaf_shown {v = v} {t = t} {x = x} (leaf_failed {e = e} is) h =
-      let a = append-nil v in let d = append-nil t in moved (shows_failed [] [] h (subst (λ (w : Error). Says x (why_at e.place (length x)) w (x ++ listed e.messages)) is (just_says x (listed e.messages) e.place))) cc
+      let a = append-nil v in let d = append-nil t in moved (shows_failed [] [] h (subst (λ (w : Error). Says x (why_at e.place (length x)) w (x ++ listed e.messages)) is (just_says x (listed e.messages) e.place)) same_table) cc
 
   -- ---- nodes are entered
 
-  rule_shown : {fs : List Frame} {gs : List OnFrame} {v : List Tree} {t : List TrailItem} {x : List Said} (named : Option declared.Rule) (i : ℕ) → Stands T fs gs v t x →
-      Shows T (enter_rule named (spot_at T i) fs) (tape_rule named i gs v t x)
+  rule_shown : {fs : List Frame} {gs : List OnFrame} {v : List Tree} {t : List TrailItem} {x : List Said} (named : Option declared.Rule) (i : ℕ) → Stands fs gs v t x T →
+      Shows (enter_rule named (spot_at T i) fs) (tape_rule named i gs v t x T)
   rule_shown None i h = shows_endless
   rule_shown (Some named) i h = shows_at (stands_rule h)
 
-  word_shown : {fs : List Frame} {gs : List OnFrame} {v : List Tree} {t : List TrailItem} {x : List Said} (G : Given) (item : Option WordItem) (i : ℕ) → Stands T fs gs v t x →
-      Shows T (enter_word G item (spot_at T i) fs) (tape_word G T item i gs v t x)
+  word_shown : {fs : List Frame} {gs : List OnFrame} {v : List Tree} {t : List TrailItem} {x : List Said} (G : Given) (item : Option WordItem) (i : ℕ) → Stands fs gs v t x T →
+      Shows (enter_word G item (spot_at T i) fs) (tape_word G item i gs v t x T)
   word_shown G None i h = shows_endless
   word_shown G (Some item) i h = leaf_shown (word_leaf T G.grammar G.text item i (slice_get G.text i)) h
 
-  form_shown : {fs : List Frame} {gs : List OnFrame} {v : List Tree} {t : List TrailItem} {x : List Said} (G : Given) (f : Node) (i : ℕ) → Stands T fs gs v t x →
-      Shows T (enter_form G f (spot_at T i) fs) (tape_enter G T f i gs v t x)
+  form_shown : {fs : List Frame} {gs : List OnFrame} {v : List Tree} {t : List TrailItem} {x : List Said} (G : Given) (f : Node) (i : ℕ) → Stands fs gs v t x T →
+      Shows (enter_form G f (spot_at T i) fs) (tape_enter G f i gs v t x T)
   form_shown G (form.Satisfy class) i h = leaf_shown (satisfy_leaf T G.grammar class i (slice_get G.text i)) h
   form_shown G (form.String s) i h = leaf_shown (string_leaf T G.text s i) h
-  form_shown {v = v} {t = t} {x = x} G (form.Seq []) i h = let a = append-nil v in let d = append-nil t in moved (shows_fine h (nothing_says x i)) cc
+  form_shown {v = v} {t = t} {x = x} G (form.Seq []) i h = let a = append-nil v in let d = append-nil t in moved (shows_fine h (nothing_says x i) same_table) cc
   form_shown {v = v} {t = t} G (form.Seq (p ∷ ps)) i h = let a = append-nil v in let d = append-nil t in moved (shows_at (stands_parts h no_parts)) cc
   form_shown G (form.Choice ps) i h = next_shown 1 ps i h nothing_kept
-  form_shown {v = v} G (form.Many p) i h = let a = append-nil v in moved (shows_at (stands_rounds {w = []} {u = []} (Rounds 0) h)) cc
+  form_shown {v = v} G (form.Many p) i h = let a = append-nil v in moved (shows_at (stands_rounds {w = []} {u = []} (Rounds 0) h same_table)) cc
   form_shown G (form.ChainLeft used p s) i h = shows_at (stands_first (Rounds 0) h)
   form_shown G (form.ChainRight used p s) i h = shows_at (stands_first (Rounds 0) h)
   form_shown G (form.Try p) i h = shows_at (stands_try h)
@@ -130,72 +130,72 @@ module _ {T : Table} where
   form_shown G (form.Build used symbol p) i h = shows_at (stands_build h)
   form_shown G (form.Label p message) i h = shows_at (stands_label h)
 
-  node_shown : {fs : List Frame} {gs : List OnFrame} {v : List Tree} {t : List TrailItem} {x : List Said} (G : Given) (f : Option Node) (i : ℕ) → Stands T fs gs v t x →
-      Shows T (enter_node G f (spot_at T i) fs) (tape_enter_at G T f i gs v t x)
+  node_shown : {fs : List Frame} {gs : List OnFrame} {v : List Tree} {t : List TrailItem} {x : List Said} (G : Given) (f : Option Node) (i : ℕ) → Stands fs gs v t x T →
+      Shows (enter_node G f (spot_at T i) fs) (tape_enter_at G f i gs v t x T)
   node_shown G None i h = shows_endless
   node_shown G (Some f) i h = form_shown G f i h
 
 -- ---- one turn
 
-pub turn_shown : (G : Given) (T : Table) {st : State} {x : Tape} → Shows T st x → is_last st ≡ false → Shows T (turn G st) (tape_turn G T x)
-turn_shown G T (shows_at {p = p} {i = i} h) going = node_shown G (slice_get G.grammar.nodes p) i h
-turn_shown G T (shows_fine no_frames o) going = cc
-turn_shown G T (shows_fine {w = s} {u = r} {c = c} {j = j} (stands_parts {ps = ps} h k) o) going = parts_fine ps c j s r h k o
-turn_shown G T (shows_fine {w = s} {u = r} {c = c} {j = j} (stands_choice {ps = ps} {k = k} {i = i} h q) o) going = choice_fine G.reading k ps i c j s r h q o
-turn_shown G T (shows_fine {w = s} {u = r} {c = c} {j = j} (stands_rounds {w = w} {u = u} {p = p} {k = k} {i = i} {c = b} item h) o) going = rounds_fine w u p k b i item c j s r h o
-turn_shown G T (shows_fine {w = s} {u = r} {c = c} {j = j} (stands_first {ch = ch} item h) o) going = first_fine ch item c j s r h o
-turn_shown G T (shows_fine {w = s} {u = r} {c = c} {j = j} (stands_separator h k) o) going = separator_fine c j s r h k o
-turn_shown G T (shows_fine {w = s} {u = r} {c = d} {j = j} (stands_operand {s = a} {r = q} {c = c} h k m) o) going = operand_fine a q c d j s r h k m o
-turn_shown G T (shows_fine (stands_try h) o) going = shows_fine h o
-turn_shown G T (shows_fine {c = c} (stands_label {message = message} h) o) going = shows_fine h (label_fine_says c message o)
-turn_shown G T (shows_fine (stands_rule h) o) going = shows_fine h o
-turn_shown G T (shows_fine {v = v} {w = s} (stands_text h) o) going = let a = take_seam v s in moved (shows_fine h o) cc
-turn_shown G T (shows_fine {v = v} {w = s} (stands_skip h) o) going = let a = take_seam v s in let d = append-nil v in moved (shows_fine h o) cc
-turn_shown G T (shows_fine {v = v} {w = s} (stands_build {used = used} {symbol = symbol} h) o) going = let a = built_seam used.shape symbol v s in moved (shows_fine h o) cc
-turn_shown G T (shows_failed w u no_frames o) going = cc
-turn_shown G T (shows_failed {c = c} s r (stands_parts {ps = ps} h k) o) going = parts_failed ps c s r h k o
-turn_shown G T (shows_failed {c = c} s r (stands_choice {ps = ps} {k = k} {i = i} h q) o) going = choice_failed G.reading k ps i c s r h q o
-turn_shown G T (shows_failed {c = c} s r (stands_rounds {w = w} {u = u} {p = p} {k = k} {i = i} {c = b} item h) o) going = rounds_failed w u p k b i item c s r h o
-turn_shown G T (shows_failed {c = c} s r (stands_first {ch = ch} item h) o) going = first_failed ch item c s r h o
-turn_shown G T (shows_failed {c = c} s r (stands_separator h k) o) going = ended_shown c s r h k o
-turn_shown G T (shows_failed {c = d} s r (stands_operand {s = a} {r = q} {c = c} h k m) o) going = operand_failed a q c d s r h k m o
-turn_shown G T (shows_failed s r (stands_try h) o) going = shows_failed s r h o
-turn_shown G T (shows_failed {c = c} s r (stands_label {message = message} h) o) going = shows_failed s r h (label_failed_says c message o)
-turn_shown G T (shows_failed s r (stands_rule h) o) going = shows_failed s r h o
-turn_shown G T (shows_failed s r (stands_text h) o) going = shows_failed s r h o
-turn_shown G T (shows_failed s r (stands_skip h) o) going = shows_failed s r h o
-turn_shown G T (shows_failed s r (stands_build h) o) going = shows_failed s r h o
-turn_shown G T shows_stuck going = cc
-turn_shown G T shows_endless going = cc
+pub turn_shown : (G : Given) {st : State} {x : Tape} → Shows st x → is_last st ≡ false → Shows (turn G st) (tape_turn G x)
+turn_shown G (shows_at {p = p} {i = i} h) going = node_shown G (slice_get G.grammar.nodes p) i h
+turn_shown G (shows_fine no_frames o e) going = cc
+turn_shown G (shows_fine {w = s} {u = r} {c = c} {j = j} (stands_parts {ps = ps} h k) o e) going = parts_fine ps c j s r h k o e
+turn_shown G (shows_fine {w = s} {u = r} {c = c} {j = j} (stands_choice {ps = ps} {k = k} {i = i} h q) o e) going = choice_fine G.reading k ps i c j s r h q o e
+turn_shown G (shows_fine {w = s} {u = r} {c = c} {j = j} (stands_rounds {w = w} {u = u} {p = p} {k = k} {i = i} {c = b} item h l) o e) going = rounds_fine w u p k b i item c j s r h l o e
+turn_shown G (shows_fine {w = s} {u = r} {c = c} {j = j} (stands_first {ch = ch} item h) o e) going = first_fine ch item c j s r h o e
+turn_shown G (shows_fine {w = s} {u = r} {c = c} {j = j} (stands_separator h k) o e) going = separator_fine c j s r h k o e
+turn_shown G (shows_fine {w = s} {u = r} {c = d} {j = j} (stands_operand {s = a} {r = q} {c = c} h k m l) o e) going = operand_fine a q c d j s r h k m l o e
+turn_shown G (shows_fine (stands_try h) o e) going = shows_fine h o e
+turn_shown G (shows_fine {c = c} (stands_label {message = message} h) o e) going = shows_fine h (label_fine_says c message o) e
+turn_shown G (shows_fine (stands_rule h) o e) going = shows_fine h o e
+turn_shown G (shows_fine {v = v} {w = s} (stands_text h) o e) going = let a = take_seam v s in moved (shows_fine h o e) cc
+turn_shown G (shows_fine {v = v} {w = s} (stands_skip h) o e) going = let a = take_seam v s in let d = append-nil v in moved (shows_fine h o e) cc
+turn_shown G (shows_fine {v = v} {w = s} (stands_build {used = used} {symbol = symbol} h) o e) going = let a = built_seam used.shape symbol v s in moved (shows_fine h o e) cc
+turn_shown G (shows_failed w u no_frames o e) going = cc
+turn_shown G (shows_failed {c = c} s r (stands_parts {ps = ps} h k) o e) going = parts_failed ps c s r h k o e
+turn_shown G (shows_failed {c = c} s r (stands_choice {ps = ps} {k = k} {i = i} h q) o e) going = choice_failed G.reading k ps i c s r h q o e
+turn_shown G (shows_failed {c = c} s r (stands_rounds {w = w} {u = u} {p = p} {k = k} {i = i} {c = b} item h l) o e) going = rounds_failed w u p k b i item c s r h l o e
+turn_shown G (shows_failed {c = c} s r (stands_first {ch = ch} item h) o e) going = first_failed ch item c s r h o e
+turn_shown G (shows_failed {c = c} s r (stands_separator h k) o e) going = ended_shown c s r h k o e
+turn_shown G (shows_failed {c = d} s r (stands_operand {s = a} {r = q} {c = c} h k m l) o e) going = operand_failed a q c d s r h k m l o e
+turn_shown G (shows_failed s r (stands_try h) o e) going = shows_failed s r h o e
+turn_shown G (shows_failed {c = c} s r (stands_label {message = message} h) o e) going = shows_failed s r h (label_failed_says c message o) e
+turn_shown G (shows_failed s r (stands_rule h) o e) going = shows_failed s r h o e
+turn_shown G (shows_failed s r (stands_text h) o e) going = shows_failed s r h o e
+turn_shown G (shows_failed s r (stands_skip h) o e) going = shows_failed s r h o e
+turn_shown G (shows_failed s r (stands_build h) o e) going = shows_failed s r h o e
+turn_shown G shows_stuck going = cc
+turn_shown G shows_endless going = cc
 
 -- a state is the last one where its tape is
-pub last_shown : {T : Table} {st : State} {x : Tape} → Shows T st x → is_last st ≡ tape_is_last x
+pub last_shown : {st : State} {x : Tape} → Shows st x → is_last st ≡ tape_is_last x
 last_shown (shows_at h) = refl
-last_shown (shows_fine no_frames o) = refl
-last_shown (shows_fine (stands_parts h k) o) = refl
-last_shown (shows_fine (stands_choice h q) o) = refl
-last_shown (shows_fine (stands_rounds item h) o) = refl
-last_shown (shows_fine (stands_first item h) o) = refl
-last_shown (shows_fine (stands_separator h k) o) = refl
-last_shown (shows_fine (stands_operand h k m) o) = refl
-last_shown (shows_fine (stands_try h) o) = refl
-last_shown (shows_fine (stands_label h) o) = refl
-last_shown (shows_fine (stands_rule h) o) = refl
-last_shown (shows_fine (stands_text h) o) = refl
-last_shown (shows_fine (stands_skip h) o) = refl
-last_shown (shows_fine (stands_build h) o) = refl
-last_shown (shows_failed s r no_frames o) = refl
-last_shown (shows_failed s r (stands_parts h k) o) = refl
-last_shown (shows_failed s r (stands_choice h q) o) = refl
-last_shown (shows_failed s r (stands_rounds item h) o) = refl
-last_shown (shows_failed s r (stands_first item h) o) = refl
-last_shown (shows_failed s r (stands_separator h k) o) = refl
-last_shown (shows_failed s r (stands_operand h k m) o) = refl
-last_shown (shows_failed s r (stands_try h) o) = refl
-last_shown (shows_failed s r (stands_label h) o) = refl
-last_shown (shows_failed s r (stands_rule h) o) = refl
-last_shown (shows_failed s r (stands_text h) o) = refl
-last_shown (shows_failed s r (stands_skip h) o) = refl
-last_shown (shows_failed s r (stands_build h) o) = refl
+last_shown (shows_fine no_frames o e) = refl
+last_shown (shows_fine (stands_parts h k) o e) = refl
+last_shown (shows_fine (stands_choice h q) o e) = refl
+last_shown (shows_fine (stands_rounds item h l) o e) = refl
+last_shown (shows_fine (stands_first item h) o e) = refl
+last_shown (shows_fine (stands_separator h k) o e) = refl
+last_shown (shows_fine (stands_operand h k m l) o e) = refl
+last_shown (shows_fine (stands_try h) o e) = refl
+last_shown (shows_fine (stands_label h) o e) = refl
+last_shown (shows_fine (stands_rule h) o e) = refl
+last_shown (shows_fine (stands_text h) o e) = refl
+last_shown (shows_fine (stands_skip h) o e) = refl
+last_shown (shows_fine (stands_build h) o e) = refl
+last_shown (shows_failed s r no_frames o e) = refl
+last_shown (shows_failed s r (stands_parts h k) o e) = refl
+last_shown (shows_failed s r (stands_choice h q) o e) = refl
+last_shown (shows_failed s r (stands_rounds item h l) o e) = refl
+last_shown (shows_failed s r (stands_first item h) o e) = refl
+last_shown (shows_failed s r (stands_separator h k) o e) = refl
+last_shown (shows_failed s r (stands_operand h k m l) o e) = refl
+last_shown (shows_failed s r (stands_try h) o e) = refl
+last_shown (shows_failed s r (stands_label h) o e) = refl
+last_shown (shows_failed s r (stands_rule h) o e) = refl
+last_shown (shows_failed s r (stands_text h) o e) = refl
+last_shown (shows_failed s r (stands_skip h) o e) = refl
+last_shown (shows_failed s r (stands_build h) o e) = refl
 last_shown shows_stuck = refl
 last_shown shows_endless = refl

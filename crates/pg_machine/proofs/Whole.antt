@@ -9,7 +9,7 @@ use Rattle.pg_derive.specs.Outcomes.{Outcome, ok, failed, empty_round}
 use Rattle.pg_derive.specs.WholeTexts.{AnswersText, from_start, at_end, nodes_to_end}
 use Rattle.pg_derive.proofs.AcceptedTexts.{refuses_rightly, derives_once}
 use Rattle.pg_derive.proofs.WholeTexts.{answered_derived}
-use Rattle.pg_machine.specs.CheckedRuns.{IsAccepted, IsTextAnswer, IsStartAnswer, IsOnlyDerivation, IsUnderivable}
+use Rattle.pg_machine.specs.CheckedRuns.{HasAcceptedGrammar, IsTextAnswer, IsStartAnswer, IsOnlyDerivation, IsUnderivable}
 use Rattle.pg_machine.specs.Outcomes.{outcome_of, outcome_with}
 use Rattle.pg_machine.specs.Tape.{spot_at}
 use Rattle.pg_machine.specs.declared.answer.Answer.{Answer}
@@ -32,20 +32,20 @@ whole G T a b h e p s = let counted = s ∙ h.steps in let few = (one_more (outc
   most = omega arith;
 }
 
-ok_only : (G : Given) → IsAccepted G → (T : Table) → ComesFrom G.grammar T → (c : Bool) (e : Error) (n : ℕ) (s : Option Success) → AnswersText G T (outcome_with c e s) n → IfSome s (IsOnlyDerivation G.grammar G.text T)
+ok_only : (G : Given) → HasAcceptedGrammar G → (T : Table) → ComesFrom G.grammar T → (c : Bool) (e : Error) (n : ℕ) (s : Option Success) → AnswersText G T (outcome_with c e s) n → IfSome s (IsOnlyDerivation G.grammar G.text T)
 ok_only G h T from c e n None d = tt
 ok_only G h T from c e n (Some s) d =
     let is = answered_derived G T c (spot_at s.table s.place) s.forest s.trail e n d in
     record { end = is.0; derives = is.1; only = λ after forest trail k. derives_once G h.0 h.1 T s.table after s.forest forest s.trail trail from is.1 k }
 
-failed_none : (G : Given) → IsAccepted G → (T : Table) → ComesFrom G.grammar T → (c : Bool) (e : Error) (n : ℕ) (s : Option Success) → AnswersText G T (outcome_with c e s) n → IfNone s (IsUnderivable G.grammar G.text T)
+failed_none : (G : Given) → HasAcceptedGrammar G → (T : Table) → ComesFrom G.grammar T → (c : Bool) (e : Error) (n : ℕ) (s : Option Success) → AnswersText G T (outcome_with c e s) n → IfNone s (IsUnderivable G.grammar G.text T)
 failed_none G h T from c e n None d = λ after forest trail k. refuses_rightly G h.0 h.1 T c e n from d after forest trail k
 failed_none G h T from c e n (Some s) d = tt
 
-pub derived : (G : Given) → IsAccepted G → (T : Table) → ComesFrom G.grammar T → (a : Answer) → IsTextAnswer G T a → IfSome a.success (IsOnlyDerivation G.grammar G.text T)
+pub derived : (G : Given) → HasAcceptedGrammar G → (T : Table) → ComesFrom G.grammar T → (a : Answer) → IsTextAnswer G T a → IfSome a.success (IsOnlyDerivation G.grammar G.text T)
 derived G h T from a x = ok_only G h T from a.consumed (without_position a.error) x.nodes a.success x.answers
 
-pub refused : (G : Given) → IsAccepted G → (T : Table) → ComesFrom G.grammar T → (a : Answer) → IsTextAnswer G T a → IfNone a.success (IsUnderivable G.grammar G.text T)
+pub refused : (G : Given) → HasAcceptedGrammar G → (T : Table) → ComesFrom G.grammar T → (a : Answer) → IsTextAnswer G T a → IfNone a.success (IsUnderivable G.grammar G.text T)
 refused G h T from a x = failed_none G h T from a.consumed (without_position a.error) x.nodes a.success x.answers
 
 -- the same where memory may have run out

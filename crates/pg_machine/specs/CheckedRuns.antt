@@ -16,8 +16,8 @@ use Rattle.pg_machine.specs.declared.answer.Answer.{Answer}
 use Rattle.pg_machine.specs.declared.answer.Success.{Success}
 
 -- nothing is wrong with the grammar, as some sets show; the text is one of characters
-abbrev pub IsAccepted : Given → Type 0
-IsAccepted G = (sets : Sets) × Accepts G sets
+abbrev pub HasAcceptedGrammar : Given → Type 0
+HasAcceptedGrammar G = (sets : Sets) × Accepts G sets
 
 -- the answer is the relation's, of the start rule and the end of the text behind it, with its error's position, after about
 -- two turns for each node, which are counted up to the greatest number

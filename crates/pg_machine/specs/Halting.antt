@@ -8,38 +8,38 @@ use Rattle.pg_table.specs.Tables.{Table}
 use Rattle.pg_derive.specs.Answers.{Given}
 use Rattle.pg_machine.specs.Tape.{Tape, tape_at, tape_endless, tape_turn, tape_is_last}
 
--- a rule's body is to be entered at the start of the text, with empty lists
-abbrev pub tape_before : Option declared.Rule → Tape
-tape_before None = tape_endless
-tape_before (Some rule) = tape_at rule.body 0 [] [] [] []
+-- a rule's body is to be entered at the start of the text, under the table, with empty lists
+abbrev pub tape_before : Table → Option declared.Rule → Tape
+tape_before table None = tape_endless
+tape_before table (Some rule) = tape_at rule.body 0 [] [] [] [] table
 
 -- no turn is left after exactly so many
-abbrev pub IsLastAfter : Given → Table → ℕ → Tape → Type 0
-IsLastAfter G table zero x = tape_is_last x ≡ true
-IsLastAfter G table (suc k) x = (tape_is_last x ≡ false) × IsLastAfter G table k (tape_turn G table x)
+abbrev pub IsLastAfter : Given → ℕ → Tape → Type 0
+IsLastAfter G zero x = tape_is_last x ≡ true
+IsLastAfter G (suc k) x = (tape_is_last x ≡ false) × IsLastAfter G k (tape_turn G x)
 
 -- after some number of turns from the start rule none is left
 abbrev pub Halts : Given → Table → Type 0
-Halts G table = (k : ℕ) × IsLastAfter G table k (tape_before (slice_get G.grammar.rules G.grammar.start))
+Halts G table = (k : ℕ) × IsLastAfter G k (tape_before table (slice_get G.grammar.rules G.grammar.start))
 
 -- how many turns are left, of so many at most
-abbrev pub turns_left : Given → Table → ℕ → Tape → ℕ
-turns_left G table zero x = zero
-turns_left G table (suc most) x = if tape_is_last x then zero else suc (turns_left G table most (tape_turn G table x))
+abbrev pub turns_left : Given → ℕ → Tape → ℕ
+turns_left G zero x = zero
+turns_left G (suc most) x = if tape_is_last x then zero else suc (turns_left G most (tape_turn G x))
 
 -- ---- there is one number of turns
 
-IsLastAfter-prop : (G : Given) (table : Table) (k : ℕ) (x : Tape) → IsProp (IsLastAfter G table k x)
-IsLastAfter-prop G table zero x = Coded-set coded_bool (tape_is_last x) true
-IsLastAfter-prop G table (suc k) x = ×_prop (Coded-set coded_bool (tape_is_last x) false) (IsLastAfter-prop G table k (tape_turn G table x))
+IsLastAfter-prop : (G : Given) (k : ℕ) (x : Tape) → IsProp (IsLastAfter G k x)
+IsLastAfter-prop G zero x = Coded-set coded_bool (tape_is_last x) true
+IsLastAfter-prop G (suc k) x = ×_prop (Coded-set coded_bool (tape_is_last x) false) (IsLastAfter-prop G k (tape_turn G x))
 
-same_turns : (G : Given) (table : Table) (j k : ℕ) (x : Tape) → IsLastAfter G table j x → IsLastAfter G table k x → j ≡ k
-same_turns G table zero zero x h e = refl
-same_turns G table zero (suc k) x h e = let f = e.0 in absurd cc
-same_turns G table (suc j) zero x h e = let f = h.0 in absurd cc
-same_turns G table (suc j) (suc k) x h e = ap suc (same_turns G table j k (tape_turn G table x) h.1 e.1)
+same_turns : (G : Given) (j k : ℕ) (x : Tape) → IsLastAfter G j x → IsLastAfter G k x → j ≡ k
+same_turns G zero zero x h e = refl
+same_turns G zero (suc k) x h e = let f = e.0 in absurd cc
+same_turns G (suc j) zero x h e = let f = h.0 in absurd cc
+same_turns G (suc j) (suc k) x h e = ap suc (same_turns G j k (tape_turn G x) h.1 e.1)
 
 pub Halts-prop : (G : Given) (table : Table) → IsProp (Halts G table)
 Halts-prop G table one other =
-    Σ_prop_path (λ k. IsLastAfter-prop G table k (tape_before (slice_get G.grammar.rules G.grammar.start)))
-    (same_turns G table one.0 other.0 (tape_before (slice_get G.grammar.rules G.grammar.start)) one.1 other.1)
+    Σ_prop_path (λ k. IsLastAfter-prop G k (tape_before table (slice_get G.grammar.rules G.grammar.start)))
+    (same_turns G one.0 other.0 (tape_before table (slice_get G.grammar.rules G.grammar.start)) one.1 other.1)

@@ -48,41 +48,41 @@ IsOutcome G table most EmptyRound = (m : ℕ) × AnswersStart G table outcome.em
 -- ---- how the machine ends
 
 -- the answer that lies on the tape, where no frame is left
-abbrev pub answer_on : Table → Tape → Option Outcome
-answer_on table (tape_at p i fs v t x) = None
-answer_on table (tape_with (reply.Fine c j why) [] v t x) = Some (outcome.ok c (spot_at table j) v t (error_of why.place (drop why.from x)))
-answer_on table (tape_with (reply.Failed c why) [] v t x) = Some (outcome.failed c (error_of why.place (drop why.from x)))
-answer_on table (tape_with (reply.Fine c j why) (f ∷ fs) v t x) = None
-answer_on table (tape_with (reply.Failed c why) (f ∷ fs) v t x) = None
-answer_on table (tape_with reply.EmptyRound fs v t x) = None
-answer_on table tape_endless = None
+abbrev pub answer_on : Tape → Option Outcome
+answer_on (tape_at p i fs v t x T) = None
+answer_on (tape_with (reply.Fine c j why) [] v t x T) = Some (outcome.ok c (spot_at T j) v t (error_of why.place (drop why.from x)))
+answer_on (tape_with (reply.Failed c why) [] v t x T) = Some (outcome.failed c (error_of why.place (drop why.from x)))
+answer_on (tape_with (reply.Fine c j why) (f ∷ fs) v t x T) = None
+answer_on (tape_with (reply.Failed c why) (f ∷ fs) v t x T) = None
+answer_on (tape_with reply.EmptyRound fs v t x T) = None
+answer_on tape_endless = None
 
 -- a round was empty
 abbrev pub IsStuck : Tape → Type 0
-IsStuck (tape_at p i fs v t x) = ⊥
-IsStuck (tape_with (reply.Fine c j why) fs v t x) = ⊥
-IsStuck (tape_with (reply.Failed c why) fs v t x) = ⊥
-IsStuck (tape_with reply.EmptyRound fs v t x) = Unit {0}
+IsStuck (tape_at p i fs v t x T) = ⊥
+IsStuck (tape_with (reply.Fine c j why) fs v t x T) = ⊥
+IsStuck (tape_with (reply.Failed c why) fs v t x T) = ⊥
+IsStuck (tape_with reply.EmptyRound fs v t x T) = Unit {0}
 IsStuck tape_endless = ⊥
 
 -- neither an answer nor an empty round
 abbrev pub IsUnanswered : Tape → Type 0
-IsUnanswered (tape_at p i fs v t x) = Unit {0}
-IsUnanswered (tape_with (reply.Fine c j why) [] v t x) = ⊥
-IsUnanswered (tape_with (reply.Failed c why) [] v t x) = ⊥
-IsUnanswered (tape_with (reply.Fine c j why) (f ∷ fs) v t x) = Unit {0}
-IsUnanswered (tape_with (reply.Failed c why) (f ∷ fs) v t x) = Unit {0}
-IsUnanswered (tape_with reply.EmptyRound fs v t x) = ⊥
+IsUnanswered (tape_at p i fs v t x T) = Unit {0}
+IsUnanswered (tape_with (reply.Fine c j why) [] v t x T) = ⊥
+IsUnanswered (tape_with (reply.Failed c why) [] v t x T) = ⊥
+IsUnanswered (tape_with (reply.Fine c j why) (f ∷ fs) v t x T) = Unit {0}
+IsUnanswered (tape_with (reply.Failed c why) (f ∷ fs) v t x T) = Unit {0}
+IsUnanswered (tape_with reply.EmptyRound fs v t x T) = ⊥
 IsUnanswered tape_endless = Unit {0}
 
 -- the answer is what lies on the tape
-pub record IsAnswerOn (text : List ℕ) (table : Table) (tape : Tape) (taken : ℕ) (a : Answer) : Type 0 where
-  pub outcome : answer_on table tape ≡ Some (outcome_of a)
+pub record IsAnswerOn (text : List ℕ) (tape : Tape) (taken : ℕ) (a : Answer) : Type 0 where
+  pub outcome : answer_on tape ≡ Some (outcome_of a)
   pub position : a.error.position ≡ position_of text a.error.place
   pub steps : a.steps ≡ taken
 
 -- so a run ends whose machine has this tape after so many steps
-abbrev pub Ends : List ℕ → Table → Tape → ℕ → ended.Outcome → Type 0
-Ends text table tape steps (Answered a) = IsAnswerOn text table tape steps a
-Ends text table tape steps StepsUsed = IsUnanswered tape
-Ends text table tape steps EmptyRound = IsStuck tape
+abbrev pub Ends : List ℕ → Tape → ℕ → ended.Outcome → Type 0
+Ends text tape steps (Answered a) = IsAnswerOn text tape steps a
+Ends text tape steps StepsUsed = IsUnanswered tape
+Ends text tape steps EmptyRound = IsStuck tape

@@ -7,8 +7,8 @@ use Rattle.pg_machine.specs.Tape.{OnFrame, on_parts, on_choice, on_rounds, on_fi
 -- the counts of a frame can grow, and the builder that it names is offered
 abbrev pub IsReady : Offer → ℕ → OnFrame → Type 0
 IsReady offer most (on_parts rest before) = Unit {0}
-IsReady offer most (on_choice k ps i kept n m) = k < most
-IsReady offer most (on_rounds p k c i slot n m l) = k < most
+IsReady offer most (on_choice k ps i kept n m o) = k < most
+IsReady offer most (on_rounds p k c i slot n m o l) = k < most
 IsReady offer most (on_first chain slot n) = BuilderFits offer chain.used
 IsReady offer most (on_separator links) = (links.count < most) × BuilderFits offer links.chain.used
 IsReady offer most (on_operand links before n) = (links.count < most) × BuilderFits offer links.chain.used
@@ -24,6 +24,6 @@ AreReady offer most [] = Unit {0}
 AreReady offer most (f ∷ fs) = IsReady offer most f × AreReady offer most fs
 
 abbrev pub IsTapeReady : Offer → ℕ → Tape → Type 0
-IsTapeReady offer most (tape_at p i fs v t x) = AreReady offer most fs
-IsTapeReady offer most (tape_with reply fs v t x) = AreReady offer most fs
+IsTapeReady offer most (tape_at p i fs v t x T) = AreReady offer most fs
+IsTapeReady offer most (tape_with reply fs v t x T) = AreReady offer most fs
 IsTapeReady offer most tape_endless = Unit {0}

@@ -1,4 +1,5 @@
--- The machine over one forest, one trail and one list of messages: frames keep how long these lists were.
+-- The machine over one forest, one trail, one list of messages and one table: frames keep how long these lists, and that of the
+-- table's operators, were.
 use Rattle.std.specs.Prelude.{ℕ, suc, zero, ◌==◌, List, [], ◌∷◌, ◌++◌, length, take, drop, map, Option, Some, None, Bool, true, false, ◌||◌, slice_get, slice_set, if◌then◌else◌}
 use Rattle.pg_tree.specs.Built.{built}
 use Rattle.pg_tree.specs.Trees.{Tree}
@@ -14,7 +15,7 @@ use Rattle.pg_grammar.specs.declared.trail.TrailItem.TheVariants.{Alt, Rounds}
 use Rattle.pg_grammar.specs.declared.used.BuilderUse.{BuilderUse}
 use Rattle.pg_grammar.specs.declared.word_item.WordItem.{WordItem}
 use Rattle.pg_table.specs.Derives.{Spot, leaf_of, span}
-use Rattle.pg_table.specs.Tables.{Table}
+use Rattle.pg_table.specs.Tables.{Table, first_operators}
 use Rattle.pg_derive.specs.Answers.{Given}
 use Rattle.pg_derive.specs.Leaves.{satisfy_outcome, string_outcome, word_outcome, not_followed_outcome, end_outcome}
 use Rattle.pg_derive.specs.Outcomes as outcome
@@ -61,13 +62,15 @@ pub record OnLinks : Type 0 where
   pub start : ℕ
   pub forest : ℕ
   pub trail : ℕ
+  pub operators : ℕ
 
 pub data OnFrame : Type 0 where
   on_parts : (rest : List ℕ) (before : Option Before) → OnFrame
-  -- with how long the forest and the trail were before the alternatives
-  on_choice : (which : ℕ) (rest : List ℕ) (start : ℕ) (kept : OnKept) (forest trail : ℕ) → OnFrame
-  -- with the place of its item, how long the forest and the trail were before the round, and the messages before all rounds
-  on_rounds : (part count : ℕ) (consumed : Bool) (start slot forest trail messages : ℕ) → OnFrame
+  -- with how long the forest and the trail were before the alternatives, and how many operators there were
+  on_choice : (which : ℕ) (rest : List ℕ) (start : ℕ) (kept : OnKept) (forest trail operators : ℕ) → OnFrame
+  -- with the place of its item, how long the forest and the trail were before the round, how many operators there were, and
+  -- the messages before all rounds
+  on_rounds : (part count : ℕ) (consumed : Bool) (start slot forest trail operators messages : ℕ) → OnFrame
   -- with the place of its item, and how long the forest was
   on_first : OnChain → (slot forest : ℕ) → OnFrame
   on_separator : OnLinks → OnFrame
@@ -80,10 +83,10 @@ pub data OnFrame : Type 0 where
   on_skip : (forest : ℕ) → OnFrame
   on_build : (used : BuilderUse) (symbol : List ℕ) (forest : ℕ) → OnFrame
 
--- the topmost frame first, the forest, the trail and the messages
+-- the topmost frame first, the forest, the trail, the messages, and the table in force
 pub data Tape : Type 0 where
-  tape_at : (node place : ℕ) (fs : List OnFrame) (v : List Tree) (t : List TrailItem) (x : List Said) → Tape
-  tape_with : (reply : Reply) (fs : List OnFrame) (v : List Tree) (t : List TrailItem) (x : List Said) → Tape
+  tape_at : (node place : ℕ) (fs : List OnFrame) (v : List Tree) (t : List TrailItem) (x : List Said) (T : Table) → Tape
+  tape_with : (reply : Reply) (fs : List OnFrame) (v : List Tree) (t : List TrailItem) (x : List Said) (T : Table) → Tape
   tape_endless : Tape
 
 -- ---- leaves
@@ -97,11 +100,11 @@ listed m = listed_kind SystemUnexpected m.system_unexpected ++ (listed_kind Unex
     ++ listed_kind Plain m.plain))
 
 -- what a leaf came to is put on the lists
-abbrev pub tape_leaf : Outcome → List OnFrame → List Tree → List TrailItem → List Said → Tape
-tape_leaf (outcome.ok c b w u e) fs v t x = tape_with (Fine c b.place (why_at e.place (length x))) fs (v ++ w) (t ++ u)
-    (x ++ listed e.messages)
-tape_leaf (outcome.failed c e) fs v t x = tape_with (Failed c (why_at e.place (length x))) fs v t (x ++ listed e.messages)
-tape_leaf outcome.empty_round fs v t x = tape_with EmptyRound fs v t x
+abbrev pub tape_leaf : Outcome → List OnFrame → List Tree → List TrailItem → List Said → Table → Tape
+tape_leaf (outcome.ok c b w u e) fs v t x T = tape_with (Fine c b.place (why_at e.place (length x))) fs (v ++ w) (t ++ u)
+    (x ++ listed e.messages) b.table
+tape_leaf (outcome.failed c e) fs v t x T = tape_with (Failed c (why_at e.place (length x))) fs v t (x ++ listed e.messages) T
+tape_leaf outcome.empty_round fs v t x T = tape_with EmptyRound fs v t x T
 
 -- ---- sequences
 
@@ -122,38 +125,42 @@ joined_messages (Some b) c why x = messages_behind c b.held why x
 abbrev pub before_at : Bool → ℕ → Why → Before
 before_at c upto why = record { consumed = c; held = held_at upto why }
 
-abbrev pub tape_next_part : List ℕ → Bool → ℕ → Why → List OnFrame → List Tree → List TrailItem → List Said → Tape
-tape_next_part [] c j why fs v t x = tape_with (Fine c j why) fs v t x
-tape_next_part (p ∷ ps) c j why fs v t x = tape_at p j (on_parts ps (Some (before_at c (length x) why)) ∷ fs) v t x
+abbrev pub tape_next_part : List ℕ → Bool → ℕ → Why → List OnFrame → List Tree → List TrailItem → List Said → Table → Tape
+tape_next_part [] c j why fs v t x T = tape_with (Fine c j why) fs v t x T
+tape_next_part (p ∷ ps) c j why fs v t x T = tape_at p j (on_parts ps (Some (before_at c (length x) why)) ∷ fs) v t x T
 
-abbrev pub tape_to_parts : List ℕ → Option Before → Reply → List OnFrame → List Tree → List TrailItem → List Said → Tape
-tape_to_parts rest before (Fine c j why) fs v t x = tape_next_part rest (joined_consumed before c) j (joined_why before c why x) fs v t
-    (joined_messages before c why x)
-tape_to_parts rest before (Failed c why) fs v t x = tape_with (Failed (joined_consumed before c)
-    (joined_why before c why x)) fs v t (joined_messages before c why x)
-tape_to_parts rest before EmptyRound fs v t x = tape_with EmptyRound fs v t x
+abbrev pub tape_to_parts : List ℕ → Option Before → Reply → List OnFrame → List Tree → List TrailItem → List Said → Table → Tape
+tape_to_parts rest before (Fine c j why) fs v t x T = tape_next_part rest (joined_consumed before c) j (joined_why before c why x) fs v t
+    (joined_messages before c why x) T
+tape_to_parts rest before (Failed c why) fs v t x T = tape_with (Failed (joined_consumed before c)
+    (joined_why before c why x)) fs v t (joined_messages before c why x) T
+tape_to_parts rest before EmptyRound fs v t x T = tape_with EmptyRound fs v t x T
 
 -- ---- choices
 
 -- the last answer of the alternatives, behind what those before it came to: their lists were so long
-abbrev pub tape_settled : OnKept → ℕ → ℕ → Reply → List OnFrame → List Tree → List TrailItem → List Said → Tape
-tape_settled no_kept n m reply fs v t x = tape_with reply fs v t x
-tape_settled (kept_failure held) n m (Fine c j why) fs v t x = tape_with (Fine c j (why_behind c held why x)) fs v t (messages_behind c
-    held why x)
-tape_settled (kept_failure held) n m (Failed c why) fs v t x = tape_with (Failed c (why_behind c held why x)) fs v t (messages_behind c
-    held why x)
-tape_settled (kept_failure held) n m EmptyRound fs v t x = tape_with EmptyRound fs v t x
-tape_settled (kept_empty_ok i w u held) n m (Fine true j why) fs v t x = tape_with (Fine true j why) fs v t x
-tape_settled (kept_empty_ok i w u held) n m (Fine false j why) fs v t x =
+abbrev pub tape_settled : OnKept → ℕ → ℕ → ℕ → Reply → List OnFrame → List Tree → List TrailItem → List Said → Table → Tape
+tape_settled no_kept n m o reply fs v t x T = tape_with reply fs v t x T
+tape_settled (kept_failure held) n m o (Fine c j why) fs v t x T = tape_with (Fine c j (why_behind c held why x)) fs v t (messages_behind c
+    held why x) T
+tape_settled (kept_failure held) n m o (Failed c why) fs v t x T = tape_with (Failed c (why_behind c held why x)) fs v t (messages_behind c
+    held why x) T
+tape_settled (kept_failure held) n m o EmptyRound fs v t x T = tape_with EmptyRound fs v t x T
+tape_settled (kept_empty_ok i w u held) n m o (Fine true j why) fs v t x T = tape_with (Fine true j why) fs v t x T
+tape_settled (kept_empty_ok i w u held) n m o (Fine false j why) fs v t x T =
     tape_with (Fine false i (merged_why held why x)) fs (take n v ++ w) (take m t ++ u) (merged_messages held why x)
-tape_settled (kept_empty_ok i w u held) n m (Failed true why) fs v t x = tape_with (Failed true why) fs v t x
-tape_settled (kept_empty_ok i w u held) n m (Failed false why) fs v t x =
+    (first_operators o T)
+tape_settled (kept_empty_ok i w u held) n m o (Failed true why) fs v t x T = tape_with (Failed true why) fs v t x T
+tape_settled (kept_empty_ok i w u held) n m o (Failed false why) fs v t x T =
     tape_with (Fine false i (merged_why held why x)) fs (take n v ++ w) (take m t ++ u) (merged_messages held why x)
-tape_settled (kept_empty_ok i w u held) n m EmptyRound fs v t x = tape_with EmptyRound fs v t x
+    (first_operators o T)
+tape_settled (kept_empty_ok i w u held) n m o EmptyRound fs v t x T = tape_with EmptyRound fs v t x T
 
-abbrev pub tape_next_alternative : ℕ → List ℕ → ℕ → OnKept → List OnFrame → List Tree → List TrailItem → List Said → Tape
-tape_next_alternative k [] i kept fs v t x = tape_settled kept (length v) (length t) (Failed false (why_at i (length x))) fs v t x
-tape_next_alternative k (p ∷ ps) i kept fs v t x = tape_at p i (on_choice k ps i kept (length v) (length t) ∷ fs) v (t ++ Alt k ∷ []) x
+abbrev pub tape_next_alternative : ℕ → List ℕ → ℕ → OnKept → List OnFrame → List Tree → List TrailItem → List Said → Table → Tape
+tape_next_alternative k [] i kept fs v t x T =
+    tape_settled kept (length v) (length t) (length T.operators) (Failed false (why_at i (length x))) fs v t x T
+tape_next_alternative k (p ∷ ps) i kept fs v t x T = tape_at p i (on_choice k ps i kept (length v) (length t)
+    (length T.operators) ∷ fs) v (t ++ Alt k ∷ []) x T
 
 -- the error of one more alternative that consumed nothing
 abbrev pub kept_why : OnKept → Why → List Said → Why
@@ -182,31 +189,33 @@ kept_with_empty_ok (kept_empty_ok i v t before) j w u held = kept_empty_ok i v t
 abbrev pub kept_held : OnKept → Why → List Said → Held
 kept_held kept why x = held_at (length (kept_messages kept why x)) (kept_why kept why x)
 
-abbrev pub tape_empty_ok : Reading → ℕ → List ℕ → ℕ → OnKept → ℕ → ℕ → ℕ → Why → List OnFrame → List Tree → List TrailItem → List Said →
-    Tape
-tape_empty_ok Library k ps i kept n m j why fs v t x = tape_settled kept n m (Fine false j why) fs v t x
-tape_empty_ok Report k ps i kept n m j why fs v t x =
+abbrev pub tape_empty_ok : Reading → ℕ → List ℕ → ℕ → OnKept → ℕ → ℕ → ℕ → ℕ → Why → List OnFrame → List Tree → List TrailItem →
+    List Said → Table → Tape
+tape_empty_ok Library k ps i kept n m o j why fs v t x T = tape_settled kept n m o (Fine false j why) fs v t x T
+tape_empty_ok Report k ps i kept n m o j why fs v t x T =
     tape_next_alternative (suc k) ps i (kept_with_empty_ok kept j (drop n v) (drop m t) (kept_held kept why x)) fs (take n v) (take m t)
-    (kept_messages kept why x)
+    (kept_messages kept why x) (first_operators o T)
 
-abbrev pub tape_to_choice : Reading → ℕ → List ℕ → ℕ → OnKept → ℕ → ℕ → Reply → List OnFrame → List Tree → List TrailItem → List Said → Tape
-tape_to_choice reading k ps i kept n m (Fine true j why) fs v t x = tape_settled kept n m (Fine true j why) fs v t x
-tape_to_choice reading k ps i kept n m (Fine false j why) fs v t x = tape_empty_ok reading k ps i kept n m j why fs v t x
-tape_to_choice reading k ps i kept n m (Failed true why) fs v t x = tape_settled kept n m (Failed true why) fs v t x
-tape_to_choice reading k ps i kept n m (Failed false why) fs v t x =
+abbrev pub tape_to_choice : Reading → ℕ → List ℕ → ℕ → OnKept → ℕ → ℕ → ℕ → Reply → List OnFrame → List Tree → List TrailItem →
+    List Said → Table → Tape
+tape_to_choice reading k ps i kept n m o (Fine true j why) fs v t x T = tape_settled kept n m o (Fine true j why) fs v t x T
+tape_to_choice reading k ps i kept n m o (Fine false j why) fs v t x T = tape_empty_ok reading k ps i kept n m o j why fs v t x T
+tape_to_choice reading k ps i kept n m o (Failed true why) fs v t x T = tape_settled kept n m o (Failed true why) fs v t x T
+tape_to_choice reading k ps i kept n m o (Failed false why) fs v t x T =
     tape_next_alternative (suc k) ps i (kept_with_failure kept (kept_held kept why x)) fs (take n v) (take m t) (kept_messages kept why x)
-tape_to_choice reading k ps i kept n m EmptyRound fs v t x = tape_with EmptyRound fs v t x
+    (first_operators o T)
+tape_to_choice reading k ps i kept n m o EmptyRound fs v t x T = tape_with EmptyRound fs v t x T
 
 -- ---- repetitions
 
-abbrev pub tape_to_rounds : ℕ → ℕ → Bool → ℕ → ℕ → ℕ → ℕ → ℕ → Reply → List OnFrame → List Tree → List TrailItem → List Said → Tape
-tape_to_rounds p k c i slot n m l (Fine true j why) fs v t x = tape_at p j (on_rounds p (suc k) true j slot (length v)
-    (length t) l ∷ fs) v t (take l x)
-tape_to_rounds p k c i slot n m l (Fine false j why) fs v t x = tape_with EmptyRound fs v t x
-tape_to_rounds p k c i slot n m l (Failed true why) fs v t x = tape_with (Failed true why) fs v t x
-tape_to_rounds p k c i slot n m l (Failed false why) fs v t x = tape_with (Fine c i why) fs (take n v)
-    (slice_set (take m t) slot (Rounds k)) x
-tape_to_rounds p k c i slot n m l EmptyRound fs v t x = tape_with EmptyRound fs v t x
+abbrev pub tape_to_rounds : ℕ → ℕ → Bool → ℕ → ℕ → ℕ → ℕ → ℕ → ℕ → Reply → List OnFrame → List Tree → List TrailItem → List Said → Table → Tape
+tape_to_rounds p k c i slot n m o l (Fine true j why) fs v t x T = tape_at p j (on_rounds p (suc k) true j slot (length v)
+    (length t) (length T.operators) l ∷ fs) v t (take l x) T
+tape_to_rounds p k c i slot n m o l (Fine false j why) fs v t x T = tape_with EmptyRound fs v t x T
+tape_to_rounds p k c i slot n m o l (Failed true why) fs v t x T = tape_with (Failed true why) fs v t x T
+tape_to_rounds p k c i slot n m o l (Failed false why) fs v t x T = tape_with (Fine c i why) fs (take n v)
+    (slice_set (take m t) slot (Rounds k)) x (first_operators o T)
+tape_to_rounds p k c i slot n m o l EmptyRound fs v t x T = tape_with EmptyRound fs v t x T
 
 -- ---- chains
 
@@ -219,8 +228,8 @@ abbrev pub all_built : Shape → List ℕ → List Tree → List Tree
 all_built shape [] v = v
 all_built shape (n ∷ ns) v = all_built shape ns (built_behind shape [] n v)
 
-abbrev pub first_links : OnChain → ℕ → ℕ → Bool → ℕ → Held → ℕ → ℕ → OnLinks
-first_links chain slot n c j held forest trail = record {
+abbrev pub first_links : OnChain → ℕ → ℕ → Bool → ℕ → Held → ℕ → ℕ → ℕ → OnLinks
+first_links chain slot n c j held forest trail operators = record {
   chain = chain;
   slot = slot;
   count = zero;
@@ -231,13 +240,15 @@ first_links chain slot n c j held forest trail = record {
   start = j;
   forest = forest;
   trail = trail;
+  operators = operators;
 }
 
-abbrev pub tape_to_first : OnChain → ℕ → ℕ → Reply → List OnFrame → List Tree → List TrailItem → List Said → Tape
-tape_to_first chain slot n (Fine c j why) fs v t x =
-    tape_at chain.separator j (on_separator (first_links chain slot n c j (held_at (length x) why) (length v) (length t)) ∷ fs) v t x
-tape_to_first chain slot n (Failed c why) fs v t x = tape_with (Failed c why) fs v t x
-tape_to_first chain slot n EmptyRound fs v t x = tape_with EmptyRound fs v t x
+abbrev pub tape_to_first : OnChain → ℕ → ℕ → Reply → List OnFrame → List Tree → List TrailItem → List Said → Table → Tape
+tape_to_first chain slot n (Fine c j why) fs v t x T =
+    tape_at chain.separator j (on_separator (first_links chain slot n c j (held_at (length x) why) (length v) (length t)
+    (length T.operators)) ∷ fs) v t x T
+tape_to_first chain slot n (Failed c why) fs v t x T = tape_with (Failed c why) fs v t x T
+tape_to_first chain slot n EmptyRound fs v t x T = tape_with EmptyRound fs v t x T
 
 -- the error where a link failed empty: behind it nothing is said where the chain ends
 abbrev pub end_why : OnLinks → Why → List Said → Why
@@ -247,18 +258,18 @@ abbrev pub end_messages : OnLinks → Why → List Said → List Said
 end_messages links why x = merged_messages (held_at (length x) why) (why_at links.start (length x)) x
 
 -- a link failed, having consumed or not
-abbrev pub tape_ended : OnLinks → Bool → Why → List OnFrame → List Tree → List TrailItem → List Said → Tape
-tape_ended links true why fs v t x = tape_with (Failed true why) fs v t x
-tape_ended links false why fs v t x =
+abbrev pub tape_ended : OnLinks → Bool → Why → List OnFrame → List Tree → List TrailItem → List Said → Table → Tape
+tape_ended links true why fs v t x T = tape_with (Failed true why) fs v t x T
+tape_ended links false why fs v t x T =
     tape_with (Fine links.consumed links.start (merged_why links.held (end_why links why x) (end_messages links why x))) fs
     (all_built links.chain.used.shape links.waiting (take links.forest v)) (slice_set (take links.trail t) links.slot (Rounds links.count))
-    (merged_messages links.held (end_why links why x) (end_messages links why x))
+    (merged_messages links.held (end_why links why x) (end_messages links why x)) (first_operators links.operators T)
 
-abbrev pub tape_to_separator : OnLinks → Reply → List OnFrame → List Tree → List TrailItem → List Said → Tape
-tape_to_separator links (Fine c j why) fs v t x = tape_at links.chain.operand j (on_operand links (before_at c (length x) why)
-    (length v) ∷ fs) v t x
-tape_to_separator links (Failed c why) fs v t x = tape_ended links c why fs v t x
-tape_to_separator links EmptyRound fs v t x = tape_with EmptyRound fs v t x
+abbrev pub tape_to_separator : OnLinks → Reply → List OnFrame → List Tree → List TrailItem → List Said → Table → Tape
+tape_to_separator links (Fine c j why) fs v t x T = tape_at links.chain.operand j (on_operand links (before_at c (length x) why)
+    (length v) ∷ fs) v t x T
+tape_to_separator links (Failed c why) fs v t x T = tape_ended links c why fs v t x T
+tape_to_separator links EmptyRound fs v t x T = tape_with EmptyRound fs v t x T
 
 -- the forest behind a link: from the left it is one tree, and from the right the operand's trees stand alone
 abbrev pub link_forest : Fold → Shape → ℕ → List Tree → List Tree
@@ -274,8 +285,8 @@ link_left FromLeft n m = n
 link_left FromRight n m = m
 
 -- one link more, with the place where its operand ended, where its trees began, its error, and the lengths of the lists
-abbrev pub more_links : OnLinks → ℕ → ℕ → Held → ℕ → ℕ → OnLinks
-more_links links j n held forest trail = record {
+abbrev pub more_links : OnLinks → ℕ → ℕ → Held → ℕ → ℕ → ℕ → OnLinks
+more_links links j n held forest trail operators = record {
   chain = links.chain;
   slot = links.slot;
   count = suc links.count;
@@ -286,21 +297,22 @@ more_links links j n held forest trail = record {
   start = j;
   forest = forest;
   trail = trail;
+  operators = operators;
 }
 
-abbrev pub tape_linked : Bool → OnLinks → ℕ → ℕ → Held → List OnFrame → List Tree → List TrailItem → List Said → Tape
-tape_linked true links j n held fs v t x = tape_at links.chain.separator j (on_separator (more_links links j n held (length v)
-    (length t)) ∷ fs) v t x
-tape_linked false links j n held fs v t x = tape_endless
+abbrev pub tape_linked : Bool → OnLinks → ℕ → ℕ → Held → List OnFrame → List Tree → List TrailItem → List Said → Table → Tape
+tape_linked true links j n held fs v t x T = tape_at links.chain.separator j (on_separator (more_links links j n held (length v)
+    (length t) (length T.operators)) ∷ fs) v t x T
+tape_linked false links j n held fs v t x T = tape_endless
 
-abbrev pub tape_to_operand : OnLinks → Before → ℕ → Reply → List OnFrame → List Tree → List TrailItem → List Said → Tape
-tape_to_operand links before n (Fine d j why) fs v t x =
+abbrev pub tape_to_operand : OnLinks → Before → ℕ → Reply → List OnFrame → List Tree → List TrailItem → List Said → Table → Tape
+tape_to_operand links before n (Fine d j why) fs v t x T =
     tape_linked (before.consumed || d) links j n (held_at (length (messages_behind d before.held why x))
     (why_behind d before.held why x)) fs
-    (link_forest links.chain.fold links.chain.used.shape links.left v) t (messages_behind d before.held why x)
-tape_to_operand links before n (Failed d why) fs v t x =
-    tape_ended links (before.consumed || d) (why_behind d before.held why x) fs v t (messages_behind d before.held why x)
-tape_to_operand links before n EmptyRound fs v t x = tape_with EmptyRound fs v t x
+    (link_forest links.chain.fold links.chain.used.shape links.left v) t (messages_behind d before.held why x) T
+tape_to_operand links before n (Failed d why) fs v t x T =
+    tape_ended links (before.consumed || d) (why_behind d before.held why x) fs v t (messages_behind d before.held why x) T
+tape_to_operand links before n EmptyRound fs v t x T = tape_with EmptyRound fs v t x T
 
 -- ---- forms around one part
 
@@ -334,90 +346,91 @@ text_behind text i n j v = take n v ++ leaf_of (span text i j) ∷ []
 
 -- ---- turns
 
-abbrev pub tape_hand : Given → OnFrame → Reply → List OnFrame → List Tree → List TrailItem → List Said → Tape
-tape_hand G (on_parts rest before) reply fs v t x = tape_to_parts rest before reply fs v t x
-tape_hand G (on_choice k ps i kept n m) reply fs v t x = tape_to_choice G.reading k ps i kept n m reply fs v t x
-tape_hand G (on_rounds p k c i slot n m l) reply fs v t x = tape_to_rounds p k c i slot n m l reply fs v t x
-tape_hand G (on_first chain slot n) reply fs v t x = tape_to_first chain slot n reply fs v t x
-tape_hand G (on_separator links) reply fs v t x = tape_to_separator links reply fs v t x
-tape_hand G (on_operand links before n) reply fs v t x = tape_to_operand links before n reply fs v t x
-tape_hand G on_try reply fs v t x = tape_with (tape_tried reply) fs v t x
-tape_hand G (on_label message) reply fs v t x = tape_with reply fs v t (labelled_messages message reply x)
-tape_hand G on_rule reply fs v t x = tape_with reply fs v t x
-tape_hand G (on_text i n) reply fs v t x = tape_with reply fs (forest_around (text_behind G.text i n) reply v) t x
-tape_hand G (on_skip n) reply fs v t x = tape_with reply fs (forest_around (λ j. take n) reply v) t x
-tape_hand G (on_build used symbol n) reply fs v t x = tape_with reply fs (forest_around (λ j. built_behind used.shape symbol n) reply v) t x
+abbrev pub tape_hand : Given → OnFrame → Reply → List OnFrame → List Tree → List TrailItem → List Said → Table → Tape
+tape_hand G (on_parts rest before) reply fs v t x T = tape_to_parts rest before reply fs v t x T
+tape_hand G (on_choice k ps i kept n m o) reply fs v t x T = tape_to_choice G.reading k ps i kept n m o reply fs v t x T
+tape_hand G (on_rounds p k c i slot n m o l) reply fs v t x T = tape_to_rounds p k c i slot n m o l reply fs v t x T
+tape_hand G (on_first chain slot n) reply fs v t x T = tape_to_first chain slot n reply fs v t x T
+tape_hand G (on_separator links) reply fs v t x T = tape_to_separator links reply fs v t x T
+tape_hand G (on_operand links before n) reply fs v t x T = tape_to_operand links before n reply fs v t x T
+tape_hand G on_try reply fs v t x T = tape_with (tape_tried reply) fs v t x T
+tape_hand G (on_label message) reply fs v t x T = tape_with reply fs v t (labelled_messages message reply x) T
+tape_hand G on_rule reply fs v t x T = tape_with reply fs v t x T
+tape_hand G (on_text i n) reply fs v t x T = tape_with reply fs (forest_around (text_behind G.text i n) reply v) t x T
+tape_hand G (on_skip n) reply fs v t x T = tape_with reply fs (forest_around (λ j. take n) reply v) t x T
+tape_hand G (on_build used symbol n) reply fs v t x T = tape_with reply fs (forest_around (λ j. built_behind used.shape symbol n) reply v) t x T
 
-abbrev pub tape_seq : List ℕ → ℕ → List OnFrame → List Tree → List TrailItem → List Said → Tape
-tape_seq [] i fs v t x = tape_with (Fine false i (why_at i (length x))) fs v t x
-tape_seq (p ∷ ps) i fs v t x = tape_at p i (on_parts ps None ∷ fs) v t x
+abbrev pub tape_seq : List ℕ → ℕ → List OnFrame → List Tree → List TrailItem → List Said → Table → Tape
+tape_seq [] i fs v t x T = tape_with (Fine false i (why_at i (length x))) fs v t x T
+tape_seq (p ∷ ps) i fs v t x T = tape_at p i (on_parts ps None ∷ fs) v t x T
 
 -- a repetition begins, with an item whose number isn't known yet
-abbrev pub tape_many : ℕ → ℕ → List OnFrame → List Tree → List TrailItem → List Said → Tape
-tape_many p i fs v t x =
-    tape_at p i (on_rounds p 0 false i (length t) (length v) (length (t ++ Rounds 0 ∷ [])) (length x) ∷ fs) v (t ++ Rounds 0 ∷ []) x
+abbrev pub tape_many : ℕ → ℕ → List OnFrame → List Tree → List TrailItem → List Said → Table → Tape
+tape_many p i fs v t x T =
+    tape_at p i (on_rounds p 0 false i (length t) (length v) (length (t ++ Rounds 0 ∷ [])) (length T.operators) (length x) ∷ fs) v
+    (t ++ Rounds 0 ∷ []) x T
 
 -- a chain begins, with an item whose number isn't known yet
-abbrev pub tape_chain : OnChain → ℕ → List OnFrame → List Tree → List TrailItem → List Said → Tape
-tape_chain chain i fs v t x = tape_at chain.operand i (on_first chain (length t) (length v) ∷ fs) v (t ++ Rounds 0 ∷ []) x
+abbrev pub tape_chain : OnChain → ℕ → List OnFrame → List Tree → List TrailItem → List Said → Table → Tape
+tape_chain chain i fs v t x T = tape_at chain.operand i (on_first chain (length t) (length v) ∷ fs) v (t ++ Rounds 0 ∷ []) x T
 
-abbrev pub tape_rule : Option declared.Rule → ℕ → List OnFrame → List Tree → List TrailItem → List Said → Tape
-tape_rule None i fs v t x = tape_endless
-tape_rule (Some named) i fs v t x = tape_at named.body i (on_rule ∷ fs) v t x
+abbrev pub tape_rule : Option declared.Rule → ℕ → List OnFrame → List Tree → List TrailItem → List Said → Table → Tape
+tape_rule None i fs v t x T = tape_endless
+tape_rule (Some named) i fs v t x T = tape_at named.body i (on_rule ∷ fs) v t x T
 
-abbrev pub tape_word : Given → Table → Option WordItem → ℕ → List OnFrame → List Tree → List TrailItem → List Said → Tape
-tape_word G table None i fs v t x = tape_endless
-tape_word G table (Some item) i fs v t x = tape_leaf (word_outcome G.grammar G.text item (spot_at table i)) fs v t x
+abbrev pub tape_word : Given → Option WordItem → ℕ → List OnFrame → List Tree → List TrailItem → List Said → Table → Tape
+tape_word G None i fs v t x T = tape_endless
+tape_word G (Some item) i fs v t x T = tape_leaf (word_outcome G.grammar G.text item (spot_at T i)) fs v t x T
 
--- the table matters to no form that is run
-abbrev pub tape_enter : Given → Table → Node → ℕ → List OnFrame → List Tree → List TrailItem → List Said → Tape
-tape_enter G table (form.Satisfy class) i fs v t x = tape_leaf (satisfy_outcome G.grammar G.text class (spot_at table i)) fs v t x
-tape_enter G table (form.String s) i fs v t x = tape_leaf (string_outcome G.text s (spot_at table i)) fs v t x
-tape_enter G table (form.Seq ps) i fs v t x = tape_seq ps i fs v t x
-tape_enter G table (form.Choice ps) i fs v t x = tape_next_alternative 1 ps i no_kept fs v t x
-tape_enter G table (form.Many p) i fs v t x = tape_many p i fs v t x
-tape_enter G table (form.ChainLeft used p s) i fs v t x = tape_chain (record {
+-- the table matters to no form that is run yet
+abbrev pub tape_enter : Given → Node → ℕ → List OnFrame → List Tree → List TrailItem → List Said → Table → Tape
+tape_enter G (form.Satisfy class) i fs v t x T = tape_leaf (satisfy_outcome G.grammar G.text class (spot_at T i)) fs v t x T
+tape_enter G (form.String s) i fs v t x T = tape_leaf (string_outcome G.text s (spot_at T i)) fs v t x T
+tape_enter G (form.Seq ps) i fs v t x T = tape_seq ps i fs v t x T
+tape_enter G (form.Choice ps) i fs v t x T = tape_next_alternative 1 ps i no_kept fs v t x T
+tape_enter G (form.Many p) i fs v t x T = tape_many p i fs v t x T
+tape_enter G (form.ChainLeft used p s) i fs v t x T = tape_chain (record {
   fold = FromLeft;
   used = used;
   operand = p;
   separator = s;
-}) i fs v t x
-tape_enter G table (form.ChainRight used p s) i fs v t x = tape_chain (record {
+}) i fs v t x T
+tape_enter G (form.ChainRight used p s) i fs v t x T = tape_chain (record {
   fold = FromRight;
   used = used;
   operand = p;
   separator = s;
-}) i fs v t x
-tape_enter G table (form.Try p) i fs v t x = tape_at p i (on_try ∷ fs) v t x
-tape_enter G table (form.NotFollowedBy class) i fs v t x = tape_leaf (not_followed_outcome G.grammar G.text class (spot_at table i)) fs v
-    t x
-tape_enter G table form.EndOfText i fs v t x = tape_leaf (end_outcome G.text (spot_at table i)) fs v t x
-tape_enter G table (form.Word w) i fs v t x = tape_word G table (slice_get G.grammar.words w) i fs v t x
-tape_enter G table (form.Rule r) i fs v t x = tape_rule (slice_get G.grammar.rules r) i fs v t x
-tape_enter G table (form.Expression builders p) i fs v t x = tape_endless
-tape_enter G table (form.Declare class) i fs v t x = tape_endless
-tape_enter G table (form.Text p) i fs v t x = tape_at p i (on_text i (length v) ∷ fs) v t x
-tape_enter G table (form.Skip p) i fs v t x = tape_at p i (on_skip (length v) ∷ fs) v t x
-tape_enter G table (form.Build used symbol p) i fs v t x = tape_at p i (on_build used symbol (length v) ∷ fs) v t x
-tape_enter G table (form.Label p message) i fs v t x = tape_at p i (on_label message ∷ fs) v t x
+}) i fs v t x T
+tape_enter G (form.Try p) i fs v t x T = tape_at p i (on_try ∷ fs) v t x T
+tape_enter G (form.NotFollowedBy class) i fs v t x T = tape_leaf (not_followed_outcome G.grammar G.text class (spot_at T i)) fs v
+    t x T
+tape_enter G form.EndOfText i fs v t x T = tape_leaf (end_outcome G.text (spot_at T i)) fs v t x T
+tape_enter G (form.Word w) i fs v t x T = tape_word G (slice_get G.grammar.words w) i fs v t x T
+tape_enter G (form.Rule r) i fs v t x T = tape_rule (slice_get G.grammar.rules r) i fs v t x T
+tape_enter G (form.Expression builders p) i fs v t x T = tape_endless
+tape_enter G (form.Declare class) i fs v t x T = tape_endless
+tape_enter G (form.Text p) i fs v t x T = tape_at p i (on_text i (length v) ∷ fs) v t x T
+tape_enter G (form.Skip p) i fs v t x T = tape_at p i (on_skip (length v) ∷ fs) v t x T
+tape_enter G (form.Build used symbol p) i fs v t x T = tape_at p i (on_build used symbol (length v) ∷ fs) v t x T
+tape_enter G (form.Label p message) i fs v t x T = tape_at p i (on_label message ∷ fs) v t x T
 
-abbrev pub tape_enter_at : Given → Table → Option Node → ℕ → List OnFrame → List Tree → List TrailItem → List Said → Tape
-tape_enter_at G table None i fs v t x = tape_endless
-tape_enter_at G table (Some node) i fs v t x = tape_enter G table node i fs v t x
+abbrev pub tape_enter_at : Given → Option Node → ℕ → List OnFrame → List Tree → List TrailItem → List Said → Table → Tape
+tape_enter_at G None i fs v t x T = tape_endless
+tape_enter_at G (Some node) i fs v t x T = tape_enter G node i fs v t x T
 
 -- one turn
-abbrev pub tape_turn : Given → Table → Tape → Tape
-tape_turn G table (tape_at p i fs v t x) = tape_enter_at G table (slice_get G.grammar.nodes p) i fs v t x
-tape_turn G table (tape_with reply [] v t x) = tape_with reply [] v t x
-tape_turn G table (tape_with reply (f ∷ fs) v t x) = tape_hand G f reply fs v t x
-tape_turn G table tape_endless = tape_endless
+abbrev pub tape_turn : Given → Tape → Tape
+tape_turn G (tape_at p i fs v t x T) = tape_enter_at G (slice_get G.grammar.nodes p) i fs v t x T
+tape_turn G (tape_with reply [] v t x T) = tape_with reply [] v t x T
+tape_turn G (tape_with reply (f ∷ fs) v t x T) = tape_hand G f reply fs v t x T
+tape_turn G tape_endless = tape_endless
 
 -- no turn is left
 abbrev pub tape_is_last : Tape → Bool
-tape_is_last (tape_at p i fs v t x) = false
-tape_is_last (tape_with EmptyRound fs v t x) = true
-tape_is_last (tape_with (Fine c j why) [] v t x) = true
-tape_is_last (tape_with (Failed c why) [] v t x) = true
-tape_is_last (tape_with (Fine c j why) (f ∷ fs) v t x) = false
-tape_is_last (tape_with (Failed c why) (f ∷ fs) v t x) = false
+tape_is_last (tape_at p i fs v t x T) = false
+tape_is_last (tape_with EmptyRound fs v t x T) = true
+tape_is_last (tape_with (Fine c j why) [] v t x T) = true
+tape_is_last (tape_with (Failed c why) [] v t x T) = true
+tape_is_last (tape_with (Fine c j why) (f ∷ fs) v t x T) = false
+tape_is_last (tape_with (Failed c why) (f ∷ fs) v t x T) = false
 tape_is_last tape_endless = true

@@ -2,6 +2,7 @@
 use Rattle.std.specs.Prelude.{List, [], ◌∷◌, reverse}
 use Rattle.pg_tree.specs.Trees.{Tree}
 use Rattle.pg_grammar.specs.declared.trail.TrailItem.{TrailItem}
+use Rattle.pg_table.specs.Tables.{Table}
 use Rattle.pg_machine.specs.Messages.{Said}
 use Rattle.pg_machine.specs.Tape.{OnKept, no_kept, kept_failure, kept_empty_ok, OnChain, OnLinks, OnFrame, on_parts, on_choice, on_rounds, on_first, on_separator, on_operand, on_try, on_label, on_rule, on_text, on_skip, on_build, Tape, tape_at, tape_with, tape_endless}
 use Rattle.pg_machine.specs.declared.frame.ChainFrame.{ChainFrame}
@@ -35,12 +36,13 @@ links_of l = record {
   start = l.start;
   forest = l.marks.forest;
   trail = l.marks.trail;
+  operators = l.marks.operators;
 }
 
 abbrev pub frame_of : Frame → OnFrame
 frame_of (frame.Parts f) = on_parts f.rest.now f.before
-frame_of (frame.Choice f) = on_choice f.which f.rest.now f.start (kept_of f.kept) f.marks.forest f.marks.trail
-frame_of (frame.Rounds f) = on_rounds f.part f.count f.consumed f.start f.slot f.marks.forest f.marks.trail f.messages
+frame_of (frame.Choice f) = on_choice f.which f.rest.now f.start (kept_of f.kept) f.marks.forest f.marks.trail f.marks.operators
+frame_of (frame.Rounds f) = on_rounds f.part f.count f.consumed f.start f.slot f.marks.forest f.marks.trail f.marks.operators f.messages
 frame_of (frame.First c) = on_first (chain_of c) c.slot c.forest
 frame_of (frame.Separator l) = on_separator (links_of l.value)
 frame_of (frame.Operand l before trees) = on_operand (links_of l.value) before trees
@@ -60,10 +62,10 @@ abbrev pub stack_of : List Frame → List OnFrame
 stack_of fs = stack_on [] fs
 
 abbrev pub tape_of : Mode → Machine → Tape
-tape_of (mode.At node place) m = tape_at node place (stack_of m.frames.items) m.forest m.trail.items m.messages
-tape_of (mode.With reply) m = tape_with reply (stack_of m.frames.items) m.forest m.trail.items m.messages
+tape_of (mode.At node place) m = tape_at node place (stack_of m.frames.items) m.forest m.trail.items m.messages m.table
+tape_of (mode.With reply) m = tape_with reply (stack_of m.frames.items) m.forest m.trail.items m.messages m.table
 tape_of mode.Endless m = tape_endless
 
--- the tape of a turn that goes by the machine's lists
-abbrev pub on_lists : (List OnFrame → List Tree → List TrailItem → List Said → Tape) → Machine → Tape
-on_lists made m = made (stack_of m.frames.items) m.forest m.trail.items m.messages
+-- the tape of a turn that goes by the machine's lists and table
+abbrev pub on_lists : (List OnFrame → List Tree → List TrailItem → List Said → Table → Tape) → Machine → Tape
+on_lists made m = made (stack_of m.frames.items) m.forest m.trail.items m.messages m.table

@@ -145,7 +145,7 @@ impl<'a> Machine<'a> {
             tape_linked true (links_of links.entry.value) end trees (held_at (length self.old.messages) why)
             (stack_of self.old.frames.items)
             (link_forest links.entry.value.chain.fold links.entry.value.chain.used.now.shape links.entry.value.left self.old.forest)
-            self.old.trail.items self.old.messages) }
+            self.old.trail.items self.old.messages self.old.table) }
     {
         match links.chain.fold {
             Fold::FromLeft => {

@@ -13,7 +13,7 @@ ghost use Rattle.pg_derive.specs.Answers.{given};
 ghost use Rattle.pg_derive.specs.Errors.{without_position};
 ghost use Rattle.pg_derive.specs.WholeTexts.{at_end};
 ghost use Rattle.pg_derive.specs.declared.reading.Reading.TheVariants.{Library};
-ghost use Rattle.pg_machine.specs.CheckedRuns.{IsAccepted, IsTextAnswer, IsStartAnswer, IsOnlyDerivation, IsUnderivable, end_error};
+ghost use Rattle.pg_machine.specs.CheckedRuns.{HasAcceptedGrammar, IsTextAnswer, IsStartAnswer, IsOnlyDerivation, IsUnderivable, end_error};
 ghost use Rattle.pg_machine.specs.Halting.{Halts, Halts-prop};
 ghost use Rattle.pg_machine.specs.Outcomes.{outcome_of};
 
@@ -86,19 +86,20 @@ impl HaltingRun<'_> {
     fn answer(&self, alloc: Global, registry: &Registry) -> Result<Answer, AllocError>
         requires fits { Fits (offer_of registry.now) self.now.grammar.now }
         requires short { length self.now.text.now ≤ 4096 }
-        requires accepted { IsAccepted (given Library self.now.grammar.now self.now.text.now) }
+        requires accepted { HasAcceptedGrammar (given Library self.now.grammar.now self.now.text.now) }
         requires table { ComesFrom self.now.grammar.now self.now.table.now }
         ensures { IfOk result (IsStartAnswer (given Library self.now.grammar.now self.now.text.now) self.now.table.now) }
     {
         let text = self.text;
-        let mut machine = Machine::new(alloc);
+        let own = self.table.copy(alloc)?;
+        let mut machine = Machine::new(alloc, own);
         let mut mode = Mode::At(start_of(self.grammar), 0);
         let mut steps: u64 = 0;
         'turns: while !machine.is_over(&mode) {
             mode = machine.step(alloc, self.grammar, registry, text, Reading::Library, mode)?;
             steps = steps.saturating_add(1);
         }
-        match ended(alloc, text, self.table, machine, mode, steps)? {
+        match ended(alloc, text, machine, mode, steps)? {
             Outcome::Answered(answer) => Ok(answer),
             Outcome::StepsUsed | Outcome::EmptyRound => unreachable!(),
         }

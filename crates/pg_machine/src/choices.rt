@@ -1,6 +1,7 @@
 //! Choices: alternatives, of which the first that consumes or is ok stands.
 
 ghost use Rattle.std.specs.Prelude.{◌≡◌, ◌<◌, ◌-◌, ◌^◌, ◌++◌, false, drop, take, length, IfOk, OnOk};
+ghost use Rattle.pg_table.specs.Tables.{first_operators};
 ghost use Rattle.pg_machine.specs.Tape.{tape_with, kept_failure, kept_empty_ok, tape_to_choice, tape_next_alternative, tape_settled, tape_empty_ok, kept_held, kept_messages, kept_with_failure, kept_with_empty_ok};
 ghost use Rattle.pg_machine.specs.View.{kept_of, on_lists, stack_of, tape_of};
 ghost use Rattle.pg_machine.specs.Why.{why_at, merged_why, merged_messages, why_behind, messages_behind};
@@ -26,7 +27,7 @@ impl<'a> Machine<'a> {
         requires { choice.which < 2 ^ 64 - 1 }
         ensures { IfOk result (λ mode. tape_of mode self.new ≡
             on_lists (tape_to_choice reading choice.entry.which choice.entry.rest.now choice.entry.start (kept_of choice.entry.kept)
-            choice.entry.marks.forest choice.entry.marks.trail reply) self.old) }
+            choice.entry.marks.forest choice.entry.marks.trail choice.entry.marks.operators reply) self.old) }
     {
         match reply {
             Reply::Fine { consumed, end, why } => {
@@ -88,7 +89,7 @@ impl<'a> Machine<'a> {
     /// The last answer of the alternatives, behind what those before it came to.
     fn settled(&mut self, kept: Kept, marks: Marks, reply: Reply) -> Result<Mode, AllocError>
         ensures { IfOk result (λ mode. tape_of mode self.new ≡
-            on_lists (tape_settled (kept_of kept) marks.forest marks.trail reply) self.old) }
+            on_lists (tape_settled (kept_of kept) marks.forest marks.trail marks.operators reply) self.old) }
     {
         match kept {
             Kept::Nothing => Ok(Mode::With(reply)),
@@ -105,7 +106,7 @@ impl<'a> Machine<'a> {
     /// An answer behind alternatives that failed.
     fn behind_failure(&mut self, held: Held, reply: Reply) -> Result<Mode, AllocError>
         ensures { IfOk result (λ mode. tape_of mode self.new ≡
-            on_lists (tape_settled (kept_failure held) 0 0 reply) self.old) }
+            on_lists (tape_settled (kept_failure held) 0 0 0 reply) self.old) }
     {
         match reply {
             Reply::Fine { consumed, end, why } => {
@@ -129,7 +130,7 @@ impl<'a> Machine<'a> {
         reply: Reply,
     ) -> Result<Mode, AllocError>
         ensures { IfOk result (λ mode. tape_of mode self.new ≡
-            on_lists (tape_settled (kept_empty_ok ok.end ok.forest ok.trail.items held) marks.forest marks.trail reply) self.old) }
+            on_lists (tape_settled (kept_empty_ok ok.end ok.forest ok.trail.items held) marks.forest marks.trail marks.operators reply) self.old) }
     {
         match reply {
             Reply::Fine {
@@ -162,7 +163,8 @@ impl<'a> Machine<'a> {
     ) -> Result<Mode, AllocError>
         ensures { IfOk result (λ mode. tape_of mode self.new ≡
             tape_with (Fine false ok.end (merged_why held why self.old.messages)) (stack_of self.old.frames.items)
-            (take marks.forest self.old.forest ++ ok.forest) (take marks.trail self.old.trail.items ++ ok.trail.items) (merged_messages held why self.old.messages)) }
+            (take marks.forest self.old.forest ++ ok.forest) (take marks.trail self.old.trail.items ++ ok.trail.items) (merged_messages held why self.old.messages)
+            (first_operators marks.operators self.old.table)) }
     {
         let why = self.messages.merge(held, why)?;
         self.cut(marks);
@@ -184,6 +186,7 @@ impl<'a> Machine<'a> {
         ensures forest { OnOk result (self.new.forest ≡ self.old.forest) }
         ensures trail { OnOk result (self.new.trail ≡ self.old.trail) }
         ensures messages { OnOk result (self.new.messages ≡ kept_messages (kept_of kept) why self.old.messages) }
+        ensures table { OnOk result (self.new.table ≡ self.old.table) }
     {
         match kept {
             Kept::Nothing => Ok(Kept::Failure(self.messages.held(why))),
@@ -213,6 +216,7 @@ impl<'a> Machine<'a> {
         ensures forest { OnOk result (self.new.forest ≡ take marks.forest self.old.forest) }
         ensures trail { OnOk result (self.new.trail.items ≡ take marks.trail self.old.trail.items) }
         ensures messages { OnOk result (self.new.messages ≡ kept_messages (kept_of kept) why self.old.messages) }
+        ensures table { OnOk result (self.new.table ≡ first_operators marks.operators self.old.table) }
     {
         match kept {
             Kept::Nothing => {
@@ -232,7 +236,8 @@ impl<'a> Machine<'a> {
         }
     }
 
-    /// The trees and items behind the marks leave the lists.
+    /// The trees and items behind the marks leave the lists; operators behind them, which an answer that consumed nothing
+    /// has none of, are dropped.
     fn taken_off(&mut self, marks: Marks, end: usize) -> Result<EmptyOk, AllocError>
         ensures end { IfOk result (λ ok. ok.end ≡ end) }
         ensures kept_forest { IfOk result (λ ok. ok.forest ≡ drop marks.forest self.old.forest) }
@@ -241,10 +246,12 @@ impl<'a> Machine<'a> {
         ensures forest { OnOk result (self.new.forest ≡ take marks.forest self.old.forest) }
         ensures trail { OnOk result (self.new.trail.items ≡ take marks.trail self.old.trail.items) }
         ensures messages { OnOk result (self.new.messages ≡ self.old.messages) }
+        ensures table { OnOk result (self.new.table ≡ first_operators marks.operators self.old.table) }
     {
         let forest = self.forest_behind(marks.forest)?;
         let from = marks.trail.min(self.trail.len());
         let trail = self.trail.split_off(from)?;
+        self.table.cut(marks.operators);
         Ok(EmptyOk { end, forest, trail })
     }
 }

@@ -4,7 +4,6 @@ ghost use Rattle.std.specs.Prelude.{◌≡◌, ◌∷◌, slice_get, option_copi
 ghost use Rattle.pg_pred.specs.Offer.{offer_of};
 ghost use Rattle.pg_grammar.specs.Contents.{node_class};
 ghost use Rattle.pg_grammar.specs.Fits.{Fits, IsClassIn};
-ghost use Rattle.pg_table.specs.Tables.{Table};
 ghost use Rattle.pg_derive.specs.Answers.{given};
 ghost use Rattle.pg_machine.specs.Tape.{tape_at, tape_enter_at, tape_enter, tape_seq, tape_many, tape_chain, tape_rule, tape_word};
 ghost use Rattle.pg_machine.specs.View.{frame_of, on_lists, stack_of, tape_of};
@@ -30,8 +29,8 @@ impl<'a> Machine<'a> {
         place: usize,
     ) -> Result<Mode, AllocError>
         requires { Fits (offer_of registry.now) grammar.now }
-        ensures { IfOk result (λ mode. (reading : Reading) (table : Table) → tape_of mode self.new ≡
-            on_lists (tape_enter_at (given reading grammar.now text.now) table (slice_get grammar.now.nodes node) place) self.old) }
+        ensures { IfOk result (λ mode. (reading : Reading) → tape_of mode self.new ≡
+            on_lists (tape_enter_at (given reading grammar.now text.now) (slice_get grammar.now.nodes node) place) self.old) }
     {
         match node_at(grammar.nodes(), node.index()) {
             Some(form) => self.enter_form(alloc, grammar, registry, text, form, place),
@@ -51,8 +50,8 @@ impl<'a> Machine<'a> {
     ) -> Result<Mode, AllocError>
         requires fits { Fits (offer_of registry.now) grammar.now }
         requires class { IsClassIn grammar.now (node_class form.now) }
-        ensures { IfOk result (λ mode. (reading : Reading) (table : Table) → tape_of mode self.new ≡
-            on_lists (tape_enter (given reading grammar.now text.now) table form.now place) self.old) }
+        ensures { IfOk result (λ mode. (reading : Reading) → tape_of mode self.new ≡
+            on_lists (tape_enter (given reading grammar.now text.now) form.now place) self.old) }
     {
         match form {
             Node::Satisfy(class) => self.satisfy(alloc, grammar, registry, text, class, place),
@@ -115,7 +114,7 @@ impl<'a> Machine<'a> {
     ) -> Result<Mode, AllocError>
         ensures { IfOk result (λ mode. tape_of mode self.new ≡
             tape_at part place (frame_of frame.entry ∷ stack_of self.old.frames.items)
-            self.old.forest self.old.trail.items self.old.messages) }
+            self.old.forest self.old.trail.items self.old.messages self.old.table) }
     {
         self.push(frame)?;
         Ok(Mode::At(part, place))
@@ -212,8 +211,8 @@ impl<'a> Machine<'a> {
         place: usize,
     ) -> Result<Mode, AllocError>
         requires { Fits (offer_of registry.now) grammar.now }
-        ensures { IfOk result (λ mode. (reading : Reading) (table : Table) → tape_of mode self.new ≡
-            on_lists (tape_word (given reading grammar.now text.now) table (slice_get grammar.now.words word) place) self.old) }
+        ensures { IfOk result (λ mode. (reading : Reading) → tape_of mode self.new ≡
+            on_lists (tape_word (given reading grammar.now text.now) (slice_get grammar.now.words word) place) self.old) }
     {
         match item_at(grammar.word_items(), word.index()) {
             Some(item) => self.word(alloc, grammar, registry, text, item, place),

@@ -1,7 +1,8 @@
 //! What nodes that were entered wait for, and what the machine does next.
 //!
 //! The trees, the trail and the messages of all that runs lie on three lists of the machine, those of a frame behind
-//! those of the frames below. So a frame keeps only how long the lists were where it may cut them back.
+//! those of the frames below; the operators in force are those of its table, the newest last. So a frame keeps only how
+//! long the lists were, and how many operators there were, where it may cut them back.
 
 use crate::message_tape::{Held, Why};
 use pg_derive::Fold;
@@ -39,11 +40,12 @@ pub(crate) enum Mode {
     Endless,
 }
 
-/// How many trees and items there were.
+/// How many trees, items and operators there were.
 #[derive(Clone, Copy, Debug)]
 pub(crate) struct Marks {
     pub(crate) forest: usize,
     pub(crate) trail: usize,
+    pub(crate) operators: usize,
 }
 
 /// What the parts of a sequence before the one that runs came to.

@@ -6,7 +6,6 @@ ghost use Rattle.std.specs.Str.{bytes_eq};
 ghost use Rattle.pg_pred.specs.Offer.{offer_of};
 ghost use Rattle.pg_grammar.specs.Fits.{Fits, IsClassIn};
 ghost use Rattle.pg_grammar.specs.ClassItems.{has_character};
-ghost use Rattle.pg_table.specs.Tables.{Table};
 ghost use Rattle.pg_derive.specs.Leaves.{taken, satisfy_outcome, string_outcome, word_outcome, word_read, not_followed_outcome, end_outcome};
 ghost use Rattle.pg_machine.specs.Messages.{said_of};
 ghost use Rattle.pg_machine.specs.Tape.{spot_at, tape_with, tape_leaf};
@@ -36,8 +35,8 @@ impl<'a> Machine<'a> {
     ) -> Result<Mode, AllocError>
         requires fits { Fits (offer_of registry.now) grammar.now }
         requires class { IsClassIn grammar.now class.now }
-        ensures { IfOk result (λ mode. (table : Table) → tape_of mode self.new ≡
-            on_lists (tape_leaf (satisfy_outcome grammar.now text.now class.now (spot_at table place))) self.old) }
+        ensures { IfOk result (λ mode. tape_of mode self.new ≡
+            on_lists (tape_leaf (satisfy_outcome grammar.now text.now class.now (spot_at self.old.table place))) self.old) }
     {
         match next_in(text, place) {
             Some(c) => {
@@ -58,8 +57,8 @@ impl<'a> Machine<'a> {
         characters: &'a [char],
         place: usize,
     ) -> Result<Mode, AllocError>
-        ensures { IfOk result (λ mode. (table : Table) → tape_of mode self.new ≡
-            on_lists (tape_leaf (string_outcome text.now characters.now (spot_at table place))) self.old) }
+        ensures { IfOk result (λ mode. tape_of mode self.new ≡
+            on_lists (tape_leaf (string_outcome text.now characters.now (spot_at self.old.table place))) self.old) }
     {
         let rest = behind(text.characters(), place);
         let count = matched(characters, rest);
@@ -88,8 +87,8 @@ impl<'a> Machine<'a> {
         requires fits { Fits (offer_of registry.now) grammar.now }
         requires head { IsClassIn grammar.now item.now.head }
         requires rest { IsClassIn grammar.now item.now.rest }
-        ensures { IfOk result (λ mode. (table : Table) → tape_of mode self.new ≡
-            on_lists (tape_leaf (word_outcome grammar.now text.now item.now (spot_at table place))) self.old) }
+        ensures { IfOk result (λ mode. tape_of mode self.new ≡
+            on_lists (tape_leaf (word_outcome grammar.now text.now item.now (spot_at self.old.table place))) self.old) }
     {
         match next_in(text, place) {
             Some(c) => {
@@ -114,8 +113,8 @@ impl<'a> Machine<'a> {
         place: usize,
     ) -> Result<Mode, AllocError>
         requires { place + length word.now < 2 ^ 64 }
-        ensures { IfOk result (λ mode. (table : Table) → tape_of mode self.new ≡
-            on_lists (tape_leaf (word_read item.now (spot_at table place) word.now)) self.old) }
+        ensures { IfOk result (λ mode. tape_of mode self.new ≡
+            on_lists (tape_leaf (word_read item.now (spot_at self.old.table place) word.now)) self.old) }
     {
         if is_reserved(item, word) {
             return self.fail(false, place, Message::Reserved(word));
@@ -134,8 +133,8 @@ impl<'a> Machine<'a> {
     ) -> Result<Mode, AllocError>
         requires fits { Fits (offer_of registry.now) grammar.now }
         requires class { IsClassIn grammar.now class.now }
-        ensures { IfOk result (λ mode. (table : Table) → tape_of mode self.new ≡
-            on_lists (tape_leaf (not_followed_outcome grammar.now text.now class.now (spot_at table place))) self.old) }
+        ensures { IfOk result (λ mode. tape_of mode self.new ≡
+            on_lists (tape_leaf (not_followed_outcome grammar.now text.now class.now (spot_at self.old.table place))) self.old) }
     {
         match next_in(text, place) {
             Some(c) => {
@@ -150,8 +149,8 @@ impl<'a> Machine<'a> {
 
     /// The end of the text.
     pub(crate) fn end_of_text(&mut self, text: &Text, place: usize) -> Result<Mode, AllocError>
-        ensures { IfOk result (λ mode. (table : Table) → tape_of mode self.new ≡
-            on_lists (tape_leaf (end_outcome text.now (spot_at table place))) self.old) }
+        ensures { IfOk result (λ mode. tape_of mode self.new ≡
+            on_lists (tape_leaf (end_outcome text.now (spot_at self.old.table place))) self.old) }
     {
         if place == text.len() {
             return self.stay_wanting(place, Message::Stopped(None), Message::WantedEnd);
@@ -169,8 +168,8 @@ impl<'a> Machine<'a> {
         end: usize,
     ) -> Result<Mode, AllocError>
         requires { end ≡ place + length characters.now }
-        ensures { IfOk result (λ mode. (table : Table) → tape_of mode self.new ≡
-            on_lists (tape_leaf (taken (spot_at table place) characters.now)) self.old) }
+        ensures { IfOk result (λ mode. tape_of mode self.new ≡
+            on_lists (tape_leaf (taken (spot_at self.old.table place) characters.now)) self.old) }
     {
         let content = utf8(alloc, characters)?;
         self.forest.push(Tree::leaf(alloc, content.as_str())?)?;
@@ -188,7 +187,8 @@ impl<'a> Machine<'a> {
     ) -> Result<Mode, AllocError>
         ensures { IfOk result (λ mode. tape_of mode self.new ≡
             tape_with (Failed consumed (why_at place (length self.old.messages)))
-            (stack_of self.old.frames.items) self.old.forest self.old.trail.items (self.old.messages ++ said_of message.entry ∷ [])) }
+            (stack_of self.old.frames.items) self.old.forest self.old.trail.items (self.old.messages ++ said_of message.entry ∷ [])
+            self.old.table) }
     {
         let why = self.nothing_said(place);
         self.messages.push(message)?;
@@ -206,7 +206,7 @@ impl<'a> Machine<'a> {
         ensures { IfOk result (λ mode. tape_of mode self.new ≡
             tape_with (Failed consumed (why_at place (length self.old.messages)))
             (stack_of self.old.frames.items) self.old.forest self.old.trail.items
-            (self.old.messages ++ said_of message.entry ∷ said_of wanted.entry ∷ [])) }
+            (self.old.messages ++ said_of message.entry ∷ said_of wanted.entry ∷ []) self.old.table) }
     {
         let why = self.nothing_said(place);
         self.messages.push(message)?;
@@ -218,7 +218,8 @@ impl<'a> Machine<'a> {
     fn stay(&mut self, place: usize, message: Message<'a>) -> Result<Mode, AllocError>
         ensures { IfOk result (λ mode. tape_of mode self.new ≡
             tape_with (Fine false place (why_at place (length self.old.messages)))
-            (stack_of self.old.frames.items) self.old.forest self.old.trail.items (self.old.messages ++ said_of message.entry ∷ [])) }
+            (stack_of self.old.frames.items) self.old.forest self.old.trail.items (self.old.messages ++ said_of message.entry ∷ [])
+            self.old.table) }
     {
         let why = self.nothing_said(place);
         self.messages.push(message)?;
@@ -236,7 +237,7 @@ impl<'a> Machine<'a> {
         ensures { IfOk result (λ mode. tape_of mode self.new ≡
             tape_with (Fine false place (why_at place (length self.old.messages)))
             (stack_of self.old.frames.items) self.old.forest self.old.trail.items
-            (self.old.messages ++ said_of message.entry ∷ said_of wanted.entry ∷ [])) }
+            (self.old.messages ++ said_of message.entry ∷ said_of wanted.entry ∷ []) self.old.table) }
     {
         let why = self.nothing_said(place);
         self.messages.push(message)?;

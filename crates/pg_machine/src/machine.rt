@@ -1,37 +1,42 @@
-//! The machine's lists, and how frames keep, cut and join what lies on them.
+//! The machine's lists and its table, and how frames keep, cut and join what lies on them.
 
 ghost use Rattle.std.specs.Prelude.{◌≡◌, ◌∷◌, [], length, take, drop, slice_set, IfOk, OnOk};
+ghost use Rattle.pg_table.specs.Tables.{first_operators};
 ghost use Rattle.pg_machine.specs.View.{frame_of, stack_of};
 ghost use Rattle.pg_machine.specs.Why.{why_at, why_behind, messages_behind};
 
 use crate::frame::{Frame, Marks};
 use crate::message_tape::{Held, MessageTape, Why};
 use pg_grammar::TrailItem;
+use pg_table::Table;
 use pg_tree::Forest;
 use std::alloc::{AllocError, Global};
 
-/// The frames, and the trees, the items and the messages of all that runs.
+/// The frames, the trees, the items and the messages of all that runs, and the operator table in force.
 #[derive(Drop)]
 pub(crate) struct Machine<'a> {
     pub(crate) frames: Vec<Frame<'a>>,
     pub(crate) forest: Forest,
     pub(crate) trail: Vec<TrailItem>,
     pub(crate) messages: MessageTape<'a>,
+    pub(crate) table: Table,
 }
 
 impl<'a> Machine<'a> {
-    /// A machine in which nothing runs. It takes no memory.
-    pub(crate) fn new(alloc: Global) -> Machine<'a>
+    /// A machine in which nothing runs, under the table. It takes no memory.
+    pub(crate) fn new(alloc: Global, table: Table) -> Machine<'a>
         ensures frames { stack_of result.frames.items ≡ [] }
         ensures forest { result.forest ≡ [] }
         ensures trail { result.trail.items ≡ [] }
         ensures messages { result.messages ≡ [] }
+        ensures table { result.table ≡ table }
     {
         Machine {
             frames: Vec::new(alloc),
             forest: Forest::new(alloc),
             trail: Vec::new(alloc),
             messages: MessageTape::new(alloc),
+            table,
         }
     }
 
@@ -42,31 +47,36 @@ impl<'a> Machine<'a> {
         ensures forest { OnOk result (self.new.forest ≡ self.old.forest) }
         ensures trail { OnOk result (self.new.trail.items ≡ self.old.trail.items) }
         ensures messages { OnOk result (self.new.messages ≡ self.old.messages) }
+        ensures table { OnOk result (self.new.table ≡ self.old.table) }
     {
         self.frames.push(frame)?;
         Ok(())
     }
 
-    /// How many trees and items there are.
+    /// How many trees, items and operators there are.
     pub(crate) fn marks(&self) -> Marks
         ensures forest { result.forest ≡ length self.now.forest }
         ensures trail { result.trail ≡ length self.now.trail.items }
+        ensures operators { result.operators ≡ length self.now.table.operators }
     {
         Marks {
             forest: self.forest.len(),
             trail: self.trail.len(),
+            operators: self.table.operators().len(),
         }
     }
 
-    /// Cuts trees and items back to the marks.
+    /// Cuts trees, items and operators back to the marks.
     pub(crate) fn cut(&mut self, marks: Marks)
         ensures frames { self.new.frames ≡ self.old.frames }
         ensures forest { self.new.forest ≡ take marks.forest self.old.forest }
         ensures trail { self.new.trail.items ≡ take marks.trail self.old.trail.items }
         ensures messages { self.new.messages ≡ self.old.messages }
+        ensures table { self.new.table ≡ first_operators marks.operators self.old.table }
     {
         self.cut_forest(marks.forest);
         self.trail.truncate(marks.trail);
+        self.table.cut(marks.operators);
     }
 
     /// Cuts trees.
@@ -75,6 +85,7 @@ impl<'a> Machine<'a> {
         ensures forest { self.new.forest ≡ take count self.old.forest }
         ensures trail { self.new.trail ≡ self.old.trail }
         ensures messages { self.new.messages ≡ self.old.messages }
+        ensures table { self.new.table ≡ self.old.table }
     {
         if count < self.forest.len() {
             self.forest.cut(count);
@@ -88,6 +99,7 @@ impl<'a> Machine<'a> {
         ensures forest { OnOk result (self.new.forest ≡ take count self.old.forest) }
         ensures trail { OnOk result (self.new.trail ≡ self.old.trail) }
         ensures messages { OnOk result (self.new.messages ≡ self.old.messages) }
+        ensures table { OnOk result (self.new.table ≡ self.old.table) }
     {
         let behind = self.forest.split_off(count.min(self.forest.len()))?;
         Ok(behind)
@@ -109,6 +121,7 @@ impl<'a> Machine<'a> {
         ensures forest { self.new.forest ≡ self.old.forest }
         ensures trail { self.new.trail.items ≡ slice_set self.old.trail.items slot item }
         ensures messages { self.new.messages ≡ self.old.messages }
+        ensures table { self.new.table ≡ self.old.table }
     {
         if slot < self.trail.len() {
             self.trail[slot] = item;
@@ -127,6 +140,7 @@ impl<'a> Machine<'a> {
         ensures forest { OnOk result (self.new.forest ≡ self.old.forest) }
         ensures trail { OnOk result (self.new.trail ≡ self.old.trail) }
         ensures messages { OnOk result (self.new.messages ≡ messages_behind consumed held why self.old.messages) }
+        ensures table { OnOk result (self.new.table ≡ self.old.table) }
     {
         if consumed {
             return Ok(why);

@@ -68,6 +68,7 @@ impl<'a> Machine<'a> {
         ensures forest { OnOk result (self.new.forest ≡ self.old.forest) }
         ensures trail { OnOk result (self.new.trail ≡ self.old.trail) }
         ensures messages { OnOk result (self.new.messages ≡ joined_messages before consumed why self.old.messages) }
+        ensures table { OnOk result (self.new.table ≡ self.old.table) }
     {
         match before {
             Some(before) => self.error_behind(before.held, consumed, why),

@@ -39,14 +39,15 @@ pub fn probe<'a>(
     requires { Fits (offer_of registry.now) grammar.now }
     ensures { IfOk result (IsOutcome (given reading grammar.now text.now) table.now max_steps) }
 {
-    let mut machine = Machine::new(alloc);
+    let own = table.copy(alloc)?;
+    let mut machine = Machine::new(alloc, own);
     let mut mode = Mode::At(start_of(grammar), 0);
     let mut steps: u64 = 0;
     while steps < max_steps && !machine.is_over(&mode) {
         mode = machine.step(alloc, grammar, registry, text, reading, mode)?;
         steps += 1;
     }
-    ended(alloc, text, table, machine, mode, steps)
+    ended(alloc, text, machine, mode, steps)
 }
 
 /// The body of the start rule.
@@ -61,12 +62,11 @@ pub(crate) fn start_of(grammar: &Grammar) -> NodeId
 pub(crate) fn ended(
     alloc: Global,
     text: &Text,
-    table: &Table,
     machine: Machine<'_>,
     mode: Mode,
     steps: u64,
 ) -> Result<Outcome, AllocError>
-    ensures { IfOk result (Ends text.now table.now (tape_of mode machine.entry) steps) }
+    ensures { IfOk result (Ends text.now (tape_of mode machine.entry) steps) }
 {
     match mode {
         Mode::At(_, _) => Ok(Outcome::StepsUsed),
@@ -78,7 +78,7 @@ pub(crate) fn ended(
                 let error = error(alloc, text, &machine, why)?;
                 let success = Some(Success {
                     place: end,
-                    table: table.copy(alloc)?,
+                    table: machine.table,
                     forest: machine.forest,
                     trail: Trail::from_items(machine.trail),
                 });

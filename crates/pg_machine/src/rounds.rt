@@ -20,7 +20,7 @@ impl<'a> Machine<'a> {
         requires { rounds.count < 2 ^ 64 - 1 }
         ensures { IfOk result (λ mode. tape_of mode self.new ≡
             on_lists (tape_to_rounds rounds.part rounds.count rounds.consumed rounds.start rounds.slot
-            rounds.marks.forest rounds.marks.trail rounds.messages reply) self.old) }
+            rounds.marks.forest rounds.marks.trail rounds.marks.operators rounds.messages reply) self.old) }
     {
         match reply {
             Reply::Fine {

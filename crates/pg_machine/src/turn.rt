@@ -4,7 +4,6 @@ ghost use Rattle.std.specs.Prelude.{◌≡◌, ◌-◌, ◌^◌, IfOk};
 ghost use Rattle.pg_pred.specs.Offer.{offer_of};
 ghost use Rattle.pg_grammar.specs.Fits.{Fits};
 ghost use Rattle.pg_grammar.specs.Grammar.{Grammar as Parts};
-ghost use Rattle.pg_table.specs.Tables.{Table};
 ghost use Rattle.pg_derive.specs.Answers.{given};
 ghost use Rattle.pg_machine.specs.Tape.{tape_turn, tape_hand, tape_is_last};
 ghost use Rattle.pg_machine.specs.Ready.{IsReady, IsTapeReady};
@@ -32,8 +31,8 @@ impl<'a> Machine<'a> {
     ) -> Result<Mode, AllocError>
         requires fits { Fits (offer_of registry.now) grammar.now }
         requires ready { IsTapeReady (offer_of registry.now) (2 ^ 64 - 1) (tape_of mode self.now) }
-        ensures { IfOk result (λ next. (table : Table) → tape_of next self.new ≡
-            tape_turn (given reading grammar.now text.now) table (tape_of mode self.old)) }
+        ensures { IfOk result (λ next. tape_of next self.new ≡
+            tape_turn (given reading grammar.now text.now) (tape_of mode self.old)) }
     {
         match mode {
             Mode::At(node, place) => self.enter(alloc, grammar, registry, text, node, place),

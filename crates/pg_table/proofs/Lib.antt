@@ -1,3 +1,4 @@
 pub mod Added
 pub mod Onward
 pub mod Examples
+pub mod Cut

@@ -1,5 +1,5 @@
 -- Derivations lead on, in the text and in the table.
-use Rattle.std.proofs.Common.{◌≡◌, ℕ, suc, ◌+◌, ◌-◌, ◌≤◌, min, List, [], ◌∷◌, ◌++◌, drop, length, refl, sym, ap, arith, append-nil, length-take, length-drop, le_refl}
+use Rattle.std.proofs.Common.{◌≡◌, ℕ, suc, ◌+◌, ◌-◌, ◌≤◌, min, List, [], ◌∷◌, ◌++◌, drop, length, refl, sym, ◌∙◌, ap, arith, append-nil, length-take, length-drop, le_refl}
 use Rattle.std.specs.List.{prefix_len}
 use Rattle.std.proofs.lemmas.Option.{slice_get_within}
 use Rattle.pg_tree.specs.Trees.{Tree}
@@ -17,7 +17,7 @@ use Rattle.pg_grammar.specs.declared.trail.TrailItem.{TrailItem}
 use Rattle.pg_table.specs.Runs.{run_at, past_run, HasAt, StandsAt, IsWordAt, IsOperatorAt, IsDeclarationAt}
 use Rattle.pg_table.specs.Derives.{Spot, at, behind, Link, Derives, DerivesForm, DerivesParts, DerivesRounds, DerivesLinks, DerivesExpression, at_node, satisfy, string, word, not_followed_by, end_of_text, seq, choice, many, chain_left, chain_right, try, label, rule, text, skip, build, expression, declare, no_part, first_part, no_round, first_round, no_link, first_link, a_term, a_prefix, a_postfix, an_infix}
 use Rattle.pg_table.specs.Onward.{LeadsOn}
-use Rattle.pg_table.proofs.Added.{added_behind, added_at_end}
+use Rattle.pg_table.proofs.Added.{added_behind, added_at_end, all_proper}
 
 -- ---- places
 
@@ -40,10 +40,26 @@ run_within g s class i below =
 -- ---- spots
 
 stays : (s : List ℕ) (a : Spot) → LeadsOn s a a
-stays s a = record { onward = le_refl a.place; within = λ h. h; further = []; added = refl; behind = sym (append-nil a.table.operators) }
+stays s a = record {
+  onward = le_refl a.place;
+  within = λ h. h;
+  further = [];
+  proper = tt;
+  added = refl;
+  behind = sym (append-nil a.table.operators);
+  still = λ e. refl;
+}
 
 moves : (s : List ℕ) (a : Spot) (j : ℕ) → a.place ≤ j → (a.place ≤ length s → j ≤ length s) → LeadsOn s a (at a j)
-moves s a j onward within = record { onward = onward; within = within; further = []; added = refl; behind = sym (append-nil a.table.operators) }
+moves s a j onward within = record {
+  onward = onward;
+  within = within;
+  further = [];
+  proper = tt;
+  added = refl;
+  behind = sym (append-nil a.table.operators);
+  still = λ e. ap (λ i. at a i) e;
+}
 
 joins : (s : List ℕ) (a b c : Spot) → LeadsOn s a b → LeadsOn s b c → LeadsOn s a c
 joins s a b c h k =
@@ -52,8 +68,10 @@ joins s a b c h k =
       onward = (let first = h.onward in let second = k.onward in omega arith);
       within = λ below. k.within (h.within below);
       further = h.further ++ k.further;
+      proper = all_proper h.further k.further h.proper k.proper;
       added = added;
       behind = added_at_end 0 a.table c.table (h.further ++ k.further) added;
+      still = λ e. let first = h.onward in let second = k.onward in h.still (omega arith) ∙ k.still (omega arith);
     }
 
 -- ---- what stands at a place
@@ -98,8 +116,10 @@ declaration_on g s item class d a j is admits =
       onward = omega arith;
       within = λ h. omega arith;
       further = d ∷ [];
+      proper = (record { digit = is.precedence; spelled = is.spelled }, tt);
       added = ap (λ fault. added_unless fault 0 (whole (with_operator a.table d))) admits;
       behind = refl;
+      still = λ e. absurd (omega arith);
     }
 
 -- ---- derivations

@@ -1,5 +1,5 @@
 -- Operator tables, and which declarations they admit.
-use Rattle.std.specs.Prelude.{◌≡◌, ◌≤◌, ℕ, suc, Bool, true, false, not, ◌&&◌, nat_lt, nat_le, if◌then◌else◌, List, [], ◌∷◌, ◌++◌, length, Option, Some, None}
+use Rattle.std.specs.Prelude.{◌≡◌, ◌≤◌, ℕ, suc, Bool, true, false, not, ◌&&◌, nat_lt, nat_le, if◌then◌else◌, List, [], ◌∷◌, ◌++◌, length, take, Option, Some, None}
 use Rattle.std.specs.List.{list_any, AllByRecursion}
 use Rattle.std.specs.Str.{bytes_eq}
 use Rattle.pg_grammar.specs.Grammar.{Grammar}
@@ -53,6 +53,10 @@ admit_fault table d =
 abbrev pub Admits : Table → Operator → Type 0
 Admits table d = admit_fault table d ≡ None
 
+-- the table with its first operators alone
+abbrev pub first_operators : ℕ → Table → Table
+first_operators count table = record { operators = take count table.operators; reserved = table.reserved; most = table.most }
+
 -- the table with an operator more, at the end
 abbrev pub with_operator : Table → Operator → Table
 with_operator table d = record { operators = table.operators ++ d ∷ []; reserved = table.reserved; most = table.most }
@@ -89,9 +93,11 @@ abbrev pub IsRefusal : Added → InitialFault → Type 0
 IsRefusal added (NotAdmitted k fault) = added ≡ refused k fault
 IsRefusal added Memory = Unit {0}
 
--- the table comes from the grammar: it is the initial one, with further operators that were admitted one after another
+-- the table comes from the grammar: it is the initial one, with further operators that can be declared and were admitted one
+-- after another
 pub record ComesFrom (g : Grammar) (table : Table) : Type 0 where
   pub first : Table
   pub initial : initial g ≡ whole first
   pub further : List Operator
+  pub proper : AllByRecursion IsOperator further
   pub added : added_from 0 first further ≡ whole table

@@ -1,10 +1,11 @@
-//! Why a table doesn't admit an operator, and why a grammar has no initial table.
+//! Why a table doesn't admit an operator, why it isn't extended by one, and why a grammar has no initial table.
 //!
 //! The reasons are tried in the order in which they stand here, and the first that holds is the one that is answered
 //! (ours). Programs print these texts.
 
 ghost use Rattle.std.specs.Prelude.{◌≡◌};
 ghost use Rattle.pg_table.specs.declared.fault.InitialFault.TheVariants.{Memory};
+ghost use Rattle.pg_table.specs.declared.fault.ExtendFault.TheVariants as extend_fault;
 
 use std::alloc::{AllocError, AllocFailed};
 use thiserror::Error;
@@ -58,5 +59,24 @@ impl<T: Drop> From<AllocFailed<T>> for InitialFault {
 
     fn from(_e: AllocFailed<T>) -> InitialFault {
         InitialFault::Memory
+    }
+}
+
+/// Why there is no copy of a table with an operator more.
+#[derive(Debug, Drop, Error)]
+pub enum ExtendFault {
+    /// The operator isn't admitted.
+    #[error("operator not admitted: {0}")]
+    NotAdmitted(AdmitFault),
+    /// There was no memory for the copy.
+    #[error("out of memory")]
+    Memory,
+}
+
+impl From<AllocError> for ExtendFault {
+    ghost from_gives = { λ _ e. e ≡ extend_fault.Memory };
+
+    fn from(_e: AllocError) -> ExtendFault {
+        ExtendFault::Memory
     }
 }

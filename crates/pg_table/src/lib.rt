@@ -11,7 +11,7 @@ mod table;
 #[cfg(test)]
 mod tests;
 
-pub use fault::{AdmitFault, InitialFault};
+pub use fault::{AdmitFault, ExtendFault, InitialFault};
 pub use laws::{derivations_lead_on, tables_come_from_grammar};
-pub use limits::SYMBOL_LIMIT;
+pub use limits::{PRECEDENCES, SYMBOL_LIMIT};
 pub use table::Table;

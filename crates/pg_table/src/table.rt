@@ -5,13 +5,13 @@
 //! operator comes into a table only by [`Table::admit`]'s leave, so no symbol in the table of a grammar is reserved, and
 //! none stands for two operators in one position.
 
-ghost use Rattle.std.specs.Prelude.{◌≡◌, ◌&&◌, not, IfOk, IfErr, OnOk, OnErr, Some};
+ghost use Rattle.std.specs.Prelude.{◌≡◌, ◌↔◌, ◌&&◌, not, IfOk, IfErr, IsErrOf, OnOk, OnErr, Some, length};
 ghost use Rattle.std.specs.List.{list_any};
 ghost use Rattle.std.specs.Str.{bytes_eq};
 ghost use Rattle.pg_table.specs.Tables.{is_prefix};
 
-use crate::fault::{AdmitFault, InitialFault};
-use crate::limits::SYMBOL_LIMIT;
+use crate::fault::{AdmitFault, ExtendFault, InitialFault};
+use crate::limits::{PRECEDENCES, SYMBOL_LIMIT};
 use pg_grammar::{Decl, Grammar, Role, Texts};
 use std::alloc::{AllocError, Global};
 use std::marker::Model;
@@ -35,7 +35,8 @@ impl Model for Table {
 }
 
 impl Table {
-    ghost use Rattle.pg_table.specs.Tables.{IsTable, whole, Admits, admit_fault, has_prefix, has_other, with_operator, empty_table, initial, IsRefusal, ComesFrom};
+    ghost use Rattle.pg_table.specs.Tables.{IsTable, whole, Admits, admit_fault, has_prefix, has_other, with_operator, first_operators, empty_table, initial, IsRefusal, ComesFrom};
+    ghost use Rattle.pg_table.specs.Rows.{holds, rows};
 
     /// The initial table of a grammar: its initial declarations in file order, each admitted by those before it.
     ///
@@ -50,7 +51,7 @@ impl Table {
             if let Err(fault) = table.admit(decl) {
                 return Err(InitialFault::NotAdmitted { index, fault });
             }
-            table.add(decl.copy(alloc)?)?;
+            table.extend(decl.copy(alloc)?)?;
         }
         Ok(table)
     }
@@ -89,6 +90,51 @@ impl Table {
         self.operators.as_slice()
     }
 
+    /// How many rows the table has: the precedences that hold an operator. It takes no memory.
+    pub fn rows(&self) -> usize
+        ensures { result ≡ length (rows self.now.operators) }
+    {
+        PRECEDENCES
+            .iter()
+            .filter(|precedence| self.holds(**precedence))
+            .count()
+    }
+
+    /// Adds an operator at the end, which the caller owes to be admitted.
+    ///
+    /// The only error is that memory ran out, and then the table is what it was.
+    pub fn extend(&mut self, decl: Decl) -> Result<(), AllocError>
+        requires { Admits self.old decl }
+        ensures ok { OnOk result (self.new ≡ with_operator self.old decl) }
+        ensures err { OnErr result (self.new ≡ self.old) }
+    {
+        self.operators.push(decl)?;
+        Ok(())
+    }
+
+    /// Drops the operators behind the first `count`; where there are no more than these, nothing changes. It takes no memory,
+    /// so that a parser that failed can take back what it declared.
+    #[tactic(auto, using(crate::proofs::Cut::still_table))]
+    pub fn cut(&mut self, count: usize)
+        ensures { self.new ≡ first_operators count self.old }
+    {
+        self.operators.truncate(count);
+    }
+
+    /// An equal table with the operator at its end, in memory of its own, where the operator is admitted.
+    ///
+    /// Where it isn't, the first of A1 to A5 that holds, as [`Table::admit`] answers it, and no memory is asked for.
+    pub fn extended_copy(&self, alloc: Global, decl: &Decl) -> Result<Table, ExtendFault>
+        ensures ok { IfOk result (λ table. table ≡ with_operator self.now decl.now) }
+        ensures admitted { OnOk result (Admits self.now decl.now) }
+        ensures refused { (fault : AdmitFault) → (IsErrOf result (ExtendFault.NotAdmitted fault) ↔ (admit_fault self.now decl.now ≡ Some fault)) }
+    {
+        self.admit(decl).map_err(ExtendFault::NotAdmitted)?;
+        let mut copy = self.copy(alloc)?;
+        copy.extend(decl.copy(alloc)?)?;
+        Ok(copy)
+    }
+
     /// An equal table in memory of its own. The only error is that memory ran out.
     pub fn copy(&self, alloc: Global) -> Result<Table, AllocError>
         ensures { IfOk result (λ table. table ≡ self.now) }
@@ -118,14 +164,13 @@ impl Table {
         }
     }
 
-    /// Adds an operator at the end, which the caller owes to be admitted. A refusal changes nothing.
-    fn add(&mut self, decl: Decl) -> Result<(), AllocError>
-        requires { Admits self.old decl }
-        ensures ok { OnOk result (self.new ≡ with_operator self.old decl) }
-        ensures err { OnErr result (self.new ≡ self.old) }
+    /// Whether an operator has the precedence.
+    fn holds(&self, precedence: u8) -> bool
+        ensures { result ≡ holds self.now.operators precedence }
     {
-        self.operators.push(decl)?;
-        Ok(())
+        self.operators
+            .iter()
+            .any(|operator| operator.precedence() == precedence)
     }
 
     /// Whether the symbol is reserved.

@@ -107,6 +107,14 @@ fn symbols(alloc: Global, table: &Table) -> Result<String, Fail> {
     Ok(text)
 }
 
+/// The symbols of the table with an operator more, or why there is no such table.
+fn extension(alloc: Global, table: &Table, decl: &Decl) -> Result<String, Fail> {
+    match table.extended_copy(alloc, decl) {
+        Ok(extended) => symbols(alloc, &extended),
+        Err(fault) => Ok(format!(in alloc; "{fault}")?),
+    }
+}
+
 /// The operators that the tables of the tests begin with.
 const INITIALS: [(Role, Symbol); 3] = [
     (Role::Prefix, (0, '-')),
@@ -181,6 +189,47 @@ fn keeps_the_order_of_declarations(rt: HostRuntime) -> Result<(), Fail> {
     assert_eq!(rt; symbols(alloc, &copy)?.as_str(), "- + x! ");
     let found = admission(alloc, &copy, Role::Prefix, (0, '='))?;
     assert_eq!(rt; found.as_str(), "A2");
+    Ok(())
+}
+
+#[test]
+fn extends_a_copy_by_an_admitted_operator(rt: HostRuntime) -> Result<(), Fail> {
+    let alloc = rt.alloc();
+    let table = table_of(alloc, 4, &INITIALS)?;
+    let admitted = declared(alloc, Role::InfixRight, (0, '*'))?;
+    let found = extension(alloc, &table, &admitted)?;
+    assert_eq!(rt; found.as_str(), "- + x! * ");
+    let reserved = declared(alloc, Role::InfixRight, (0, '='))?;
+    let found = extension(alloc, &table, &reserved)?;
+    assert_eq!(rt; found.as_str(), "operator not admitted: A2");
+    assert_eq!(rt; symbols(alloc, &table)?.as_str(), "- + x! ");
+    Ok(())
+}
+
+#[test]
+fn cuts_the_last_operators(rt: HostRuntime) -> Result<(), Fail> {
+    let alloc = rt.alloc();
+    let mut table = table_of(alloc, 3, &INITIALS)?;
+    table.cut(3);
+    assert_eq!(rt; symbols(alloc, &table)?.as_str(), "- + x! ");
+    table.cut(1);
+    assert_eq!(rt; symbols(alloc, &table)?.as_str(), "- ");
+    let again = admission(alloc, &table, Role::InfixLeft, (0, '+'))?;
+    assert_eq!(rt; again.as_str(), "ok");
+    Ok(())
+}
+
+#[test]
+fn counts_each_precedence_once(rt: HostRuntime) -> Result<(), Fail> {
+    let alloc = rt.alloc();
+    let table = table_of(alloc, 5, &INITIALS)?;
+    assert_eq!(rt; table.rows(), 1);
+    let loosest = Decl::new(Role::InfixLeft, 0, spelled(alloc, (0, '*'))?);
+    let extended = table.extended_copy(alloc, &loosest)?;
+    assert_eq!(rt; extended.rows(), 2);
+    let tightest = Decl::new(Role::InfixLeft, 9, spelled(alloc, (0, '^'))?);
+    let extended = extended.extended_copy(alloc, &tightest)?;
+    assert_eq!(rt; extended.rows(), 3);
     Ok(())
 }
 

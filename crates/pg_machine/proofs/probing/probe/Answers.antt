@@ -12,7 +12,8 @@ pub loop-steps-init : goal.loop-steps-init
 loop-steps-init g c =
     let m = c.new-machine.result in
     running_begins (offer_of c.args.registry.now) (given c.args.reading c.args.grammar.now c.args.text.now) c.args.table.now c.args.max_steps c.start_of.result
-    (stack_of m.frames.items) m.forest m.trail.items m.messages c.start_of.ensures c.new-machine.ensures.frames c.new-machine.ensures.forest c.new-machine.ensures.trail c.new-machine.ensures.messages
+    (stack_of m.frames.items) m.forest m.trail.items m.messages m.table c.start_of.ensures c.new-machine.ensures.frames c.new-machine.ensures.forest c.new-machine.ensures.trail c.new-machine.ensures.messages
+    (c.new-machine.ensures.table ∙ c.in_ok-own.ensures)
 
 pub step-requires-clause-ready : goal.step-requires-clause-ready
 step-requires-clause-ready g c =
@@ -23,7 +24,7 @@ pub loop-steps-preserved : goal.loop-steps-preserved
 loop-steps-preserved g c =
     let going : tape_is_last (tape_of c.loop-steps.mode c.loop-steps.machine) ≡ false = sym c.is_over.ensures ∙ c.if-not-is_over.true in
     running_turn (offer_of c.args.registry.now) (given c.args.reading c.args.grammar.now c.args.text.now) c.args.table.now c.args.max_steps c.loop-steps.steps (tape_of c.loop-steps.mode c.loop-steps.machine) _
-    c.requires c.loop-steps.invariant c.loop-steps-test.true going (c.in_ok-mode.ensures c.args.table.now)
+    c.requires c.loop-steps.invariant c.loop-steps-test.true going c.in_ok-mode.ensures
 
 pub returns : goal.returns
 returns g c =

@@ -12,7 +12,8 @@ turns-init g c =
     let m = c.new-machine.result in
     let run = c.args.self.now in
     going_begins (offer_of c.args.registry.now) (given Library run.grammar.now run.text.now) run.table.now run.halts c.start_of.result
-    (stack_of m.frames.items) m.forest m.trail.items m.messages c.start_of.ensures c.new-machine.ensures.frames c.new-machine.ensures.forest c.new-machine.ensures.trail c.new-machine.ensures.messages
+    (stack_of m.frames.items) m.forest m.trail.items m.messages m.table c.start_of.ensures c.new-machine.ensures.frames c.new-machine.ensures.forest c.new-machine.ensures.trail c.new-machine.ensures.messages
+    (c.new-machine.ensures.table ∙ c.in_ok-own.ensures)
 
 pub step-requires-clause-ready : goal.step-requires-clause-ready
 step-requires-clause-ready g c =
@@ -24,14 +25,14 @@ turns-smaller g c =
     let run = c.args.self.now in
     let going : tape_is_last (tape_of c.turns.mode c.turns.machine) ≡ false = sym c.is_over.ensures ∙ c.turns-test.true in
     going_falls (offer_of c.args.registry.now) (given Library run.grammar.now run.text.now) run.table.now run.halts.0 c.turns.steps (tape_of c.turns.mode c.turns.machine) _ c.turns.invariant going
-    (c.in_ok-mode.ensures run.table.now)
+    c.in_ok-mode.ensures
 
 pub turns-preserved : goal.turns-preserved
 turns-preserved g c =
     let run = c.args.self.now in
     let going : tape_is_last (tape_of c.turns.mode c.turns.machine) ≡ false = sym c.is_over.ensures ∙ c.turns-test.true in
     going_turn (offer_of c.args.registry.now) (given Library run.grammar.now run.text.now) run.table.now run.halts.0 c.turns.steps _ (tape_of c.turns.mode c.turns.machine) _
-    c.requires.fits (bounded (given Library run.grammar.now run.text.now) c.requires.accepted) c.turns.invariant going (c.in_ok-mode.ensures run.table.now) c.saturating_add-steps.ensures
+    c.requires.fits (bounded (given Library run.grammar.now run.text.now) c.requires.accepted) c.turns.invariant going c.in_ok-mode.ensures c.saturating_add-steps.ensures
 
 pub unreachable-requires : goal.unreachable-requires
 unreachable-requires g c =

@@ -10,4 +10,4 @@ abbrev pub invariant-turns : goal.invariant-turns
 invariant-turns g l = Going (offer_of l.registry) (given Library l.self.grammar.now l.self.text.now) l.self.table.now l.self.halts.0 l.steps (tape_of l.mode l.machine)
 
 abbrev pub decreases-turns : goal.decreases-turns
-decreases-turns g l = turns_left (given Library l.self.grammar.now l.self.text.now) l.self.table.now l.self.halts.0 (tape_of l.mode l.machine)
+decreases-turns g l = turns_left (given Library l.self.grammar.now l.self.text.now) l.self.halts.0 (tape_of l.mode l.machine)

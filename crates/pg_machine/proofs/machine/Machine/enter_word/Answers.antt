@@ -25,11 +25,11 @@ returns-in-Some g c =
     let there : slice_get c.args.grammar.now.words c.args.word ≡ Some c.in-Some.item.now =
     ap (λ ws. slice_get ws c.args.word) (sym c.word_items.ensures.all) ∙ ap (slice_get c.word_items.result.now) (sym c.index.ensures) ∙ sym c.item_at.ensures ∙ ap option_copied c.in-Some.is in
     IfOk-weaker c.word.result _ _
-    (λ mode h reading table. h table ∙ ap (λ o. tape_word (given reading c.args.grammar.now c.args.text.now) table o c.args.place (stack_of m.frames.items) m.forest m.trail.items m.messages) (sym there)) c.word.ensures
+    (λ mode h reading. h ∙ ap (λ o. tape_word (given reading c.args.grammar.now c.args.text.now) o c.args.place (stack_of m.frames.items) m.forest m.trail.items m.messages m.table) (sym there)) c.word.ensures
 
 pub returns-in-None : goal.returns-in-None
 returns-in-None g c =
     let m = c.args.self.now in
     let none : slice_get c.args.grammar.now.words c.args.word ≡ None =
     ap (λ ws. slice_get ws c.args.word) (sym c.word_items.ensures.all) ∙ ap (slice_get c.word_items.result.now) (sym c.index.ensures) ∙ sym c.item_at.ensures ∙ ap option_copied c.in-None.is in
-    λ reading table. ap (λ o. tape_word (given reading c.args.grammar.now c.args.text.now) table o c.args.place (stack_of m.frames.items) m.forest m.trail.items m.messages) (sym none)
+    λ reading. ap (λ o. tape_word (given reading c.args.grammar.now c.args.text.now) o c.args.place (stack_of m.frames.items) m.forest m.trail.items m.messages m.table) (sym none)

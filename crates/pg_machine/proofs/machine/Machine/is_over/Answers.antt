@@ -10,12 +10,12 @@ pub returns-in-Fine : goal.returns-in-Fine
 returns-in-Fine c =
     let m = c.args.self.now in
     c.is_empty.ensures ∙ ap (λ n. n == 0) m.frames.ok.0
-    ∙ last_fine c.in-Fine.consumed c.in-Fine.end c.in-Fine.why m.frames.items m.forest m.trail.items m.messages
+    ∙ last_fine c.in-Fine.consumed c.in-Fine.end c.in-Fine.why m.frames.items m.forest m.trail.items m.messages m.table
     ∙ ap (λ s. tape_is_last (tape_of s m)) (sym (c.in-With.is ∙ ap With c.in-Fine.is))
 
 pub returns-in-Failed : goal.returns-in-Failed
 returns-in-Failed c =
     let m = c.args.self.now in
     c.is_empty-in-Failed.ensures ∙ ap (λ n. n == 0) m.frames.ok.0
-    ∙ last_failed c.in-Failed.consumed c.in-Failed.why m.frames.items m.forest m.trail.items m.messages
+    ∙ last_failed c.in-Failed.consumed c.in-Failed.why m.frames.items m.forest m.trail.items m.messages m.table
     ∙ ap (λ s. tape_is_last (tape_of s m)) (sym (c.in-With.is ∙ ap With c.in-Failed.is))

@@ -26,5 +26,5 @@ returns-else-not-test g c =
     let whole : take (c.run_len-count.result + 1) c.behind.result.now ≡ c.in-Some.c ∷ run_at c.args.grammar.now c.args.text.now c.args.item.now.rest (suc c.args.place) =
     ap (take (c.run_len-count.result + 1)) all ∙ word_taken p c.args.text.now c.args.place c.in-Some.c c.run_len-count.result there count in
     IfOk-weaker c.read_word.result _ _
-    (λ mode h table. word_told (stack_of m.frames.items) m.forest m.trail.items m.messages table (tape_of mode c.read_word.new.self) c.args.grammar.now c.args.text.now c.args.item.now c.args.place c.in-Some.c
-    (take (c.run_len-count.result + 1) c.behind.result.now) there (sym c.test.ensures ∙ c.if-not-test.false) whole (h table)) c.read_word.ensures
+    (λ mode h. word_told (stack_of m.frames.items) m.forest m.trail.items m.messages m.table (tape_of mode c.read_word.new.self) c.args.grammar.now c.args.text.now c.args.item.now c.args.place c.in-Some.c
+    (take (c.run_len-count.result + 1) c.behind.result.now) there (sym c.test.ensures ∙ c.if-not-test.false) whole h) c.read_word.ensures

@@ -1,0 +1,41 @@
+-- What is promised of a text: it gets a forest exactly where the grammar derives it, and then the only one.
+use Rattle.std.specs.Prelude.{◌≡◌, ℕ, List, Bool}
+use Rattle.pg_message.specs.declared.error.ParseError.{ParseError}
+use Rattle.pg_tree.specs.Trees.{Tree}
+use Rattle.pg_grammar.specs.Grammar.{Grammar}
+use Rattle.pg_grammar.specs.declared.trail.TrailItem.{TrailItem}
+use Rattle.pg_table.specs.Derives.{DerivesText}
+use Rattle.pg_table.specs.Tables.{Table, initial, whole}
+use Rattle.pg_derive.specs.Answers.{given}
+use Rattle.pg_derive.specs.Errors.{Error, in_text}
+use Rattle.pg_derive.specs.Outcomes.{failed}
+use Rattle.pg_derive.specs.WholeTexts.{AnswersText}
+use Rattle.pg_derive.specs.declared.reading.Reading.TheVariants.{Library}
+use Rattle.pg_predict.specs.Conditions.{IsFaultless}
+use Rattle.pg_predict.specs.Operators.{HasNoOperators}
+
+-- nothing is wrong at any node of the grammar, and no text reads or declares operators
+pub record IsAccepted (g : Grammar) : Type 0 where
+  pub plain : HasNoOperators g
+  pub faultless : IsFaultless g
+
+-- under the initial table the grammar derives the text to this forest, and has no second derivation of it
+pub record IsForestOfText (g : Grammar) (text : List ℕ) (forest : List Tree) : Type 0 where
+  pub table : Table
+  pub is_table : initial g ≡ whole table
+  pub after : Table
+  pub trail : List TrailItem
+  pub derives : DerivesText g text table after forest trail
+  pub only : (other : Table) (others : List Tree) (items : List TrailItem) → DerivesText g text table other others items →
+      (after ≡ other) × (forest ≡ others) × (trail ≡ items)
+
+-- under the initial table nothing derives the text, and this is the error that the start rule, or the end behind it, answers
+pub record IsErrorOfText (g : Grammar) (text : List ℕ) (e : ParseError) : Type 0 where
+  pub table : Table
+  pub is_table : initial g ≡ whole table
+  pub none : (after : Table) (forest : List Tree) (trail : List TrailItem) → ¬ (DerivesText g text table after forest trail)
+  pub consumed : Bool
+  pub error : Error
+  pub nodes : ℕ
+  pub answers : AnswersText (given Library g text) table (failed consumed error) nodes
+  pub stands : in_text text error ≡ e

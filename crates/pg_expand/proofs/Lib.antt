@@ -1,0 +1,9 @@
+pub mod Members
+pub mod Ranks
+pub mod OneTree
+pub mod RowTrees
+pub mod Levels
+pub mod Symbols
+pub mod Steps
+pub mod OperatorsRead
+pub mod Examples

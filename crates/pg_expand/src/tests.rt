@@ -1,0 +1,104 @@
+//! What no clause says: rows worked out by hand, and that the call succeeds with ample memory.
+
+ghost use Rattle.std.specs.Prelude.{◌<◌, ◌≤◌, length, IfOk};
+
+use super::*;
+use pg_grammar::{BaseForm, ClassExpression, ClassPart, Decl, Grammar, Maker, NodeId, Role, Texts};
+use pg_table::Table;
+use pg_text::Characters;
+use std::alloc::{AllocError, Global};
+use std::test::Fail;
+
+/// One character.
+fn spelled(alloc: Global, c: char) -> Result<Characters, AllocError>
+    ensures { IfOk result (λ characters. 0 < length characters) }
+{
+    let mut characters = Vec::new(alloc);
+    characters.push(c)?;
+    Ok(Characters::new(characters))
+}
+
+/// The class of one character.
+fn class_of(alloc: Global, c: char) -> Result<ClassExpression, AllocError> {
+    let part = ClassPart::Literal(spelled(alloc, c)?);
+    ClassExpression::new(alloc, vec![in alloc; part]?)
+}
+
+/// A declaration of an operator: its role, its precedence and its one character.
+type Declared = (Role, u8, char);
+
+/// The initial table of a grammar with these declarations.
+fn table_of(alloc: Global, declared: &[Declared]) -> Result<Table, Fail> {
+    let mut maker = Maker::new(alloc);
+    let class = class_of(alloc, '+')?;
+    let gap = class_of(alloc, ' ')?;
+    maker.operators(class, gap, Texts::new(Vec::new(alloc)), 64)?;
+    for (role, precedence, c) in declared {
+        let precedence = if *precedence < 10 { *precedence } else { 0 };
+        maker.initial(Decl::new(*role, precedence, spelled(alloc, *c)?))?;
+    }
+    maker.rule(spelled(alloc, 's')?, vec![in alloc; BaseForm::EndOfText]?)?;
+    maker.start(spelled(alloc, 's')?)?;
+    let grammar: Grammar = maker.finish()?;
+    Ok(Table::of(alloc, &grammar)?)
+}
+
+/// The symbols of some operators behind a text.
+fn with_symbols(mut text: String, operators: &Operators) -> Result<String, Fail> {
+    for operator in operators.as_slice() {
+        for c in operator.symbol() {
+            text.push(*c)?;
+        }
+    }
+    Ok(text)
+}
+
+/// The term's number and the rows: each has the symbols of the operators that associate to the right, to the left and to
+/// neither side, of the prefixes and of the postfixes.
+fn shown(alloc: Global, rows: &Rows) -> Result<String, Fail> {
+    let mut text = format!(in alloc; "{}", rows.term.index())?;
+    for row in rows.rows.as_slice() {
+        for operators in [&row.right, &row.left, &row.non, &row.prefix, &row.postfix] {
+            text.push(' ')?;
+            text = with_symbols(text, operators)?;
+        }
+        text.push(';')?;
+    }
+    Ok(text)
+}
+
+#[test]
+fn rows_are_by_precedence_and_role(rt: HostRuntime) -> Result<(), Fail> {
+    rows_derive_fitting_trees();
+    one_tree_per_reading();
+    one_tree_per_operators();
+    let alloc = rt.alloc();
+    let declared = [
+        (Role::InfixLeft, 6, '+'),
+        (Role::InfixNone, 4, '<'),
+        (Role::InfixLeft, 6, '-'),
+        (Role::InfixRight, 6, '^'),
+        (Role::Prefix, 9, '~'),
+        (Role::Postfix, 0, '?'),
+        (Role::Postfix, 9, '!'),
+        (Role::InfixNone, 4, '='),
+        (Role::Prefix, 6, '-'),
+    ];
+    let table = table_of(alloc, &declared)?;
+    let rows = expand(alloc, &table, NodeId::new(3))?;
+    assert_eq!(rt;
+        shown(alloc, &rows)?.as_str(),
+        "3    ~ !; ^ +-  - ;   <=  ;     ?;"
+    );
+    assert_eq!(rt; rows.rows.as_slice().len(), table.rows());
+    Ok(())
+}
+
+#[test]
+fn a_table_without_operators_has_no_row(rt: HostRuntime) -> Result<(), Fail> {
+    let alloc = rt.alloc();
+    let table = table_of(alloc, &[])?;
+    let rows = expand(alloc, &table, NodeId::new(0))?;
+    assert_eq!(rt; shown(alloc, &rows)?.as_str(), "0");
+    Ok(())
+}
