@@ -73,41 +73,64 @@ fn grammar_of_initials(
     places: &mut Vec<usize>,
 ) -> Result<Grammar, ReadError> {
     let mut maker = Maker::new(alloc);
-    let reserved = texts(alloc, reserved)?;
-    let most = most.min(OPERATOR_LIMIT);
-    maker
-        .operators(some_class(alloc)?, some_class(alloc)?, reserved, most)
-        .map_err(unread)?;
+    hand_in_operators(alloc, &mut maker, reserved, most)?;
     for item in items {
-        if let Item::Table {
-            role,
-            precedence,
-            symbol,
-            symbol_place,
-            ..
-        } = item
-        {
-            if let Some(declaration) = declaration(alloc, *role, *precedence, symbol)? {
-                maker.initial(declaration).map_err(unread)?;
-                places.push(*symbol_place)?;
-            }
+        hand_in_initial(alloc, &mut maker, item, places)?;
+    }
+    hand_in_rule(alloc, &mut maker)?;
+    maker.finish().map_err(|_| ReadError::Memory)
+}
+
+/// Hands in an operators item with these reserved symbols and so many operators at most.
+fn hand_in_operators(
+    alloc: Global,
+    maker: &mut Maker,
+    reserved: &[Characters],
+    most: usize,
+) -> Result<(), ReadError> {
+    let reserved = texts(alloc, reserved)?;
+    let (class, gap) = (some_class(alloc)?, some_class(alloc)?);
+    maker
+        .operators(class, gap, reserved, most.min(OPERATOR_LIMIT))
+        .map_err(unread)
+}
+
+/// Hands in the initial operator that the item is, if it is one, and notes where its symbol stands.
+fn hand_in_initial(
+    alloc: Global,
+    maker: &mut Maker,
+    item: &Item,
+    places: &mut Vec<usize>,
+) -> Result<(), ReadError> {
+    if let Item::Table {
+        role,
+        precedence,
+        symbol,
+        symbol_place,
+        ..
+    } = item
+    {
+        if let Some(declaration) = declaration(alloc, *role, *precedence, symbol)? {
+            maker.initial(declaration).map_err(unread)?;
+            places.push(*symbol_place)?;
         }
     }
-    let name = Characters::new(vec![in alloc; 's']?);
-    maker
-        .rule(name, vec![in alloc; BaseForm::EndOfText]?)
-        .map_err(unread)?;
-    maker
-        .start(Characters::new(vec![in alloc; 's']?))
-        .map_err(unread)?;
-    match maker.finish() {
-        Ok(grammar) => Ok(grammar),
-        Err(_) => Err(ReadError::Memory),
-    }
+    Ok(())
+}
+
+/// Hands in a rule, and a start that names it.
+fn hand_in_rule(alloc: Global, maker: &mut Maker) -> Result<(), ReadError> {
+    let body = vec![in alloc; BaseForm::EndOfText]?;
+    maker.rule(some_name(alloc)?, body).map_err(unread)?;
+    maker.start(some_name(alloc)?).map_err(unread)
 }
 
 fn unread(_fault: MakerFault) -> ReadError {
     ReadError::Memory
+}
+
+fn some_name(alloc: Global) -> Result<Characters, AllocError> {
+    Ok(Characters::new(vec![in alloc; 's']?))
 }
 
 /// The class of one character.

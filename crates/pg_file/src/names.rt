@@ -43,6 +43,19 @@ struct Above<'a> {
     has_start: bool,
 }
 
+impl<'a> Above<'a> {
+    /// What stands above the first item.
+    fn nothing(alloc: Global) -> Above<'a> {
+        Above {
+            classes: IndexSet::new(alloc),
+            words: IndexSet::new(alloc),
+            rules: IndexSet::new(alloc),
+            has_operators: false,
+            has_start: false,
+        }
+    }
+}
+
 /// The first fault of the items' names and initial operators, if there is one beside a start that is missing.
 pub fn name_fault(
     alloc: Global,
@@ -50,15 +63,20 @@ pub fn name_fault(
     items: &[Item],
 ) -> Result<Option<NameFault>, ReadError> {
     let defined = defined_in(alloc, items)?;
-    let mut above = Above {
-        classes: IndexSet::new(alloc),
-        words: IndexSet::new(alloc),
-        rules: IndexSet::new(alloc),
-        has_operators: false,
-        has_start: false,
-    };
+    let mut above = Above::nothing(alloc);
+    Ok(first_fault(alloc, registry, &defined, &mut above, items)?)
+}
+
+/// The first fault of the items, each of which is noted for those below it.
+fn first_fault<'a>(
+    alloc: Global,
+    registry: &Registry,
+    defined: &Defined<'a>,
+    above: &mut Above<'a>,
+    items: &'a [Item],
+) -> Result<Option<NameFault>, AllocError> {
     for item in items {
-        if let Some(fault) = item_fault(alloc, registry, &defined, &mut above, item)? {
+        if let Some(fault) = item_fault(alloc, registry, defined, above, item)? {
             return Ok(Some(fault));
         }
     }
@@ -72,6 +90,16 @@ fn defined_in<'a>(alloc: Global, items: &'a [Item]) -> Result<Defined<'a>, ReadE
         has_operators: false,
         refused: None,
     };
+    note_defined(alloc, &mut defined, items)?;
+    Ok(defined)
+}
+
+/// Notes what the items define.
+fn note_defined<'a>(
+    alloc: Global,
+    defined: &mut Defined<'a>,
+    items: &'a [Item],
+) -> Result<(), ReadError> {
     for item in items {
         match item {
             Item::Word { name, .. } => {
@@ -90,7 +118,7 @@ fn defined_in<'a>(alloc: Global, items: &'a [Item]) -> Result<Defined<'a>, ReadE
             Item::Class { .. } | Item::Table { .. } | Item::Start { .. } => {}
         }
     }
-    Ok(defined)
+    Ok(())
 }
 
 fn fault(kind: FaultKind, place: usize) -> Option<NameFault> {
