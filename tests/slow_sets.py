@@ -1,16 +1,9 @@
-#!/usr/bin/env python3
-"""Computes the sets of grammars straight from their definitions, as plainly and slowly as can be, and prints them.
+"""Computes the sets of grammars straight from their definitions, as plainly and slowly as can be, and shows them.
 
-usage: tests/slow_sets.py CASES [PRINTED]
-
-With the file PRINTED nothing is printed of the cases but those of which the file has something else; the last line is then
-'N passed, M failed', and the status is 1 if any failed.
-
-A line of the file CASES is a case in JSON, with the members `name` (what it shows) and `grammar` (a grammar file without
-a fault). What is printed of it is what the program `pg_sets_shown` prints: a line with the name; for each rule a line with
-its heads and its rank, and a line for each node of its body, in preorder and numbered from 1: its form, whether it can
-succeed on nothing, the starts that can begin what it reads, and those that can follow it. An empty line ends the case.
-Where the case has `"shown": false`, only the number of all these starts is printed.
+`page_of` shows the sets of a grammar file without a fault, as `pgw sets` prints them: for each rule a line with its heads and
+its rank, and a line for each node of its body, in preorder and numbered from 1: its form, whether it can succeed on nothing,
+the starts that can begin what it reads, and those that can follow it. `tests/sets` compares the two, and `tests/checks`
+judges grammars by these sets.
 
 Nothing here knows how pg_sets works. Each clause of the definitions is repeated over all nodes until a round of them all
 changes nothing. A start is a tuple, which begins with a number by which the kinds of starts are ordered:
@@ -20,12 +13,11 @@ changes nothing. A start is a tuple, which begins with a number by which the kin
     (2, head, rest, reserved)       a word; an operator is one too
     (3,)                            the end of the text
 
-The predicates are those of the program's registry: their ASCII characters alone.
+Of the program's predicates there are only those of digits, since the others have characters by Unicode's tables.
 """
 
 import json
 import re
-import sys
 
 # ---- classes, as ascending tuples of ranges with a character left out between each two neighbours
 
@@ -72,9 +64,6 @@ PREDICATES = {
     "digit": class_between("09"),
     "octDigit": class_between("07"),
     "hexDigit": class_between("09", "AF", "af"),
-    "letter": class_between("AZ", "az"),
-    "alphaNum": class_between("09", "AZ", "az"),
-    "space": class_between("\t\r", "  "),
 }
 SMALL_LETTERS = class_between("az")
 
@@ -527,51 +516,12 @@ def printed_rules(grammar, sets):
             yield f"  {number - body + 1} {grammar.nodes[number][0]}: {said}, first {first}, follow {follow}"
 
 
-def printed_case(case):
-    """The lines of a case, which an empty one ends."""
-    grammar = Reader(case["grammar"]).read()
-    sets = Sets(grammar)
-    yield case["name"]
-    if case.get("shown", True):
-        yield from printed_rules(grammar, sets)
-    else:
-        yield f"{sum(map(len, sets.first)) + sum(map(len, sets.follow))} starts"
-    yield ""
-
-
-def compare(cases, printed):
-    """Compares the lines of each case with those that were printed; answers how many cases have other lines."""
-    wrong = 0
-    for case in cases:
-        wanted = list(printed_case(case))
-        found, printed = printed[: len(wanted)], printed[len(wanted) :]
-        if found != wanted:
-            wrong += 1
-            print("\n".join(["FAIL " + case["name"], "wanted:", *wanted, "found:", *found]))
-    if printed:
-        wrong += 1
-        print("FAIL there is more printed")
-    return wrong
+def page_of(text):
+    """What is printed of the sets of a grammar file."""
+    grammar = Reader(text).read()
+    return "".join(line + "\n" for line in printed_rules(grammar, Sets(grammar)))
 
 
 def lines_of(path):
     with open(path, encoding="utf-8", newline="\n") as file:
         return file.read().removesuffix("\n").split("\n")
-
-
-def main(words):
-    if len(words) not in (1, 2):
-        print(__doc__, file=sys.stderr)
-        return 2
-    sys.stdout.reconfigure(encoding="utf-8", newline="\n")
-    cases = [json.loads(line) for line in lines_of(words[0])]
-    if len(words) == 1:
-        print(*(line for case in cases for line in printed_case(case)), sep="\n")
-        return 0
-    wrong = compare(cases, lines_of(words[1]))
-    print(f"{max(len(cases) - wrong, 0)} passed, {wrong} failed")
-    return 1 if wrong else 0
-
-
-if __name__ == "__main__":
-    sys.exit(main(sys.argv[1:]))

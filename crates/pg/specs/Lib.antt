@@ -1,6 +1,2 @@
 pub mod Status
 pub mod Texts
-pub mod Categories
-pub mod Kinds
-pub mod Builders
-pub mod ProgramOffer

@@ -37,6 +37,11 @@ const HELP_OF_PRINT: &str =
 
 Example: pgw print examples/color.g";
 
+const HELP_OF_SETS: &str =
+    "Exit status: 0 printed, 2 trouble (words or files that can't be used), 3 out of memory
+
+Example: pgw sets examples/color.g";
+
 /// What is asked. The names of files are relative to the caller's folder.
 #[derive(Clone, Copy, Debug, PartialEq, Eq)]
 pub enum Request<'a> {
@@ -61,21 +66,54 @@ pub enum Request<'a> {
     Print {
         grammar: &'a str,
     },
+    /// Print the sets of the grammar.
+    Sets {
+        grammar: &'a str,
+    },
 }
 
 /// The program's command line. Its texts call the program `pgw`, whatever its file is called.
 pub fn command<'a>(alloc: Global) -> Result<Command<'a>, AllocError> {
-    Command::new(alloc, "pgw")
+    with_printing_commands(alloc, with_reading_commands(alloc, program(alloc)?)?)
+}
+
+/// The command line but for its commands.
+fn program<'a>(alloc: Global) -> Result<Command<'a>, AllocError> {
+    let command = Command::new(alloc, "pgw")
         .bin_name("pgw")?
         .version("0.1.0")
         .about("Runs grammars of parser combinators on texts")
         .subcommand_required(true)
         .arg_required_else_help(true)
-        .after_help(HELP_OF_PROGRAM)
-        .subcommand(check_command(alloc)?)?
-        .subcommand(parse_command(alloc)?)?
-        .subcommand(probe_command(alloc)?)?
-        .subcommand(print_command(alloc)?)
+        .after_help(HELP_OF_PROGRAM);
+    Ok(command)
+}
+
+/// Adds what says yes or no of a grammar or a text.
+fn with_reading_commands<'a>(
+    alloc: Global,
+    program: Command<'a>,
+) -> Result<Command<'a>, AllocError> {
+    let program = with_command(program, check_command(alloc))?;
+    let program = with_command(program, parse_command(alloc))?;
+    with_command(program, probe_command(alloc))
+}
+
+/// Adds what shows a grammar.
+fn with_printing_commands<'a>(
+    alloc: Global,
+    program: Command<'a>,
+) -> Result<Command<'a>, AllocError> {
+    let program = with_command(program, print_command(alloc))?;
+    with_command(program, sets_command(alloc))
+}
+
+/// Adds a command. One way out for each where they are added keeps the proofs there short.
+fn with_command<'a>(
+    program: Command<'a>,
+    command: Result<Command<'a>, AllocError>,
+) -> Result<Command<'a>, AllocError> {
+    program.subcommand(command?)
 }
 
 fn check_command<'a>(alloc: Global) -> Result<Command<'a>, AllocError> {
@@ -86,19 +124,27 @@ fn check_command<'a>(alloc: Global) -> Result<Command<'a>, AllocError> {
 }
 
 fn parse_command<'a>(alloc: Global) -> Result<Command<'a>, AllocError> {
-    Command::new(alloc, "parse")
+    let command = Command::new(alloc, "parse")
         .about("Parses a text by a grammar and prints the trees as JSON")
-        .after_help(HELP_OF_PARSE)
-        .arg(file(alloc, "grammar", "The grammar file"))?
-        .arg(file(alloc, "text", "The file with the text, in UTF-8"))
+        .after_help(HELP_OF_PARSE);
+    with_grammar_and_text(alloc, command)
 }
 
 fn probe_command<'a>(alloc: Global) -> Result<Command<'a>, AllocError> {
-    Command::new(alloc, "probe")
+    let command = Command::new(alloc, "probe")
         .about("Runs a grammar's start rule on a text as Parsec would, and prints its answer")
         .after_help(HELP_OF_PROBE)
         .arg(steps(alloc))?
-        .arg(report(alloc))?
+        .arg(report(alloc))?;
+    with_grammar_and_text(alloc, command)
+}
+
+/// Adds the words that name the grammar file and the file with the text.
+fn with_grammar_and_text<'a>(
+    alloc: Global,
+    command: Command<'a>,
+) -> Result<Command<'a>, AllocError> {
+    command
         .arg(file(alloc, "grammar", "The grammar file"))?
         .arg(file(alloc, "text", "The file with the text, in UTF-8"))
 }
@@ -129,6 +175,13 @@ fn print_command<'a>(alloc: Global) -> Result<Command<'a>, AllocError> {
         .arg(file(alloc, "grammar", "The grammar file"))
 }
 
+fn sets_command<'a>(alloc: Global) -> Result<Command<'a>, AllocError> {
+    Command::new(alloc, "sets")
+        .about("Prints what can begin and what can follow each form of a grammar")
+        .after_help(HELP_OF_SETS)
+        .arg(file(alloc, "grammar", "The grammar file"))
+}
+
 /// A word that names a file, and that can't be left out.
 fn file<'a>(alloc: Global, id: &'a str, help: &'a str) -> Arg<'a> {
     Arg::new(alloc, id)
@@ -144,19 +197,30 @@ pub fn request_of<'a>(matches: &ArgMatches<'a>) -> Option<Request<'a>> {
         "check" => Some(Request::Check {
             grammar: found.get_str("grammar")?,
         }),
-        "parse" => Some(Request::Parse {
-            grammar: found.get_str("grammar")?,
-            text: found.get_str("text")?,
-        }),
-        "probe" => Some(Request::Probe {
-            grammar: found.get_str("grammar")?,
-            text: found.get_str("text")?,
-            max_steps: found.get_one("steps")?,
-            report: found.get_flag("report"),
-        }),
+        "parse" => parse_request(found),
+        "probe" => probe_request(found),
         "print" => Some(Request::Print {
+            grammar: found.get_str("grammar")?,
+        }),
+        "sets" => Some(Request::Sets {
             grammar: found.get_str("grammar")?,
         }),
         _ => None,
     }
+}
+
+fn parse_request<'a>(found: &ArgMatches<'a>) -> Option<Request<'a>> {
+    Some(Request::Parse {
+        grammar: found.get_str("grammar")?,
+        text: found.get_str("text")?,
+    })
+}
+
+fn probe_request<'a>(found: &ArgMatches<'a>) -> Option<Request<'a>> {
+    Some(Request::Probe {
+        grammar: found.get_str("grammar")?,
+        text: found.get_str("text")?,
+        max_steps: found.get_one("steps")?,
+        report: found.get_flag("report"),
+    })
 }

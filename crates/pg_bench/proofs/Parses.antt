@@ -7,11 +7,11 @@ use Rattle.pg_tree.specs.Trees.{Tree}
 use Rattle.pg_pred.specs.Offer.{Offer}
 use Rattle.pg_grammar.specs.Grammar.{Grammar}
 use Rattle.pg_table.specs.Tables.{Table, initial, whole}
-use Rattle.pg_derive.specs.Answers.{given}
-use Rattle.pg_derive.specs.Errors.{in_text, without_position}
-use Rattle.pg_derive.specs.WholeTexts.{AnswersText}
-use Rattle.pg_derive.specs.declared.reading.Reading.TheVariants.{Library}
-use Rattle.pg_file.specs.Spells.{SpellsWithinLimits}
+use Rattle.pg_language.specs.Answers.{given}
+use Rattle.pg_language.specs.Errors.{in_text, without_position}
+use Rattle.pg_language.specs.WholeTexts.{AnswersText}
+use Rattle.pg_language.specs.declared.reading.Reading.TheVariants.{Library}
+use Rattle.pg_making.specs.Spells.{SpellsWithinLimits}
 use Rattle.pg_machine.specs.CheckedRuns.{IsTextAnswer, IsOnlyDerivation, IsUnderivable}
 use Rattle.pg_machine.specs.Outcomes.{outcome_with}
 use Rattle.pg_machine.specs.declared.answer.Answer.{Answer}
@@ -19,7 +19,7 @@ use Rattle.pg_machine.specs.declared.answer.Success.{Success}
 use Rattle.pg_predict.specs.Checked.{GrammarWithSets, IsChecked, IsRefused}
 use Rattle.pg_predict.specs.Operators.{HasNoOperators}
 use Rattle.pg_predict.specs.declared.checking.Refused as declared
-use Rattle.pg_bench.specs.Parsed.{IsSpelledBy, IsForestOf, IsErrorOf, IsForestOfBytes, IsErrorOfBytes, ReadsText, SpellsNone, SpellsSome, SpellsOther, IsFileFault, IsBehindFile, IsReadRefusal, IsTextRefusal, IsParseRefusal, IsRunRefusal, IsFindingRefusal, IsGrammarRefusal, IsReadingRefusal, IsForestRefusal, IfRefused, IfParseError, AreFindingsOf}
+use Rattle.pg_bench.specs.Parsed.{IsSpelledBy, IsForestOf, IsErrorOf, IsForestOfBytes, IsErrorOfBytes, ReadsText, SpellsNone, SpellsSome, SpellsOther, IsFileFault, IsBehindFile, IsReadRefusal, IsTextRefusal, IsParseRefusal, IsRunRefusal, IsFindingRefusal, IsGrammarRefusal, IsReadingRefusal, IsProbeRefusal, IsForestRefusal, IfRefused, IfParseError, AreFindingsOf}
 use Rattle.pg_bench.specs.Promise.{IsAccepted, IsForestOfText, IsErrorOfText}
 use Rattle.pg_bench.specs.declared.fault.BenchFault.{BenchFault}
 use Rattle.pg_bench.specs.declared.fault.BenchFault.TheVariants.{File, NotRun, Refused, Reader, NotUtf8, TooLong, ParseError, Writer, Memory}
@@ -199,3 +199,28 @@ error_claims offer file reader left TooLong h = tt
 error_claims offer file reader left (ParseError error) h = h
 error_claims offer file reader left Writer h = tt
 error_claims offer file reader left Memory h = tt
+
+-- ---- what probing refuses with
+
+pub read_unprobed : (reader left : Option (List ℕ)) (fault : BenchFault) → IsReadRefusal fault → IsProbeRefusal reader left fault
+read_unprobed reader left (File fault) h = absurd h
+read_unprobed reader left NotRun h = absurd h
+read_unprobed reader left (Refused findings) h = absurd h
+read_unprobed reader left Reader h = tt
+read_unprobed reader left NotUtf8 h = absurd h
+read_unprobed reader left TooLong h = absurd h
+read_unprobed reader left (ParseError error) h = absurd h
+read_unprobed reader left Writer h = absurd h
+read_unprobed reader left Memory h = tt
+
+pub text_unprobed : (reader left : Option (List ℕ)) (bytes : List ℕ) (fault : BenchFault) → Consumes reader left bytes → IsAtEnd left → IsTextRefusal bytes fault
+    → IsProbeRefusal reader left fault
+text_unprobed reader left bytes (File fault) read end h = absurd h
+text_unprobed reader left bytes NotRun read end h = absurd h
+text_unprobed reader left bytes (Refused findings) read end h = absurd h
+text_unprobed reader left bytes Reader read end h = absurd h
+text_unprobed reader left bytes NotUtf8 read end h = (bytes, read, end, h)
+text_unprobed reader left bytes TooLong read end h = (bytes, read, end, h)
+text_unprobed reader left bytes (ParseError error) read end h = absurd h
+text_unprobed reader left bytes Writer read end h = absurd h
+text_unprobed reader left bytes Memory read end h = tt

@@ -1,19 +1,19 @@
 -- What is printed of the machine's outcome is what the relation shows.
-use Rattle.std.proofs.Common.{◌≡◌, ℕ, List, Bool, false, Option, Some, None, refl, subst}
+use Rattle.std.proofs.Common.{◌≡◌, ℕ, List, Bool, false, Option, Some, None, refl, sym, subst, subst₂}
 use Rattle.pg_text.specs.Position.{position_of}
 use Rattle.pg_message.specs.Printed.{printed}
 use Rattle.pg_message.specs.declared.error.ParseError.{ParseError}
 use Rattle.pg_grammar.specs.Grammar.{Grammar}
 use Rattle.pg_table.specs.Tables.{Table, initial, whole}
-use Rattle.pg_derive.specs.Answers.{Given, given, AnswersStart}
-use Rattle.pg_derive.specs.declared.reading.Reading.{Reading}
-use Rattle.pg_derive.specs.Errors.{in_text, without_position}
+use Rattle.pg_language.specs.Answers.{Given, given, AnswersStart}
+use Rattle.pg_language.specs.declared.reading.Reading.{Reading}
+use Rattle.pg_language.specs.Errors.{in_text, without_position}
 use Rattle.pg_machine.specs.Outcomes.{IsOutcome, outcome_with}
 use Rattle.pg_machine.specs.declared.answer.Success.{Success}
 use Rattle.pg_machine.specs.declared.answer.Outcome as ended
 use Rattle.pg_machine.specs.declared.answer.Outcome.TheVariants.{Answered, StepsUsed, EmptyRound}
 use Rattle.pg_bench.specs.Parsed.{IsSpelledBy}
-use Rattle.pg_bench.specs.Probing.{IsShownOf, Shows, is_ok, is_error, is_stuck, is_used_up, error_text, answer_text, outcome_text, is_some, is_ok_outcome}
+use Rattle.pg_bench.specs.Probing.{IsShownOf, IsShownOfText, Shows, is_ok, is_error, is_stuck, is_used_up, error_text, answer_text, outcome_text, is_some, is_ok_outcome}
 
 stands : (text : List ℕ) (e : ParseError) → e.position ≡ position_of text e.place → in_text text (without_position e) ≡ e
 stands text e at = subst (λ p. record { place = e.place; position = p; messages = e.messages } ≡ e) at refl
@@ -31,16 +31,25 @@ shows G table name most (Answered a) h = answered G table name most a.consumed a
 shows G table name most StepsUsed h = is_used_up h
 shows G table name most EmptyRound h = is_stuck h.1
 
--- so it is of a run on the text that bytes spell
-pub shown : (g : Grammar) (name : List ℕ) (most : ℕ) (reading : Reading) (bytes text : List ℕ) (table : Table) (o : ended.Outcome)
-    → IsSpelledBy bytes text → initial g ≡ whole table → IsOutcome (given reading g text) table most o
-    → IsShownOf g name most reading bytes (is_ok_outcome o) (outcome_text o name)
-shown g name most reading bytes text table o spelled initially h =
+-- so it is of a run on a text
+pub shown_text : (g : Grammar) (name : List ℕ) (most : ℕ) (reading : Reading) (text : List ℕ) (table : Table) (o : ended.Outcome) (accepted : Bool)
+    (said : List ℕ) → initial g ≡ whole table → IsOutcome (given reading g text) table most o → accepted ≡ is_ok_outcome o → said ≡ outcome_text o name
+    → IsShownOfText g name most reading text accepted said
+shown_text g name most reading text table o accepted said initially h ok page =
+    record {
+      table = table;
+      is_table = initially;
+      shows = subst₂ (Shows (given reading g text) table name most) (sym ok) (sym page) (shows (given reading g text) table name most o h);
+    }
+
+-- and on the text that bytes spell
+pub shown_bytes : (g : Grammar) (name : List ℕ) (most : ℕ) (reading : Reading) (bytes text : List ℕ) (accepted : Bool) (said : List ℕ)
+    → IsSpelledBy bytes text → IsShownOfText g name most reading text accepted said → IsShownOf g name most reading bytes accepted said
+shown_bytes g name most reading bytes text accepted said spelled h =
     record {
       utf8 = spelled.utf8;
       within = spelled.within;
-      table = table;
-      is_table = initially;
-      shows = subst (λ (t : List ℕ). Shows (given reading g t) table name most (is_ok_outcome o) (outcome_text o name)) spelled.same
-          (shows (given reading g text) table name most o h);
+      table = h.table;
+      is_table = h.is_table;
+      shows = subst (λ (t : List ℕ). Shows (given reading g t) h.table name most accepted said) spelled.same h.shows;
     }

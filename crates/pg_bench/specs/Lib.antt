@@ -4,3 +4,4 @@ pub mod Printing
 pub mod Texts
 pub mod Checking
 pub mod Probing
+pub mod Showing

@@ -9,7 +9,7 @@ use Rattle.pg_tree.specs.Json.{json}
 use Rattle.pg_tree.specs.Bytes.{AppendsFront}
 use Rattle.pg_pred.specs.Offer.{Offer}
 use Rattle.pg_grammar.specs.Grammar.{Grammar}
-use Rattle.pg_file.specs.Spells.{SpellsWithinLimits}
+use Rattle.pg_making.specs.Spells.{SpellsWithinLimits}
 use Rattle.pg_predict.specs.Findings.{AreFindings}
 use Rattle.pg_predict.specs.Operators.{HasNoOperators}
 use Rattle.pg_predict.specs.declared.finding.Finding.{Finding}
@@ -223,6 +223,18 @@ IsTextRefusal bytes TooLong = IsUtf8 bytes × (LIMIT < length (chars bytes))
 IsTextRefusal bytes (ParseError error) = ⊥
 IsTextRefusal bytes Writer = ⊥
 IsTextRefusal bytes Memory = Unit {0}
+
+-- what probing the reader's text refuses with, and why
+abbrev pub IsProbeRefusal : Option (List ℕ) → Option (List ℕ) → BenchFault → Type 0
+IsProbeRefusal reader left (File fault) = ⊥
+IsProbeRefusal reader left NotRun = ⊥
+IsProbeRefusal reader left (Refused findings) = ⊥
+IsProbeRefusal reader left Reader = Unit {0}
+IsProbeRefusal reader left NotUtf8 = ReadsText reader left (λ bytes. ¬ (IsUtf8 bytes))
+IsProbeRefusal reader left TooLong = ReadsText reader left (λ bytes. IsUtf8 bytes × (LIMIT < length (chars bytes)))
+IsProbeRefusal reader left (ParseError error) = ⊥
+IsProbeRefusal reader left Writer = ⊥
+IsProbeRefusal reader left Memory = Unit {0}
 
 -- what checking a grammar refuses with, and why
 abbrev pub IsFindingRefusal : Grammar → BenchFault → Type 0

@@ -4,8 +4,8 @@ use Rattle.std.specs.Io.KnownBytes.{Appends}
 use Rattle.pg_tree.specs.Bytes.{AppendsFront}
 use Rattle.pg_pred.specs.Offer.{Offer}
 use Rattle.pg_grammar.specs.Grammar.{Grammar}
-use Rattle.pg_file.specs.Spells.{Spells, SpellsWithinLimits}
-use Rattle.pg_file.specs.Printed.{printed}
+use Rattle.pg_making.specs.Spells.{Spells, SpellsWithinLimits}
+use Rattle.pg_print.specs.Printed.{printed}
 use Rattle.pg_bench.specs.declared.fault.BenchFault.{BenchFault}
 use Rattle.pg_bench.specs.declared.fault.BenchFault.TheVariants.{File, NotRun, Refused, Reader, NotUtf8, TooLong, ParseError, Writer, Memory}
 

@@ -12,13 +12,13 @@ use Rattle.pg_tree.specs.Trees.{Tree}
 use Rattle.pg_pred.specs.Offer.{Offer}
 use Rattle.pg_grammar.specs.Grammar.{Grammar}
 use Rattle.pg_grammar.specs.declared.trail.TrailItem.{TrailItem}
-use Rattle.pg_table.specs.Derives.{Spot}
+use Rattle.pg_language.specs.Derives.{Spot}
 use Rattle.pg_table.specs.Tables.{Table, initial, whole}
-use Rattle.pg_derive.specs.Answers.{Given, given, AnswersStart}
-use Rattle.pg_derive.specs.Errors.{Error, in_text}
-use Rattle.pg_derive.specs.Outcomes.{Outcome, ok, failed, empty_round}
-use Rattle.pg_derive.specs.declared.reading.Reading.{Reading}
-use Rattle.pg_file.specs.Spells.{SpellsWithinLimits}
+use Rattle.pg_language.specs.Answers.{Given, given, AnswersStart}
+use Rattle.pg_language.specs.Errors.{Error, in_text}
+use Rattle.pg_language.specs.Outcomes.{Outcome, ok, failed, empty_round}
+use Rattle.pg_language.specs.declared.reading.Reading.{Reading}
+use Rattle.pg_making.specs.Spells.{SpellsWithinLimits}
 use Rattle.pg_machine.specs.declared.answer.Success.{Success}
 use Rattle.pg_machine.specs.declared.answer.Outcome as ended
 use Rattle.pg_machine.specs.declared.answer.Outcome.TheVariants.{Answered, StepsUsed, EmptyRound}
@@ -51,6 +51,12 @@ pub data Shows (G : Given) (table : Table) (name : List ℕ) (most : ℕ) : Bool
   is_stuck : {m : ℕ} → AnswersStart G table empty_round m → Shows G table name most false empty_round_text
   -- only where no outcome takes so few steps
   is_used_up : ((o : Outcome) (m : ℕ) → AnswersStart G table o m → most < 2 * m + 8) → Shows G table name most false steps_used_text
+
+-- this is printed of the grammar's run on a text under its initial table
+pub record IsShownOfText (g : Grammar) (name : List ℕ) (most : ℕ) (reading : Reading) (text : List ℕ) (accepted : Bool) (said : List ℕ) : Type 0 where
+  pub table : Table
+  pub is_table : initial g ≡ whole table
+  pub shows : Shows (given reading g text) table name most accepted said
 
 -- the bytes spell a text, not too long, and this is printed of the grammar's run on it under its initial table
 pub record IsShownOf (g : Grammar) (name : List ℕ) (most : ℕ) (reading : Reading) (bytes : List ℕ) (accepted : Bool) (said : List ℕ) : Type 0 where

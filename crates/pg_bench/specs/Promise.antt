@@ -4,13 +4,13 @@ use Rattle.pg_message.specs.declared.error.ParseError.{ParseError}
 use Rattle.pg_tree.specs.Trees.{Tree}
 use Rattle.pg_grammar.specs.Grammar.{Grammar}
 use Rattle.pg_grammar.specs.declared.trail.TrailItem.{TrailItem}
-use Rattle.pg_table.specs.Derives.{DerivesText}
+use Rattle.pg_language.specs.Derives.{DerivesText}
 use Rattle.pg_table.specs.Tables.{Table, initial, whole}
-use Rattle.pg_derive.specs.Answers.{given}
-use Rattle.pg_derive.specs.Errors.{Error, in_text}
-use Rattle.pg_derive.specs.Outcomes.{failed}
-use Rattle.pg_derive.specs.WholeTexts.{AnswersText}
-use Rattle.pg_derive.specs.declared.reading.Reading.TheVariants.{Library}
+use Rattle.pg_language.specs.Answers.{given}
+use Rattle.pg_language.specs.Errors.{Error, in_text}
+use Rattle.pg_language.specs.Outcomes.{failed}
+use Rattle.pg_language.specs.WholeTexts.{AnswersText}
+use Rattle.pg_language.specs.declared.reading.Reading.TheVariants.{Library}
 use Rattle.pg_predict.specs.Conditions.{IsFaultless}
 use Rattle.pg_predict.specs.Operators.{HasNoOperators}
 

@@ -1,6 +1,6 @@
 //! From the bytes of a grammar file to whether its grammar is accepted, or all that is wrong with it.
 
-ghost use Rattle.std.specs.Prelude.{◌≡◌, ◌++◌, false, true, IfOk, IfErr, OnOk, IsErrOf};
+ghost use Rattle.std.specs.Prelude.{◌≡◌, ◌++◌, false, true, codes, IfOk, IfErr, OnOk, IsErrOf};
 ghost use Rattle.pg_pred.specs.Offer.{offer_of};
 ghost use Rattle.pg_predict.specs.Operators.{HasNoOperators};
 ghost use Rattle.pg_bench.specs.Checking.{IsChecked, IsPartlyChecked, IsCheckRefusal, IsJudged, line_of, lines_of};
@@ -66,25 +66,37 @@ fn judged(alloc: Global, grammar: Grammar) -> Result<Judgement, BenchFault>
     ensures err { IfErr result IsMemory }
 {
     match check(alloc, grammar) {
-        Ok(_) => {
-            let Ok(page) = Vec::from_slice(alloc, b"accepted\n") else {
-                return Err(BenchFault::Memory);
-            };
-            Ok(Judgement {
-                accepted: true,
-                page,
-            })
-        }
-        Err(CheckFault::Refused(refused)) => {
-            let Ok(page) = page_of(alloc, refused.findings.as_slice()) else {
-                return Err(BenchFault::Memory);
-            };
-            Ok(Judgement {
-                accepted: false,
-                page,
-            })
-        }
+        Ok(_) => accepted_judgement(alloc),
+        Err(CheckFault::Refused(refused)) => refused_judgement(alloc, refused.findings.as_slice()),
         Err(CheckFault::Memory(_)) => Err(BenchFault::Memory),
+    }
+}
+
+/// What is said of an accepted grammar.
+fn accepted_judgement(alloc: Global) -> Result<Judgement, BenchFault>
+    ensures ok { IfOk result (λ judgement. (judgement.accepted ≡ true) × (judgement.page.items ≡ codes "accepted\n")) }
+    ensures err { IfErr result IsMemory }
+{
+    match Vec::from_slice(alloc, b"accepted\n") {
+        Ok(page) => Ok(Judgement {
+            accepted: true,
+            page,
+        }),
+        Err(_) => Err(BenchFault::Memory),
+    }
+}
+
+/// What is said of a grammar with these findings.
+fn refused_judgement(alloc: Global, findings: &[Finding]) -> Result<Judgement, BenchFault>
+    ensures ok { IfOk result (λ judgement. (judgement.accepted ≡ false) × (judgement.page.items ≡ lines_of findings.now)) }
+    ensures err { IfErr result IsMemory }
+{
+    match page_of(alloc, findings) {
+        Ok(page) => Ok(Judgement {
+            accepted: false,
+            page,
+        }),
+        Err(_) => Err(BenchFault::Memory),
     }
 }
 

@@ -3,7 +3,7 @@
 ghost use Rattle.std.specs.Prelude.{◌≡◌, IfOk, IfErr, IsErrOf};
 ghost use Rattle.pg_pred.specs.Offer.{offer_of};
 ghost use Rattle.pg_grammar.specs.Fits.{Fits};
-ghost use Rattle.pg_file.specs.Spells.{SpellsWithinLimits};
+ghost use Rattle.pg_making.specs.Spells.{SpellsWithinLimits};
 ghost use Rattle.pg_predict.specs.Operators.{HasNoOperators};
 ghost use Rattle.pg_bench.specs.Parsed.{IsFileFault, IsFileRefusal, IsFindingRefusal, IsGrammarRefusal, IsPlainRefusal, SpellsNone, SpellsOther, IfRefused, AreFindingsOf};
 ghost use Rattle.pg_bench.specs.Promise.{IsAccepted};

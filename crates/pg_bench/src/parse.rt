@@ -12,7 +12,7 @@ ghost use Rattle.pg_grammar.specs.Fits.{Fits};
 ghost use Rattle.pg_tree.specs.Json.{json};
 ghost use Rattle.pg_tree.specs.Meter.{saturating_sum};
 ghost use Rattle.pg_tree.specs.Bytes.{AppendsFront};
-ghost use Rattle.pg_file.specs.Spells.{HasInitialTable};
+ghost use Rattle.pg_making.specs.Spells.{HasInitialTable};
 ghost use Rattle.pg_predict.specs.Operators.{HasNoOperators};
 ghost use Rattle.pg_bench.specs.Promise.{IsAccepted, IsForestOfText};
 ghost use Rattle.pg_bench.specs.Parsed.{IsParsed, IsForestOf, IsForestOfBytes, IsErrorOf, IsForestRefusal, IsReadingRefusal, AreFindingsOf, IfRefused, IfParseError, ComesBeforeReading, SpellsNone, SpellsSome, SpellsOther, ReadsText, IsParseRefusal, IsRunRefusal, IsWriteRefusal, IsBehindFile, IsBehindReader, IsFileFault, IsPartlyWritten, ComesBeforeWriting};

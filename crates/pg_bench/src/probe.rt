@@ -4,11 +4,12 @@ ghost use Rattle.std.specs.Prelude.{◌≡◌, ◌≤◌, ◌<◌, ◌+◌, ◌*
 ghost use Rattle.std.specs.Str.{chars, IsUtf8};
 ghost use Rattle.pg_pred.specs.Offer.{offer_of};
 ghost use Rattle.pg_grammar.specs.Fits.{Fits};
-ghost use Rattle.pg_file.specs.Spells.{HasInitialTable};
+ghost use Rattle.pg_making.specs.Spells.{HasInitialTable};
+ghost use Rattle.pg_table.specs.Tables.{initial, whole};
 ghost use Rattle.pg_tree.specs.Meter.{saturating_sum};
 ghost use Rattle.pg_predict.specs.Operators.{HasNoOperators};
-ghost use Rattle.pg_bench.specs.Parsed.{SpellsNone, SpellsSome, SpellsOther, ReadsText, IsBehindFile, IsBehindReader, IsFileFault, IfParseError, IfRefused, IsTextRefusal, ComesBeforeWriting};
-ghost use Rattle.pg_bench.specs.Probing.{IsProbed, IsPartlyProbed, IsShownOf};
+ghost use Rattle.pg_bench.specs.Parsed.{SpellsNone, SpellsSome, SpellsOther, ReadsText, IsBehindFile, IsBehindReader, IsFileFault, IfParseError, IfRefused, IsTextRefusal, IsProbeRefusal, IsMemory, ComesBeforeWriting};
+ghost use Rattle.pg_bench.specs.Probing.{IsProbed, IsPartlyProbed, IsShownOf, IsShownOfText, is_ok_outcome, outcome_text};
 
 use crate::fault::BenchFault;
 use crate::grammar_file::plain_grammar_of;
@@ -16,11 +17,12 @@ use crate::initial::initial_table;
 use crate::input::{read_text, text_of};
 use crate::output::write_page;
 use crate::page::{is_ok, page_of};
-use pg_derive::Reading;
 use pg_grammar::Grammar;
-use pg_machine::probe;
+use pg_language::Reading;
+use pg_machine::{Outcome, probe};
 use pg_pred::Registry;
-use pg_text::LIMIT;
+use pg_table::Table;
+use pg_text::{LIMIT, Text};
 use pg_tree::Meter;
 use std::alloc::Global;
 use std::io::{Read, Write};
@@ -86,16 +88,7 @@ pub fn probe_bytes<R: Read, W: Write>(
     ensures asked { reader.new.calls ≤ saturating_sum reader.old.calls (4 * LIMIT + 1) }
 {
     let grammar = plain_grammar_of(alloc, grammar, registry)?;
-    let bytes = read_text(alloc, reader)?;
-    let shown = shown_of(
-        alloc,
-        &grammar,
-        registry,
-        name,
-        bytes.as_slice(),
-        max_steps,
-        reading,
-    )?;
+    let shown = shown_of_reader(alloc, &grammar, registry, name, reader, max_steps, reading)?;
     write_page(shown.page.as_slice(), writer)?;
     Ok(shown.accepted)
 }
@@ -107,8 +100,44 @@ struct Shown {
     page: Vec<u8>,
 }
 
+/// What is printed of the run of a grammar's start rule on the text that a reader gives.
+#[tactic(auto, using(crate::proofs::Parses::read_unprobed, crate::proofs::Parses::text_unprobed))]
+fn shown_of_reader<R: Read>(
+    alloc: Global,
+    grammar: &Grammar,
+    registry: &Registry,
+    name: &str,
+    reader: &mut Meter<R>,
+    max_steps: u64,
+    reading: Reading,
+) -> Result<Shown, BenchFault>
+    requires fits { Fits (offer_of registry.now) grammar.now }
+    requires table { HasInitialTable grammar.now }
+    requires reader { reader.old.failed ≡ false }
+    ensures ok { IfOk result (λ shown. ReadsText (R.remaining reader.old.inner) (R.remaining reader.new.inner)
+        (λ bytes. IsShownOf grammar.now name.now max_steps reading bytes shown.accepted shown.page.items)) }
+    ensures err { IfErr result (IsProbeRefusal (R.remaining reader.old.inner) (R.remaining reader.new.inner)) }
+    ensures reader { IsErrOf result BenchFault.Reader →
+        (reader.new.failed ≡ true) ⊎ (saturating_sum reader.old.bytes (4 * LIMIT + 1) ≤ reader.new.bytes) }
+    ensures stays { OnOk result (reader.new.failed ≡ false) }
+    ensures well { IfErr result (λ fault. IsBehindReader fault → reader.new.failed ≡ false) }
+    ensures asked { reader.new.calls ≤ saturating_sum reader.old.calls (4 * LIMIT + 1) }
+{
+    let bytes = read_text(alloc, reader)?;
+    let shown = shown_of(
+        alloc,
+        grammar,
+        registry,
+        name,
+        bytes.as_slice(),
+        max_steps,
+        reading,
+    )?;
+    Ok(shown)
+}
+
 /// What is printed of the run of a grammar's start rule on the text that bytes spell.
-#[tactic(auto, using(crate::proofs::Shown::shown))]
+#[tactic(auto, using(crate::proofs::Shown::shown_bytes))]
 fn shown_of(
     alloc: Global,
     grammar: &Grammar,
@@ -124,13 +153,64 @@ fn shown_of(
     ensures err { IfErr result (IsTextRefusal bytes.now) }
 {
     let text = text_of(alloc, bytes)?;
+    let shown = shown_of_text(alloc, grammar, registry, name, &text, max_steps, reading)?;
+    Ok(shown)
+}
+
+/// What is printed of the run of a grammar's start rule on a text.
+fn shown_of_text(
+    alloc: Global,
+    grammar: &Grammar,
+    registry: &Registry,
+    name: &str,
+    text: &Text,
+    max_steps: u64,
+    reading: Reading,
+) -> Result<Shown, BenchFault>
+    requires fits { Fits (offer_of registry.now) grammar.now }
+    requires table { HasInitialTable grammar.now }
+    ensures ok { IfOk result (λ shown. IsShownOfText grammar.now name.now max_steps reading text.now shown.accepted shown.page.items) }
+    ensures err { IfErr result IsMemory }
+{
     let table = initial_table(alloc, grammar)?;
-    let Ok(outcome) = probe(alloc, grammar, &text, &table, registry, max_steps, reading) else {
+    shown_under(
+        alloc, grammar, registry, name, text, &table, max_steps, reading,
+    )
+}
+
+/// The same under the grammar's initial table.
+#[tactic(auto, using(crate::proofs::Shown::shown_text))]
+fn shown_under(
+    alloc: Global,
+    grammar: &Grammar,
+    registry: &Registry,
+    name: &str,
+    text: &Text,
+    table: &Table,
+    max_steps: u64,
+    reading: Reading,
+) -> Result<Shown, BenchFault>
+    requires fits { Fits (offer_of registry.now) grammar.now }
+    requires initial { initial grammar.now ≡ whole table.now }
+    ensures ok { IfOk result (λ shown. IsShownOfText grammar.now name.now max_steps reading text.now shown.accepted shown.page.items) }
+    ensures err { IfErr result IsMemory }
+{
+    let Ok(outcome) = probe(alloc, grammar, text, table, registry, max_steps, reading) else {
         return Err(BenchFault::Memory);
     };
-    let Ok(page) = page_of(alloc, &outcome, name) else {
-        return Err(BenchFault::Memory);
-    };
-    let accepted = is_ok(&outcome);
-    Ok(Shown { accepted, page })
+    let shown = shown_of_outcome(alloc, &outcome, name)?;
+    Ok(shown)
+}
+
+/// What is printed of an outcome.
+fn shown_of_outcome(alloc: Global, outcome: &Outcome, name: &str) -> Result<Shown, BenchFault>
+    ensures accepted { IfOk result (λ shown. shown.accepted ≡ is_ok_outcome outcome.now) }
+    ensures page { IfOk result (λ shown. shown.page.items ≡ outcome_text outcome.now name.now) }
+    ensures err { IfErr result IsMemory }
+{
+    let accepted = is_ok(outcome);
+    match page_of(alloc, outcome, name) {
+        Ok(page) => Ok(Shown { accepted, page }),
+        Err(_) => Err(BenchFault::Memory),
+    }
 }

@@ -1,7 +1,7 @@
 -- The laws of whole texts, of grammars at whose nodes nothing is wrong.
 use Rattle.pg_sets.specs.Sets.{Sets}
 use Rattle.pg_derive.specs.Accepted.{Accepts, AcceptedGrammarsAnswer, AcceptedGrammarsAnswerWhatTheyDerive, AcceptedGrammarsRefuseRightly, AcceptedGrammarsDeriveOnce}
-use Rattle.pg_derive.specs.Answers.{Given}
+use Rattle.pg_language.specs.Answers.{Given}
 use Rattle.pg_derive.specs.LeastSets.{node_sets}
 use Rattle.pg_derive.specs.PredictiveLaws.{Predicts}
 use Rattle.pg_derive.proofs.Faultless.{accepted}

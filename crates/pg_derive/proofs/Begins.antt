@@ -10,7 +10,7 @@ use Rattle.pg_grammar.specs.declared.trail.TrailItem.{TrailItem}
 use Rattle.pg_start.specs.Starts.{MatchesAt}
 use Rattle.pg_start.specs.declared.kind.StartKind.{StartKind}
 use Rattle.pg_table.specs.Tables.{ComesFrom}
-use Rattle.pg_table.specs.Derives.{Spot, Link, Derives, at_node, DerivesForm, satisfy, string, word, not_followed_by, end_of_text, seq, choice, many, chain_left, chain_right, try, label, rule, text as as_text, skip, build, expression, declare, DerivesParts, no_part, first_part, DerivesRounds, no_round, first_round, DerivesLinks, no_link, first_link}
+use Rattle.pg_language.specs.Derives.{Spot, Link, Derives, at_node, DerivesForm, satisfy, string, word, not_followed_by, end_of_text, seq, choice, many, chain_left, chain_right, try, label, rule, text as as_text, skip, build, expression, declare, DerivesParts, no_part, first_part, DerivesRounds, no_round, first_round, DerivesLinks, no_link, first_link}
 use Rattle.pg_derive.specs.ClosedSets.{NodeSets, SomeMatches, AllNullable, BeginsParts}
 use Rattle.pg_derive.specs.Predictive.{PartFits, TryFits, of_part, of_string, of_key, AlternativesFit, ManyFits, ChainFits, Fits}
 use Rattle.pg_derive.proofs.Inverted.{form_at, spans_string, spans_key, first_stands, forward, forward_parts, forward_rounds, forward_links}

@@ -12,24 +12,24 @@ use Rattle.pg_grammar.specs.declared.trail.TrailItem.{TrailItem}
 use Rattle.pg_grammar.specs.declared.trail.TrailItem.TheVariants.{Alt}
 use Rattle.pg_start.specs.declared.kind.StartKind.{StartKind}
 use Rattle.pg_start.proofs.Meeting.{never_meet}
-use Rattle.pg_table.specs.Derives.{Spot, behind, leaf_of, Link, Derives, DerivesForm, DerivesParts, DerivesRounds, DerivesLinks}
-use Rattle.pg_table.specs.Derives as derives
+use Rattle.pg_language.specs.Derives.{Spot, behind, leaf_of, Link, Derives, DerivesForm, DerivesParts, DerivesRounds, DerivesLinks}
+use Rattle.pg_language.specs.Derives as derives
 use Rattle.pg_table.specs.Tables.{ComesFrom}
-use Rattle.pg_table.specs.Runs.{HasAt, StandsAt}
+use Rattle.pg_language.specs.Runs.{HasAt, StandsAt}
 use Rattle.pg_grammar.specs.declared.class.ClassPart.{ClassPart}
-use Rattle.pg_derive.specs.Answers.{Given, Answers, entered, AnswersForm, satisfy, string, word, not_followed_by, end_of_text, nothing, seq, choice, many, chain_left, chain_right, try, label, rule, text as as_text, skip, build, AnswersParts, part, part_last, part_ok, AnswersAlternatives, no_alternative, alternative, alternative_consumed, alternative_stands, alternative_waits, alternative_failed, AnswersRounds, round, round_ended, round_ok, AnswersChain, chain, first_ok, AnswersLinks, link, separator_failed, separator_ok, operand_failed, operand_ok}
-use Rattle.pg_derive.specs.Errors.{Error}
-use Rattle.pg_derive.specs.Outcomes.{Outcome, ok, failed}
-use Rattle.pg_derive.specs.Reactions.{carried, finished}
-use Rattle.pg_derive.specs.declared.fold.Fold.{Fold}
-use Rattle.pg_derive.specs.declared.fold.Fold.TheVariants.{FromLeft, FromRight}
-use Rattle.pg_derive.specs.declared.reading.Reading.{Reading}
-use Rattle.pg_derive.specs.declared.reading.Reading.TheVariants.{Library, Report}
-use Rattle.pg_derive.proofs.ChainsDerived.{folded, folded_none, folded_more}
+use Rattle.pg_language.specs.Answers.{Given, Answers, entered, AnswersForm, satisfy, string, word, not_followed_by, end_of_text, nothing, seq, choice, many, chain_left, chain_right, try, label, rule, text as as_text, skip, build, AnswersParts, part, part_last, part_ok, AnswersAlternatives, no_alternative, alternative, alternative_consumed, alternative_stands, alternative_waits, alternative_failed, AnswersRounds, round, round_ended, round_ok, AnswersChain, chain, first_ok, AnswersLinks, link, separator_failed, separator_ok, operand_failed, operand_ok}
+use Rattle.pg_language.specs.Errors.{Error}
+use Rattle.pg_language.specs.Outcomes.{Outcome, ok, failed}
+use Rattle.pg_language.specs.Reactions.{carried, finished}
+use Rattle.pg_language.specs.declared.fold.Fold.{Fold}
+use Rattle.pg_language.specs.declared.fold.Fold.TheVariants.{FromLeft, FromRight}
+use Rattle.pg_language.specs.declared.reading.Reading.{Reading}
+use Rattle.pg_language.specs.declared.reading.Reading.TheVariants.{Library, Report}
+use Rattle.pg_language.proofs.ChainsDerived.{folded, folded_none, folded_more}
 use Rattle.pg_derive.specs.ClosedSets.{NodeSets, SomeMatches, Within, AllApart, PartsFollowed}
 use Rattle.pg_derive.specs.Predictive.{TryFits, of_part, of_string, of_key, ComesBefore, AlternativesFit, ManyFits, ChainFits, Fits}
 use Rattle.pg_derive.proofs.Begins.{Begun, still, moves, BeginsNode, BeginsList, alternative_fits, consumes, begins, begins_parts, begins_links}
-use Rattle.pg_derive.proofs.Flags.{moved, stayed, both_moved}
+use Rattle.pg_language.proofs.Flags.{moved, stayed, both_moved}
 use Rattle.pg_derive.proofs.Inverted.{form_at, spans_string, spans_key, forward, comes_on, forward_parts, forward_rounds, forward_links}
 use Rattle.pg_derive.proofs.LeavesAnswered.{StaysOk, satisfy_ok, word_ok, string_ok, not_followed_ok, end_ok}
 use Rattle.pg_derive.proofs.Quiet.{IsWhole, refuses, skips, NoStart, QuietNode, quiet}

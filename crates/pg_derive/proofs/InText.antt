@@ -6,7 +6,7 @@ use Rattle.pg_message.specs.Errors.{merged, labelled, renamed}
 use Rattle.pg_message.specs.Messages.{Text, is_empty, with_messages}
 use Rattle.pg_message.specs.declared.answer.AnswerKind.{AnswerKind}
 use Rattle.pg_message.specs.declared.answer.AnswerKind.TheVariants.{ConsumedOk, ConsumedError, EmptyOk, EmptyError}
-use Rattle.pg_derive.specs.Errors.{Error, with_position, without_position, in_text, merge, relabel}
+use Rattle.pg_language.specs.Errors.{Error, with_position, without_position, in_text, merge, relabel}
 
 pub merged_in_text : (text : List ℕ) (one other : Error) → in_text text (merge one other) ≡ merged (in_text text one) (in_text text other)
 merged_in_text text one other =

@@ -6,11 +6,11 @@ use Rattle.pg_grammar.specs.declared.class.ClassPart.{ClassPart}
 use Rattle.pg_grammar.specs.declared.form.Node.{Node}
 use Rattle.pg_grammar.specs.declared.form.Node.TheVariants as form
 use Rattle.pg_grammar.specs.declared.trail.TrailItem.{TrailItem}
-use Rattle.pg_table.specs.Derives.{Spot, behind, leaf_of, Link, Derives, at_node, DerivesForm, string, not_followed_by, seq, DerivesParts, no_part, first_part, DerivesRounds, no_round, first_round, DerivesLinks, no_link, first_link}
-use Rattle.pg_table.specs.Runs.{HasAt, StandsAt}
+use Rattle.pg_language.specs.Derives.{Spot, behind, leaf_of, Link, Derives, at_node, DerivesForm, string, not_followed_by, seq, DerivesParts, no_part, first_part, DerivesRounds, no_round, first_round, DerivesLinks, no_link, first_link}
+use Rattle.pg_language.specs.Runs.{HasAt, StandsAt}
 use Rattle.pg_table.specs.Tables.{ComesFrom}
 use Rattle.pg_table.proofs.Added.{still_comes}
-use Rattle.pg_table.proofs.Onward.{leads_on}
+use Rattle.pg_language.proofs.Onward.{leads_on}
 use Rattle.pg_derive.specs.Predictive.{BeginsAt}
 use Rattle.pg_derive.proofs.LeavesAnswered.{head_there}
 

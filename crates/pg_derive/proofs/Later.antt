@@ -11,14 +11,14 @@ use Rattle.pg_grammar.specs.declared.class.ClassPart.{ClassPart}
 use Rattle.pg_grammar.specs.declared.form.Node.{Node}
 use Rattle.pg_grammar.specs.declared.trail.TrailItem.{TrailItem}
 use Rattle.pg_grammar.specs.declared.word_item.WordItem.{WordItem}
-use Rattle.pg_table.specs.Derives.{Spot}
-use Rattle.pg_table.specs.Runs.{run_at}
-use Rattle.pg_derive.specs.Answers.{Given, Answers, entered, AnswersForm, satisfy, string, word, not_followed_by, end_of_text, nothing, seq, choice, many, chain_left, chain_right, try, label, rule, text as as_text, skip, build, AnswersParts, part, AfterPart, part_last, part_failed, part_stuck, part_ok, AnswersAlternatives, no_alternative, alternative, AfterAlternative, alternative_consumed, alternative_stands, alternative_waits, alternative_commits, alternative_failed, alternative_stuck, AnswersRounds, round, AfterRound, round_ended, round_failed, round_empty, round_stuck, round_ok, AnswersChain, chain, AfterFirst, first_failed, first_stuck, first_ok, AnswersLinks, link, AfterSeparator, separator_failed, separator_stuck, separator_ok, AfterOperand, operand_failed, operand_stuck, operand_ok}
-use Rattle.pg_derive.specs.Errors.{Error, with_position, without_position, merge, relabel, nothing_said}
-use Rattle.pg_derive.specs.Leaves.{taken, satisfy_next, word_read, word_next, not_followed_next, string_outcome, matched, end_outcome}
-use Rattle.pg_derive.specs.Outcomes.{Outcome, ok, failed, empty_round}
-use Rattle.pg_derive.specs.Reactions.{error_behind, ok_kind, error_kind, then_rest, then_round, noted, after_failure, unless_consumed, tried, with_label, with_forest, unless_begun}
-use Rattle.pg_derive.specs.declared.fold.Fold.{Fold}
+use Rattle.pg_language.specs.Derives.{Spot}
+use Rattle.pg_language.specs.Runs.{run_at}
+use Rattle.pg_language.specs.Answers.{Given, Answers, entered, AnswersForm, satisfy, string, word, not_followed_by, end_of_text, nothing, seq, choice, many, chain_left, chain_right, try, label, rule, text as as_text, skip, build, AnswersParts, part, AfterPart, part_last, part_failed, part_stuck, part_ok, AnswersAlternatives, no_alternative, alternative, AfterAlternative, alternative_consumed, alternative_stands, alternative_waits, alternative_commits, alternative_failed, alternative_stuck, AnswersRounds, round, AfterRound, round_ended, round_failed, round_empty, round_stuck, round_ok, AnswersChain, chain, AfterFirst, first_failed, first_stuck, first_ok, AnswersLinks, link, AfterSeparator, separator_failed, separator_stuck, separator_ok, AfterOperand, operand_failed, operand_stuck, operand_ok}
+use Rattle.pg_language.specs.Errors.{Error, with_position, without_position, merge, relabel, nothing_said}
+use Rattle.pg_language.specs.Leaves.{taken, satisfy_next, word_read, word_next, not_followed_next, string_outcome, matched, end_outcome}
+use Rattle.pg_language.specs.Outcomes.{Outcome, ok, failed, empty_round}
+use Rattle.pg_language.specs.Reactions.{error_behind, ok_kind, error_kind, then_rest, then_round, noted, after_failure, unless_consumed, tried, with_label, with_forest, unless_begun}
+use Rattle.pg_language.specs.declared.fold.Fold.{Fold}
 use Rattle.pg_text.specs.Position.{start}
 use Rattle.pg_message.specs.Errors.{renamed}
 use Rattle.pg_message.specs.Messages.{Text, is_empty, with_messages}

@@ -9,11 +9,11 @@ use Rattle.pg_grammar.specs.ClassItems.{has_character}
 use Rattle.pg_grammar.specs.Grammar.{Grammar}
 use Rattle.pg_grammar.specs.declared.class.ClassPart.{ClassPart}
 use Rattle.pg_grammar.specs.declared.word_item.WordItem.{WordItem}
-use Rattle.pg_table.specs.Derives.{Spot}
-use Rattle.pg_table.specs.Runs.{HasAt, StandsAt, IsWordAt, run_at}
-use Rattle.pg_derive.specs.Errors.{Error, quote, seen_at, stopped_before}
-use Rattle.pg_derive.specs.Leaves.{taken, satisfy_next, satisfy_outcome, word_read, word_next, word_outcome, not_followed_next, not_followed_outcome, matched, string_outcome, end_outcome}
-use Rattle.pg_derive.specs.Outcomes.{Outcome, ok, failed}
+use Rattle.pg_language.specs.Derives.{Spot}
+use Rattle.pg_language.specs.Runs.{HasAt, StandsAt, IsWordAt, run_at}
+use Rattle.pg_language.specs.Errors.{Error, quote, seen_at, stopped_before}
+use Rattle.pg_language.specs.Leaves.{taken, satisfy_next, satisfy_outcome, word_read, word_next, word_outcome, not_followed_next, not_followed_outcome, matched, string_outcome, end_outcome}
+use Rattle.pg_language.specs.Outcomes.{Outcome, ok, failed}
 use Rattle.pg_derive.specs.Predictive.{BeginsAt}
 
 -- an error, and nothing was consumed

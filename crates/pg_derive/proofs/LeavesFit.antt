@@ -25,7 +25,7 @@ use Rattle.pg_sets.specs.Own as plain
 use Rattle.pg_sets.specs.OwnStarts.{IsClassOf, OwnStart, IsKeyed, IsKeyTry, ReservedAs}
 use Rattle.pg_sets.specs.OwnStarts as own
 use Rattle.pg_sets.specs.Sets.{Sets, AreSets}
-use Rattle.pg_table.specs.Runs.{HasAt, StandsAt, run_at}
+use Rattle.pg_language.specs.Runs.{HasAt, StandsAt, run_at}
 use Rattle.pg_derive.specs.ClosedSets.{SomeMatches}
 use Rattle.pg_derive.specs.LeastSets.{node_sets}
 use Rattle.pg_derive.specs.Predictive.{Meets, BeginsAt, IsSomeWordAt, StringFits, TryFits, of_string, of_key}

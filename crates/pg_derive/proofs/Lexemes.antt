@@ -3,14 +3,14 @@ use Rattle.std.proofs.Common.{◌≡◌, ◌==◌, ◌+◌, ◌⊎◌, inl, inr,
 use Rattle.pg_grammar.specs.Grammar.{Grammar}
 use Rattle.pg_grammar.specs.declared.class.ClassPart.{ClassPart}
 use Rattle.pg_grammar.specs.declared.form.Node.TheVariants as form
-use Rattle.pg_table.specs.Derives.{Spot, behind, DerivesForm}
-use Rattle.pg_table.specs.Runs.{HasAt, StandsAt}
-use Rattle.pg_derive.specs.Answers.{Given, Answers, entered, AnswersForm, string, not_followed_by, seq, part, part_last, part_failed, part_ok}
-use Rattle.pg_derive.specs.Errors.{Error, quote, seen_at, stopped_before}
-use Rattle.pg_derive.specs.Leaves.{taken, matched, string_outcome, not_followed_outcome}
-use Rattle.pg_derive.specs.Outcomes.{Outcome, failed}
-use Rattle.pg_derive.proofs.Derived.{WhereOk}
-use Rattle.pg_derive.proofs.LeavesDerived.{string_derived, not_followed_derived}
+use Rattle.pg_language.specs.Derives.{Spot, behind, DerivesForm}
+use Rattle.pg_language.specs.Runs.{HasAt, StandsAt}
+use Rattle.pg_language.specs.Answers.{Given, Answers, entered, AnswersForm, string, not_followed_by, seq, part, part_last, part_failed, part_ok}
+use Rattle.pg_language.specs.Errors.{Error, quote, seen_at, stopped_before}
+use Rattle.pg_language.specs.Leaves.{taken, matched, string_outcome, not_followed_outcome}
+use Rattle.pg_language.specs.Outcomes.{Outcome, failed}
+use Rattle.pg_language.proofs.Derived.{WhereOk}
+use Rattle.pg_language.proofs.LeavesDerived.{string_derived, not_followed_derived}
 use Rattle.pg_derive.proofs.Inverted.{spans_string, spans_nothing}
 use Rattle.pg_derive.proofs.LeavesAnswered.{FailsEmpty, StaysOk, if_true, if_false, not_followed_decided}
 

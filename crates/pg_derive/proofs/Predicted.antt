@@ -3,11 +3,11 @@ use Rattle.std.proofs.Common.{◌≡◌, ◌<◌, ◌⊎◌, inl, inr, ℕ, zero
 use Rattle.pg_tree.specs.Trees.{Tree}
 use Rattle.pg_grammar.specs.declared.form.Node.TheVariants as form
 use Rattle.pg_grammar.specs.declared.trail.TrailItem.{TrailItem}
-use Rattle.pg_table.specs.Derives.{Spot}
-use Rattle.pg_derive.specs.Answers.{Given, Answers}
-use Rattle.pg_derive.specs.Errors.{Error}
-use Rattle.pg_derive.specs.Outcomes.{ok, failed}
-use Rattle.pg_derive.proofs.Unique.{same}
+use Rattle.pg_language.specs.Derives.{Spot}
+use Rattle.pg_language.specs.Answers.{Given, Answers}
+use Rattle.pg_language.specs.Errors.{Error}
+use Rattle.pg_language.specs.Outcomes.{ok, failed}
+use Rattle.pg_language.proofs.Unique.{same}
 use Rattle.pg_derive.specs.PredictiveLaws.{Predicts, DerivationsAreAnswers, DerivationsAreUnique, HasAnswer, is_ok, has_failed, AnswersExist, NoAlternativeIsLost, RoundsConsume, LinksConsume}
 use Rattle.pg_derive.specs.Predictive.{StringFits, AlternativesFit, ComesBefore, ManyFits, ChainFits}
 use Rattle.pg_derive.specs.ClosedSets.{NodeSets}

@@ -14,16 +14,16 @@ use Rattle.pg_grammar.specs.declared.trail.TrailItem.TheVariants.{Alt, Rounds}
 use Rattle.pg_grammar.specs.declared.word_item.WordItem.{WordItem}
 use Rattle.pg_start.specs.Starts.{MatchesAt}
 use Rattle.pg_start.specs.declared.kind.StartKind.{StartKind}
-use Rattle.pg_table.specs.Derives.{Spot}
+use Rattle.pg_language.specs.Derives.{Spot}
 use Rattle.pg_table.specs.Tables.{ComesFrom}
-use Rattle.pg_derive.specs.Answers.{Given, Answers, entered, AnswersForm, satisfy, string, word, not_followed_by, end_of_text, nothing, seq, choice, many, chain_left, chain_right, try, label, rule, text as as_text, skip, build, AnswersParts, part, part_last, part_failed, part_ok, AnswersAlternatives, no_alternative, alternative, alternative_stands, alternative_waits, alternative_failed, round, round_ended, AnswersChain, chain, first_failed, first_ok, link, separator_failed, separator_ok, operand_failed}
-use Rattle.pg_derive.specs.Errors.{Error}
-use Rattle.pg_derive.specs.Outcomes.{Outcome, ok, failed}
-use Rattle.pg_derive.specs.declared.fold.Fold.{Fold}
-use Rattle.pg_derive.specs.declared.fold.Fold.TheVariants.{FromLeft, FromRight}
+use Rattle.pg_language.specs.Answers.{Given, Answers, entered, AnswersForm, satisfy, string, word, not_followed_by, end_of_text, nothing, seq, choice, many, chain_left, chain_right, try, label, rule, text as as_text, skip, build, AnswersParts, part, part_last, part_failed, part_ok, AnswersAlternatives, no_alternative, alternative, alternative_stands, alternative_waits, alternative_failed, round, round_ended, AnswersChain, chain, first_failed, first_ok, link, separator_failed, separator_ok, operand_failed}
+use Rattle.pg_language.specs.Errors.{Error}
+use Rattle.pg_language.specs.Outcomes.{Outcome, ok, failed}
+use Rattle.pg_language.specs.declared.fold.Fold.{Fold}
+use Rattle.pg_language.specs.declared.fold.Fold.TheVariants.{FromLeft, FromRight}
 use Rattle.pg_grammar.specs.declared.used.BuilderUse.{BuilderUse}
-use Rattle.pg_derive.specs.declared.reading.Reading.{Reading}
-use Rattle.pg_derive.specs.declared.reading.Reading.TheVariants.{Library, Report}
+use Rattle.pg_language.specs.declared.reading.Reading.{Reading}
+use Rattle.pg_language.specs.declared.reading.Reading.TheVariants.{Library, Report}
 use Rattle.pg_tree.specs.declared.shape.Shape.{Shape}
 use Rattle.pg_derive.specs.ClosedSets.{NodeSets, SomeMatches, AllNullable, BeginsParts, PartsFall}
 use Rattle.pg_derive.specs.Predictive.{PartFits, TryFits, of_part, of_string, of_key, AlternativesFit, ChainFits, Fits}

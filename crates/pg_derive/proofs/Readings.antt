@@ -11,27 +11,27 @@ use Rattle.pg_grammar.specs.declared.form.Node.TheVariants as form
 use Rattle.pg_grammar.specs.declared.trail.TrailItem.{TrailItem}
 use Rattle.pg_grammar.specs.declared.trail.TrailItem.TheVariants.{Alt}
 use Rattle.pg_message.proofs.Nothing.{merged-nothing}
-use Rattle.pg_table.specs.Derives.{Spot}
+use Rattle.pg_language.specs.Derives.{Spot}
 use Rattle.pg_table.specs.Tables.{ComesFrom}
-use Rattle.pg_derive.specs.Answers.{Given, Answers, entered, AnswersForm, satisfy, string, word, not_followed_by, end_of_text, nothing, seq, choice, many, chain_left, chain_right, try, label, rule, text as as_text, skip, build, AnswersParts, part, AfterPart, part_last, part_failed, part_stuck, part_ok, AnswersAlternatives, no_alternative, alternative, AfterAlternative, alternative_consumed, alternative_stands, alternative_waits, alternative_commits, alternative_failed, alternative_stuck, AnswersRounds, round, AfterRound, round_ended, round_failed, round_empty, round_stuck, round_ok, AnswersChain, chain, AfterFirst, first_failed, first_stuck, first_ok, AnswersLinks, link, AfterSeparator, separator_failed, separator_stuck, separator_ok, AfterOperand, operand_failed, operand_stuck, operand_ok}
+use Rattle.pg_language.specs.Answers.{Given, Answers, entered, AnswersForm, satisfy, string, word, not_followed_by, end_of_text, nothing, seq, choice, many, chain_left, chain_right, try, label, rule, text as as_text, skip, build, AnswersParts, part, AfterPart, part_last, part_failed, part_stuck, part_ok, AnswersAlternatives, no_alternative, alternative, AfterAlternative, alternative_consumed, alternative_stands, alternative_waits, alternative_commits, alternative_failed, alternative_stuck, AnswersRounds, round, AfterRound, round_ended, round_failed, round_empty, round_stuck, round_ok, AnswersChain, chain, AfterFirst, first_failed, first_stuck, first_ok, AnswersLinks, link, AfterSeparator, separator_failed, separator_stuck, separator_ok, AfterOperand, operand_failed, operand_stuck, operand_ok}
 use Rattle.pg_derive.specs.ClosedSets.{NodeSets}
-use Rattle.pg_derive.specs.Errors.{Error, with_position, without_position, merge, nothing_said}
-use Rattle.pg_derive.specs.Outcomes.{Outcome, ok}
+use Rattle.pg_language.specs.Errors.{Error, with_position, without_position, merge, nothing_said}
+use Rattle.pg_language.specs.Outcomes.{Outcome, ok}
 use Rattle.pg_derive.specs.Predictive.{AlternativesFit, Fits}
 use Rattle.pg_derive.specs.PredictiveLaws.{as_read, ReadingsAgree}
-use Rattle.pg_derive.specs.declared.fold.Fold.{Fold}
-use Rattle.pg_derive.specs.declared.reading.Reading.{Reading}
-use Rattle.pg_derive.specs.declared.reading.Reading.TheVariants.{Library, Report}
+use Rattle.pg_language.specs.declared.fold.Fold.{Fold}
+use Rattle.pg_language.specs.declared.reading.Reading.{Reading}
+use Rattle.pg_language.specs.declared.reading.Reading.TheVariants.{Library, Report}
 use Rattle.pg_derive.proofs.Begins.{still, moves, BeginsNode}
 use Rattle.pg_derive.proofs.Complete.{begun}
 use Rattle.pg_derive.proofs.Exists.{Settles, settles_ok, settles_failed, settle}
-use Rattle.pg_derive.proofs.Flags.{moved}
+use Rattle.pg_language.proofs.Flags.{moved}
 use Rattle.pg_derive.proofs.Later.{later}
-use Rattle.pg_derive.proofs.Moves.{tells}
+use Rattle.pg_language.proofs.Moves.{tells}
 use Rattle.pg_derive.proofs.Predicted.{spelled}
 use Rattle.pg_derive.proofs.Quiet.{IsWhole}
-use Rattle.pg_derive.proofs.Sound.{sound}
-use Rattle.pg_derive.proofs.Unique.{same}
+use Rattle.pg_language.proofs.Sound.{sound}
+use Rattle.pg_language.proofs.Unique.{same}
 use Rattle.pg_derive.proofs.Whole.{is_whole}
 
 -- what says nothing, at an earlier place, adds nothing

@@ -5,22 +5,23 @@ use Rattle.pg_grammar.specs.declared.form.Node.TheVariants as form
 use Rattle.pg_grammar.specs.declared.grammar.Rule as declared
 use Rattle.pg_grammar.specs.declared.trail.TrailItem.{TrailItem}
 use Rattle.pg_start.specs.declared.kind.StartKind.TheVariants.{End}
-use Rattle.pg_table.specs.Derives.{Spot, Derives, DerivesText, DerivesForm, end_of_text}
+use Rattle.pg_language.specs.Derives.{Spot, Derives, DerivesText, DerivesForm, end_of_text}
 use Rattle.pg_table.specs.Tables.{Table}
-use Rattle.pg_derive.specs.Answers.{Given, Answers}
+use Rattle.pg_language.specs.Answers.{Given, Answers}
 use Rattle.pg_derive.specs.ClosedSets.{SomeMatches}
-use Rattle.pg_derive.specs.Errors.{Error, merge}
-use Rattle.pg_derive.specs.Leaves.{end_outcome}
-use Rattle.pg_derive.specs.Outcomes.{Outcome, ok, failed, empty_round}
+use Rattle.pg_language.specs.Errors.{Error, merge}
+use Rattle.pg_language.specs.Leaves.{end_outcome}
+use Rattle.pg_language.specs.Outcomes.{Outcome, ok, failed, empty_round}
 use Rattle.pg_derive.specs.PredictiveLaws.{HasAnswer, is_ok, has_failed}
-use Rattle.pg_derive.specs.Reactions.{then_rest}
-use Rattle.pg_derive.specs.WholeTexts.{beginning, AnswersText, from_start, at_end, AnsweredTextsAreDerived, TextIsAnswered, answered_ok, answered_failed, TextsAreAnswered, DerivedTextsAreAnswered, RefusedTextsAreNotDerived, TextsHaveOneDerivation}
-use Rattle.pg_derive.proofs.Derived.{WhereOk, ok_rest}
-use Rattle.pg_derive.proofs.LeavesDerived.{end_derived}
+use Rattle.pg_language.specs.Reactions.{then_rest}
+use Rattle.pg_language.specs.WholeTexts.{beginning, AnswersText, from_start, at_end}
+use Rattle.pg_derive.specs.WholeTextLaws.{AnsweredTextsAreDerived, TextIsAnswered, answered_ok, answered_failed, TextsAreAnswered, DerivedTextsAreAnswered, RefusedTextsAreNotDerived, TextsHaveOneDerivation}
+use Rattle.pg_language.proofs.Derived.{WhereOk, ok_rest}
+use Rattle.pg_language.proofs.LeavesDerived.{end_derived}
 use Rattle.pg_derive.proofs.LeavesAnswered.{FailsEmpty, StaysOk, end_ok, end_decided}
 use Rattle.pg_derive.proofs.Predicted.{answered, exist, ok_ends}
-use Rattle.pg_derive.proofs.Sound.{sound}
-use Rattle.pg_derive.proofs.Unique.{same}
+use Rattle.pg_language.proofs.Sound.{sound}
+use Rattle.pg_language.proofs.Unique.{same}
 use Rattle.pg_derive.proofs.Whole.{start_found}
 
 -- ---- on any grammar

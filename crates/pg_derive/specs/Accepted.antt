@@ -7,14 +7,15 @@ use Rattle.pg_grammar.specs.declared.trail.TrailItem.{TrailItem}
 use Rattle.pg_sets.specs.Sets.{Sets, AreSets}
 use Rattle.pg_predict.specs.Conditions.{IsFaultless}
 use Rattle.pg_predict.specs.Operators.{HasNoOperators}
-use Rattle.pg_table.specs.Derives.{DerivesText}
+use Rattle.pg_language.specs.Derives.{DerivesText}
 use Rattle.pg_table.specs.Tables.{Table, ComesFrom}
-use Rattle.pg_derive.specs.Answers.{Given}
-use Rattle.pg_derive.specs.Errors.{Error}
+use Rattle.pg_language.specs.Answers.{Given}
+use Rattle.pg_language.specs.Errors.{Error}
 use Rattle.pg_derive.specs.LeastSets.{node_sets}
-use Rattle.pg_derive.specs.Outcomes.{ok, failed}
+use Rattle.pg_language.specs.Outcomes.{ok, failed}
 use Rattle.pg_derive.specs.Predictive.{IsPredictive}
-use Rattle.pg_derive.specs.WholeTexts.{AnswersText, TextIsAnswered}
+use Rattle.pg_language.specs.WholeTexts.{AnswersText}
+use Rattle.pg_derive.specs.WholeTextLaws.{TextIsAnswered}
 
 -- if nothing is wrong at any node of a grammar, its least sets show that it is predictive
 abbrev pub AcceptedGrammarsArePredictive : Type 0

@@ -1,14 +1,14 @@
 -- Laws of the relation, as one fact each.
 use Rattle.std.specs.Prelude.{◌≡◌, ℕ, List, Bool}
 use Rattle.pg_tree.specs.Trees.{Tree}
-use Rattle.pg_table.specs.Derives.{Spot, Derives}
+use Rattle.pg_language.specs.Derives.{Spot, Derives}
 use Rattle.pg_grammar.specs.declared.trail.TrailItem.{TrailItem}
-use Rattle.pg_derive.specs.Answers.{Given, Answers}
+use Rattle.pg_language.specs.Answers.{Given, Answers}
 use Rattle.pg_message.specs.Errors.{merged, labelled}
 use Rattle.pg_message.specs.Messages.{Text}
 use Rattle.pg_message.specs.declared.answer.AnswerKind.{AnswerKind}
-use Rattle.pg_derive.specs.Errors.{Error, in_text, merge, relabel}
-use Rattle.pg_derive.specs.Outcomes.{Outcome, ok}
+use Rattle.pg_language.specs.Errors.{Error, in_text, merge, relabel}
+use Rattle.pg_language.specs.Outcomes.{Outcome, ok}
 
 -- there is at most one outcome, with one number of nodes
 abbrev pub OutcomesAreUnique : Type 0

@@ -1,12 +1,7 @@
-pub mod Errors
-pub mod Outcomes
-pub mod Leaves
-pub mod Reactions
-pub mod Answers
 pub mod Laws
 pub mod ClosedSets
 pub mod Predictive
 pub mod PredictiveLaws
-pub mod WholeTexts
+pub mod WholeTextLaws
 pub mod LeastSets
 pub mod Accepted

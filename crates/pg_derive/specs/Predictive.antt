@@ -12,7 +12,7 @@ use Rattle.pg_grammar.specs.declared.word_item.WordItem.{WordItem}
 use Rattle.pg_start.specs.Apart.{Apart}
 use Rattle.pg_start.specs.declared.kind.StartKind.{StartKind}
 use Rattle.pg_start.specs.declared.kind.StartKind.TheVariants.{End}
-use Rattle.pg_table.specs.Runs.{HasAt, StandsAt, IsWordAt}
+use Rattle.pg_language.specs.Runs.{HasAt, StandsAt, IsWordAt}
 use Rattle.pg_derive.specs.ClosedSets.{NodeSets, SomeMatches, Within, AllApart, AllNullable, BeginsParts, PartsFollowed, PartsFall}
 
 -- ---- leaves

@@ -6,14 +6,14 @@ use Rattle.pg_grammar.specs.Grammar.{IsGrammar}
 use Rattle.pg_grammar.specs.declared.form.Node.TheVariants as form
 use Rattle.pg_grammar.specs.declared.trail.TrailItem.{TrailItem}
 use Rattle.pg_grammar.specs.declared.used.BuilderUse.{BuilderUse}
-use Rattle.pg_table.specs.Derives.{Spot, Derives}
+use Rattle.pg_language.specs.Derives.{Spot, Derives}
 use Rattle.pg_table.specs.Tables.{ComesFrom}
-use Rattle.pg_derive.specs.Answers.{Given, Answers}
-use Rattle.pg_derive.specs.Errors.{Error}
-use Rattle.pg_derive.specs.Outcomes.{Outcome, ok, failed}
+use Rattle.pg_language.specs.Answers.{Given, Answers}
+use Rattle.pg_language.specs.Errors.{Error}
+use Rattle.pg_language.specs.Outcomes.{Outcome, ok, failed}
 use Rattle.pg_derive.specs.ClosedSets.{NodeSets, SomeMatches}
 use Rattle.pg_derive.specs.Predictive.{IsPredictive}
-use Rattle.pg_derive.specs.declared.reading.Reading.{Reading}
+use Rattle.pg_language.specs.declared.reading.Reading.{Reading}
 
 -- a grammar that some sets show to be predictive, on a text of characters
 pub record Predicts (G : Given) (sets : NodeSets) : Type 0 where

@@ -3,7 +3,7 @@
 //! Of a predictive grammar: the run answers each text; a text is derived in one way at most; it is answered ok, with the one
 //! forest and trail, exactly where it is derived. A law is a function that does nothing when it runs: its clause is the law.
 
-ghost use Rattle.pg_derive.specs.WholeTexts.{AnsweredTextsAreDerived, TextsAreAnswered, DerivedTextsAreAnswered, RefusedTextsAreNotDerived, TextsHaveOneDerivation};
+ghost use Rattle.pg_derive.specs.WholeTextLaws.{AnsweredTextsAreDerived, TextsAreAnswered, DerivedTextsAreAnswered, RefusedTextsAreNotDerived, TextsHaveOneDerivation};
 
 /// The law that a text which is answered ok is derived with that forest and trail, by any grammar.
 pub fn answered_texts_are_derived()

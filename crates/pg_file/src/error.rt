@@ -1,12 +1,14 @@
-//! Why the items of a file could not be read, and why they make no grammar.
+//! Why a file was not read.
 //!
 //! The first fault from the left is the one that is answered, and at one place the one with the lowest number.
 
 ghost use Rattle.std.specs.Prelude.{◌≡◌};
 ghost use Rattle.pg_file.specs.declared.error.ReadError.TheVariants.{Memory};
-ghost use Rattle.pg_file.specs.declared.error.Unmade.TheVariants as unmade;
+ghost use Rattle.pg_file.specs.Answers.{IsFault};
+ghost use Rattle.pg_parser.specs.Given as given;
 
 use crate::fault::FaultKind;
+use pg_parser::{SyntaxError, SyntaxFault};
 use std::alloc::{AllocError, AllocFailed};
 
 /// Why a file was not read.
@@ -34,27 +36,23 @@ impl<T: Drop> From<AllocFailed<T>> for ReadError {
     }
 }
 
-/// Why items were not made into a grammar.
-#[derive(Debug, Drop)]
-pub enum Unmade {
-    /// Memory ran out.
-    Memory,
-    /// They make none; at which name, is found out elsewhere.
-    Refused,
-}
+impl From<SyntaxError> for ReadError {
+    ghost from_gives = { λ error e. IsFault e → given.IsFault error };
 
-impl From<AllocError> for Unmade {
-    ghost from_gives = { λ _ e. e ≡ unmade.Memory };
-
-    fn from(_e: AllocError) -> Unmade {
-        Unmade::Memory
+    fn from(error: SyntaxError) -> ReadError {
+        match error {
+            SyntaxError::Memory => ReadError::Memory,
+            SyntaxError::Fault(fault, place) => ReadError::Fault(kind_of(fault), place),
+        }
     }
 }
 
-impl<T: Drop> From<AllocFailed<T>> for Unmade {
-    ghost from_gives = { λ _ e. e ≡ unmade.Memory };
-
-    fn from(_e: AllocFailed<T>) -> Unmade {
-        Unmade::Memory
+/// The fault of a file that a fault of its tokens is.
+pub fn kind_of(fault: SyntaxFault) -> FaultKind {
+    match fault {
+        SyntaxFault::BadToken => FaultKind::BadToken,
+        SyntaxFault::UnexpectedToken => FaultKind::UnexpectedToken,
+        SyntaxFault::BadLiteral => FaultKind::BadLiteral,
+        SyntaxFault::LimitPassed => FaultKind::LimitPassed,
     }
 }

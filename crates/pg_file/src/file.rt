@@ -10,20 +10,20 @@ ghost use Rattle.std.specs.Str.{chars, IsUtf8};
 ghost use Rattle.pg_pred.specs.Offer.{offer_of};
 ghost use Rattle.pg_grammar.specs.Fits.{Fits};
 ghost use Rattle.pg_grammar.specs.Grammar.{Grammar};
-ghost use Rattle.pg_file.specs.Given.{IsFault};
-ghost use Rattle.pg_file.specs.Spells.{SpellsWithinLimits, SpelledWithinDepth, IsAnswered};
+ghost use Rattle.pg_making.specs.Spells.{SpellsWithinLimits, SpelledWithinDepth};
+ghost use Rattle.pg_file.specs.Answers.{IsAnswered, IsFault};
 
-use crate::characters::characters_of;
-use crate::error::{ReadError, Unmade};
+use crate::error::{ReadError, kind_of};
 use crate::fault::{FaultKind, FileError, FileFault};
-use crate::item::Item;
-use crate::lexer::{lex, lex_up_to};
-use crate::making::{PlacedGrammar, grammar_of};
 use crate::names::name_fault;
-use crate::parser::read_items;
 use pg_grammar::Grammar;
+use pg_items::Item;
+use pg_making::{PlacedGrammar, grammar_of};
+use pg_meaning::Unmade;
+use pg_parser::{SyntaxError, read_items};
 use pg_pred::Registry;
 use pg_text::position_in;
+use pg_tokens::{characters_of, lex, lex_up_to};
 use std::alloc::Global;
 
 /// The most bytes of a grammar file.
@@ -107,11 +107,11 @@ fn fault_before(alloc: Global, characters: &[char], limit: usize) -> ReadError {
         return ReadError::Memory;
     };
     match read_items(alloc, lexemes.as_slice()) {
-        Err(ReadError::Memory) => ReadError::Memory,
-        Err(ReadError::Fault(kind, Some(place))) if place <= limit => {
-            ReadError::Fault(kind, Some(place))
+        Err(SyntaxError::Memory) => ReadError::Memory,
+        Err(SyntaxError::Fault(fault, Some(place))) if place <= limit => {
+            ReadError::Fault(kind_of(fault), Some(place))
         }
-        Ok(_) | Err(ReadError::Fault(_, _)) => {
+        Ok(_) | Err(SyntaxError::Fault(_, _)) => {
             ReadError::Fault(FaultKind::LimitPassed, Some(limit))
         }
     }

@@ -1,18 +1,14 @@
-//! The initial operators of a file, each admitted by those above it or not.
+//! The first initial operator of a file that isn't admitted by those above it.
 //!
-//! The crate of operator tables judges them. It takes whole grammars, so where a file makes none, the first operator
-//! that isn't admitted is found by a grammar of one rule with the file's initial operators.
+//! The crate of operator tables judges whole grammars. Where a file makes none, the operator is found by a grammar of one
+//! rule with the file's initial operators.
 
-ghost use Rattle.std.specs.Prelude.{◌≡◌, ◌≤◌, OnOk, IsErrOf, IfOk};
-ghost use Rattle.pg_grammar.specs.Classes.{IsExpression};
-ghost use Rattle.pg_file.specs.Spells.{HasInitialTable};
-
-use crate::error::{ReadError, Unmade};
-use crate::handing::{declaration, texts};
-use crate::item::Item;
+use crate::error::ReadError;
 use pg_grammar::{
     BaseForm, ClassExpression, ClassPart, Grammar, Maker, MakerFault, OPERATOR_LIMIT,
 };
+use pg_items::Item;
+use pg_making::{declaration, texts};
 use pg_table::{AdmitFault, InitialFault, Table};
 use pg_text::Characters;
 use std::alloc::{AllocError, Global};
@@ -23,18 +19,6 @@ pub struct RefusedInitial {
     /// Where its symbol stands.
     pub place: usize,
     pub reason: AdmitFault,
-}
-
-/// Whether a grammar has an initial table. Refused where it has none.
-pub fn has_initial_table(alloc: Global, grammar: &Grammar) -> Result<(), Unmade>
-    ensures ok { OnOk result (HasInitialTable grammar.now) }
-    ensures refused { IsErrOf result Unmade.Refused → HasInitialTable grammar.now → ⊥ }
-{
-    match Table::of(alloc, grammar) {
-        Ok(_) => Ok(()),
-        Err(InitialFault::NotAdmitted { .. }) => Err(Unmade::Refused),
-        Err(InitialFault::Memory) => Err(Unmade::Memory),
-    }
 }
 
 /// The first initial operator of the items that isn't admitted by those above it, where these symbols are reserved and

@@ -5,8 +5,8 @@
 ghost use Rattle.std.specs.Prelude.{◌≡◌, ℕ, List};
 ghost use Rattle.pg_pred.specs.Offer.{Offer};
 ghost use Rattle.pg_grammar.specs.Grammar.{Grammar};
-ghost use Rattle.pg_file.specs.Printed.{printed, PrintKeepsLimits};
-ghost use Rattle.pg_file.specs.Spells.{Spells, SpellsWithinLimits};
+ghost use Rattle.pg_print.specs.Printed.{printed, PrintKeepsLimits};
+ghost use Rattle.pg_making.specs.Spells.{Spells, SpellsWithinLimits};
 
 /// The law that a file spells at most one grammar.
 pub fn files_spell_one_grammar()

@@ -1,32 +1,19 @@
-//! From the bytes of a grammar file to its grammar, and the faults on the way.
+//! From the bytes of a grammar file to its grammar, and the faults on the way; and back to bytes.
 //!
-//! The file is cut into tokens (`lex`), the parser makes items of them (`read_items`), short forms are replaced and names
-//! looked up (`replacing`, `lookup`), and a maker makes the grammar (`making`). Which grammar a file spells is told by
-//! `specs/Spells.antt`; `read` answers it exactly where there is one within the limits.
+//! The crates below cut the file into tokens, read items from them and make the grammar. Here they stand behind one another
+//! (`file`), a fault is named and placed (`names`, `initials`, `fault`), and what is read and what is printed meet (`laws`,
+//! `printing`). `read` answers exactly the grammar that a file spells, where there is one within the limits.
 #![tactic(auto)]
 
-mod body;
-mod characters;
 mod error;
 mod fault;
 mod file;
-mod handing;
 mod initials;
-mod item;
 mod laws;
-mod lexer;
-mod lookup;
-mod making;
 mod names;
-mod parser;
-mod printer;
-mod replacing;
-mod size;
-mod token;
-mod words;
-mod written;
+mod printing;
 
 pub use fault::{FaultKind, FileError, FileFault};
 pub use file::read;
 pub use laws::{files_spell_one_grammar, prints_are_read_again, prints_spell_the_grammar};
-pub use printer::print;
+pub use printing::print;

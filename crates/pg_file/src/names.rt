@@ -6,12 +6,10 @@
 use crate::error::ReadError;
 use crate::fault::FaultKind;
 use crate::initials::{RefusedInitial, first_refused};
-use crate::item::{Item, PlacedClass, PlacedForm};
-use crate::lookup::{is_builder_name, is_predicate_name};
-use crate::words::ClassForm;
-use crate::written::{WrittenForm, WrittenPart};
 use indexmap::IndexSet;
 use pg_grammar::OPERATOR_LIMIT;
+use pg_items::{ClassForm, Item, PlacedClass, PlacedForm, WrittenForm, WrittenPart};
+use pg_meaning::{is_builder_name, is_predicate_name};
 use pg_pred::Registry;
 use pg_text::Characters;
 use std::alloc::{AllocError, Global};

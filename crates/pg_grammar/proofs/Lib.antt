@@ -1,6 +1,7 @@
 pub mod Members
 pub mod Lookup
 pub mod Each
+mod OneByOne
 pub mod Negated
 pub mod Items
 pub mod Preorder

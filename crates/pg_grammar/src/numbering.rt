@@ -7,6 +7,7 @@ ghost use Rattle.std.specs.Prelude.{◌≡◌, take, drop, map, length, IfOk, On
 ghost use Rattle.pg_grammar.specs.Preorder.{roots};
 ghost use Rattle.pg_grammar.specs.Forms.{part_count};
 ghost use Rattle.pg_grammar.specs.Numbering.{first_part, second_part, node_of, nodes_from};
+ghost use Rattle.pg_grammar.specs.Names.{number_of};
 ghost use Rattle.pg_grammar.specs.Grammar.{rule_name, rule_body};
 ghost use Rattle.pg_grammar.specs.WordItems.{word_name};
 
@@ -34,8 +35,7 @@ pub(crate) fn nodes_of(
     let mut roots = VecDeque::new(alloc);
     let mut rest = forms;
     while let Some((form, before)) = rest.split_last() {
-        let parts = taken(alloc, &mut roots, form.part_count())?;
-        nodes.push(node_of(alloc, names, words, form, parts)?)?;
+        nodes.push(node_of(alloc, names, words, form, &mut roots)?)?;
         roots.push_front(NodeId::new(before.len()))?;
         rest = before;
     }
@@ -43,7 +43,51 @@ pub(crate) fn nodes_of(
     Ok((nodes, roots))
 }
 
-/// Takes the first so many numbers out.
+/// The node of a form, whose parts are taken from the front of these.
+fn node_of(
+    alloc: Global,
+    names: &[Characters],
+    words: &[WordItem],
+    form: &BaseForm,
+    roots: &mut VecDeque<NodeId>,
+) -> Result<Node, AllocError>
+    ensures node { IfOk result (λ node. node ≡ node_of names.now (map word_name words.now) form.now (take (part_count form.now) roots.old.items)) }
+    ensures rest { OnOk result (roots.new.items ≡ drop (part_count form.now) roots.old.items) }
+{
+    Ok(match form {
+        BaseForm::Satisfy(class) => Node::Satisfy(class.share()?),
+        BaseForm::String(text) => Node::String(copied(alloc, text)?),
+        BaseForm::Seq(count) => Node::Seq(taken(alloc, roots, *count)?),
+        BaseForm::Choice(count) => Node::Choice(taken(alloc, roots, *count)?),
+        BaseForm::Many => Node::Many(first_taken(roots)),
+        BaseForm::ChainLeft(used) => {
+            let (operand, separator) = two_taken(roots);
+            Node::ChainLeft(used.copy(alloc)?, operand, separator)
+        }
+        BaseForm::ChainRight(used) => {
+            let (operand, separator) = two_taken(roots);
+            Node::ChainRight(used.copy(alloc)?, operand, separator)
+        }
+        BaseForm::Try => Node::Try(first_taken(roots)),
+        BaseForm::NotFollowedBy(class) => Node::NotFollowedBy(class.share()?),
+        BaseForm::EndOfText => Node::EndOfText,
+        BaseForm::Word(name) => Node::Word(number_of_word(words, name)),
+        BaseForm::Rule(name) => Node::Rule(number_of_rule(names, name)),
+        BaseForm::Expression(builders) => {
+            Node::Expression(builders.copy(alloc)?, first_taken(roots))
+        }
+        BaseForm::Declare(class) => Node::Declare(class.share()?),
+        BaseForm::Text => Node::Text(first_taken(roots)),
+        BaseForm::Skip => Node::Skip(first_taken(roots)),
+        BaseForm::Build(used, symbol) => {
+            let (used, symbol) = (used.copy(alloc)?, symbol.copy(alloc)?);
+            Node::Build(used, symbol, first_taken(roots))
+        }
+        BaseForm::Label(message) => Node::Label(first_taken(roots), copied(alloc, message)?),
+    })
+}
+
+/// The first so many numbers, taken out.
 fn taken(alloc: Global, roots: &mut VecDeque<NodeId>, count: usize) -> Result<Parts, AllocError>
     ensures parts { IfOk result (λ parts. parts ≡ take count roots.old.items) }
     ensures rest { OnOk result (roots.new.items ≡ drop count roots.old.items) }
@@ -58,73 +102,39 @@ fn taken(alloc: Global, roots: &mut VecDeque<NodeId>, count: usize) -> Result<Pa
     Ok(Parts::new(numbers))
 }
 
-/// The node of a form with these parts.
-fn node_of(
-    alloc: Global,
-    names: &[Characters],
-    words: &[WordItem],
-    form: &BaseForm,
-    parts: Parts,
-) -> Result<Node, AllocError>
-    ensures { IfOk result (λ node. node ≡ node_of names.now (map word_name words.now) form.now parts) }
+/// The first number, taken out.
+fn first_taken(roots: &mut VecDeque<NodeId>) -> NodeId
+    ensures part { result ≡ first_part (take 1 roots.old.items) }
+    ensures rest { roots.new.items ≡ drop 1 roots.old.items }
 {
-    match form {
-        BaseForm::Satisfy(class) => Ok(Node::Satisfy(class.share()?)),
-        BaseForm::String(text) => Ok(Node::String(copied(alloc, text)?)),
-        BaseForm::Seq(_) => Ok(Node::Seq(parts)),
-        BaseForm::Choice(_) => Ok(Node::Choice(parts)),
-        BaseForm::Many => Ok(Node::Many(first_part(&parts))),
-        BaseForm::ChainLeft(used) => {
-            let used = used.copy(alloc)?;
-            Ok(Node::ChainLeft(used, first_part(&parts), second_part(&parts)))
-        }
-        BaseForm::ChainRight(used) => {
-            let used = used.copy(alloc)?;
-            Ok(Node::ChainRight(used, first_part(&parts), second_part(&parts)))
-        }
-        BaseForm::Try => Ok(Node::Try(first_part(&parts))),
-        BaseForm::NotFollowedBy(class) => Ok(Node::NotFollowedBy(class.share()?)),
-        BaseForm::EndOfText => Ok(Node::EndOfText),
-        BaseForm::Word(name) => {
-            let number = place_of_word(words, name.as_slice()).unwrap_or(0);
-            Ok(Node::Word(WordId::new(number)))
-        }
-        BaseForm::Rule(name) => {
-            let number = place_of_name(names, name.as_slice()).unwrap_or(0);
-            Ok(Node::Rule(RuleId::new(number)))
-        }
-        BaseForm::Expression(builders) => {
-            Ok(Node::Expression(builders.copy(alloc)?, first_part(&parts)))
-        }
-        BaseForm::Declare(class) => Ok(Node::Declare(class.share()?)),
-        BaseForm::Text => Ok(Node::Text(first_part(&parts))),
-        BaseForm::Skip => Ok(Node::Skip(first_part(&parts))),
-        BaseForm::Build(used, symbol) => {
-            let (used, symbol) = (used.copy(alloc)?, symbol.copy(alloc)?);
-            Ok(Node::Build(used, symbol, first_part(&parts)))
-        }
-        BaseForm::Label(message) => { Ok(Node::Label(first_part(&parts), copied(alloc, message)?)) }
+    match roots.pop_front() {
+        Some(root) => root,
+        None => NodeId::new(0),
     }
 }
 
-/// The first of some parts.
-fn first_part(parts: &Parts) -> NodeId
-    ensures { result ≡ first_part parts.now }
+/// The first two numbers, taken out.
+fn two_taken(roots: &mut VecDeque<NodeId>) -> (NodeId, NodeId)
+    ensures first { result.0 ≡ first_part (take 2 roots.old.items) }
+    ensures second { result.1 ≡ second_part (take 2 roots.old.items) }
+    ensures rest { roots.new.items ≡ drop 2 roots.old.items }
 {
-    match parts.as_slice() {
-        [first, ..] => *first,
-        [] => NodeId::new(0),
-    }
+    let first = first_taken(roots);
+    (first, first_taken(roots))
 }
 
-/// The second of some parts.
-fn second_part(parts: &Parts) -> NodeId
-    ensures { result ≡ second_part parts.now }
+/// The number of the word item with this name, which is there.
+fn number_of_word(words: &[WordItem], name: &Characters) -> WordId
+    ensures { result ≡ number_of (map word_name words.now) name.now }
 {
-    match parts.as_slice() {
-        [_, second, ..] => *second,
-        [] | [_] => NodeId::new(0),
-    }
+    WordId::new(place_of_word(words, name.as_slice()).unwrap_or(0))
+}
+
+/// The number of the rule with this name, which is there.
+fn number_of_rule(names: &[Characters], name: &Characters) -> RuleId
+    ensures { result ≡ number_of names.now name.now }
+{
+    RuleId::new(place_of_name(names, name.as_slice()).unwrap_or(0))
 }
 
 /// The rules with these names and bodies, of which there are as many.

@@ -12,30 +12,30 @@ use Rattle.pg_grammar.specs.declared.form.Node.TheVariants as form
 use Rattle.pg_grammar.specs.declared.grammar.Rule as declared
 use Rattle.pg_grammar.specs.declared.trail.TrailItem.{TrailItem}
 use Rattle.pg_table.specs.Tables.{Table, ComesFrom}
-use Rattle.pg_table.specs.Derives.{Spot}
-use Rattle.pg_derive.specs.Answers.{Given, Answers}
+use Rattle.pg_language.specs.Derives.{Spot}
+use Rattle.pg_language.specs.Answers.{Given, Answers}
 use Rattle.pg_derive.specs.LeastSets.{node_sets}
-use Rattle.pg_derive.specs.Outcomes as outcome
-use Rattle.pg_derive.specs.Outcomes.{Outcome}
+use Rattle.pg_language.specs.Outcomes as outcome
+use Rattle.pg_language.specs.Outcomes.{Outcome}
 use Rattle.pg_derive.specs.PredictiveLaws.{Predicts, HasAnswer, is_ok, has_failed}
 use Rattle.pg_derive.proofs.Faultless.{accepted}
 use Rattle.pg_derive.proofs.Predicted.{exist, spelled}
-use Rattle.pg_derive.proofs.Unique.{same}
+use Rattle.pg_language.proofs.Unique.{same}
 use Rattle.pg_derive.proofs.Whole.{start_found}
 use Rattle.pg_machine.specs.CheckedRuns.{HasAcceptedGrammar, IsStartAnswer}
 use Rattle.pg_machine.specs.Halting.{tape_before, IsLastAfter, Halts, turns_left}
-use Rattle.pg_machine.specs.Messages.{Said}
+use Rattle.pg_turns.specs.Messages.{Said}
 use Rattle.pg_machine.specs.Outcomes.{outcome_of, Ends}
-use Rattle.pg_machine.specs.Ready.{IsTapeReady}
-use Rattle.pg_machine.specs.Shows.{Shows, shows_at, no_frames}
-use Rattle.pg_machine.specs.Tape.{spot_at, OnFrame, Tape, tape_at, tape_turn, tape_is_last}
-use Rattle.pg_machine.specs.Turns.{State, at_node, turn, is_last}
+use Rattle.pg_turns.specs.Ready.{IsTapeReady}
+use Rattle.pg_turns.specs.Shows.{Shows, shows_at, no_frames}
+use Rattle.pg_turns.specs.Tape.{spot_at, OnFrame, Tape, tape_at, tape_turn, tape_is_last}
+use Rattle.pg_turns.specs.Turns.{State, at_node, turn, is_last}
 use Rattle.pg_machine.specs.declared.answer.Outcome as ended
 use Rattle.pg_machine.specs.declared.answer.Outcome.TheVariants.{Answered, StepsUsed, EmptyRound}
-use Rattle.pg_machine.proofs.Places.{IsTapePlaced, IsBounded, turn_placed, tape_roomy}
+use Rattle.pg_turns.proofs.Places.{IsTapePlaced, IsBounded, turn_placed, tape_roomy}
 use Rattle.pg_machine.proofs.Running.{Running, running_begins, running_turn, answer_shown, stuck_shown, endless_shown}
-use Rattle.pg_machine.proofs.Runs.{Run, run_start, run_turn, run_short, run_answer, run_stuck, run_endless}
-use Rattle.pg_machine.proofs.Turned.{turn_shown, last_shown}
+use Rattle.pg_turns.proofs.Runs.{Run, run_start, run_turn, run_short, run_answer, run_stuck, run_endless}
+use Rattle.pg_turns.proofs.Turned.{turn_shown, last_shown}
 
 -- ---- of the grammar
 

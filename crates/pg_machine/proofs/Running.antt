@@ -8,27 +8,27 @@ use Rattle.pg_grammar.specs.Grammar.{rule_body}
 use Rattle.pg_grammar.specs.declared.grammar.Rule as declared
 use Rattle.pg_grammar.specs.declared.trail.TrailItem.{TrailItem}
 use Rattle.pg_table.specs.Tables.{Table}
-use Rattle.pg_table.specs.Derives.{Spot}
-use Rattle.pg_derive.specs.Answers.{Given, Answers, AnswersStart}
-use Rattle.pg_derive.specs.Errors.{Error}
-use Rattle.pg_derive.specs.Outcomes as outcome
-use Rattle.pg_derive.specs.Outcomes.{Outcome}
-use Rattle.pg_derive.proofs.Sound.{sound}
-use Rattle.pg_machine.specs.Frames.{Frame}
-use Rattle.pg_machine.specs.Messages.{Said, error_of}
+use Rattle.pg_language.specs.Derives.{Spot}
+use Rattle.pg_language.specs.Answers.{Given, Answers, AnswersStart}
+use Rattle.pg_language.specs.Errors.{Error}
+use Rattle.pg_language.specs.Outcomes as outcome
+use Rattle.pg_language.specs.Outcomes.{Outcome}
+use Rattle.pg_language.proofs.Sound.{sound}
+use Rattle.pg_turns.specs.Frames.{Frame}
+use Rattle.pg_turns.specs.Messages.{Said, error_of}
 use Rattle.pg_machine.specs.Outcomes.{outcome_of, IsDerived, IsOutcome, answer_on, IsStuck, IsUnanswered, Ends}
-use Rattle.pg_machine.specs.Shows.{no_frames, stands_parts, stands_choice, stands_rounds, stands_first, stands_separator, stands_operand, stands_try, stands_label, stands_rule, stands_text, stands_skip, stands_build, Shows, shows_at, shows_fine, shows_failed, shows_stuck, shows_endless}
-use Rattle.pg_machine.specs.Tape.{spot_at, OnFrame, Tape, tape_at, tape_turn, tape_is_last}
-use Rattle.pg_machine.specs.Ready.{IsTapeReady}
-use Rattle.pg_machine.specs.Turns.{State, at_node, with_outcome, endless, turn, is_last}
-use Rattle.pg_machine.specs.Why.{Says, says}
+use Rattle.pg_turns.specs.Shows.{no_frames, stands_parts, stands_choice, stands_rounds, stands_first, stands_separator, stands_operand, stands_try, stands_label, stands_rule, stands_text, stands_skip, stands_build, Shows, shows_at, shows_fine, shows_failed, shows_stuck, shows_endless}
+use Rattle.pg_turns.specs.Tape.{spot_at, OnFrame, Tape, tape_at, tape_turn, tape_is_last}
+use Rattle.pg_turns.specs.Ready.{IsTapeReady}
+use Rattle.pg_turns.specs.Turns.{State, at_node, with_outcome, endless, turn, is_last}
+use Rattle.pg_turns.specs.Why.{Says, says}
 use Rattle.pg_machine.specs.declared.answer.Outcome as ended
 use Rattle.pg_machine.specs.declared.answer.Outcome.TheVariants.{Answered, StepsUsed, EmptyRound}
-use Rattle.pg_machine.specs.declared.message_tape.Why.{Why}
-use Rattle.pg_machine.proofs.Merged.{drop_seam}
-use Rattle.pg_machine.proofs.Ready.{turn_ready, tape_more}
-use Rattle.pg_machine.proofs.Runs.{Run, run_start, run_turn, run_answer, run_stuck, run_short, run_endless}
-use Rattle.pg_machine.proofs.Turned.{turn_shown, last_shown}
+use Rattle.pg_turns.specs.declared.message_tape.Why.{Why}
+use Rattle.pg_turns.proofs.Merged.{drop_seam}
+use Rattle.pg_turns.proofs.Ready.{turn_ready, tape_more}
+use Rattle.pg_turns.proofs.Runs.{Run, run_start, run_turn, run_answer, run_stuck, run_short, run_endless}
+use Rattle.pg_turns.proofs.Turned.{turn_shown, last_shown}
 
 -- the machine has this tape after so many turns, of at most so many, from the start rule at the start of the text
 pub record Running (offer : Offer) (G : Given) (T : Table) (most steps : ℕ) (x : Tape) : Type 0 where

@@ -3,15 +3,15 @@ use Rattle.std.proofs.Common.{◌≡◌, ◌+◌, ◌≤◌, ◌∙◌, ℕ, ari
 use Rattle.std.specs.Prelude.{Option, Some, None, IfSome, IfNone, Result, Ok, Err, IfOk}
 use Rattle.pg_text.specs.Position.{position_of}
 use Rattle.pg_table.specs.Tables.{Table, ComesFrom}
-use Rattle.pg_derive.specs.Answers.{Given}
-use Rattle.pg_derive.specs.Errors.{Error, without_position}
-use Rattle.pg_derive.specs.Outcomes.{Outcome, ok, failed, empty_round}
-use Rattle.pg_derive.specs.WholeTexts.{AnswersText, from_start, at_end, nodes_to_end}
+use Rattle.pg_language.specs.Answers.{Given}
+use Rattle.pg_language.specs.Errors.{Error, without_position}
+use Rattle.pg_language.specs.Outcomes.{Outcome, ok, failed, empty_round}
+use Rattle.pg_language.specs.WholeTexts.{AnswersText, from_start, at_end, nodes_to_end}
 use Rattle.pg_derive.proofs.AcceptedTexts.{refuses_rightly, derives_once}
 use Rattle.pg_derive.proofs.WholeTexts.{answered_derived}
 use Rattle.pg_machine.specs.CheckedRuns.{HasAcceptedGrammar, IsTextAnswer, IsStartAnswer, IsOnlyDerivation, IsUnderivable}
 use Rattle.pg_machine.specs.Outcomes.{outcome_of, outcome_with}
-use Rattle.pg_machine.specs.Tape.{spot_at}
+use Rattle.pg_turns.specs.Tape.{spot_at}
 use Rattle.pg_machine.specs.declared.answer.Answer.{Answer}
 use Rattle.pg_machine.specs.declared.answer.Success.{Success}
 

@@ -1,16 +1,15 @@
 -- What a run of an accepted grammar says of a whole text.
-use Rattle.std.specs.Prelude.{◌≡◌, ◌==◌, ◌≤◌, ◌+◌, ◌-◌, ◌*◌, ◌^◌, ℕ, min, List, [], length, if◌then◌else◌, codes}
+use Rattle.std.specs.Prelude.{◌≡◌, ◌≤◌, ◌+◌, ◌-◌, ◌*◌, ◌^◌, ℕ, min, List, length}
 use Rattle.pg_text.specs.Position.{position_of}
 use Rattle.pg_tree.specs.Trees.{Tree}
 use Rattle.pg_grammar.specs.Grammar.{Grammar}
 use Rattle.pg_grammar.specs.declared.trail.TrailItem.{TrailItem}
 use Rattle.pg_sets.specs.Sets.{Sets}
-use Rattle.pg_table.specs.Derives.{DerivesText}
+use Rattle.pg_language.specs.Derives.{DerivesText}
 use Rattle.pg_table.specs.Tables.{Table}
 use Rattle.pg_derive.specs.Accepted.{Accepts}
-use Rattle.pg_derive.specs.Answers.{Given, AnswersStart}
-use Rattle.pg_derive.specs.Errors.{Error, seen_at, stopped_before, refused_before}
-use Rattle.pg_derive.specs.WholeTexts.{AnswersText}
+use Rattle.pg_language.specs.Answers.{Given, AnswersStart}
+use Rattle.pg_language.specs.WholeTexts.{AnswersText}
 use Rattle.pg_machine.specs.Outcomes.{outcome_of}
 use Rattle.pg_machine.specs.declared.answer.Answer.{Answer}
 use Rattle.pg_machine.specs.declared.answer.Success.{Success}
@@ -47,9 +46,3 @@ pub record IsStartAnswer (G : Given) (table : Table) (a : Answer) : Type 0 where
   pub answers : AnswersStart G table (outcome_of a) nodes
   pub position : a.error.position ≡ position_of G.text a.error.place
   pub steps : a.steps ≡ min (2 * nodes - 1) (2 ^ 64 - 1)
-
--- what is said where the text has to end, at its end and before it
-abbrev pub end_error : List ℕ → ℕ → Error
-end_error text place = if place == length text
-    then stopped_before (codes "end of input") [] place
-    else refused_before (codes "end of input") (seen_at text place) place

@@ -5,8 +5,8 @@ use Rattle.std.proofs.Common.{refl, ap}
 use mathlib.Core.HLevel.{Σ_prop_path}
 use Rattle.pg_grammar.specs.declared.grammar.Rule as declared
 use Rattle.pg_table.specs.Tables.{Table}
-use Rattle.pg_derive.specs.Answers.{Given}
-use Rattle.pg_machine.specs.Tape.{Tape, tape_at, tape_endless, tape_turn, tape_is_last}
+use Rattle.pg_language.specs.Answers.{Given}
+use Rattle.pg_turns.specs.Tape.{Tape, tape_at, tape_endless, tape_turn, tape_is_last}
 
 -- a rule's body is to be entered at the start of the text, under the table, with empty lists
 abbrev pub tape_before : Table → Option declared.Rule → Tape

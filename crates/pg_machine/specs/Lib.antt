@@ -1,12 +1,3 @@
-pub mod Messages
-pub mod Why
-pub mod Frames
-pub mod Turns
-pub mod Finishes
-pub mod Tape
-pub mod Ready
-pub mod Shows
-pub mod View
 pub mod Outcomes
 pub mod Halting
 pub mod CheckedRuns

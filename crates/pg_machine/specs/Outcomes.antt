@@ -1,19 +1,19 @@
 -- What a run may end with.
 use Rattle.std.specs.Prelude.{◌≡◌, ◌<◌, ◌≤◌, ◌+◌, ◌*◌, ℕ, List, [], ◌∷◌, Bool, Option, Some, None, drop}
 use Rattle.pg_text.specs.Position.{position_of}
-use Rattle.pg_table.specs.Derives.{Spot, Derives}
+use Rattle.pg_language.specs.Derives.{Spot, Derives}
 use Rattle.pg_table.specs.Tables.{Table}
-use Rattle.pg_derive.specs.Answers.{Given, AnswersStart}
-use Rattle.pg_derive.specs.Errors.{Error, without_position}
-use Rattle.pg_derive.specs.Outcomes as outcome
-use Rattle.pg_derive.specs.Outcomes.{Outcome}
-use Rattle.pg_machine.specs.Messages.{error_of}
-use Rattle.pg_machine.specs.Tape.{Tape, tape_at, tape_with, tape_endless, spot_at}
+use Rattle.pg_language.specs.Answers.{Given, AnswersStart}
+use Rattle.pg_language.specs.Errors.{Error, without_position}
+use Rattle.pg_language.specs.Outcomes as outcome
+use Rattle.pg_language.specs.Outcomes.{Outcome}
+use Rattle.pg_turns.specs.Messages.{error_of}
+use Rattle.pg_turns.specs.Tape.{Tape, tape_at, tape_with, tape_endless, spot_at}
 use Rattle.pg_machine.specs.declared.answer.Answer.{Answer}
 use Rattle.pg_machine.specs.declared.answer.Success.{Success}
 use Rattle.pg_machine.specs.declared.answer.Outcome as ended
 use Rattle.pg_machine.specs.declared.answer.Outcome.TheVariants.{Answered, StepsUsed, EmptyRound}
-use Rattle.pg_machine.specs.declared.frame.Reply.TheVariants as reply
+use Rattle.pg_turns.specs.declared.frame.Reply.TheVariants as reply
 
 -- the outcome that an answer stands for, without its error's position
 abbrev pub outcome_with : Bool → Error → Option Success → Outcome

@@ -9,27 +9,23 @@ ghost use Rattle.pg_pred.specs.Offer.{offer_of};
 ghost use Rattle.pg_table.specs.Tables.{ComesFrom};
 ghost use Rattle.pg_text.specs.Position.{position_of};
 ghost use Rattle.pg_derive.specs.Accepted.{Accepts};
-ghost use Rattle.pg_derive.specs.Answers.{given};
-ghost use Rattle.pg_derive.specs.Errors.{without_position};
-ghost use Rattle.pg_derive.specs.WholeTexts.{at_end};
-ghost use Rattle.pg_derive.specs.declared.reading.Reading.TheVariants.{Library};
-ghost use Rattle.pg_machine.specs.CheckedRuns.{HasAcceptedGrammar, IsTextAnswer, IsStartAnswer, IsOnlyDerivation, IsUnderivable, end_error};
+ghost use Rattle.pg_language.specs.Answers.{given};
+ghost use Rattle.pg_language.specs.WholeTexts.{at_end};
+ghost use Rattle.pg_language.specs.declared.reading.Reading.TheVariants.{Library};
+ghost use Rattle.pg_turns.specs.Messages.{end_error};
+ghost use Rattle.pg_machine.specs.CheckedRuns.{HasAcceptedGrammar, IsTextAnswer, IsStartAnswer, IsOnlyDerivation, IsUnderivable};
 ghost use Rattle.pg_machine.specs.Halting.{Halts, Halts-prop};
 ghost use Rattle.pg_machine.specs.Outcomes.{outcome_of};
 
 use crate::answer::{Answer, Outcome};
-use crate::frame::Mode;
-use crate::machine::Machine;
-use crate::message::Message;
-use crate::message_tape::told;
 use crate::probing::{ended, start_of};
-use pg_derive::Reading;
 use pg_grammar::Grammar;
-use pg_message::ParseError;
+use pg_language::Reading;
 use pg_pred::Registry;
 use pg_predict::Checked;
 use pg_table::Table;
 use pg_text::Text;
+use pg_turns::{Machine, Mode, end_said};
 use std::alloc::{AllocError, Global};
 
 /// Runs the start rule over the whole text, under the table, in the library's reading, until there is an answer: ok, with
@@ -137,18 +133,4 @@ fn whole_answer(alloc: Global, text: &Text, answer: Answer) -> Result<Answer, Al
         steps,
         success,
     })
-}
-
-/// What is said at the place where the text has to end.
-fn end_said(alloc: Global, text: &Text, place: usize) -> Result<ParseError, AllocError>
-    ensures error { IfOk result (λ e. without_position e ≡ end_error text.now place) }
-    ensures position { IfOk result (λ e. e.position ≡ position_of text.now place) }
-{
-    let position = text.position(place.min(text.len()));
-    let seen = if place == text.len() {
-        Message::Stopped(None)
-    } else {
-        Message::Refused(text.char_at(place))
-    };
-    told(alloc, place, position, &[seen, Message::WantedEnd])
 }

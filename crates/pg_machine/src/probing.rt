@@ -1,26 +1,20 @@
 //! Runs of a grammar's start rule, on any grammar.
 
-ghost use Rattle.std.specs.Prelude.{◌≡◌, drop, slice_get, option_map, Some, IfOk};
+ghost use Rattle.std.specs.Prelude.{◌≡◌, slice_get, option_map, Some, IfOk};
 ghost use Rattle.pg_grammar.specs.Grammar.{rule_body};
 ghost use Rattle.pg_pred.specs.Offer.{offer_of};
 ghost use Rattle.pg_grammar.specs.Fits.{Fits};
-ghost use Rattle.pg_text.specs.Position.{position_of};
-ghost use Rattle.pg_derive.specs.Errors.{without_position};
-ghost use Rattle.pg_machine.specs.Messages.{error_of};
 ghost use Rattle.pg_machine.specs.Outcomes.{IsOutcome, Ends};
-ghost use Rattle.pg_derive.specs.Answers.{given};
-ghost use Rattle.pg_machine.specs.View.{tape_of};
+ghost use Rattle.pg_language.specs.Answers.{given};
+ghost use Rattle.pg_turns.specs.View.{tape_of};
 
 use crate::answer::{Answer, Outcome, Success};
-use crate::frame::{Mode, Reply};
-use crate::machine::Machine;
-use crate::message_tape::Why;
-use pg_derive::Reading;
 use pg_grammar::{Grammar, NodeId, Trail};
-use pg_message::ParseError;
+use pg_language::Reading;
 use pg_pred::Registry;
 use pg_table::Table;
 use pg_text::Text;
+use pg_turns::{Machine, Mode, Reply};
 use std::alloc::{AllocError, Global};
 
 /// Runs the start rule at the beginning of the text, under the table, in at most so many turns: each enters a node or
@@ -75,25 +69,19 @@ pub(crate) fn ended(
                 if !machine.frames.is_empty() {
                     return Ok(Outcome::StepsUsed);
                 }
-                let error = error(alloc, text, &machine, why)?;
-                let success = Some(Success {
-                    place: end,
-                    table: machine.table,
-                    forest: machine.forest,
-                    trail: Trail::from_items(machine.trail),
-                });
+                let error = machine.error(alloc, text, why)?;
                 Ok(Outcome::Answered(Answer {
                     consumed,
                     error,
                     steps,
-                    success,
+                    success: Some(success(machine, end)),
                 }))
             }
             Reply::Failed { consumed, why } => {
                 if !machine.frames.is_empty() {
                     return Ok(Outcome::StepsUsed);
                 }
-                let error = error(alloc, text, &machine, why)?;
+                let error = machine.error(alloc, text, why)?;
                 Ok(Outcome::Answered(Answer {
                     consumed,
                     error,
@@ -107,16 +95,17 @@ pub(crate) fn ended(
     }
 }
 
-/// The error of the last answer, with its position.
-fn error(
-    alloc: Global,
-    text: &Text,
-    machine: &Machine<'_>,
-    why: Why,
-) -> Result<ParseError, AllocError>
-    ensures error { IfOk result (λ e. without_position e ≡ error_of why.place (drop why.from machine.now.messages)) }
-    ensures position { IfOk result (λ e. e.position ≡ position_of text.now why.place) }
+/// What an ok answer gives that ends at this place.
+fn success(machine: Machine<'_>, end: usize) -> Success
+    ensures place { result.place ≡ end }
+    ensures table { result.table ≡ machine.entry.table }
+    ensures forest { result.forest ≡ machine.entry.forest }
+    ensures trail { result.trail ≡ machine.entry.trail.items }
 {
-    let position = text.position(why.place.min(text.len()));
-    machine.messages.error(alloc, why, position)
+    Success {
+        place: end,
+        table: machine.table,
+        forest: machine.forest,
+        trail: Trail::from_items(machine.trail),
+    }
 }

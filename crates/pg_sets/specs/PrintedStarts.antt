@@ -23,8 +23,12 @@ abbrev pub range_text : Range → List ℕ
 range_text range = character_text range.0 ++ (if range.0 == range.1 then [] else codes "-" ++ character_text range.1)
 
 -- the first four ranges with commas between, and whether there are more
+abbrev pub first_ranges_text : List Range → List ℕ
+first_ranges_text ranges = join_by range_text (codes ",") (take 4 ranges) ++ (if nat_lt 4 (length ranges) then codes ",.." else [])
+
+-- a class by its first ranges
 abbrev pub class_text : List Range → List ℕ
-class_text ranges = codes "class " ++ (join_by range_text (codes ",") (take 4 ranges) ++ (if nat_lt 4 (length ranges) then codes ",.." else []))
+class_text ranges = codes "class " ++ first_ranges_text ranges
 
 -- the text of a key as a string of JSON
 abbrev pub quoted_key : List ℕ → List ℕ

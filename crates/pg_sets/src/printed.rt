@@ -3,7 +3,7 @@
 //! It is for people: starts that differ can look alike, as two keys do that differ in the characters they exclude.
 ghost use Rattle.std.specs.Prelude.{◌≡◌, ◌++◌, codes, string_bytes, slice_get, IfOk, OnOk};
 ghost use Rattle.std.specs.List.{join_by};
-ghost use Rattle.pg_sets.specs.PrintedStarts.{start_text, class_text, range_text, character_text, quoted_key, word_text};
+ghost use Rattle.pg_sets.specs.PrintedStarts.{start_text, class_text, first_ranges_text, range_text, character_text, quoted_key, word_text};
 
 use crate::listed::ListedStart;
 use pg_class::Class;
@@ -37,15 +37,24 @@ pub fn printed_start(
 fn printed_class(alloc: Global, class: &Class) -> Result<String, AllocError>
     ensures { IfOk result (λ text. string_bytes text ≡ class_text class.now) }
 {
-    let ranges = class.ranges();
     let mut text = String::from_str(alloc, "class ")?;
-    if ranges.len() > MOST_RANGES {
-        push_ranges(alloc, &mut text, &ranges[..MOST_RANGES])?;
-        text.push_str(",..")?;
-    } else {
-        push_ranges(alloc, &mut text, ranges)?;
-    }
+    push_first_ranges(alloc, &mut text, class.ranges())?;
     Ok(text)
+}
+
+/// Pushes the first ranges, and that there are more where there are.
+fn push_first_ranges(
+    alloc: Global,
+    text: &mut String,
+    ranges: &[(char, char)],
+) -> Result<(), AllocError>
+    ensures { OnOk result (string_bytes text.new ≡ string_bytes text.old ++ first_ranges_text ranges.now) }
+{
+    if ranges.len() <= MOST_RANGES {
+        return push_ranges(alloc, text, ranges);
+    }
+    push_ranges(alloc, text, &ranges[..MOST_RANGES])?;
+    text.push_str(",..")
 }
 
 /// Pushes the ranges with commas between.

@@ -1,4 +1,2 @@
 pub mod Added
-pub mod Onward
-pub mod Examples
 pub mod Cut

@@ -235,8 +235,6 @@ fn counts_each_precedence_once(rt: HostRuntime) -> Result<(), Fail> {
 
 #[test]
 fn holds_no_operator_without_an_operators_item(rt: HostRuntime) -> Result<(), Fail> {
-    derivations_lead_on();
-    tables_come_from_grammar();
     let alloc = rt.alloc();
     let mut maker = Maker::new(alloc);
     let body = vec![in alloc; BaseForm::EndOfText]?;

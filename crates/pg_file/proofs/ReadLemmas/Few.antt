@@ -7,14 +7,14 @@ use Rattle.pg_grammar.specs.Forms.{form_of}
 use Rattle.pg_grammar.specs.declared.class_item.ClassItem.{ClassItem}
 use Rattle.pg_grammar.specs.declared.word_item.WordItem.{WordItem}
 use Rattle.pg_grammar.specs.Made.{Made, nothing_made, Says}
-use Rattle.pg_file.specs.Tree.{Item, Class_item, Word_item, Operators, Table, Start, Rule_item}
-use Rattle.pg_file.specs.Heads.{heads, entry_of_item}
-use Rattle.pg_file.specs.Entries.{Entry}
-use Rattle.pg_file.specs.Bodies.{counted, body_size}
-use Rattle.pg_file.specs.Meaning.{class_meant, meant}
-use Rattle.pg_file.specs.Limits.{class_count, word_count, rule_count, node_count, KeepWithin, full_room}
-use Rattle.pg_file.specs.Spells.{made_classes, with_item, with_items}
-use Rattle.pg_file.proofs.MeaningLemmas.Meant.{heads_sized}
+use Rattle.pg_items.specs.Tree.{Item, Class_item, Word_item, Operators, Table, Start, Rule_item}
+use Rattle.pg_items.specs.Heads.{heads, entry_of_item}
+use Rattle.pg_items.specs.Entries.{Entry}
+use Rattle.pg_items.specs.Sizes.{counted, body_size}
+use Rattle.pg_meaning.specs.Meaning.{class_meant, meant}
+use Rattle.pg_parser.specs.Limits.{class_count, word_count, rule_count, node_count, KeepWithin, full_room}
+use Rattle.pg_making.specs.Spells.{made_classes, with_item, with_items}
+use Rattle.pg_meaning.proofs.MeaningLemmas.Meant.{heads_sized}
 
 -- what was handed in and these entries are counted in what is made of them
 record Counts (made : Made) (entries : List Entry) (all : Made) : Type 0 where

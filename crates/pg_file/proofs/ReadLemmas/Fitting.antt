@@ -16,28 +16,29 @@ use Rattle.pg_grammar.specs.declared.form.BaseForm.{BaseForm}
 use Rattle.pg_grammar.specs.declared.form.BaseForm.TheVariants as base
 use Rattle.pg_grammar.specs.declared.form.Node.{Node}
 use Rattle.pg_grammar.specs.declared.form.Node.TheVariants as node
-use Rattle.pg_file.specs.declared.written.WrittenPart.{WrittenPart}
-use Rattle.pg_file.specs.declared.written.WrittenPart.TheVariants as part
-use Rattle.pg_file.specs.declared.written.WrittenForm.{WrittenForm}
-use Rattle.pg_file.specs.declared.written.WrittenForm.TheVariants as written
-use Rattle.pg_file.specs.declared.words.ClassForm.{ClassForm}
-use Rattle.pg_file.specs.declared.words.ClassForm.TheVariants.{Satisfy, NotFollowedBy, Declare}
-use Rattle.pg_file.specs.declared.words.SomeForm.{SomeForm}
-use Rattle.pg_file.specs.declared.words.SomeForm.TheVariants.{Choice, Try}
-use Rattle.pg_file.specs.declared.words.OneForm.{OneForm}
-use Rattle.pg_file.specs.declared.words.OneForm.TheVariants as one
-use Rattle.pg_file.specs.declared.words.TwoForm.{TwoForm}
-use Rattle.pg_file.specs.declared.words.TwoForm.TheVariants.{SepBy, SepBy1, EndBy}
-use Rattle.pg_file.specs.declared.words.ChainForm.{ChainForm}
-use Rattle.pg_file.specs.declared.words.ChainForm.TheVariants as chain
-use Rattle.pg_file.specs.Names.{builder_named, item_or_predicate, PartIsKnown, ClassIsKnown, BuilderIsKnown, FormIsKnown}
-use Rattle.pg_file.specs.Meaning.{Body, joined, seq_of, choice_of, some_of, one_of, two_of, between_of, class_of, chain_of, separated, optional}
-use Rattle.pg_file.specs.Bodies.{part_meant, parts_meant, part_count, body_at, body_of_form, bodies, body_meant}
-use Rattle.pg_file.specs.Entries as entry
-use Rattle.pg_file.specs.Entries.{Entry}
-use Rattle.pg_file.specs.Spells.{made_classes}
-use Rattle.pg_file.specs.Making.{with_entry, with_entries, EntriesAreInOrder, IsGrammarOfEntries}
-use Rattle.pg_file.proofs.MeaningLemmas.Lookup.{none_is_absent}
+use Rattle.pg_items.specs.declared.written.WrittenPart.{WrittenPart}
+use Rattle.pg_items.specs.declared.written.WrittenPart.TheVariants as part
+use Rattle.pg_items.specs.declared.written.WrittenForm.{WrittenForm}
+use Rattle.pg_items.specs.declared.written.WrittenForm.TheVariants as written
+use Rattle.pg_items.specs.declared.words.ClassForm.{ClassForm}
+use Rattle.pg_items.specs.declared.words.ClassForm.TheVariants.{Satisfy, NotFollowedBy, Declare}
+use Rattle.pg_items.specs.declared.words.SomeForm.{SomeForm}
+use Rattle.pg_items.specs.declared.words.SomeForm.TheVariants.{Choice, Try}
+use Rattle.pg_items.specs.declared.words.OneForm.{OneForm}
+use Rattle.pg_items.specs.declared.words.OneForm.TheVariants as one
+use Rattle.pg_items.specs.declared.words.TwoForm.{TwoForm}
+use Rattle.pg_items.specs.declared.words.TwoForm.TheVariants.{SepBy, SepBy1, EndBy}
+use Rattle.pg_items.specs.declared.words.ChainForm.{ChainForm}
+use Rattle.pg_items.specs.declared.words.ChainForm.TheVariants as chain
+use Rattle.pg_meaning.specs.Names.{builder_named, item_or_predicate, PartIsKnown, ClassIsKnown, BuilderIsKnown, FormIsKnown}
+use Rattle.pg_meaning.specs.Meaning.{Body, joined, seq_of, choice_of, some_of, one_of, two_of, between_of, class_of, chain_of, separated, optional}
+use Rattle.pg_meaning.specs.Bodies.{part_meant, parts_meant, body_at, body_of_form, bodies, body_meant}
+use Rattle.pg_items.specs.Sizes.{part_count}
+use Rattle.pg_items.specs.Entries as entry
+use Rattle.pg_items.specs.Entries.{Entry}
+use Rattle.pg_making.specs.Spells.{made_classes}
+use Rattle.pg_making.specs.Making.{with_entry, with_entries, EntriesAreInOrder, IsGrammarOfEntries}
+use Rattle.pg_meaning.proofs.MeaningLemmas.Lookup.{none_is_absent}
 
 -- ---- what is offered
 

@@ -3,14 +3,14 @@ use Rattle.std.proofs.Common.{◌≡◌, ◌≤◌, ℕ, List, length, map, refl
 use Rattle.std.specs.Str.{chars, IsUtf8}
 use Rattle.pg_pred.specs.Offer.{Offer}
 use Rattle.pg_grammar.specs.Grammar.{Grammar}
-use Rattle.pg_file.specs.Tokens.{Token, AreGood}
-use Rattle.pg_file.specs.Lexical.{SpelledIfGood, OnlySpelled}
-use Rattle.pg_file.specs.Heads.{entry_of_item}
-use Rattle.pg_file.specs.Entries.{Entry}
-use Rattle.pg_file.specs.Items.{AreItems, OnlyItems}
-use Rattle.pg_file.specs.Spells.{SpelledWithinDepth, SpellsWithinLimits}
-use Rattle.pg_file.specs.Making.{AreProperEntries, IsGrammarOfEntries}
-use Rattle.pg_file.proofs.MakingLemmas.Entries.{grammar_of_entries, grammar_of_items}
+use Rattle.pg_tokens.specs.Tokens.{Token, AreGood}
+use Rattle.pg_tokens.specs.Lexical.{SpelledIfGood, OnlySpelled}
+use Rattle.pg_items.specs.Heads.{entry_of_item}
+use Rattle.pg_items.specs.Entries.{Entry}
+use Rattle.pg_parser.specs.Items.{AreItems, OnlyItems}
+use Rattle.pg_making.specs.Spells.{SpelledWithinDepth, SpellsWithinLimits}
+use Rattle.pg_making.specs.Making.{AreProperEntries, IsGrammarOfEntries}
+use Rattle.pg_making.proofs.MakingLemmas.Entries.{grammar_of_entries, grammar_of_items}
 use Rattle.pg_file.proofs.ReadLemmas.Good.{file_good}
 use Rattle.pg_file.proofs.ReadLemmas.Few.{keep_within}
 

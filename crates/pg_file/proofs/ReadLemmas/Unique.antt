@@ -6,20 +6,20 @@ use Rattle.std.specs.List.{AllByRecursion}
 use Rattle.pg_pred.specs.Offer.{Offer}
 use Rattle.pg_grammar.specs.Grammar.{Grammar}
 use Rattle.pg_grammar.proofs.Unique.{same_grammar}
-use Rattle.pg_file.specs.declared.token.Mark.TheVariants.{Semicolon}
-use Rattle.pg_file.specs.Tokens.{Token, mark}
-use Rattle.pg_file.specs.Tree.{Item}
-use Rattle.pg_file.specs.Syntax.{item_written, file_written}
-use Rattle.pg_file.specs.Proper.{IsProperItem}
-use Rattle.pg_file.specs.Depth.{item_depth}
-use Rattle.pg_file.specs.Heads.{entry_of_item}
-use Rattle.pg_file.specs.Entries.{Entry}
-use Rattle.pg_file.specs.Spells.{SpelledIn}
-use Rattle.pg_file.specs.Making.{IsGrammarOfEntries}
-use Rattle.pg_file.proofs.LexerLemmas.Complete.{lex_complete}
-use Rattle.pg_file.proofs.MakingLemmas.Entries.{grammar_of_entries}
-use Rattle.pg_file.proofs.ParserLemmas.Steps.{some_is}
-use Rattle.pg_file.proofs.ParserLemmas.ItemsFound.{item_within, item_found}
+use Rattle.pg_tokens.specs.declared.token.Mark.TheVariants.{Semicolon}
+use Rattle.pg_tokens.specs.Tokens.{Token, mark}
+use Rattle.pg_items.specs.Tree.{Item}
+use Rattle.pg_items.specs.Syntax.{item_written, file_written}
+use Rattle.pg_items.specs.Proper.{IsProperItem}
+use Rattle.pg_items.specs.Depth.{item_depth}
+use Rattle.pg_items.specs.Heads.{entry_of_item}
+use Rattle.pg_items.specs.Entries.{Entry}
+use Rattle.pg_making.specs.Spells.{SpelledIn}
+use Rattle.pg_making.specs.Making.{IsGrammarOfEntries}
+use Rattle.pg_tokens.proofs.LexerLemmas.Complete.{lex_complete}
+use Rattle.pg_making.proofs.MakingLemmas.Entries.{grammar_of_entries}
+use Rattle.pg_parser.proofs.ParserLemmas.Steps.{some_is}
+use Rattle.pg_parser.proofs.ParserLemmas.ItemsFound.{item_within, item_found}
 
 -- ---- items
 

@@ -1,6 +1,6 @@
 use Rattle.std.proofs.Common.{Err, subst}
 use Rattle.pg_file.specs.declared.fault.FileError.{FileError}
-use Rattle.pg_file.specs.Spells.{IsAnswered}
+use Rattle.pg_file.specs.Answers.{IsAnswered}
 use Rattle.pg_bench.proofs.grammar_file.grammar_of.Goals as goal
 
 pub returns-in-Err-Fault-clause-none : goal.returns-in-Err-Fault-clause-none

@@ -3,7 +3,7 @@ use Rattle.std.proofs.lemmas.Result.{on_ok_weaker}
 use Rattle.std.specs.Io.KnownBytes.{Appends}
 use Rattle.pg_tree.specs.Bytes.{AppendsFront}
 use Rattle.pg_pred.specs.Offer.{offer_of}
-use Rattle.pg_file.specs.Spells.{Spells}
+use Rattle.pg_making.specs.Spells.{Spells}
 use Rattle.pg_bench.proofs.Results.{on_this_err}
 use Rattle.pg_bench.proofs.print.print_bytes.Goals as goal
 

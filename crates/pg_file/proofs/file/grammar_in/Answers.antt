@@ -2,14 +2,14 @@ use Rattle.std.proofs.Common.{List, Result, Err, ap, sym, subst}
 use Rattle.std.proofs.lemmas.Result.{err_from_is_err_and}
 use Rattle.pg_pred.specs.Offer.{offer_of}
 use Rattle.pg_grammar.proofs.Unique.{same_grammar}
-use Rattle.pg_file.specs.declared.error.Unmade.{Unmade}
-use Rattle.pg_file.specs.declared.making.PlacedGrammar.{PlacedGrammar}
-use Rattle.pg_file.specs.declared.item.Item.{Item}
-use Rattle.pg_file.specs.declared.token.Lexeme.{Lexeme}
-use Rattle.pg_file.specs.View.{tokens_of}
-use Rattle.pg_file.specs.Lexical.{SpelledIfGood, OnlySpelled}
-use Rattle.pg_file.specs.Entries.{entries_of}
-use Rattle.pg_file.specs.Items.{AreItems, OnlyItems}
+use Rattle.pg_meaning.specs.declared.error.Unmade.{Unmade}
+use Rattle.pg_making.specs.declared.making.PlacedGrammar.{PlacedGrammar}
+use Rattle.pg_items.specs.declared.item.Item.{Item}
+use Rattle.pg_tokens.specs.declared.token.Lexeme.{Lexeme}
+use Rattle.pg_tokens.specs.View.{tokens_of}
+use Rattle.pg_tokens.specs.Lexical.{SpelledIfGood, OnlySpelled}
+use Rattle.pg_items.specs.Entries.{entries_of}
+use Rattle.pg_parser.specs.Items.{AreItems, OnlyItems}
 use Rattle.pg_file.proofs.ReadLemmas.Spelled.{is_spelled, spelled_items, spelled_grammar}
 use Rattle.pg_file.proofs.ReadLemmas.Fitting.{grammar_fits}
 use Rattle.pg_file.proofs.file.grammar_in.Goals as goal
@@ -21,7 +21,7 @@ pub returns-in_err-items-clause-refused : goal.returns-in_err-items-clause-refus
 returns-in_err-items-clause-refused g c =
     let p = err_from_is_err_and c.from_residual-in_err-items.result c.from_residual-in_err-items.ensures.1 in
     let only = subst (λ (ls : List Lexeme). OnlySpelled c.args.characters.now (tokens_of ls)) (sym c.as_slice.ensures.value) c.in_ok-lexemes.ensures.only in
-    rw (p.1, p.2) (λ fault g' h. c.in_err-items.ensures.refused fault _ (spelled_items (offer_of c.args.registry.now) _ _ g' only h))
+    rw p.1 (λ fault g' h. c.in_err-items.ensures.refused (p.2 fault) _ (spelled_items (offer_of c.args.registry.now) _ _ g' only h))
 
 pub returns-in-Ok-clause-ok : goal.returns-in-Ok-clause-ok
 returns-in-Ok-clause-ok g c =

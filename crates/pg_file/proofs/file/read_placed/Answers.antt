@@ -1,7 +1,7 @@
 use Rattle.std.proofs.Common.{◌≡◌, Result, Ok, Err, Some, IfOk, IfErr, refl, length, ◌≤◌, ℕ, List, sym, subst, ◌∙◌}
 use Rattle.std.specs.Option.{IsNone}
 use Rattle.pg_file.specs.declared.error.ReadError.{ReadError}
-use Rattle.pg_file.specs.declared.making.PlacedGrammar.{PlacedGrammar}
+use Rattle.pg_making.specs.declared.making.PlacedGrammar.{PlacedGrammar}
 use Rattle.pg_file.proofs.ReadLemmas.Spelled.{spells_within, spelled_within}
 use Rattle.pg_file.proofs.file.read_placed.Goals as goal
 use Rattle.pg_file.proofs.file.read_placed.Goals.{in-None, in-Some}

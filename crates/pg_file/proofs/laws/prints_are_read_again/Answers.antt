@@ -1,4 +1,4 @@
-use Rattle.pg_file.proofs.PrinterLemmas.Again.{may_be_printed, within_limits_again}
+use Rattle.pg_file.proofs.AgainLemmas.Again.{may_be_printed, within_limits_again}
 use Rattle.pg_file.proofs.laws.prints_are_read_again.Goals as goal
 
 pub returns : goal.returns

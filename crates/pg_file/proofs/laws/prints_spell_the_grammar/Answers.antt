@@ -1,4 +1,4 @@
-use Rattle.pg_file.proofs.PrinterLemmas.Again.{may_be_printed, spells_again}
+use Rattle.pg_file.proofs.AgainLemmas.Again.{may_be_printed, spells_again}
 use Rattle.pg_file.proofs.laws.prints_spell_the_grammar.Goals as goal
 
 pub returns : goal.returns

@@ -1,4 +1,5 @@
-use Rattle.std.proofs.Common.{◌≡◌, ◌∷◌, ◌-◌, ◌+◌, suc, arith, append_assoc}
+use Rattle.std.proofs.Common.{◌≡◌, ◌∷◌, ◌-◌, ◌+◌, suc, refl, arith, append_assoc}
+use Rattle.std.proofs.lemmas.Grind.{common_steps}
 use Rattle.pg_grammar.proofs.numbering.taken.Goals as goal
 
 pub loop-preserved : goal.loop-preserved
@@ -10,3 +11,11 @@ loop-preserved c =
       parts = rw (c.in_ok-push.ensures.items, append_assoc) parts;
       rest = rw (left, items) at c.loop.invariant.rest;
     }
+
+pub loop-init : goal.loop-init
+loop-init c =
+    let whole : c.args.count - 0 ≡ c.args.count = omega arith in
+    rw (c.new-numbers.ensures.items, whole) (record { parts = refl; rest = refl })
+
+pub returns : goal.returns
+returns c = grind (arith, common_steps)

@@ -1,8 +1,8 @@
 use Rattle.std.proofs.Common.{sym, subst}
 use Rattle.std.proofs.lemmas.Result.{IfOk-weaker}
 use Rattle.pg_grammar.specs.Grammar.{Grammar}
-use Rattle.pg_derive.specs.Answers.{given}
-use Rattle.pg_derive.specs.declared.reading.Reading.TheVariants.{Library}
+use Rattle.pg_language.specs.Answers.{given}
+use Rattle.pg_language.specs.declared.reading.Reading.TheVariants.{Library}
 use Rattle.pg_machine.specs.CheckedRuns.{IsStartAnswer}
 use Rattle.pg_machine.specs.Halting.{Halts}
 use Rattle.pg_machine.proofs.Going.{halts}

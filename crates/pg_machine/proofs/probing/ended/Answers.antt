@@ -1,10 +1,10 @@
 use Rattle.std.proofs.Common.{◌≡◌, ap, sym, subst, ◌∙◌, false, length}
 use Rattle.std.specs.Prelude.{◌==◌}
 use Rattle.pg_machine.specs.Outcomes.{IsUnanswered}
-use Rattle.pg_machine.specs.View.{tape_of}
-use Rattle.pg_machine.specs.declared.frame.Mode.{Mode}
-use Rattle.pg_machine.specs.declared.frame.Mode.TheVariants.{With}
-use Rattle.pg_machine.proofs.Stack.{unanswered_fine, unanswered_failed}
+use Rattle.pg_turns.specs.View.{tape_of}
+use Rattle.pg_turns.specs.declared.frame.Mode.{Mode}
+use Rattle.pg_turns.specs.declared.frame.Mode.TheVariants.{With}
+use Rattle.pg_machine.proofs.Unanswered.{unanswered_fine, unanswered_failed}
 use Rattle.pg_machine.proofs.probing.ended.Goals as goal
 
 pub returns-then-not-is_empty : goal.returns-then-not-is_empty

@@ -1,9 +1,9 @@
 use Rattle.std.proofs.Common.{◌≡◌, ◌≤◌, ◌-◌, ◌^◌, sym, ◌∙◌, arith, inl, inr, false}
 use Rattle.std.proofs.lemmas.Result.{IfOk-weaker}
 use Rattle.pg_pred.specs.Offer.{offer_of}
-use Rattle.pg_derive.specs.Answers.{given}
-use Rattle.pg_machine.specs.Tape.{tape_is_last}
-use Rattle.pg_machine.specs.View.{tape_of, stack_of}
+use Rattle.pg_language.specs.Answers.{given}
+use Rattle.pg_turns.specs.Tape.{tape_is_last}
+use Rattle.pg_turns.specs.View.{tape_of, stack_of}
 use Rattle.pg_machine.proofs.Running.{running_begins, running_turn, running_ready, running_ends}
 use Rattle.pg_machine.proofs.probing.probe.Goals as goal
 use Rattle.pg_machine.proofs.probing.probe.Goals.{then-loop-steps-test+else-not-is_over, else-loop-steps-test}

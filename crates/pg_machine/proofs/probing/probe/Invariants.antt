@@ -1,7 +1,7 @@
 use Rattle.std.proofs.Common.{◌-◌}
 use Rattle.pg_pred.specs.Offer.{offer_of}
-use Rattle.pg_derive.specs.Answers.{given}
-use Rattle.pg_machine.specs.View.{tape_of}
+use Rattle.pg_language.specs.Answers.{given}
+use Rattle.pg_turns.specs.View.{tape_of}
 use Rattle.pg_machine.proofs.Running.{Running}
 use Rattle.pg_machine.proofs.probing.probe.Given as goal
 

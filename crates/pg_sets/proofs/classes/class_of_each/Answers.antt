@@ -1,4 +1,5 @@
-use Rattle.std.proofs.Common.{◌≡◌, ◌≤◌, ℕ, take, length, All, sym, ap, subst, ◌∙◌, map}
+use Rattle.std.proofs.Common.{◌≡◌, ◌≤◌, ℕ, take, length, All, sym, ap, subst, ◌∙◌, map, arith}
+use Rattle.std.proofs.lemmas.Grind.{common_steps}
 use Rattle.pg_class.specs.Ranges.{has}
 use Rattle.std.proofs.lemmas.List.{take_all}
 use Rattle.std.proofs.lemmas.Result.{IfOk-weaker}
@@ -17,3 +18,6 @@ returns c =
     let ended : length characters ≤ c.loop-character.character-index = c.loop-character-test.false in
     let all : c.as_slice.result.now ≡ map (λ (x : ℕ). (x, x)) characters = c.as_slice.ensures.value ∙ (c.loop-character.invariant ∙ ap (map (λ (x : ℕ). (x, x))) (take_all c.loop-character.character-index characters ended)) in
     IfOk-weaker c.class_in.result _ _ (λ class same x is. same x is ∙ (ap (λ ranges. has ranges x) all ∙ alone_have characters x)) c.class_in.ensures
+
+pub loop-character-preserved : goal.loop-character-preserved
+loop-character-preserved c = grind (arith, common_steps)

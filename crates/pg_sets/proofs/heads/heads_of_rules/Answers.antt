@@ -1,4 +1,5 @@
 use Rattle.std.proofs.Common.{◌≡◌, ◌≤◌, length, map, sym, ap, subst, ◌∙◌, arith}
+use Rattle.std.proofs.lemmas.Grind.{common_steps}
 use Rattle.std.proofs.lemmas.List.{take_all}
 use Rattle.pg_grammar.specs.Follows.{BodiesAreNodes}
 use Rattle.pg_sets.specs.Graphs.{numbers_at, IsGathered}
@@ -24,3 +25,6 @@ returns-clause-heads c =
     subst (AreHeads g) (sym all)
     (heads_are g c.args.nullable.now c.requires graph uses c.in_ok-graph.ensures.graph c.in_ok-uses.ensures reaching
     c.reached_from.ensures.grammar (subst (BodiesAreNodes (length g.nodes)) rules c.rules-rule-items.ensures.bodies) met)
+
+pub loop-rule-preserved : goal.loop-rule-preserved
+loop-rule-preserved c = grind (arith, common_steps)

@@ -1,4 +1,5 @@
 use Rattle.std.proofs.Common.{◌≡◌, length, drop, arith}
+use Rattle.std.proofs.lemmas.Grind.{common_steps}
 use Rattle.std.proofs.lemmas.List.{take_at}
 use Rattle.pg_sets.proofs.NullableMarks.{marked}
 use Rattle.pg_sets.proofs.nullable.nullable_nodes.Goals as goal
@@ -9,3 +10,6 @@ returns c = λ p.
     let long : length new ≡ c.loop.marks.len = omega arith in
     rw (take_at new (drop (length new) c.loop.marks.items) c.loop.marks.len long)
     (λ h. c.mark_round.ensures.nullable p h, λ h. marked new c.loop-test.ensures.closed h)
+
+pub loop-preserved : goal.loop-preserved
+loop-preserved c = grind (arith, common_steps)

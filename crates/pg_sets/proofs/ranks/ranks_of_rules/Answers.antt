@@ -1,4 +1,5 @@
 use Rattle.std.proofs.Common.{◌≡◌, length, drop, arith}
+use Rattle.std.proofs.lemmas.Grind.{common_steps}
 use Rattle.std.proofs.lemmas.List.{take_at}
 use Rattle.pg_sets.proofs.RankRounds.{settled_ranks}
 use Rattle.pg_sets.proofs.ranks.ranks_of_rules.Goals as goal
@@ -12,3 +13,6 @@ returns c =
     rw (take_at new (drop (length new) c.loop.ranks.items) c.loop.ranks.len long)
     (settled_ranks g new c.args.heads.now
     (record { heads = c.requires.heads; sofar = c.rank_round.ensures.ranks; long = rules; settled = c.loop-test.ensures.settled }))
+
+pub loop-preserved : goal.loop-preserved
+loop-preserved c = grind (arith, common_steps)

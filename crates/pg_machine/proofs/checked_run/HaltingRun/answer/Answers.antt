@@ -1,9 +1,9 @@
 use Rattle.std.proofs.Common.{◌≡◌, sym, ◌∙◌, false, true, subst, inl, inr}
 use Rattle.pg_pred.specs.Offer.{offer_of}
-use Rattle.pg_derive.specs.Answers.{given}
-use Rattle.pg_derive.specs.declared.reading.Reading.TheVariants.{Library}
-use Rattle.pg_machine.specs.Tape.{tape_is_last}
-use Rattle.pg_machine.specs.View.{tape_of, stack_of}
+use Rattle.pg_language.specs.Answers.{given}
+use Rattle.pg_language.specs.declared.reading.Reading.TheVariants.{Library}
+use Rattle.pg_turns.specs.Tape.{tape_is_last}
+use Rattle.pg_turns.specs.View.{tape_of, stack_of}
 use Rattle.pg_machine.proofs.Going.{bounded, going_begins, going_turn, going_ready, going_falls, ComesTo, going_ends}
 use Rattle.pg_machine.proofs.checked_run.HaltingRun.answer.Goals as goal
 

@@ -1,8 +1,8 @@
 use Rattle.pg_pred.specs.Offer.{offer_of}
-use Rattle.pg_derive.specs.Answers.{given}
-use Rattle.pg_derive.specs.declared.reading.Reading.TheVariants.{Library}
+use Rattle.pg_language.specs.Answers.{given}
+use Rattle.pg_language.specs.declared.reading.Reading.TheVariants.{Library}
 use Rattle.pg_machine.specs.Halting.{turns_left}
-use Rattle.pg_machine.specs.View.{tape_of}
+use Rattle.pg_turns.specs.View.{tape_of}
 use Rattle.pg_machine.proofs.Going.{Going}
 use Rattle.pg_machine.proofs.checked_run.HaltingRun.answer.Given as goal
 

@@ -1,0 +1,227 @@
+//! What each command does with its files.
+//!
+//! Each reads the grammar, and opens the text before that, and then hands both to the crate that goes from bytes to bytes.
+//! Functions that hold files and functions that hold what is written to are apart: that keeps their proofs short.
+
+ghost use Rattle.pg_pred.specs.Offer.{offer_of};
+ghost use Rattle.pg_registry.specs.ProgramOffer.{IsProgramOffer};
+
+use crate::files::{grammar_alone, inputs};
+use crate::printing::{UNUSABLE, print_report};
+use crate::request::Request;
+use pg_bench::{check_bytes, parse_bytes, print_bytes, probe_bytes, sets_bytes};
+use pg_language::Reading;
+use pg_pred::Registry;
+use pg_registry::UsesRegistry;
+use pg_tree::Meter;
+use std::alloc::AllocError;
+use std::io;
+use std::io::Read;
+use std::rt::Files;
+
+/// The exit status of a grammar that isn't accepted, and of a probe whose answer isn't ok.
+const NO: u8 = 1;
+
+/// What is asked, and the handle by which files are read and lines printed.
+#[derive(Drop)]
+pub struct Asked<'a, R> {
+    pub rt: &'a R,
+    pub request: Request<'a>,
+}
+
+impl<'a, R: AllocGlobal + Files + Print + Eprint> UsesRegistry for Asked<'a, R> {
+    type Answer = u8;
+
+    // No contract says what files give and what is printed, nor then which status.
+    ghost Gives = { λ asked offer status. Unit };
+
+    fn run(&self, registry: &Registry) -> Result<u8, AllocError> {
+        answer(self.rt, self.request, registry)
+    }
+}
+
+/// Does what is asked, with the predicates and builders of the registry.
+fn answer<R: AllocGlobal + Files + Print + Eprint>(
+    rt: &R,
+    request: Request,
+    registry: &Registry,
+) -> Result<u8, AllocError>
+    requires { IsProgramOffer (offer_of registry.now) }
+{
+    match request {
+        Request::Check { grammar } => check_file(rt, grammar, registry),
+        Request::Parse { grammar, text } => parse_files(rt, grammar, text, registry),
+        Request::Probe {
+            grammar,
+            text,
+            max_steps,
+            report,
+        } => {
+            let reading = if report {
+                Reading::Report
+            } else {
+                Reading::Library
+            };
+            probe_files(rt, grammar, text, registry, max_steps, reading)
+        }
+        Request::Print { grammar } => print_file(rt, grammar, registry),
+        Request::Sets { grammar } => show_file(rt, grammar, registry),
+    }
+}
+
+/// Prints whether the grammar in a file is accepted, or what is wrong with it.
+fn check_file<R: AllocGlobal + Files + Print + Eprint>(
+    rt: &R,
+    grammar: &str,
+    registry: &Registry,
+) -> Result<u8, AllocError> {
+    match grammar_alone(rt, grammar)? {
+        Some(bytes) => check_grammar(rt, bytes.as_slice(), grammar, registry),
+        None => Ok(UNUSABLE),
+    }
+}
+
+fn check_grammar<R: AllocGlobal + Files + Print + Eprint>(
+    rt: &R,
+    bytes: &[u8],
+    grammar: &str,
+    registry: &Registry,
+) -> Result<u8, AllocError> {
+    let mut writer = Meter::new(io::writer(rt));
+    match check_bytes(rt.alloc(), bytes, registry, &mut writer) {
+        Ok(true) => Ok(0),
+        Ok(false) => Ok(NO),
+        Err(fault) => print_report(rt, fault, grammar, ""),
+    }
+}
+
+/// Parses the text in a file by the grammar in another.
+fn parse_files<R: AllocGlobal + Files + Print + Eprint>(
+    rt: &R,
+    grammar: &str,
+    text: &str,
+    registry: &Registry,
+) -> Result<u8, AllocError> {
+    match inputs(rt, grammar, text)? {
+        Some((bytes, file)) => parse_text(rt, bytes.as_slice(), file, grammar, text, registry),
+        None => Ok(UNUSABLE),
+    }
+}
+
+fn parse_text<F: Read + Drop, R: AllocGlobal + Files + Print + Eprint>(
+    rt: &R,
+    bytes: &[u8],
+    file: F,
+    grammar: &str,
+    text: &str,
+    registry: &Registry,
+) -> Result<u8, AllocError> {
+    let mut reader = Meter::new(file);
+    let mut writer = Meter::new(io::writer(rt));
+    match parse_bytes(rt.alloc(), bytes, registry, &mut reader, &mut writer) {
+        Ok(()) => Ok(0),
+        Err(fault) => print_report(rt, fault, grammar, text),
+    }
+}
+
+/// Runs the start rule of the grammar in a file on the text in another.
+fn probe_files<R: AllocGlobal + Files + Print + Eprint>(
+    rt: &R,
+    grammar: &str,
+    text: &str,
+    registry: &Registry,
+    max_steps: u64,
+    reading: Reading,
+) -> Result<u8, AllocError> {
+    match inputs(rt, grammar, text)? {
+        Some((bytes, file)) => probe_text(
+            rt,
+            bytes.as_slice(),
+            file,
+            grammar,
+            text,
+            registry,
+            max_steps,
+            reading,
+        ),
+        None => Ok(UNUSABLE),
+    }
+}
+
+fn probe_text<F: Read + Drop, R: AllocGlobal + Files + Print + Eprint>(
+    rt: &R,
+    bytes: &[u8],
+    file: F,
+    grammar: &str,
+    text: &str,
+    registry: &Registry,
+    max_steps: u64,
+    reading: Reading,
+) -> Result<u8, AllocError> {
+    let mut reader = Meter::new(file);
+    let mut writer = Meter::new(io::writer(rt));
+    match probe_bytes(
+        rt.alloc(),
+        bytes,
+        registry,
+        text,
+        &mut reader,
+        &mut writer,
+        max_steps,
+        reading,
+    ) {
+        Ok(true) => Ok(0),
+        Ok(false) => Ok(NO),
+        Err(fault) => print_report(rt, fault, grammar, text),
+    }
+}
+
+/// Prints the canonical form of the grammar in a file.
+fn print_file<R: AllocGlobal + Files + Print + Eprint>(
+    rt: &R,
+    grammar: &str,
+    registry: &Registry,
+) -> Result<u8, AllocError> {
+    match grammar_alone(rt, grammar)? {
+        Some(bytes) => print_grammar(rt, bytes.as_slice(), grammar, registry),
+        None => Ok(UNUSABLE),
+    }
+}
+
+fn print_grammar<R: AllocGlobal + Files + Print + Eprint>(
+    rt: &R,
+    bytes: &[u8],
+    grammar: &str,
+    registry: &Registry,
+) -> Result<u8, AllocError> {
+    let mut writer = Meter::new(io::writer(rt));
+    match print_bytes(rt.alloc(), bytes, registry, &mut writer) {
+        Ok(()) => Ok(0),
+        Err(fault) => print_report(rt, fault, grammar, ""),
+    }
+}
+
+/// Prints the sets of the grammar in a file.
+fn show_file<R: AllocGlobal + Files + Print + Eprint>(
+    rt: &R,
+    grammar: &str,
+    registry: &Registry,
+) -> Result<u8, AllocError> {
+    match grammar_alone(rt, grammar)? {
+        Some(bytes) => show_grammar(rt, bytes.as_slice(), grammar, registry),
+        None => Ok(UNUSABLE),
+    }
+}
+
+fn show_grammar<R: AllocGlobal + Files + Print + Eprint>(
+    rt: &R,
+    bytes: &[u8],
+    grammar: &str,
+    registry: &Registry,
+) -> Result<u8, AllocError> {
+    let mut writer = Meter::new(io::writer(rt));
+    match sets_bytes(rt.alloc(), bytes, registry, &mut writer) {
+        Ok(()) => Ok(0),
+        Err(fault) => print_report(rt, fault, grammar, ""),
+    }
+}

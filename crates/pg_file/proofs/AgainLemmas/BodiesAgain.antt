@@ -1,0 +1,113 @@
+-- The value that is printed of a body means the body again.
+use Rattle.std.proofs.Common.{◌≡◌, ◌≤◌, ℕ, zero, suc, ◌+◌, false, List, [], ◌∷◌, ◌++◌, length, take, drop, map, refl, sym, ap, ◌∙◌, arith}
+use Rattle.std.proofs.lemmas.List.{append-nil, length-map, length-take-le, map-append, take-append-drop}
+use Rattle.std.specs.List.{list_any, AllByRecursion}
+use Rattle.std.specs.Str.{chars, encode_utf8_all}
+use Rattle.pg_pred.specs.Offer.{Offer}
+use Rattle.pg_grammar.specs.Names as names
+use Rattle.pg_grammar.specs.Preorder.{SpellForms}
+use Rattle.pg_grammar.specs.Forms.{part_count, lacks_alternative}
+use Rattle.pg_grammar.specs.declared.class.ClassPart.{ClassPart}
+use Rattle.pg_grammar.specs.declared.form.BaseForm.{BaseForm}
+use Rattle.pg_grammar.specs.declared.form.BaseForm.TheVariants as base
+use Rattle.pg_grammar.specs.declared.used.BuilderUse.{BuilderUse}
+use Rattle.pg_items.specs.Tree.{Value}
+use Rattle.pg_meaning.specs.Names.{builder_named}
+use Rattle.pg_meaning.specs.Meaning.{Body, joined, meant, all_meant}
+use Rattle.pg_print.specs.Canonical.{values_from, choice_from, build_from, value_at, value_of_form, values_of}
+use Rattle.pg_file.proofs.AgainLemmas.PrintedNames.{IsNamedForm, IsNamedBuilder}
+use Rattle.pg_print.proofs.PrinterLemmas.Bodies.{values_counted, no_one}
+use Rattle.pg_file.proofs.AgainLemmas.ClassesAgain.{class_again, joined_both}
+
+all_again : (offer : Offer) (above : List names.Name) (vs : List Value) → all_meant offer above (values_from vs) ≡ map (meant offer above) vs
+all_again offer above [] = refl
+all_again offer above (v ∷ vs) = ap (λ (l : List Body). meant offer above v ∷ l) (all_again offer above vs)
+
+seq_again : (offer : Offer) (items above : List names.Name) (n : ℕ) (vs : List Value) → length vs ≡ n
+    → meant offer above (value_of_form items (base.Seq n) vs) ≡ base.Seq n ∷ joined (map (meant offer above) vs)
+seq_again offer items above n vs e =
+    ap (λ (l : List Body). base.Seq (length l) ∷ joined l) (all_again offer above vs)
+    ∙ ap (λ (m : ℕ). base.Seq m ∷ joined (map (meant offer above) vs)) (length-map vs (meant offer above) ∙ e)
+
+choice_again : (offer : Offer) (above : List names.Name) (n : ℕ) (vs : List Value) → length vs ≡ n → lacks_alternative (base.Choice n) ≡ false
+    → meant offer above (choice_from vs) ≡ base.Choice n ∷ joined (map (meant offer above) vs)
+choice_again offer above zero [] e k = absurd cc
+choice_again offer above (suc n) [] e k = absurd (omega (arith, e))
+choice_again offer above n (v ∷ vs) e k =
+    ap (λ (l : List Body). base.Choice (suc (length l)) ∷ (meant offer above v ++ joined l)) (all_again offer above vs)
+    ∙ ap (λ (m : ℕ). base.Choice m ∷ joined (map (meant offer above) (v ∷ vs))) (ap suc (length-map vs (meant offer above)) ∙ e)
+
+-- a base form in front of the first value
+one_again : (offer : Offer) (above : List names.Name) (form : BaseForm) (vs : List Value) → length vs ≡ 1
+    → form ∷ meant offer above (value_at 0 vs) ≡ form ∷ joined (map (meant offer above) vs)
+one_again offer above form [] e = absurd (omega (arith, e))
+one_again offer above form (v ∷ []) e = ap (λ (l : Body). form ∷ l) (sym (append-nil (meant offer above v)))
+one_again offer above form (v ∷ w ∷ vs) e = absurd (omega (arith, e))
+
+-- and in front of the first two
+two_again : (offer : Offer) (above : List names.Name) (form : BaseForm) (vs : List Value) → length vs ≡ 2
+    → form ∷ (meant offer above (value_at 0 vs) ++ meant offer above (value_at 1 vs)) ≡ form ∷ joined (map (meant offer above) vs)
+two_again offer above form [] e = absurd (omega (arith, e))
+two_again offer above form (v ∷ []) e = absurd (omega (arith, e))
+two_again offer above form (v ∷ w ∷ []) e = ap (λ (l : Body). form ∷ (meant offer above v ++ l)) (sym (append-nil (meant offer above w)))
+two_again offer above form (v ∷ w ∷ x ∷ vs) e = absurd (omega (arith, e))
+
+build_again : (offer : Offer) (above : List names.Name) (used : BuilderUse) (symbol s : List ℕ) (v : Value) → IsNamedBuilder offer used → encode_utf8_all s ≡ symbol
+    → meant offer above (build_from (chars used.name) s v) ≡ base.Build used symbol ∷ meant offer above v
+build_again offer above used symbol [] v h e = ap (λ (u : BuilderUse). base.Build u [] ∷ meant offer above v) h ∙ ap (λ (t : List ℕ). base.Build used t ∷ meant offer above v) e
+build_again offer above used symbol (c ∷ s) v h e = ap (λ (u : BuilderUse). base.Build u (encode_utf8_all (c ∷ s)) ∷ meant offer above v) h ∙ ap (λ (t : List ℕ). base.Build used t ∷ meant offer above v) e
+
+-- a base form without parts
+none_again : (offer : Offer) (above : List names.Name) (form : BaseForm) (vs : List Value) → length vs ≡ 0 → form ∷ [] ≡ form ∷ joined (map (meant offer above) vs)
+none_again offer above form [] e = refl
+none_again offer above form (v ∷ vs) e = absurd (omega (arith, e))
+
+form_again : (offer : Offer) (items above : List names.Name) (form : BaseForm) (vs : List Value) → length vs ≡ part_count form → lacks_alternative form ≡ false → IsNamedForm offer items above form
+    → meant offer above (value_of_form items form vs) ≡ form ∷ joined (map (meant offer above) vs)
+form_again offer items above (base.Satisfy class) vs e k h = ap (λ (c : List ClassPart). base.Satisfy c ∷ []) (class_again offer items above class h.whole h.named) ∙ none_again offer above (base.Satisfy class) vs e
+form_again offer items above (base.String s) vs e k h = none_again offer above (base.String s) vs e
+form_again offer items above (base.Seq n) vs e k h = seq_again offer items above n vs e
+form_again offer items above (base.Choice n) vs e k h = choice_again offer above n vs e k
+form_again offer items above base.Many vs e k h = one_again offer above base.Many vs e
+form_again offer items above (base.ChainLeft used) vs e k h =
+    ap (λ (u : BuilderUse). base.ChainLeft u ∷ (meant offer above (value_at 0 vs) ++ meant offer above (value_at 1 vs))) h ∙ two_again offer above (base.ChainLeft used) vs e
+form_again offer items above (base.ChainRight used) vs e k h =
+    ap (λ (u : BuilderUse). base.ChainRight u ∷ (meant offer above (value_at 0 vs) ++ meant offer above (value_at 1 vs))) h ∙ two_again offer above (base.ChainRight used) vs e
+form_again offer items above base.Try vs e k h = one_again offer above base.Try vs e
+form_again offer items above (base.NotFollowedBy class) vs e k h =
+    ap (λ (c : List ClassPart). base.NotFollowedBy c ∷ []) (class_again offer items above class h.whole h.named) ∙ none_again offer above (base.NotFollowedBy class) vs e
+form_again offer items above base.EndOfText vs e k h = none_again offer above base.EndOfText vs e
+form_again offer items above (base.Word s) vs e k h = none_again offer above (base.Word s) vs e
+form_again offer items above (base.Rule s) vs e k h = none_again offer above (base.Rule s) vs e
+form_again offer items above (base.Expression builders) vs e k h =
+    ap (λ (u : BuilderUse). base.Expression (record { «infix» = u; prefix = builder_named offer (chars builders.prefix.name); postfix = builder_named offer (chars builders.postfix.name) }) ∷ meant offer above (value_at 0 vs)) h.0
+    ∙ ap (λ (u : BuilderUse). base.Expression (record { «infix» = builders.«infix»; prefix = u; postfix = builder_named offer (chars builders.postfix.name) }) ∷ meant offer above (value_at 0 vs)) h.1
+    ∙ ap (λ (u : BuilderUse). base.Expression (record { «infix» = builders.«infix»; prefix = builders.prefix; postfix = u }) ∷ meant offer above (value_at 0 vs)) h.2
+    ∙ one_again offer above (base.Expression builders) vs e
+form_again offer items above (base.Declare class) vs e k h = ap (λ (c : List ClassPart). base.Declare c ∷ []) (class_again offer items above class h.whole h.named) ∙ none_again offer above (base.Declare class) vs e
+form_again offer items above base.Text vs e k h = one_again offer above base.Text vs e
+form_again offer items above base.Skip vs e k h = one_again offer above base.Skip vs e
+form_again offer items above (base.Build used symbol) vs e k h = build_again offer above used symbol (chars symbol) (value_at 0 vs) h.0 h.1 ∙ one_again offer above (base.Build used symbol) vs e
+form_again offer items above (base.Label message) vs e k h = one_again offer above (base.Label message) vs e
+
+split_again : (offer : Offer) (above : List names.Name) (n : ℕ) (vs : List Value)
+    → joined (map (meant offer above) (take n vs)) ++ joined (map (meant offer above) (drop n vs)) ≡ joined (map (meant offer above) vs)
+split_again offer above n vs =
+    let mean = meant offer above in
+    sym (joined_both (map mean (take n vs)) (map mean (drop n vs)))
+    ∙ ap (λ (l : List Body). joined l) (sym (map-append mean (take n vs) (drop n vs)) ∙ ap (map mean) (take-append-drop n vs))
+
+-- what is printed of bodies means them again
+pub bodies_again : (offer : Offer) (items above : List names.Name) (j : ℕ) (forms : List BaseForm) → SpellForms j (map part_count forms) → list_any lacks_alternative forms ≡ false
+    → AllByRecursion (IsNamedForm offer items above) forms → joined (map (meant offer above) (values_of items forms)) ≡ forms
+bodies_again offer items above j [] h k named = refl
+bodies_again offer items above zero (form ∷ forms) h k named = absurd h
+bodies_again offer items above (suc j) (form ∷ forms) h k named =
+    let vs = values_of items forms in
+    let n = part_count form in
+    let counted : length vs ≡ n + j = values_counted items (n + j) forms h in
+    let enough : n ≤ length vs = omega (arith, counted) in
+    let none = no_one (lacks_alternative form) (list_any lacks_alternative forms) k in
+    let rest = bodies_again offer items above (n + j) forms h none.1 named.1 in
+    ap (λ (l : Body). l ++ joined (map (meant offer above) (drop n vs))) (form_again offer items above form (take n vs) (length-take-le n vs enough) none.0 named.0)
+    ∙ ap (λ (l : Body). form ∷ l) (split_again offer above n vs ∙ rest)

@@ -1,0 +1,214 @@
+-- Bodies that a file may have: what the file's values mean is such, and what the names in it stand for.
+use Rattle.std.proofs.Common.{◌≡◌, ℕ, true, List, [], ◌∷◌, ◌++◌, refl, sym, ap, subst, arith}
+use Rattle.std.specs.List.{AllByRecursion}
+use Rattle.std.specs.Str.{chars, encode_utf8_all}
+use Rattle.pg_pred.specs.Offer.{Offer}
+use Rattle.pg_grammar.specs.Names as names
+use Rattle.pg_grammar.specs.declared.class.ClassPart.{ClassPart}
+use Rattle.pg_grammar.specs.declared.form.BaseForm.{BaseForm}
+use Rattle.pg_grammar.specs.declared.form.BaseForm.TheVariants as base
+use Rattle.pg_grammar.specs.declared.used.BuilderUse.{BuilderUse}
+use Rattle.pg_items.specs.declared.words.ClassForm.{ClassForm}
+use Rattle.pg_items.specs.declared.words.ClassForm.TheVariants as class_form
+use Rattle.pg_items.specs.declared.words.ChainForm.{ChainForm}
+use Rattle.pg_items.specs.declared.words.ChainForm.TheVariants as chain_form
+use Rattle.pg_tokens.specs.declared.token.Mark.TheVariants.{Comma, Close}
+use Rattle.pg_tokens.specs.Tokens.{Token, mark, literal}
+use Rattle.pg_tokens.specs.Lexical.{passes, is_name, is_scalar}
+use Rattle.pg_items.specs.Tree.{Value, Of_class, String, Seq, Of_some, Of_one, Of_two, Between, Chain, Expression, Build, Build_symbol, Label, End_of_text, Word, Rule, Values, No_value, And}
+use Rattle.pg_items.specs.Syntax.{written, written_list, written_more}
+use Rattle.pg_items.specs.Proper.{IsFreeName, IsBuilderName, IsLiteral, IsFilled, IsProper, AreProper}
+use Rattle.pg_items.specs.Heads.{heads, all_heads}
+use Rattle.pg_meaning.specs.Names.{builder_named, BuilderIsKnown, FormIsKnown}
+use Rattle.pg_meaning.specs.Meaning.{Body, joined, class_of, chain_of, meant, all_meant}
+use Rattle.pg_file.proofs.AgainLemmas.Printable.{ArePrintable}
+use Rattle.pg_file.proofs.AgainLemmas.PrintedNames.{IsNamedBuilder, IsNamedForm}
+use Rattle.pg_tokens.proofs.Encoded.{chars_encoded}
+use Rattle.pg_meaning.proofs.MeaningLemmas.Kept.{IsKept, kept_some, kept_one, kept_two, kept_between}
+use Rattle.pg_file.proofs.AgainLemmas.Found.{AreFoundAgain}
+use Rattle.pg_file.proofs.AgainLemmas.WritableClasses.{each_both, each_first, each_second, IsWritableExpression, class_writable, class_is_named}
+
+-- ---- names
+
+-- a name that a file may have
+pub record IsWritableName (s : names.Name) : Type 0 where
+  pub free : IsFreeName s
+  pub name : is_name s ≡ true
+
+-- a builder that a file may name
+pub record IsWritableBuilder (offer : Offer) (used : BuilderUse) : Type 0 where
+  pub named : IsNamedBuilder offer used
+  pub name : is_name (chars used.name) ≡ true
+  pub short : IsBuilderName (chars used.name)
+  pub known : BuilderIsKnown offer (chars used.name)
+
+builder_writable : (offer : Offer) (s : names.Name) → is_name s ≡ true → IsBuilderName s → BuilderIsKnown offer s → IsWritableBuilder offer (builder_named offer s)
+builder_writable offer s name short known =
+    let same = chars_encoded s in
+    record {
+      named = ap (builder_named offer) same;
+      name = subst (λ (t : names.Name). is_name t ≡ true) (sym same) name;
+      short = subst (λ (t : names.Name). IsBuilderName t) (sym same) short;
+      known = subst (λ (t : names.Name). BuilderIsKnown offer t) (sym same) known;
+    }
+
+-- a symbol that a file may have
+pub record IsWritableSymbol (symbol : List ℕ) : Type 0 where
+  pub encoded : encode_utf8_all (chars symbol) ≡ symbol
+  pub short : IsLiteral (chars symbol)
+  pub scalars : passes is_scalar (chars symbol) ≡ true
+
+symbol_writable : (s : List ℕ) → IsLiteral s → passes is_scalar s ≡ true → IsWritableSymbol (encode_utf8_all s)
+symbol_writable s short scalars =
+    let same = chars_encoded s in
+    record {
+      encoded = ap encode_utf8_all same;
+      short = subst (λ (t : List ℕ). IsLiteral t) (sym same) short;
+      scalars = subst (λ (t : List ℕ). passes is_scalar t ≡ true) (sym same) scalars;
+    }
+
+no_symbol : IsWritableSymbol []
+no_symbol = symbol_writable [] (omega arith) refl
+
+-- ---- forms
+
+-- a base form that a file may have, where the class items have these names
+abbrev pub IsWritableForm : Offer → (items : List names.Name) → BaseForm → Type 0
+IsWritableForm offer items (base.Satisfy class) = IsWritableExpression offer items items class
+IsWritableForm offer items (base.String s) = IsFilled s × (passes is_scalar s ≡ true)
+IsWritableForm offer items (base.Seq n) = Unit {0}
+IsWritableForm offer items (base.Choice n) = Unit {0}
+IsWritableForm offer items base.Many = Unit {0}
+IsWritableForm offer items (base.ChainLeft used) = IsWritableBuilder offer used
+IsWritableForm offer items (base.ChainRight used) = IsWritableBuilder offer used
+IsWritableForm offer items base.Try = Unit {0}
+IsWritableForm offer items (base.NotFollowedBy class) = IsWritableExpression offer items items class
+IsWritableForm offer items base.EndOfText = Unit {0}
+IsWritableForm offer items (base.Word s) = IsWritableName s
+IsWritableForm offer items (base.Rule s) = IsWritableName s
+IsWritableForm offer items (base.Expression builders) = IsWritableBuilder offer builders.«infix» × IsWritableBuilder offer builders.prefix × IsWritableBuilder offer builders.postfix
+IsWritableForm offer items (base.Declare class) = IsWritableExpression offer items items class
+IsWritableForm offer items base.Text = Unit {0}
+IsWritableForm offer items base.Skip = Unit {0}
+IsWritableForm offer items (base.Build used symbol) = IsWritableBuilder offer used × IsWritableSymbol symbol
+IsWritableForm offer items (base.Label message) = IsLiteral message × (passes is_scalar message ≡ true)
+
+abbrev pub IsWritableBody : Offer → (items : List names.Name) → Body → Type 0
+IsWritableBody offer items body = AllByRecursion (IsWritableForm offer items) body
+
+joined_writable : (offer : Offer) (items : List names.Name) (bodies : List Body) → AllByRecursion (IsWritableBody offer items) bodies → IsWritableBody offer items (joined bodies)
+joined_writable offer items [] h = tt
+joined_writable offer items (body ∷ bodies) h = each_both (IsWritableForm offer items) body (joined bodies) h.0 (joined_writable offer items bodies h.1)
+
+writable_kept : (offer : Offer) (items : List names.Name) → IsKept (IsWritableBody offer items)
+writable_kept offer items = record {
+  seq = λ bodies h. (tt, joined_writable offer items bodies h);
+  choice = λ body bodies h. (tt, joined_writable offer items (body ∷ bodies) h);
+  many = λ body h. (tt, h);
+  attempt = λ body h. (tt, h);
+  text = λ body h. (tt, h);
+  skip = λ body h. (tt, h);
+}
+
+of_class_writable : (offer : Offer) (items : List names.Name) (form : ClassForm) (parts : List ClassPart) → IsWritableExpression offer items items parts → IsWritableForm offer items (class_of form parts)
+of_class_writable offer items class_form.Satisfy parts h = h
+of_class_writable offer items class_form.NotFollowedBy parts h = h
+of_class_writable offer items class_form.Declare parts h = h
+
+chain_writable : (offer : Offer) (items : List names.Name) (form : ChainForm) (used : BuilderUse) → IsWritableBuilder offer used → IsWritableForm offer items (chain_of form used)
+chain_writable offer items chain_form.Left used h = h
+chain_writable offer items chain_form.Right used h = h
+
+-- ---- what a value means
+
+mutual
+  pub value_writable : (offer : Offer) (classes items : List names.Name) → AreFoundAgain offer classes items items → (v : Value) (rest : List Token) → IsProper v → ArePrintable (written v rest)
+      → AllByRecursion (FormIsKnown offer classes) (heads v) → (IsWritableBody offer items (meant offer classes v)) × ArePrintable rest
+  value_writable offer classes items found (Of_class form c) rest h p k =
+      let q = class_writable offer classes items items found c (mark Close ∷ rest) h p.1.1 k.0 in ((of_class_writable offer items form _ q.0, tt), q.1.1)
+  value_writable offer classes items found (String s) rest h p k = (((h, p.1.1.0), tt), p.1.1.1.1)
+  value_writable offer classes items found (Seq vs) rest h p k =
+      let q = list_writable offer classes items found vs rest h p.1.1 k.1 in ((writable_kept offer items).seq _ q.0, q.1)
+  value_writable offer classes items found (Of_some form v vs) rest h p k =
+      let first = value_writable offer classes items found v (written_more vs rest) h.0 p.1.1 (each_first (FormIsKnown offer classes) (heads v) (all_heads vs) k.1) in
+      let others = more_writable offer classes items found vs rest h.1 first.1 (each_second (FormIsKnown offer classes) (heads v) (all_heads vs) k.1) in
+      (kept_some (IsWritableBody offer items) (writable_kept offer items) form _ _ (first.0, others.0), others.1)
+  value_writable offer classes items found (Of_one form v) rest h p k =
+      let q = value_writable offer classes items found v (mark Close ∷ rest) h p.1.1 k.1 in
+      (kept_one (IsWritableBody offer items) (writable_kept offer items) form _ q.0, q.1.1)
+  value_writable offer classes items found (Of_two form v separator) rest h p k =
+      let first = value_writable offer classes items found v (mark Comma ∷ written separator (mark Close ∷ rest)) h.0 p.1.1 (each_first (FormIsKnown offer classes) (heads v) (heads separator) k.1) in
+      let second = value_writable offer classes items found separator (mark Close ∷ rest) h.1 first.1.1 (each_second (FormIsKnown offer classes) (heads v) (heads separator) k.1) in
+      (kept_two (IsWritableBody offer items) (writable_kept offer items) form _ _ first.0 second.0, second.1.1)
+  value_writable offer classes items found (Between before behind inner) rest h p k =
+      let known = each_second (FormIsKnown offer classes) (heads before) (heads behind ++ heads inner) k.1 in
+      let first = value_writable offer classes items found before (mark Comma ∷ written behind (mark Comma ∷ written inner (mark Close ∷ rest))) h.0 p.1.1
+      (each_first (FormIsKnown offer classes) (heads before) (heads behind ++ heads inner) k.1) in
+      let second = value_writable offer classes items found behind (mark Comma ∷ written inner (mark Close ∷ rest)) h.1 first.1.1 (each_first (FormIsKnown offer classes) (heads behind) (heads inner) known) in
+      let third = value_writable offer classes items found inner (mark Close ∷ rest) h.2 second.1.1 (each_second (FormIsKnown offer classes) (heads behind) (heads inner) known) in
+      (kept_between (IsWritableBody offer items) (writable_kept offer items) _ _ _ first.0 second.0 third.0, third.1.1)
+  value_writable offer classes items found (Chain form builder operand separator) rest h p k =
+      let first = value_writable offer classes items found operand (mark Comma ∷ written separator (mark Close ∷ rest)) h.1 p.1.1.1.1 (each_first (FormIsKnown offer classes) (heads operand) (heads separator) k.1) in
+      let second = value_writable offer classes items found separator (mark Close ∷ rest) h.2 first.1.1 (each_second (FormIsKnown offer classes) (heads operand) (heads separator) k.1) in
+      let used = chain_writable offer items form _ (builder_writable offer builder p.1.1.0 h.0 k.0) in
+      ((used, each_both (IsWritableForm offer items) (meant offer classes operand) (meant offer classes separator) first.0 second.0), second.1.1)
+  value_writable offer classes items found (Expression infixes prefixes postfixes term) rest h p k =
+      let q = value_writable offer classes items found term (mark Close ∷ rest) h.3 p.1.1.1.1.1.1.1.1 k.1 in
+      let one = builder_writable offer infixes p.1.1.0 h.0 k.0.0 in
+      let two = builder_writable offer prefixes p.1.1.1.1.0 h.1 k.0.1 in
+      let three = builder_writable offer postfixes p.1.1.1.1.1.1.0 h.2 k.0.2 in
+      (((one, two, three), q.0), q.1.1)
+  value_writable offer classes items found (Build builder v) rest h p k =
+      let q = value_writable offer classes items found v (mark Close ∷ rest) h.1 p.1.1.1.1 k.1 in
+      (((builder_writable offer builder p.1.1.0 h.0 k.0, no_symbol), q.0), q.1.1)
+  value_writable offer classes items found (Build_symbol builder symbol v) rest h p k =
+      let q = value_writable offer classes items found v (mark Close ∷ rest) h.2 p.1.1.1.1.1.1 k.1 in
+      (((builder_writable offer builder p.1.1.0 h.0 k.0, symbol_writable symbol h.1 p.1.1.1.1.0), q.0), q.1.1)
+  value_writable offer classes items found (Label v message) rest h p k =
+      let q = value_writable offer classes items found v (mark Comma ∷ literal message ∷ mark Close ∷ rest) h.0 p.1.1 k.1 in
+      (((h.1, q.1.1.0), q.0), q.1.1.1.1)
+  value_writable offer classes items found End_of_text rest h p k = ((tt, tt), p.1)
+  value_writable offer classes items found (Word s) rest h p k = ((record { free = h; name = p.1.1.0 }, tt), p.1.1.1.1)
+  value_writable offer classes items found (Rule s) rest h p k = ((record { free = h; name = p.0 }, tt), p.1)
+
+  list_writable : (offer : Offer) (classes items : List names.Name) → AreFoundAgain offer classes items items → (vs : Values) (rest : List Token) → AreProper vs → ArePrintable (written_list vs rest)
+      → AllByRecursion (FormIsKnown offer classes) (all_heads vs) → (AllByRecursion (IsWritableBody offer items) (all_meant offer classes vs)) × ArePrintable rest
+  list_writable offer classes items found No_value rest h p k = (tt, p.1)
+  list_writable offer classes items found (And v vs) rest h p k =
+      let first = value_writable offer classes items found v (written_more vs rest) h.0 p (each_first (FormIsKnown offer classes) (heads v) (all_heads vs) k) in
+      let others = more_writable offer classes items found vs rest h.1 first.1 (each_second (FormIsKnown offer classes) (heads v) (all_heads vs) k) in
+      ((first.0, others.0), others.1)
+
+  more_writable : (offer : Offer) (classes items : List names.Name) → AreFoundAgain offer classes items items → (vs : Values) (rest : List Token) → AreProper vs → ArePrintable (written_more vs rest)
+      → AllByRecursion (FormIsKnown offer classes) (all_heads vs) → (AllByRecursion (IsWritableBody offer items) (all_meant offer classes vs)) × ArePrintable rest
+  more_writable offer classes items found No_value rest h p k = (tt, p.1)
+  more_writable offer classes items found (And v vs) rest h p k =
+      let first = value_writable offer classes items found v (written_more vs rest) h.0 p.1 (each_first (FormIsKnown offer classes) (heads v) (all_heads vs) k) in
+      let others = more_writable offer classes items found vs rest h.1 first.1 (each_second (FormIsKnown offer classes) (heads v) (all_heads vs) k) in
+      ((first.0, others.0), others.1)
+
+-- ---- its names
+
+form_named : (offer : Offer) (items : List names.Name) (form : BaseForm) → IsWritableForm offer items form → IsNamedForm offer items items form
+form_named offer items (base.Satisfy class) h = class_is_named offer items items class h
+form_named offer items (base.String s) h = tt
+form_named offer items (base.Seq n) h = tt
+form_named offer items (base.Choice n) h = tt
+form_named offer items base.Many h = tt
+form_named offer items (base.ChainLeft used) h = h.named
+form_named offer items (base.ChainRight used) h = h.named
+form_named offer items base.Try h = tt
+form_named offer items (base.NotFollowedBy class) h = class_is_named offer items items class h
+form_named offer items base.EndOfText h = tt
+form_named offer items (base.Word s) h = tt
+form_named offer items (base.Rule s) h = tt
+form_named offer items (base.Expression builders) h = (h.0.named, h.1.named, h.2.named)
+form_named offer items (base.Declare class) h = class_is_named offer items items class h
+form_named offer items base.Text h = tt
+form_named offer items base.Skip h = tt
+form_named offer items (base.Build used symbol) h = (h.0.named, h.1.encoded)
+form_named offer items (base.Label message) h = tt
+
+pub forms_named : (offer : Offer) (items : List names.Name) (forms : List BaseForm) → IsWritableBody offer items forms → AllByRecursion (IsNamedForm offer items items) forms
+forms_named offer items [] h = tt
+forms_named offer items (form ∷ forms) h = (form_named offer items form h.0, forms_named offer items forms h.1)

@@ -1,0 +1,180 @@
+-- The values that are printed of a body that a file may have are such as a file may have.
+use Rattle.std.proofs.Common.{◌≡◌, ℕ, zero, suc, true, List, [], ◌∷◌, take, refl}
+use Rattle.std.specs.List.{AllByRecursion}
+use Rattle.std.specs.Str.{chars}
+use Rattle.pg_pred.specs.Offer.{Offer}
+use Rattle.pg_grammar.specs.Names as names
+use Rattle.pg_grammar.specs.Forms.{part_count}
+use Rattle.pg_grammar.proofs.Each.{all-take, all-drop}
+use Rattle.pg_grammar.specs.declared.class.ClassPart.{ClassPart}
+use Rattle.pg_grammar.specs.declared.form.BaseForm.{BaseForm}
+use Rattle.pg_grammar.specs.declared.form.BaseForm.TheVariants as base
+use Rattle.pg_grammar.specs.declared.used.BuilderUse.{BuilderUse}
+use Rattle.pg_items.specs.declared.words.ClassForm.{ClassForm}
+use Rattle.pg_items.specs.declared.words.ClassForm.TheVariants as class_form
+use Rattle.pg_items.specs.declared.words.SomeForm.{SomeForm}
+use Rattle.pg_items.specs.declared.words.SomeForm.TheVariants as some_form
+use Rattle.pg_items.specs.declared.words.OneForm.{OneForm}
+use Rattle.pg_items.specs.declared.words.OneForm.TheVariants as one_form
+use Rattle.pg_items.specs.declared.words.ChainForm.{ChainForm}
+use Rattle.pg_items.specs.declared.words.ChainForm.TheVariants as chain_form
+use Rattle.pg_tokens.specs.declared.token.Mark.TheVariants.{Comma, Close}
+use Rattle.pg_tokens.specs.Tokens.{Token, mark, literal}
+use Rattle.pg_tokens.specs.Lexical.{passes, is_name, is_scalar}
+use Rattle.pg_items.specs.Tree.{Value, Of_class, Seq, Of_some, Of_one, Chain, Values, No_value}
+use Rattle.pg_items.specs.Syntax.{class_word, some_word, one_word, chain_word, written, written_list, written_more}
+use Rattle.pg_items.specs.Proper.{IsLiteral, IsProper, AreProper}
+use Rattle.pg_items.specs.Heads.{heads, all_heads}
+use Rattle.pg_meaning.specs.Names.{FormIsKnown}
+use Rattle.pg_print.specs.Canonical.{class_from, values_from, value_at, choice_from, build_from, value_of_form, values_of}
+use Rattle.pg_file.proofs.AgainLemmas.Printable.{ArePrintable}
+use Rattle.pg_file.proofs.AgainLemmas.WritableClasses.{each_both, IsWritableExpression, printed_class_writable, IsWritableClass}
+use Rattle.pg_file.proofs.AgainLemmas.WritableBodies.{IsWritableBuilder, IsWritableForm, IsWritableBody}
+
+-- a value that a file may have
+pub record IsWritableValue (offer : Offer) (items : List names.Name) (v : Value) : Type 0 where
+  pub proper : IsProper v
+  pub printable : (rest : List Token) → ArePrintable rest → ArePrintable (written v rest)
+  pub known : AllByRecursion (FormIsKnown offer items) (heads v)
+
+-- values that it may have
+record AreWritableValues (offer : Offer) (items : List names.Name) (vs : Values) : Type 0 where
+  proper : AreProper vs
+  list : (rest : List Token) → ArePrintable rest → ArePrintable (written_list vs rest)
+  more : (rest : List Token) → ArePrintable rest → ArePrintable (written_more vs rest)
+  known : AllByRecursion (FormIsKnown offer items) (all_heads vs)
+
+abbrev AreWritable : Offer → (items : List names.Name) → List Value → Type 0
+AreWritable offer items values = AllByRecursion (IsWritableValue offer items) values
+
+values_writable : (offer : Offer) (items : List names.Name) (values : List Value) → AreWritable offer items values → AreWritableValues offer items (values_from values)
+values_writable offer items [] h = record { proper = tt; list = λ rest p. (tt, p); more = λ rest p. (tt, p); known = tt }
+values_writable offer items (v ∷ values) h =
+    let others = values_writable offer items values h.1 in
+    record {
+      proper = (h.0.proper, others.proper);
+      list = λ rest p. h.0.printable (written_more (values_from values) rest) (others.more rest p);
+      more = λ rest p. (tt, h.0.printable (written_more (values_from values) rest) (others.more rest p));
+      known = each_both (FormIsKnown offer items) (heads v) (all_heads (values_from values)) h.0.known others.known;
+    }
+
+seq_writable : (offer : Offer) (items : List names.Name) (values : List Value) → AreWritable offer items values → IsWritableValue offer items (Seq (values_from values))
+seq_writable offer items values h =
+    let all = values_writable offer items values h in
+    record { proper = all.proper; printable = λ rest p. (refl, (tt, all.list rest p)); known = (tt, all.known) }
+
+no_seq : (offer : Offer) (items : List names.Name) → IsWritableValue offer items (Seq No_value)
+no_seq offer items = seq_writable offer items [] tt
+
+value_at_writable : (offer : Offer) (items : List names.Name) (k : ℕ) (values : List Value) → AreWritable offer items values → IsWritableValue offer items (value_at k values)
+value_at_writable offer items k [] h = no_seq offer items
+value_at_writable offer items zero (v ∷ values) h = h.0
+value_at_writable offer items (suc k) (v ∷ values) h = value_at_writable offer items k values h.1
+
+some_word_is_name : (form : SomeForm) → is_name (some_word form) ≡ true
+some_word_is_name some_form.Choice = refl
+some_word_is_name some_form.Try = refl
+
+some_writable : (offer : Offer) (items : List names.Name) (form : SomeForm) (v : Value) (values : List Value) → IsWritableValue offer items v → AreWritable offer items values
+    → IsWritableValue offer items (Of_some form v (values_from values))
+some_writable offer items form v values h e =
+    let others = values_writable offer items values e in
+    record {
+      proper = (h.proper, others.proper);
+      printable = λ rest p. (some_word_is_name form, (tt, h.printable (written_more (values_from values) rest) (others.more rest p)));
+      known = (tt, each_both (FormIsKnown offer items) (heads v) (all_heads (values_from values)) h.known others.known);
+    }
+
+choice_writable : (offer : Offer) (items : List names.Name) (values : List Value) → AreWritable offer items values → IsWritableValue offer items (choice_from values)
+choice_writable offer items [] h = some_writable offer items some_form.Choice (Seq No_value) [] (no_seq offer items) tt
+choice_writable offer items (v ∷ values) h = some_writable offer items some_form.Choice v values h.0 h.1
+
+class_word_is_name : (form : ClassForm) → is_name (class_word form) ≡ true
+class_word_is_name class_form.Satisfy = refl
+class_word_is_name class_form.NotFollowedBy = refl
+class_word_is_name class_form.Declare = refl
+
+class_value_writable : (offer : Offer) (items : List names.Name) (form : ClassForm) (class : List ClassPart) → IsWritableExpression offer items items class
+    → IsWritableValue offer items (Of_class form (class_from items class))
+class_value_writable offer items form class h =
+    let c : IsWritableClass offer items (class_from items class) = printed_class_writable offer items items class h.writable in
+    record { proper = c.proper; printable = λ rest p. (class_word_is_name form, (tt, c.printable (mark Close ∷ rest) (tt, p))); known = (c.known, tt) }
+
+one_word_is_name : (form : OneForm) → is_name (one_word form) ≡ true
+one_word_is_name one_form.Many = refl
+one_word_is_name one_form.Many1 = refl
+one_word_is_name one_form.Option = refl
+one_word_is_name one_form.Text = refl
+one_word_is_name one_form.Skip = refl
+
+one_writable : (offer : Offer) (items : List names.Name) (form : OneForm) (v : Value) → IsWritableValue offer items v → IsWritableValue offer items (Of_one form v)
+one_writable offer items form v h =
+    record { proper = h.proper; printable = λ rest p. (one_word_is_name form, (tt, h.printable (mark Close ∷ rest) (tt, p))); known = (tt, h.known) }
+
+chain_word_is_name : (form : ChainForm) → is_name (chain_word form) ≡ true
+chain_word_is_name chain_form.Left = refl
+chain_word_is_name chain_form.Right = refl
+
+chain_value_writable : (offer : Offer) (items : List names.Name) (form : ChainForm) (used : BuilderUse) (operand separator : Value) → IsWritableBuilder offer used
+    → IsWritableValue offer items operand → IsWritableValue offer items separator → IsWritableValue offer items (Chain form (chars used.name) operand separator)
+chain_value_writable offer items form used operand separator b h e = record {
+  proper = (b.short, h.proper, e.proper);
+  printable = λ rest p.
+      (chain_word_is_name form, (tt, (b.name, (tt, h.printable (mark Comma ∷ written separator (mark Close ∷ rest)) (tt, e.printable (mark Close ∷ rest) (tt, p))))));
+  known = (b.known, each_both (FormIsKnown offer items) (heads operand) (heads separator) h.known e.known);
+}
+
+build_writable : (offer : Offer) (items : List names.Name) (used : BuilderUse) (symbol : List ℕ) (v : Value) → IsWritableBuilder offer used → IsLiteral symbol → passes is_scalar symbol ≡ true
+    → IsWritableValue offer items v → IsWritableValue offer items (build_from (chars used.name) symbol v)
+build_writable offer items used [] v b short scalars h = record {
+  proper = (b.short, h.proper);
+  printable = λ rest p. (refl, (tt, (b.name, (tt, h.printable (mark Close ∷ rest) (tt, p)))));
+  known = (b.known, h.known);
+}
+build_writable offer items used (c ∷ symbol) v b short scalars h = record {
+  proper = (b.short, short, h.proper);
+  printable = λ rest p. (refl, (tt, (b.name, (tt, (scalars, (tt, h.printable (mark Close ∷ rest) (tt, p)))))));
+  known = (b.known, h.known);
+}
+
+form_value_writable : (offer : Offer) (items : List names.Name) (form : BaseForm) (values : List Value) → IsWritableForm offer items form → AreWritable offer items values
+    → IsWritableValue offer items (value_of_form items form values)
+form_value_writable offer items (base.Satisfy class) values h e = class_value_writable offer items class_form.Satisfy class h
+form_value_writable offer items (base.String s) values h e = record { proper = h.0; printable = λ rest p. (refl, (tt, (h.1, (tt, p)))); known = (tt, tt) }
+form_value_writable offer items (base.Seq n) values h e = seq_writable offer items values e
+form_value_writable offer items (base.Choice n) values h e = choice_writable offer items values e
+form_value_writable offer items base.Many values h e = one_writable offer items one_form.Many _ (value_at_writable offer items 0 values e)
+form_value_writable offer items (base.ChainLeft used) values h e =
+    chain_value_writable offer items chain_form.Left used _ _ h (value_at_writable offer items 0 values e) (value_at_writable offer items 1 values e)
+form_value_writable offer items (base.ChainRight used) values h e =
+    chain_value_writable offer items chain_form.Right used _ _ h (value_at_writable offer items 0 values e) (value_at_writable offer items 1 values e)
+form_value_writable offer items base.Try values h e = some_writable offer items some_form.Try _ [] (value_at_writable offer items 0 values e) tt
+form_value_writable offer items (base.NotFollowedBy class) values h e = class_value_writable offer items class_form.NotFollowedBy class h
+form_value_writable offer items base.EndOfText values h e = record { proper = tt; printable = λ rest p. (refl, p); known = (tt, tt) }
+form_value_writable offer items (base.Word s) values h e = record { proper = h.free; printable = λ rest p. (refl, (tt, (h.name, (tt, p)))); known = (tt, tt) }
+form_value_writable offer items (base.Rule s) values h e = record { proper = h.free; printable = λ rest p. (h.name, p); known = (tt, tt) }
+form_value_writable offer items (base.Expression builders) values h e =
+    let term = value_at_writable offer items 0 values e in
+    record {
+      proper = (h.0.short, h.1.short, h.2.short, term.proper);
+      printable = λ rest p. (refl, (tt, (h.0.name, (tt, (h.1.name, (tt, (h.2.name, (tt, term.printable (mark Close ∷ rest) (tt, p)))))))));
+      known = ((h.0.known, h.1.known, h.2.known), term.known);
+    }
+form_value_writable offer items (base.Declare class) values h e = class_value_writable offer items class_form.Declare class h
+form_value_writable offer items base.Text values h e = one_writable offer items one_form.Text _ (value_at_writable offer items 0 values e)
+form_value_writable offer items base.Skip values h e = one_writable offer items one_form.Skip _ (value_at_writable offer items 0 values e)
+form_value_writable offer items (base.Build used symbol) values h e =
+    build_writable offer items used (chars symbol) _ h.0 h.1.short h.1.scalars (value_at_writable offer items 0 values e)
+form_value_writable offer items (base.Label message) values h e =
+    let v = value_at_writable offer items 0 values e in
+    record { proper = (v.proper, h.0); printable = λ rest p. (refl, (tt, v.printable (mark Comma ∷ literal message ∷ mark Close ∷ rest) (tt, (h.1, (tt, p))))); known = (tt, v.known) }
+
+-- what is printed of such a body
+pub printed_values_writable : (offer : Offer) (items : List names.Name) (forms : List BaseForm) → IsWritableBody offer items forms → AllByRecursion (IsWritableValue offer items) (values_of items forms)
+printed_values_writable offer items [] h = tt
+printed_values_writable offer items (form ∷ forms) h =
+    let others = printed_values_writable offer items forms h.1 in
+    let P = IsWritableValue offer items in (
+      form_value_writable offer items form (take (part_count form) (values_of items forms)) h.0 (all-take P (part_count form) (values_of items forms) others),
+      all-drop P (part_count form) (values_of items forms) others,
+    )

@@ -1,7 +1,0 @@
-use Rattle.std.proofs.Common.{sym, arith}
-use Rattle.pg_file.proofs.ParserLemmas.Digits.{too_great}
-use Rattle.pg_file.proofs.parser.text.number_within.Goals as goal
-
-pub returns-then-value-most : goal.returns-then-value-most
-returns-then-value-most c =
-    too_great c.args.most c.loop-digit.value c.loop-digit.digit-index c.digit-item.result c.digit-item.result c.args.digits.now c.loop-digit-test.true (sym c.digit-item.is) (omega (arith, c.if-value-most.true, c.in_ok-value.ensures.value)) c.loop-digit.invariant.so_far

@@ -1,8 +1,0 @@
-use Rattle.std.proofs.Common.{◌≡◌}
-use Rattle.pg_file.specs.Entries.{forms_of}
-use Rattle.pg_file.specs.Given.{bodies_of}
-use Rattle.pg_file.specs.Reading.{joined}
-use Rattle.pg_file.proofs.parser.value.joined.Given as goal
-
-abbrev pub invariant-loop-body : goal.invariant-loop-body
-invariant-loop-body l = forms_of l.parts.items ≡ joined (bodies_of l.yielded)

@@ -1,0 +1,18 @@
+-- What is answered for a file.
+use Rattle.std.specs.Prelude.{◌≡◌, Result, Ok, Err}
+use Rattle.pg_grammar.specs.Grammar.{Grammar}
+use Rattle.pg_file.specs.declared.error.ReadError.{ReadError}
+use Rattle.pg_file.specs.declared.error.ReadError.TheVariants as unread
+use Rattle.pg_file.specs.declared.fault.FileError.{FileError}
+use Rattle.pg_file.specs.declared.fault.FileError.TheVariants.{Fault, Memory}
+
+-- an error is a fault of the file, and not that memory ran out
+abbrev pub IsFault : ReadError → Type 0
+IsFault unread.Memory = ⊥
+IsFault (unread.Fault kind place) = Unit {0}
+
+-- the grammar is answered, unless memory ran out
+abbrev pub IsAnswered : Grammar → Result Grammar FileError → Type 0
+IsAnswered g (Ok answer) = answer ≡ g
+IsAnswered g (Err Memory) = Unit {0}
+IsAnswered g (Err (Fault fault)) = ⊥

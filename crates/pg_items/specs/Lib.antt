@@ -1,0 +1,9 @@
+pub mod Tree
+pub mod Syntax
+pub mod Proper
+pub mod Depth
+pub mod Written
+pub mod Sizes
+pub mod Entries
+pub mod Heads
+pub mod Words

@@ -1,0 +1,290 @@
+//! The words of the grammar format: those of the forms, and those that nothing has for a name.
+//!
+//! The lexer takes a word for a name, and the parser tells it by its text. Forms are grouped by what stands in their
+//! parentheses, so that each group is read in one way. A word that is reserved is no name of a rule, a class or a word.
+
+ghost use Rattle.std.specs.Prelude.{◌≡◌};
+ghost use Rattle.std.specs.List.{list_any};
+ghost use Rattle.std.specs.Str.{bytes_eq};
+ghost use Rattle.pg_items.specs.Proper.{is_reserved};
+ghost use Rattle.pg_items.specs.Words as words;
+
+use pg_grammar::Role;
+use pg_tokens::is_word;
+
+/// The words that no rule, no class and no word has for a name.
+const RESERVED: [&str; 36] = [
+    "class",
+    "word",
+    "operators",
+    "gap",
+    "reserved",
+    "max",
+    "table",
+    "start",
+    "not",
+    "infixl",
+    "infixr",
+    "infix",
+    "prefix",
+    "postfix",
+    "satisfy",
+    "string",
+    "seq",
+    "choice",
+    "many",
+    "chainl1",
+    "chainr1",
+    "try",
+    "notFollowedBy",
+    "eof",
+    "expr",
+    "declare",
+    "text",
+    "skip",
+    "build",
+    "label",
+    "many1",
+    "option",
+    "between",
+    "sepBy",
+    "sepBy1",
+    "endBy",
+];
+
+/// A form of one class expression.
+#[derive(Clone, Copy, Debug, PartialEq, Eq)]
+pub enum ClassForm {
+    /// `satisfy`: one character of the class.
+    Satisfy,
+    /// `notFollowedBy`: nothing, where no character of the class comes next.
+    NotFollowedBy,
+    /// `declare`: an operator declaration, its keyword not followed by a character of the class.
+    Declare,
+}
+
+/// A form of one value or more.
+#[derive(Clone, Copy, Debug, PartialEq, Eq)]
+pub enum SomeForm {
+    /// `choice`: the first alternative that succeeds.
+    Choice,
+    /// `try`: the values one after another, all or nothing.
+    Try,
+}
+
+/// A form of one value.
+#[derive(Clone, Copy, Debug, PartialEq, Eq)]
+pub enum OneForm {
+    /// `many`: the value as often as it succeeds.
+    Many,
+    /// `many1`: the same, at least once.
+    Many1,
+    /// `option`: the value or nothing.
+    Option,
+    /// `text`: a leaf with the text of the value.
+    Text,
+    /// `skip`: the value without its trees.
+    Skip,
+}
+
+/// A form of a value and a separator.
+#[derive(Clone, Copy, Debug, PartialEq, Eq)]
+pub enum TwoForm {
+    /// `sepBy`: none or more values, with a separator between any two.
+    SepBy,
+    /// `sepBy1`: the same, at least one.
+    SepBy1,
+    /// `endBy`: none or more values, with a separator behind each.
+    EndBy,
+}
+
+/// A chain: a builder, an operand and a separator.
+#[derive(Clone, Copy, Debug, PartialEq, Eq)]
+pub enum ChainForm {
+    /// `chainl1`: folded from the left.
+    Left,
+    /// `chainr1`: folded from the right.
+    Right,
+}
+
+/// A word behind which a form's parenthesis opens.
+#[derive(Clone, Copy, Debug, PartialEq, Eq)]
+pub enum FormWord {
+    /// That of a form of a class expression.
+    OfClass(ClassForm),
+    /// `string`: these characters, one after another.
+    String,
+    /// `seq`: the values, one after another.
+    Seq,
+    /// That of a form of one value or more.
+    OfSome(SomeForm),
+    /// That of a form of one value.
+    OfOne(OneForm),
+    /// That of a form of a value and a separator.
+    OfTwo(TwoForm),
+    /// `between`: a value, what stands before it and what stands behind it.
+    Between,
+    /// That of a chain.
+    Chain(ChainForm),
+    /// `expr`: operators between and around the values of a term.
+    Expression,
+    /// `build`: the tree that a builder makes of the value's trees.
+    Build,
+    /// `label`: the value, named in messages.
+    Label,
+    /// `word`: a word of a word item.
+    Word,
+}
+
+fn is_among(words: &[&str], name: &[char]) -> bool
+    ensures { result ≡ list_any (λ word. bytes_eq word.now name.now) words.now }
+{
+    words.iter().any(|word| is_word(word, name))
+}
+
+/// Whether no rule, no class and no word may have this name.
+#[tactic(auto, unfolding(crate::specs::Proper::is_reserved))]
+pub fn is_reserved(name: &[char]) -> bool
+    ensures { result ≡ is_reserved name.now }
+{
+    is_among(&RESERVED, name)
+}
+
+#[tactic(auto, unfolding(crate::specs::Words::class_form))]
+fn class_form(name: &[char]) -> Option<ClassForm>
+    ensures { result ≡ words.class_form name.now }
+{
+    if is_word("satisfy", name) {
+        Some(ClassForm::Satisfy)
+    } else if is_word("notFollowedBy", name) {
+        Some(ClassForm::NotFollowedBy)
+    } else if is_word("declare", name) {
+        Some(ClassForm::Declare)
+    } else {
+        None
+    }
+}
+
+#[tactic(auto, unfolding(crate::specs::Words::some_form))]
+fn some_form(name: &[char]) -> Option<SomeForm>
+    ensures { result ≡ words.some_form name.now }
+{
+    if is_word("choice", name) {
+        Some(SomeForm::Choice)
+    } else if is_word("try", name) {
+        Some(SomeForm::Try)
+    } else {
+        None
+    }
+}
+
+#[tactic(auto, unfolding(crate::specs::Words::one_form))]
+fn one_form(name: &[char]) -> Option<OneForm>
+    ensures { result ≡ words.one_form name.now }
+{
+    if is_word("many", name) {
+        Some(OneForm::Many)
+    } else if is_word("many1", name) {
+        Some(OneForm::Many1)
+    } else if is_word("option", name) {
+        Some(OneForm::Option)
+    } else if is_word("text", name) {
+        Some(OneForm::Text)
+    } else if is_word("skip", name) {
+        Some(OneForm::Skip)
+    } else {
+        None
+    }
+}
+
+#[tactic(auto, unfolding(crate::specs::Words::two_form))]
+fn two_form(name: &[char]) -> Option<TwoForm>
+    ensures { result ≡ words.two_form name.now }
+{
+    if is_word("sepBy", name) {
+        Some(TwoForm::SepBy)
+    } else if is_word("sepBy1", name) {
+        Some(TwoForm::SepBy1)
+    } else if is_word("endBy", name) {
+        Some(TwoForm::EndBy)
+    } else {
+        None
+    }
+}
+
+#[tactic(auto, unfolding(crate::specs::Words::chain_form))]
+fn chain_form(name: &[char]) -> Option<ChainForm>
+    ensures { result ≡ words.chain_form name.now }
+{
+    if is_word("chainl1", name) {
+        Some(ChainForm::Left)
+    } else if is_word("chainr1", name) {
+        Some(ChainForm::Right)
+    } else {
+        None
+    }
+}
+
+/// The form of a kind of its own.
+#[tactic(auto, unfolding(crate::specs::Words::single_form))]
+fn single_form(name: &[char]) -> Option<FormWord>
+    ensures { result ≡ words.single_form name.now }
+{
+    if is_word("string", name) {
+        Some(FormWord::String)
+    } else if is_word("seq", name) {
+        Some(FormWord::Seq)
+    } else if is_word("between", name) {
+        Some(FormWord::Between)
+    } else if is_word("expr", name) {
+        Some(FormWord::Expression)
+    } else if is_word("build", name) {
+        Some(FormWord::Build)
+    } else if is_word("label", name) {
+        Some(FormWord::Label)
+    } else if is_word("word", name) {
+        Some(FormWord::Word)
+    } else {
+        None
+    }
+}
+
+/// The form that the word begins, if it begins one.
+#[tactic(auto, unfolding(crate::specs::Words::form_word))]
+pub fn form_word(name: &[char]) -> Option<FormWord>
+    ensures { result ≡ words.form_word name.now }
+{
+    if let Some(form) = class_form(name) {
+        Some(FormWord::OfClass(form))
+    } else if let Some(form) = some_form(name) {
+        Some(FormWord::OfSome(form))
+    } else if let Some(form) = one_form(name) {
+        Some(FormWord::OfOne(form))
+    } else if let Some(form) = two_form(name) {
+        Some(FormWord::OfTwo(form))
+    } else if let Some(form) = chain_form(name) {
+        Some(FormWord::Chain(form))
+    } else {
+        single_form(name)
+    }
+}
+
+/// The role that the word names, if it names one.
+#[tactic(auto, unfolding(crate::specs::Words::role_named))]
+pub fn role_named(name: &[char]) -> Option<Role>
+    ensures { result ≡ words.role_named name.now }
+{
+    if is_word("infixl", name) {
+        Some(Role::InfixLeft)
+    } else if is_word("infixr", name) {
+        Some(Role::InfixRight)
+    } else if is_word("infix", name) {
+        Some(Role::InfixNone)
+    } else if is_word("prefix", name) {
+        Some(Role::Prefix)
+    } else if is_word("postfix", name) {
+        Some(Role::Postfix)
+    } else {
+        None
+    }
+}

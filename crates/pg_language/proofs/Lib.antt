@@ -1,0 +1,9 @@
+pub mod Onward
+pub mod Examples
+pub mod Derived
+pub mod LeavesDerived
+pub mod ChainsDerived
+pub mod Sound
+pub mod Unique
+pub mod Flags
+pub mod Moves

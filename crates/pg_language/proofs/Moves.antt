@@ -1,0 +1,191 @@
+-- An ok answer tells whether it consumed.
+use Rattle.std.proofs.Common.{◌≡◌, ◌==◌, ◌+◌, ◌<◌, ◌≤◌, ℕ, suc, List, [], ◌∷◌, Bool, true, false, ◌||◌, if◌then◌else◌, sym, ◌∙◌, ap, length, Option, Some, None, slice_get, arith, le_refl, le_trans}
+use Rattle.std.specs.Prelude.{nat_lt}
+use Rattle.std.specs.List.{list_any}
+use Rattle.std.specs.Str.{bytes_eq}
+use Rattle.pg_tree.specs.Trees.{Tree}
+use Rattle.pg_tree.specs.declared.shape.Shape.{Shape}
+use Rattle.pg_grammar.specs.ClassItems.{has_character}
+use Rattle.pg_grammar.specs.Grammar.{Grammar}
+use Rattle.pg_grammar.specs.declared.class.ClassPart.{ClassPart}
+use Rattle.pg_grammar.specs.declared.form.Node.{Node}
+use Rattle.pg_grammar.specs.declared.form.Node.TheVariants as form
+use Rattle.pg_grammar.specs.declared.trail.TrailItem.{TrailItem}
+use Rattle.pg_grammar.specs.declared.word_item.WordItem.{WordItem}
+use Rattle.pg_language.specs.Derives.{Spot}
+use Rattle.pg_language.specs.Runs.{run_at}
+use Rattle.pg_language.specs.Answers.{Given, Answers, entered, AnswersForm, satisfy, string, word, not_followed_by, end_of_text, nothing, seq, choice, many, chain_left, chain_right, try, label, rule, text as as_text, skip, build, AnswersParts, part, AfterPart, part_last, part_failed, part_stuck, part_ok, AnswersAlternatives, no_alternative, alternative, AfterAlternative, alternative_consumed, alternative_stands, alternative_waits, alternative_commits, alternative_failed, alternative_stuck, AnswersRounds, round, AfterRound, round_ended, round_failed, round_empty, round_stuck, round_ok, AnswersChain, chain, AfterFirst, first_failed, first_stuck, first_ok, AnswersLinks, link, AfterSeparator, separator_failed, separator_stuck, separator_ok, AfterOperand, operand_failed, operand_stuck, operand_ok}
+use Rattle.pg_language.specs.Errors.{Error}
+use Rattle.pg_language.specs.Leaves.{taken, satisfy_next, word_read, word_next, not_followed_next, string_outcome, matched, end_outcome}
+use Rattle.pg_language.specs.Outcomes.{Outcome, ok, failed, empty_round}
+use Rattle.pg_language.specs.Reactions.{then_rest, then_round, noted, after_failure, unless_consumed, tried, with_label, with_forest, unless_begun}
+use Rattle.pg_language.specs.declared.fold.Fold.{Fold}
+use Rattle.pg_language.proofs.Flags.{moved, stayed, both_moved}
+
+-- where the outcome is ok, its end isn't before its first place, and it says whether it lies behind it
+abbrev pub Tells : Spot → Outcome → Type 0
+Tells a (ok c b v t e) = (c ≡ nat_lt a.place b.place) × (a.place ≤ b.place)
+Tells a (failed c e) = Unit {0}
+Tells a empty_round = Unit {0}
+
+tells_if : (a : Spot) (b : Bool) (o q : Outcome) → Tells a o → Tells a q → Tells a (if b then o else q)
+tells_if a true o q f g = f
+tells_if a false o q f g = g
+
+tells_taken : (a : Spot) (s : List ℕ) → 0 < length s → Tells a (taken a s)
+tells_taken a s l = let far : a.place < a.place + length s = omega arith in (sym (moved far), omega arith)
+
+tells_stayed : (a : Spot) → (false ≡ nat_lt a.place a.place) × (a.place ≤ a.place)
+tells_stayed a = (sym (stayed a.place), le_refl a.place)
+
+tells_rest : (a b : Spot) (c : Bool) (v : List Tree) (t : List TrailItem) (e : Error) (o : Outcome) → c ≡ nat_lt a.place b.place → a.place ≤ b.place → Tells b o → Tells a (then_rest c v t e o)
+tells_rest a b c v t e (ok d z w u f) h l g =
+    let both = both_moved l g.1 in (ap (λ x. x || d) h ∙ ap (λ x. nat_lt a.place b.place || x) g.0 ∙ both, le_trans l g.1)
+tells_rest a b c v t e (failed d f) h l g = tt
+tells_rest a b c v t e empty_round h l g = tt
+
+tells_round : (a b : Spot) (v : List Tree) (t : List TrailItem) (o : Outcome) → true ≡ nat_lt a.place b.place → a.place ≤ b.place → Tells b o → Tells a (then_round v t o)
+tells_round a b v t (ok d z w u f) h l g =
+    let both = both_moved l g.1 in (ap (λ x. x || nat_lt b.place z.place) h ∙ both, le_trans l g.1)
+tells_round a b v t (failed d f) h l g = tt
+tells_round a b v t empty_round h l g = tt
+
+tells_noted : (a : Spot) (x : TrailItem) (o : Outcome) → Tells a o → Tells a (noted x o)
+tells_noted a x (ok c b v t e) h = h
+tells_noted a x (failed c e) h = tt
+tells_noted a x empty_round h = tt
+
+tells_failure : (a : Spot) (e : Error) (o : Outcome) → Tells a o → Tells a (after_failure e o)
+tells_failure a e (ok c b v t f) h = h
+tells_failure a e (failed c f) h = tt
+tells_failure a e empty_round h = tt
+
+tells_unless : (a b : Spot) (v : List Tree) (t : List TrailItem) (e : Error) (o : Outcome) → Tells a (ok false b v t e) → Tells a o → Tells a (unless_consumed b v t e o)
+tells_unless a b v t e (ok true d w u f) g h = h
+tells_unless a b v t e (ok false d w u f) g h = g
+tells_unless a b v t e (failed true f) g h = tt
+tells_unless a b v t e (failed false f) g h = g
+tells_unless a b v t e empty_round g h = tt
+
+tells_tried : (a : Spot) (o : Outcome) → Tells a o → Tells a (tried o)
+tells_tried a (ok c b v t e) h = h
+tells_tried a (failed c e) h = tt
+tells_tried a empty_round h = tt
+
+tells_label : (a : Spot) (message : List ℕ) (o : Outcome) → Tells a o → Tells a (with_label message o)
+tells_label a message (ok c b v t e) h = h
+tells_label a message (failed c e) h = tt
+tells_label a message empty_round h = tt
+
+tells_forest : (a : Spot) (made : Spot → List Tree → List Tree) (o : Outcome) → Tells a o → Tells a (with_forest made o)
+tells_forest a made (ok c b v t e) h = h
+tells_forest a made (failed c e) h = tt
+tells_forest a made empty_round h = tt
+
+tells_begun : (c : Bool) (a : Spot) (x : List Tree) (e : Error) → Tells a (unless_begun c a x e)
+tells_begun true a x e = tt
+tells_begun false a x e = tells_stayed a
+
+-- ---- leaves
+
+tells_satisfy : (g : Grammar) (class : List ClassPart) (a : Spot) (next : Option ℕ) → Tells a (satisfy_next g class a next)
+tells_satisfy g class a None = tt
+tells_satisfy g class a (Some c) = tells_if a (has_character g.classes class c) _ _ (tells_taken a (c ∷ []) (omega arith)) tt
+
+tells_word_read : (item : WordItem) (a : Spot) (s : List ℕ) → 0 < length s → Tells a (word_read item a s)
+tells_word_read item a s l = tells_if a (list_any (λ reserved. bytes_eq reserved s) item.reserved) _ _ tt (tells_taken a s l)
+
+tells_word : (g : Grammar) (s : List ℕ) (item : WordItem) (a : Spot) (next : Option ℕ) → Tells a (word_next g s item a next)
+tells_word g s item a None = tt
+tells_word g s item a (Some c) = tells_if a (has_character g.classes item.head c) _ _ (tells_word_read item a (c ∷ run_at g s item.rest (suc a.place)) (omega arith)) tt
+
+tells_not_followed : (g : Grammar) (class : List ClassPart) (a : Spot) (next : Option ℕ) → Tells a (not_followed_next g class a next)
+tells_not_followed g class a None = tells_stayed a
+tells_not_followed g class a (Some c) = tells_if a (has_character g.classes class c) _ _ tt (tells_stayed a)
+
+tells_string : (text s : List ℕ) (a : Spot) → 0 < length s → Tells a (string_outcome text s a)
+tells_string text s a l = tells_if a (matched text s a.place == length s) _ _ (tells_taken a s l) tt
+
+tells_end : (text : List ℕ) (a : Spot) → Tells a (end_outcome text a)
+tells_end text a = tells_if a (a.place == length text) _ _ (tells_stayed a) tt
+
+-- ---- the relation
+
+module _ (G : Given) (spelled : (p : ℕ) (s : List ℕ) → slice_get G.grammar.nodes p ≡ Some (form.String s) → 0 < length s) where
+  mutual
+    pub tells : {p : ℕ} {a : Spot} {o : Outcome} {m : ℕ} → Answers G p a o m → Tells a o
+    tells (entered {p = p} e d) = tells_form d p e
+
+    tells_form : {f : Node} {a : Spot} {o : Outcome} {m : ℕ} → AnswersForm G f a o m → (p : ℕ) → slice_get G.grammar.nodes p ≡ Some f → Tells a o
+    tells_form (satisfy {class = class} {a = a}) p e = tells_satisfy G.grammar class a (slice_get G.text a.place)
+    tells_form (string {s = s} {a = a}) p e = tells_string G.text s a (spelled p s e)
+    tells_form (word {item = item} {a = a} x) p e = tells_word G.grammar G.text item a (slice_get G.text a.place)
+    tells_form (not_followed_by {class = class} {a = a}) p e = tells_not_followed G.grammar class a (slice_get G.text a.place)
+    tells_form (end_of_text {a = a}) p e = tells_end G.text a
+    tells_form (nothing {a = a}) p e = tells_stayed a
+    tells_form (seq d) p e = tells_parts d
+    tells_form (choice d) p e = tells_alternatives d
+    tells_form (many {a = a} {o = o} d) p e = tells_noted a _ o (tells_rounds d)
+    tells_form (chain_left {a = a} {o = o} d) p e = tells_noted a _ o (tells_chain d)
+    tells_form (chain_right {a = a} {o = o} d) p e = tells_noted a _ o (tells_chain d)
+    tells_form (try {a = a} {o = o} d) p e = tells_tried a o (tells d)
+    tells_form (label {message = message} {a = a} {o = o} d) p e = tells_label a message o (tells d)
+    tells_form (rule x d) p e = tells d
+    tells_form (as_text {a = a} {o = o} d) p e = tells_forest a _ o (tells d)
+    tells_form (skip {a = a} {o = o} d) p e = tells_forest a _ o (tells d)
+    tells_form (build {a = a} {o = o} d) p e = tells_forest a _ o (tells d)
+
+    tells_parts : {p : ℕ} {ps : List ℕ} {a : Spot} {o : Outcome} {m : ℕ} → AnswersParts G p ps a o m → Tells a o
+    tells_parts (part {a = a} d r) = tells_after_part r a (tells d)
+
+    tells_after_part : {ps : List ℕ} {x o : Outcome} {m : ℕ} → AfterPart G ps x o m → (a : Spot) → Tells a x → Tells a o
+    tells_after_part part_last a h = h
+    tells_after_part part_failed a h = tt
+    tells_after_part part_stuck a h = tt
+    tells_after_part (part_ok {c = c} {b = b} {v = v} {t = t} {e = e} {o = o} d) a h = tells_rest a b c v t e o h.0 h.1 (tells_parts d)
+
+    tells_alternatives : {k : ℕ} {ps : List ℕ} {a : Spot} {o : Outcome} {m : ℕ} → AnswersAlternatives G k ps a o m → Tells a o
+    tells_alternatives no_alternative = tt
+    tells_alternatives (alternative d r) = tells_after_alternative r (tells d)
+
+    tells_after_alternative : {k : ℕ} {ps : List ℕ} {a : Spot} {x o : Outcome} {m : ℕ} → AfterAlternative G k ps a x o m → Tells a x → Tells a o
+    tells_after_alternative alternative_consumed h = h
+    tells_after_alternative (alternative_stands e) h = h
+    tells_after_alternative (alternative_waits {a = a} {b = b} {v = v} {t = t} {e = x} {o = o} e d) h = tells_unless a b v _ x o h (tells_alternatives d)
+    tells_after_alternative alternative_commits h = tt
+    tells_after_alternative (alternative_failed {a = a} {e = e} {o = o} d) h = tells_failure a e o (tells_alternatives d)
+    tells_after_alternative alternative_stuck h = tt
+
+    tells_rounds : {p k : ℕ} {a : Spot} {o : Outcome} {m : ℕ} → AnswersRounds G p k a o m → Tells a o
+    tells_rounds (round d r) = tells_after_round r (tells d)
+
+    tells_after_round : {p k : ℕ} {a : Spot} {x o : Outcome} {m : ℕ} → AfterRound G p k a x o m → Tells a x → Tells a o
+    tells_after_round (round_ended {a = a} {e = e}) h = tells_stayed a
+    tells_after_round round_failed h = tt
+    tells_after_round round_empty h = tt
+    tells_after_round round_stuck h = tt
+    tells_after_round (round_ok {a = a} {b = b} {v = v} {t = t} {o = o} d) h = tells_round a b v t o h.0 h.1 (tells_rounds d)
+
+    tells_chain : {fold : Fold} {shape : Shape} {p s k : ℕ} {a : Spot} {o : Outcome} {m : ℕ} → AnswersChain G fold shape p s k a o m → Tells a o
+    tells_chain (chain {a = a} d r) = tells_after_first r a (tells d)
+
+    tells_after_first : {fold : Fold} {shape : Shape} {p s k : ℕ} {x o : Outcome} {m : ℕ} → AfterFirst G fold shape p s k x o m → (a : Spot) → Tells a x → Tells a o
+    tells_after_first first_failed a h = tt
+    tells_after_first first_stuck a h = tt
+    tells_after_first (first_ok {c = c} {b = b} {t = t} {e = e} {o = o} d) a h = tells_rest a b c [] t e o h.0 h.1 (tells_links d)
+
+    tells_links : {fold : Fold} {shape : Shape} {p s : ℕ} {left : List Tree} {k : ℕ} {a : Spot} {o : Outcome} {m : ℕ} → AnswersLinks G fold shape p s left k a o m → Tells a o
+    tells_links (link d r) = tells_after_separator r (tells d)
+
+    tells_after_separator : {fold : Fold} {shape : Shape} {p s : ℕ} {left : List Tree} {k : ℕ} {a : Spot} {x o : Outcome} {m : ℕ} →
+        AfterSeparator G fold shape p s left k a x o m → Tells a x → Tells a o
+    tells_after_separator (separator_failed {left = left} {a = a} {c = c} {e = e}) h = tells_begun c a left e
+    tells_after_separator separator_stuck h = tt
+    tells_after_separator (separator_ok {b = b} d r) h = tells_after_operand r b h.0 h.1 (tells d)
+
+    tells_after_operand : {fold : Fold} {shape : Shape} {p s : ℕ} {left : List Tree} {k : ℕ} {a : Spot} {c : Bool} {v : List Tree} {t : List TrailItem} {e : Error} {x o : Outcome} {m : ℕ} →
+        AfterOperand G fold shape p s left k a c v t e x o m → (b : Spot) → c ≡ nat_lt a.place b.place → a.place ≤ b.place → Tells b x → Tells a o
+    tells_after_operand (operand_failed {left = left} {a = a}) b h l g = tells_begun _ a left _
+    tells_after_operand operand_stuck b h l g = tt
+    tells_after_operand (operand_ok {fold = fold} {shape = shape} {left = left} {v = v} {a = a} {b = z} {c = c} {d = d} {t = t} {u = u} {e = e} {f = f} {o = o} x y) b h l g =
+        tells_rest a b c [] t e _ h l (tells_rest b z d [] u f _ g.0 g.1 (tells_forest z _ o (tells_links y)))

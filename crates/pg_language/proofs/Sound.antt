@@ -1,0 +1,165 @@
+-- An ok answer is a derivation.
+use Rattle.std.proofs.Common.{◌≡◌, ◌+◌, ℕ, zero, suc, List, [], ◌∷◌, ◌++◌, Bool, refl, sym, ap, subst, ◌∙◌, append-nil, append_assoc, arith}
+use Rattle.std.specs.Prelude.{Some, slice_get}
+use Rattle.pg_tree.specs.Trees.{Tree}
+use Rattle.pg_tree.specs.declared.shape.Shape.{Shape}
+use Rattle.pg_grammar.specs.declared.form.Node.{Node}
+use Rattle.pg_grammar.specs.declared.form.Node.TheVariants as form
+use Rattle.pg_grammar.specs.declared.used.BuilderUse.{BuilderUse}
+use Rattle.pg_language.specs.Derives as derives
+use Rattle.pg_language.specs.Derives.{Spot, leaf_of, span, Derives, DerivesForm, DerivesParts, DerivesRounds, DerivesLinks}
+use Rattle.pg_grammar.specs.declared.trail.TrailItem.{TrailItem}
+use Rattle.pg_grammar.specs.declared.trail.TrailItem.TheVariants.{Alt, Rounds}
+use Rattle.pg_language.specs.Answers.{Given, Answers, entered, AnswersForm, satisfy, string, word, not_followed_by, end_of_text, nothing, seq, choice, many, chain_left, chain_right, try, label, rule, text, skip, build, AnswersParts, part, AfterPart, part_last, part_failed, part_stuck, part_ok, AnswersAlternatives, no_alternative, alternative, AfterAlternative, alternative_consumed, alternative_stands, alternative_waits, alternative_commits, alternative_failed, alternative_stuck, AnswersRounds, round, AfterRound, round_ended, round_failed, round_empty, round_stuck, round_ok, AnswersChain, chain, AfterFirst, first_failed, first_stuck, first_ok, AnswersLinks, link, AfterSeparator, separator_failed, separator_stuck, separator_ok, AfterOperand, operand_failed, operand_stuck, operand_ok}
+use Rattle.pg_language.specs.Errors.{Error}
+use Rattle.pg_language.specs.declared.fold.Fold.{Fold}
+use Rattle.pg_language.specs.declared.fold.Fold.TheVariants.{FromLeft, FromRight}
+use Rattle.pg_language.specs.Outcomes.{Outcome}
+use Rattle.pg_language.specs.Reactions.{then_rest, carried, finished, as_finished}
+use Rattle.pg_language.proofs.Derived.{WhereOk, ok_map, ok_rest, ok_round, ok_noted, ok_failure, ok_unless, ok_tried, ok_label, ok_forest}
+use Rattle.pg_language.proofs.LeavesDerived.{satisfy_derived, string_derived, word_derived, not_followed_derived, end_derived}
+use Rattle.pg_language.proofs.ChainsDerived.{DerivesBehind, DerivesChain, none_behind, folded_more}
+
+-- one of these alternatives, the first of which has this number
+record DerivesOne (G : Given) (k : ℕ) (ps : List ℕ) (a b : Spot) (v : List Tree) (t : List TrailItem) : Type 0 where
+  which : ℕ
+  node : ℕ
+  items : List TrailItem
+  there : slice_get ps which ≡ Some node
+  trail : t ≡ Alt (k + which) ∷ items
+  derived : Derives G.grammar G.text node a b v items
+
+first_one : (G : Given) (k p : ℕ) (ps : List ℕ) (a b : Spot) (v : List Tree) (t : List TrailItem) → Derives G.grammar G.text p a b v t → DerivesOne G k (p ∷ ps) a b v (Alt k ∷ t)
+first_one G k p ps a b v t d =
+    let e : k ≡ k + 0 = omega arith in record { which = 0; node = p; items = t; there = refl; trail = ap (λ n. Alt n ∷ t) e; derived = d }
+
+later_one : (G : Given) (k p : ℕ) (ps : List ℕ) (a b : Spot) (v : List Tree) (t : List TrailItem) → DerivesOne G (suc k) ps a b v t → DerivesOne G k (p ∷ ps) a b v t
+later_one G k p ps a b v t h = let e : suc k + h.which ≡ k + suc h.which = omega arith in
+    record { which = suc h.which; node = h.node; items = h.items; there = h.there; trail = h.trail ∙ ap (λ n. Alt n ∷ h.items) e; derived = h.derived }
+
+one_derived : (G : Given) (ps : List ℕ) (a b : Spot) (v : List Tree) (t : List TrailItem) → DerivesOne G (suc zero) ps a b v t → DerivesForm G.grammar G.text (form.Choice ps) a b v t
+one_derived G ps a b v t h = let e : suc zero + h.which ≡ suc h.which = omega arith in
+    subst (λ t. DerivesForm G.grammar G.text (form.Choice ps) a b v t) (sym (h.trail ∙ ap (λ n. Alt n ∷ h.items) e)) (derives.choice h.there h.derived)
+
+-- a last part
+last_part : (G : Given) (p : ℕ) (a b : Spot) (v : List Tree) (t : List TrailItem) → Derives G.grammar G.text p a b v t → DerivesParts G.grammar G.text (p ∷ []) a b v t
+last_part G p a b v t d =
+    subst (λ v. DerivesParts G.grammar G.text (p ∷ []) a b v t) (append-nil v)
+    (subst (λ t. DerivesParts G.grammar G.text (p ∷ []) a b (v ++ []) t) (append-nil t) (derives.first_part d derives.no_part))
+
+-- a link more
+more_behind : (G : Given) (fold : Fold) (shape : Shape) (p s k : ℕ) (left v w : List Tree) (t u : List TrailItem) (a b c d : Spot) (z : List Tree) (items : List TrailItem) →
+    Derives G.grammar G.text s a b v t → Derives G.grammar G.text p b c w u → DerivesBehind G fold shape p s (carried fold shape left v w) k c d z items →
+    DerivesBehind G fold shape p s left (suc k) a d (finished fold shape left v z) (t ++ (u ++ items))
+more_behind G fold shape p s k left v w t u a b c d z items separator operand h = record {
+  links = (v, w) ∷ h.links;
+  derived = subst (λ n. DerivesLinks G.grammar G.text p s (suc k) a d ((v, w) ∷ h.links) n) (append_assoc t u items) (derives.first_link separator operand h.derived);
+  forest = ap (finished fold shape left v) h.forest ∙ sym (folded_more fold shape left v w h.links);
+}
+
+left_chain : (G : Given) (used : BuilderUse) (p s k : ℕ) (a b : Spot) (v : List Tree) (t : List TrailItem) → DerivesChain G FromLeft used.shape p s k a b v t →
+    DerivesForm G.grammar G.text (form.ChainLeft used p s) a b v (Rounds k ∷ t)
+left_chain G used p s k a b v t h =
+    subst (λ v. DerivesForm G.grammar G.text (form.ChainLeft used p s) a b v (Rounds k ∷ t)) (sym h.behind.forest)
+    (subst (λ t. DerivesForm G.grammar G.text (form.ChainLeft used p s) a b (derives.folded_left used.shape h.first h.behind.links) (Rounds k ∷ t)) (sym h.noted)
+    (derives.chain_left h.operand h.behind.derived))
+
+right_chain : (G : Given) (used : BuilderUse) (p s k : ℕ) (a b : Spot) (v : List Tree) (t : List TrailItem) → DerivesChain G FromRight used.shape p s k a b v t →
+    DerivesForm G.grammar G.text (form.ChainRight used p s) a b v (Rounds k ∷ t)
+right_chain G used p s k a b v t h =
+    subst (λ v. DerivesForm G.grammar G.text (form.ChainRight used p s) a b v (Rounds k ∷ t)) (sym h.behind.forest)
+    (subst (λ t. DerivesForm G.grammar G.text (form.ChainRight used p s) a b (derives.folded_right used.shape h.first h.behind.links) (Rounds k ∷ t)) (sym h.noted)
+    (derives.chain_right h.operand h.behind.derived))
+
+mutual
+  pub sound : {G : Given} {p : ℕ} {a : Spot} {o : Outcome} {m : ℕ} → Answers G p a o m → WhereOk (Derives G.grammar G.text p a) o
+  sound (entered {o = o} e d) = ok_map _ _ o (λ b v t h. derives.at_node e h) (sound_form d)
+
+  sound_form : {G : Given} {f : Node} {a : Spot} {o : Outcome} {m : ℕ} → AnswersForm G f a o m → WhereOk (DerivesForm G.grammar G.text f a) o
+  sound_form {G = G} (satisfy {class = class} {a = a}) = satisfy_derived G.grammar G.text class a
+  sound_form {G = G} (string {s = s} {a = a}) = string_derived G.grammar G.text s a
+  sound_form {G = G} (word {w = w} {item = item} {a = a} e) = word_derived G.grammar G.text w item a e
+  sound_form {G = G} (not_followed_by {class = class} {a = a}) = not_followed_derived G.grammar G.text class a
+  sound_form {G = G} (end_of_text {a = a}) = end_derived G.grammar G.text a
+  sound_form nothing = derives.seq derives.no_part
+  sound_form (seq {o = o} d) = ok_map _ _ o (λ b v t h. derives.seq h) (sound_parts d)
+  sound_form {G = G} (choice {ps = ps} {a = a} {o = o} d) = ok_map _ _ o (one_derived G ps a) (sound_alternatives d)
+  sound_form (many {k = k} {o = o} d) = ok_noted _ _ (Rounds k) o (λ b v t h. derives.many h) (sound_rounds d)
+  sound_form {G = G} (chain_left {used = used} {p = p} {s = s} {k = k} {a = a} {o = o} d) =
+      ok_noted _ _ (Rounds k) o (left_chain G used p s k a) (sound_chain d)
+  sound_form {G = G} (chain_right {used = used} {p = p} {s = s} {k = k} {a = a} {o = o} d) =
+      ok_noted _ _ (Rounds k) o (right_chain G used p s k a) (sound_chain d)
+  sound_form (try {o = o} d) = ok_tried _ o (ok_map _ _ o (λ b v t h. derives.try h) (sound d))
+  sound_form (label {message = message} {o = o} d) = ok_label _ message o (ok_map _ _ o (λ b v t h. derives.label h) (sound d))
+  sound_form (rule {o = o} e d) = ok_map _ _ o (λ b v t h. derives.rule e h) (sound d)
+  sound_form (text {o = o} d) = ok_forest _ _ _ o (λ b v t h. derives.text h) (sound d)
+  sound_form (skip {o = o} d) = ok_forest _ _ _ o (λ b v t h. derives.skip h) (sound d)
+  sound_form (build {o = o} d) = ok_forest _ _ _ o (λ b v t h. derives.build h) (sound d)
+
+  sound_parts : {G : Given} {p : ℕ} {ps : List ℕ} {a : Spot} {o : Outcome} {m : ℕ} → AnswersParts G p ps a o m → WhereOk (DerivesParts G.grammar G.text (p ∷ ps) a) o
+  sound_parts (part {p = p} {a = a} d r) = sound_after_part r p a (sound d)
+
+  sound_after_part : {G : Given} {ps : List ℕ} {x o : Outcome} {m : ℕ} → AfterPart G ps x o m → (p : ℕ) (a : Spot) →
+      WhereOk (Derives G.grammar G.text p a) x → WhereOk (DerivesParts G.grammar G.text (p ∷ ps) a) o
+  sound_after_part {G = G} (part_last {x = x}) p a h = ok_map _ _ x (last_part G p a) h
+  sound_after_part part_failed p a h = tt
+  sound_after_part part_stuck p a h = tt
+  sound_after_part (part_ok {c = c} {v = v} {t = t} {e = e} {o = o} d) p a h = ok_rest _ _ c v t e o (λ b w u g. derives.first_part h g) (sound_parts d)
+
+  sound_alternatives : {G : Given} {k : ℕ} {ps : List ℕ} {a : Spot} {o : Outcome} {m : ℕ} → AnswersAlternatives G k ps a o m → WhereOk (DerivesOne G k ps a) o
+  sound_alternatives no_alternative = tt
+  sound_alternatives (alternative {p = p} d r) = sound_after_alternative r p (sound d)
+
+  sound_after_alternative : {G : Given} {k : ℕ} {ps : List ℕ} {a : Spot} {x o : Outcome} {m : ℕ} → AfterAlternative G k ps a x o m → (p : ℕ) →
+      WhereOk (Derives G.grammar G.text p a) x → WhereOk (DerivesOne G k (p ∷ ps) a) o
+  sound_after_alternative {G = G} (alternative_consumed {k = k} {ps = ps} {a = a} {b = b} {v = v} {t = t}) p h = first_one G k p ps a b v t h
+  sound_after_alternative {G = G} (alternative_stands {k = k} {ps = ps} {a = a} {b = b} {v = v} {t = t} e) p h = first_one G k p ps a b v t h
+  sound_after_alternative {G = G} (alternative_waits {k = k} {ps = ps} {a = a} {b = b} {v = v} {t = t} {e = x} {o = o} e d) p h =
+      ok_unless _ b v (Alt k ∷ t) x o (first_one G k p ps a b v t h) (ok_map _ _ o (later_one G k p ps a) (sound_alternatives d))
+  sound_after_alternative alternative_commits p h = tt
+  sound_after_alternative {G = G} (alternative_failed {k = k} {ps = ps} {a = a} {e = e} {o = o} d) p h =
+      ok_failure _ e o (ok_map _ _ o (later_one G k p ps a) (sound_alternatives d))
+  sound_after_alternative alternative_stuck p h = tt
+
+  sound_rounds : {G : Given} {p k : ℕ} {a : Spot} {o : Outcome} {m : ℕ} → AnswersRounds G p k a o m → WhereOk (DerivesRounds G.grammar G.text p k a) o
+  sound_rounds (round d r) = sound_after_round r (sound d)
+
+  sound_after_round : {G : Given} {p k : ℕ} {a : Spot} {x o : Outcome} {m : ℕ} → AfterRound G p k a x o m →
+      WhereOk (Derives G.grammar G.text p a) x → WhereOk (DerivesRounds G.grammar G.text p k a) o
+  sound_after_round round_ended h = derives.no_round
+  sound_after_round round_failed h = tt
+  sound_after_round round_empty h = tt
+  sound_after_round round_stuck h = tt
+  sound_after_round (round_ok {v = v} {t = t} {o = o} d) h = ok_round _ _ v t o (λ b w u g. derives.first_round h g) (sound_rounds d)
+
+  sound_chain : {G : Given} {fold : Fold} {shape : Shape} {p s k : ℕ} {a : Spot} {o : Outcome} {m : ℕ} → AnswersChain G fold shape p s k a o m →
+      WhereOk (DerivesChain G fold shape p s k a) o
+  sound_chain (chain {a = a} d r) = sound_after_first r a (sound d)
+
+  sound_after_first : {G : Given} {fold : Fold} {shape : Shape} {p s k : ℕ} {x o : Outcome} {m : ℕ} → AfterFirst G fold shape p s k x o m → (a : Spot) →
+      WhereOk (Derives G.grammar G.text p a) x → WhereOk (DerivesChain G fold shape p s k a) o
+  sound_after_first first_failed a h = tt
+  sound_after_first first_stuck a h = tt
+  sound_after_first {G = G} {fold = fold} {shape = shape} (first_ok {p = p} {s = s} {k = k} {c = c} {b = b} {v = v} {t = t} {e = e} {o = o} d) a h =
+      ok_rest _ _ c [] t e o (λ b w u g. record { middle = _; first = v; trail = t; items = u; operand = h; behind = g; noted = refl }) (sound_links d)
+
+  sound_links : {G : Given} {fold : Fold} {shape : Shape} {p s : ℕ} {left : List Tree} {k : ℕ} {a : Spot} {o : Outcome} {m : ℕ} →
+      AnswersLinks G fold shape p s left k a o m → WhereOk (DerivesBehind G fold shape p s left k a) o
+  sound_links (link d r) = sound_after_separator r (sound d)
+
+  sound_after_separator : {G : Given} {fold : Fold} {shape : Shape} {p s : ℕ} {left : List Tree} {k : ℕ} {a : Spot} {x o : Outcome} {m : ℕ} →
+      AfterSeparator G fold shape p s left k a x o m → WhereOk (Derives G.grammar G.text s a) x → WhereOk (DerivesBehind G fold shape p s left k a) o
+  sound_after_separator {G = G} (separator_failed {fold = fold} {shape = shape} {p = p} {s = s} {left = left} {a = a} {c = c} {e = e}) h =
+      none_behind G fold shape p s left a c e
+  sound_after_separator separator_stuck h = tt
+  sound_after_separator (separator_ok {b = b} d r) h = sound_after_operand r b h (sound d)
+
+  sound_after_operand : {G : Given} {fold : Fold} {shape : Shape} {p s : ℕ} {left : List Tree} {k : ℕ} {a : Spot} {c : Bool} {v : List Tree} {t : List TrailItem} {e : Error} {x o : Outcome} {m : ℕ} →
+      AfterOperand G fold shape p s left k a c v t e x o m → (b : Spot) → Derives G.grammar G.text s a b v t →
+      WhereOk (Derives G.grammar G.text p b) x → WhereOk (DerivesBehind G fold shape p s left k a) o
+  sound_after_operand {G = G} {fold = fold} {shape = shape} (operand_failed {p = p} {s = s} {left = left} {a = a}) b g h = none_behind G fold shape p s left a _ _
+  sound_after_operand operand_stuck b g h = tt
+  sound_after_operand {G = G} {fold = fold} {shape = shape} (operand_ok {p = p} {s = s} {k = k} {left = left} {v = v} {w = w} {a = a} {b = b} {c = c} {d = d} {t = t} {u = u} {e = e} {f = f} {o = o} x y) middle g h =
+      ok_rest _ _ c [] t e (then_rest d [] u f (as_finished fold shape left v o)) (λ end z items n. n)
+      (ok_rest _ _ d [] u f (as_finished fold shape left v o) (λ end z items n. n)
+      (ok_forest _ _ _ o (λ end z items n. more_behind G fold shape p s k left v w t u a middle b end z items g h n) (sound_links y)))

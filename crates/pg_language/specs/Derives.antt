@@ -1,0 +1,172 @@
+-- What the nodes of a grammar derive, in no order of trying.
+use Rattle.std.specs.Prelude.{◌≡◌, ◌+◌, ◌-◌, ℕ, zero, suc, List, [], ◌∷◌, ◌++◌, Some, length, slice_get, take, drop, codes}
+use Rattle.std.specs.Str.{encode_utf8_all}
+use Rattle.pg_tree.specs.Trees.{Tree, leaf, node, kids_of}
+use Rattle.pg_tree.specs.Built.{built}
+use Rattle.pg_tree.specs.declared.shape.Shape.{Shape}
+use Rattle.pg_grammar.specs.Grammar.{Grammar}
+use Rattle.pg_grammar.specs.Operators.{Operator}
+use Rattle.pg_grammar.specs.declared.class.ClassPart.{ClassPart}
+use Rattle.pg_grammar.specs.declared.used.BuilderUse.{BuilderUse}
+use Rattle.pg_grammar.specs.declared.used.OperatorBuilders.{OperatorBuilders}
+use Rattle.pg_grammar.specs.declared.form.Node.{Node}
+use Rattle.pg_grammar.specs.declared.form.Node.TheVariants as form
+use Rattle.pg_grammar.specs.declared.grammar.Rule as declared
+use Rattle.pg_grammar.specs.declared.operators_item.OperatorsItem.{OperatorsItem}
+use Rattle.pg_grammar.specs.declared.word_item.WordItem.{WordItem}
+use Rattle.pg_table.specs.Tables.{Table, Admits, with_operator}
+use Rattle.pg_table.specs.Fitting.{Expression, term, prefixed, postfixed, joined, Fits}
+use Rattle.pg_grammar.specs.declared.trail.TrailItem.{TrailItem}
+use Rattle.pg_grammar.specs.declared.trail.TrailItem.TheVariants.{Alt, Rounds, Ops}
+use Rattle.pg_table.specs.Trails.{operators_read}
+use Rattle.pg_language.specs.Runs.{HasAt, StandsAt, IsWordAt, IsOperatorAt, IsDeclarationAt, keyword}
+
+-- a place in a text, and the operator table in force there
+pub record Spot : Type 0 where
+  pub place : ℕ
+  pub table : Table
+
+-- the spot at another place, under the same table
+abbrev pub at : Spot → ℕ → Spot
+at spot place = record { place = place; table = spot.table }
+
+-- the spot so many characters further on, under the same table
+abbrev pub behind : Spot → ℕ → Spot
+behind spot n = at spot (spot.place + n)
+
+-- ---- values
+
+-- the leaf of these characters
+abbrev pub leaf_of : List ℕ → Tree
+leaf_of characters = leaf (encode_utf8_all characters)
+
+-- the characters between two places
+abbrev pub span : List ℕ → ℕ → ℕ → List ℕ
+span text from to = take (to - from) (drop from text)
+
+-- the tree of a declaration: its keyword, its digit and its symbol
+abbrev pub declaration_tree : Operator → Tree
+declaration_tree d = node (codes "declare") (kids_of (leaf_of (keyword d.role) ∷ leaf_of ((48 + d.precedence) ∷ []) ∷ leaf_of d.symbol ∷ []))
+
+-- a round of a chain: the separator's forest, and the operand's behind it
+abbrev pub Link : Type 0
+Link = List Tree × List Tree
+
+-- the forest of a chain from its first operand's: each round makes one tree of what is there, the separator and the operand
+abbrev pub folded_left : Shape → List Tree → List Link → List Tree
+folded_left shape first [] = first
+folded_left shape first (link ∷ links) = folded_left shape (built shape [] (first ++ link.0 ++ link.1) ∷ []) links
+
+-- the same from the right: each round makes one tree of the operand before it, the separator, and all that follows
+abbrev pub folded_right : Shape → List Tree → List Link → List Tree
+folded_right shape first [] = first
+folded_right shape first (link ∷ links) = built shape [] (first ++ link.0 ++ folded_right shape link.1 links) ∷ []
+
+-- the forest of an operator with its operands
+abbrev pub applied : BuilderUse → Operator → List Tree → List Tree
+applied used o operands = built used.shape (encode_utf8_all o.symbol) operands ∷ []
+
+-- ---- derivations
+
+mutual
+  -- the node spans the text from one spot to the other, with this forest and trail
+  pub data Derives (g : Grammar) (text : List ℕ) : ℕ → Spot → Spot → List Tree → List TrailItem → Type 0 where
+    at_node : {p : ℕ} {n : Node} {a b : Spot} {forest : List Tree} {trail : List TrailItem} →
+        slice_get g.nodes p ≡ Some n → DerivesForm g text n a b forest trail → Derives g text p a b forest trail
+
+  -- the same, of what stands at a node
+  pub data DerivesForm (g : Grammar) (text : List ℕ) : Node → Spot → Spot → List Tree → List TrailItem → Type 0 where
+    -- one character of the class
+    satisfy : {class : List ClassPart} {a : Spot} (has : HasAt g text class a.place) →
+        DerivesForm g text (form.Satisfy class) a (behind a 1) (leaf_of (has.character ∷ []) ∷ []) []
+    -- the characters
+    string : {characters : List ℕ} {a : Spot} → StandsAt text a.place characters →
+        DerivesForm g text (form.String characters) a (behind a (length characters)) (leaf_of characters ∷ []) []
+    -- a word of the item
+    word : {w : ℕ} {item : WordItem} {s : List ℕ} {a : Spot} → slice_get g.words w ≡ Some item → IsWordAt g text item a.place s →
+        DerivesForm g text (form.Word w) a (behind a (length s)) (leaf_of s ∷ []) []
+    -- no character of the class comes next
+    not_followed_by : {class : List ClassPart} {a : Spot} → (HasAt g text class a.place → ⊥) → DerivesForm g text (form.NotFollowedBy class) a a [] []
+    -- the end of the text
+    end_of_text : {a : Spot} → a.place ≡ length text → DerivesForm g text form.EndOfText a a [] []
+    -- the parts
+    seq : {parts : List ℕ} {a b : Spot} {forest : List Tree} {trail : List TrailItem} → DerivesParts g text parts a b forest trail →
+        DerivesForm g text (form.Seq parts) a b forest trail
+    -- one alternative, which the trail notes
+    choice : {parts : List ℕ} {k p : ℕ} {a b : Spot} {forest : List Tree} {trail : List TrailItem} → slice_get parts k ≡ Some p →
+        Derives g text p a b forest trail → DerivesForm g text (form.Choice parts) a b forest (Alt (suc k) ∷ trail)
+    -- some rounds
+    many : {p n : ℕ} {a b : Spot} {forest : List Tree} {trail : List TrailItem} → DerivesRounds g text p n a b forest trail →
+        DerivesForm g text (form.Many p) a b forest (Rounds n ∷ trail)
+    -- an operand, and then some separators and operands
+    chain_left : {used : BuilderUse} {p s n : ℕ} {a b c : Spot} {first : List Tree} {links : List Link} {trail items : List TrailItem} →
+        Derives g text p a b first trail → DerivesLinks g text p s n b c links items →
+        DerivesForm g text (form.ChainLeft used p s) a c (folded_left used.shape first links) (Rounds n ∷ (trail ++ items))
+    chain_right : {used : BuilderUse} {p s n : ℕ} {a b c : Spot} {first : List Tree} {links : List Link} {trail items : List TrailItem} →
+        Derives g text p a b first trail → DerivesLinks g text p s n b c links items →
+        DerivesForm g text (form.ChainRight used p s) a c (folded_right used.shape first links) (Rounds n ∷ (trail ++ items))
+    -- the part
+    try : {p : ℕ} {a b : Spot} {forest : List Tree} {trail : List TrailItem} → Derives g text p a b forest trail →
+        DerivesForm g text (form.Try p) a b forest trail
+    label : {p : ℕ} {message : List ℕ} {a b : Spot} {forest : List Tree} {trail : List TrailItem} → Derives g text p a b forest trail →
+        DerivesForm g text (form.Label p message) a b forest trail
+    -- the rule's body
+    rule : {r : ℕ} {named : declared.Rule} {a b : Spot} {forest : List Tree} {trail : List TrailItem} → slice_get g.rules r ≡ Some named →
+        Derives g text named.body a b forest trail → DerivesForm g text (form.Rule r) a b forest trail
+    -- the part, with a leaf of the text that it spans
+    text : {p : ℕ} {a b : Spot} {forest : List Tree} {trail : List TrailItem} → Derives g text p a b forest trail →
+        DerivesForm g text (form.Text p) a b (leaf_of (span text a.place b.place) ∷ []) trail
+    -- the part, without its forest
+    skip : {p : ℕ} {a b : Spot} {forest : List Tree} {trail : List TrailItem} → Derives g text p a b forest trail →
+        DerivesForm g text (form.Skip p) a b [] trail
+    -- the part, with the tree that the builder's shape makes of its forest
+    build : {used : BuilderUse} {symbol : List ℕ} {p : ℕ} {a b : Spot} {forest : List Tree} {trail : List TrailItem} → Derives g text p a b forest trail →
+        DerivesForm g text (form.Build used symbol p) a b (built used.shape symbol forest ∷ []) trail
+    -- a tree that fits the table in force, whose operators and terms are read from left to right
+    expression : {builders : OperatorBuilders} {item : OperatorsItem} {p : ℕ} {x : Expression} {a b : Spot} {forest : List Tree} {trail : List TrailItem} →
+        g.operators ≡ Some item → Fits a.table.operators x → DerivesExpression g text item builders p x a b forest trail →
+        DerivesForm g text (form.Expression builders p) a b forest (Ops (operators_read x) ∷ trail)
+    -- a declaration that the table admits
+    declare : {class : List ClassPart} {item : OperatorsItem} {d : Operator} {j : ℕ} {a : Spot} →
+        g.operators ≡ Some item → IsDeclarationAt g text item class d a.place j → Admits a.table d →
+        DerivesForm g text (form.Declare class) a (record { place = j; table = with_operator a.table d }) (declaration_tree d ∷ []) []
+
+  -- the parts span adjoining stretches, the table passes from each to the next, and the forests are joined
+  pub data DerivesParts (g : Grammar) (text : List ℕ) : List ℕ → Spot → Spot → List Tree → List TrailItem → Type 0 where
+    no_part : {a : Spot} → DerivesParts g text [] a a [] []
+    first_part : {p : ℕ} {parts : List ℕ} {a b c : Spot} {forest others : List Tree} {trail items : List TrailItem} →
+        Derives g text p a b forest trail → DerivesParts g text parts b c others items → DerivesParts g text (p ∷ parts) a c (forest ++ others) (trail ++ items)
+
+  -- so many rounds of one part do so
+  pub data DerivesRounds (g : Grammar) (text : List ℕ) : ℕ → ℕ → Spot → Spot → List Tree → List TrailItem → Type 0 where
+    no_round : {p : ℕ} {a : Spot} → DerivesRounds g text p zero a a [] []
+    first_round : {p n : ℕ} {a b c : Spot} {forest others : List Tree} {trail items : List TrailItem} →
+        Derives g text p a b forest trail → DerivesRounds g text p n b c others items → DerivesRounds g text p (suc n) a c (forest ++ others) (trail ++ items)
+
+  -- so many separators s, each with an operand p behind it, do so
+  pub data DerivesLinks (g : Grammar) (text : List ℕ) : ℕ → ℕ → ℕ → Spot → Spot → List Link → List TrailItem → Type 0 where
+    no_link : {p s : ℕ} {a : Spot} → DerivesLinks g text p s zero a a [] []
+    first_link : {p s n : ℕ} {a b c d : Spot} {separator operand : List Tree} {links : List Link} {trail items others : List TrailItem} →
+        Derives g text s a b separator trail → Derives g text p b c operand items → DerivesLinks g text p s n c d links others →
+        DerivesLinks g text p s (suc n) a d ((separator, operand) ∷ links) (trail ++ items ++ others)
+
+  -- the operators and terms of a tree do so, from left to right
+  pub data DerivesExpression (g : Grammar) (text : List ℕ) : OperatorsItem → OperatorBuilders → ℕ → Expression → Spot → Spot → List Tree → List TrailItem → Type 0 where
+    a_term : {item : OperatorsItem} {builders : OperatorBuilders} {p : ℕ} {a b : Spot} {forest : List Tree} {trail : List TrailItem} → Derives g text p a b forest trail →
+        DerivesExpression g text item builders p term a b forest trail
+    a_prefix : {item : OperatorsItem} {builders : OperatorBuilders} {p : ℕ} {o : Operator} {x : Expression} {j : ℕ} {a b : Spot} {forest : List Tree} {trail : List TrailItem} →
+        IsOperatorAt g text item o.symbol a.place j → DerivesExpression g text item builders p x (at a j) b forest trail →
+        DerivesExpression g text item builders p (prefixed o x) a b (applied builders.prefix o forest) trail
+    a_postfix : {item : OperatorsItem} {builders : OperatorBuilders} {p : ℕ} {o : Operator} {x : Expression} {j : ℕ} {a b : Spot} {forest : List Tree} {trail : List TrailItem} →
+        DerivesExpression g text item builders p x a b forest trail → IsOperatorAt g text item o.symbol b.place j →
+        DerivesExpression g text item builders p (postfixed o x) a (at b j) (applied builders.postfix o forest) trail
+    an_infix : {item : OperatorsItem} {builders : OperatorBuilders} {p : ℕ} {o : Operator} {x y : Expression} {j : ℕ} {a b c : Spot} {left right : List Tree} {trail items : List TrailItem} →
+        DerivesExpression g text item builders p x a b left trail → IsOperatorAt g text item o.symbol b.place j →
+        DerivesExpression g text item builders p y (at b j) c right items →
+        DerivesExpression g text item builders p (joined o x y) a c (applied builders.infix o (left ++ right)) (trail ++ items)
+
+-- the grammar derives the whole text from its start rule, with this forest and trail, from one table to another
+pub record DerivesText (g : Grammar) (text : List ℕ) (before after : Table) (forest : List Tree) (trail : List TrailItem) : Type 0 where
+  pub start : declared.Rule
+  pub is_start : slice_get g.rules g.start ≡ Some start
+  pub body : Derives g text start.body (record { place = 0; table = before }) (record { place = length text; table = after }) forest trail

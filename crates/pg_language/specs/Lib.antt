@@ -1,0 +1,9 @@
+pub mod Runs
+pub mod Derives
+pub mod Onward
+pub mod Errors
+pub mod Outcomes
+pub mod Leaves
+pub mod Reactions
+pub mod Answers
+pub mod WholeTexts

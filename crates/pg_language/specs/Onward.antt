@@ -1,0 +1,28 @@
+-- What is so of every derivation: it goes on in the text, and operators come to the table only behind those that are there.
+use Rattle.std.specs.Prelude.{◌≡◌, ◌≤◌, ◌++◌, ℕ, List, length}
+use Rattle.std.specs.List.{AllByRecursion}
+use Rattle.pg_tree.specs.Trees.{Tree}
+use Rattle.pg_grammar.specs.Grammar.{Grammar}
+use Rattle.pg_grammar.specs.Operators.{Operator, IsOperator}
+use Rattle.pg_table.specs.Tables.{whole, added_from, ComesFrom}
+use Rattle.pg_grammar.specs.declared.trail.TrailItem.{TrailItem}
+use Rattle.pg_language.specs.Derives.{Spot, Derives}
+
+-- from the one spot on to the other: not back and not past the text's end, and with further operators, each of which can be
+-- declared and was admitted by those before it, but with none where nothing is consumed
+pub record LeadsOn (text : List ℕ) (a b : Spot) : Type 0 where
+  pub onward : a.place ≤ b.place
+  pub within : a.place ≤ length text → b.place ≤ length text
+  pub further : List Operator
+  pub proper : AllByRecursion IsOperator further
+  pub added : added_from 0 a.table further ≡ whole b.table
+  pub behind : b.table.operators ≡ a.table.operators ++ further
+  pub still : a.place ≡ b.place → a ≡ b
+
+-- every derivation of a node leads on
+abbrev pub DerivationsLeadOn : Type 0
+DerivationsLeadOn = (g : Grammar) (text : List ℕ) (p : ℕ) (a b : Spot) (forest : List Tree) (trail : List TrailItem) → Derives g text p a b forest trail → LeadsOn text a b
+
+-- a table that is derived from one of the grammar comes from the grammar too
+abbrev pub TablesComeFromGrammar : Type 0
+TablesComeFromGrammar = (g : Grammar) (text : List ℕ) (p : ℕ) (a b : Spot) (forest : List Tree) (trail : List TrailItem) → ComesFrom g a.table → Derives g text p a b forest trail → ComesFrom g b.table

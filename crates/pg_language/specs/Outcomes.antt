@@ -1,0 +1,14 @@
+-- What comes of running a node: an answer of a parser, or none since a repetition would never end.
+use Rattle.std.specs.Prelude.{List, Bool}
+use Rattle.pg_tree.specs.Trees.{Tree}
+use Rattle.pg_language.specs.Derives.{Spot}
+use Rattle.pg_grammar.specs.declared.trail.TrailItem.{TrailItem}
+use Rattle.pg_language.specs.Errors.{Error}
+
+pub data Outcome : Type 0 where
+  -- consumed ok or empty ok, up to a place and a table, with a forest, its trail, and the error that later ones are merged with
+  ok : (consumed : Bool) (end : Spot) (forest : List Tree) (trail : List TrailItem) (why : Error) → Outcome
+  -- consumed error or empty error
+  failed : (consumed : Bool) (why : Error) → Outcome
+  -- a round of a repetition was ok and consumed nothing
+  empty_round : Outcome

@@ -1,6 +1,0 @@
-use Rattle.std.proofs.Common.{◌≡◌, ◌++◌, map, drop}
-use Rattle.pg_machine.specs.Messages.{said_of, unexpected}
-use Rattle.pg_machine.proofs.message_tape.MessageTape.push_unexpected.Given as goal
-
-abbrev pub invariant-loop-message : goal.invariant-loop-message
-invariant-loop-message l = l.self ++ unexpected (map said_of (drop l.message-index l.messages)) ≡ l.fn.self ++ unexpected (map said_of l.messages)

@@ -1,0 +1,85 @@
+-- The same as `Spells.antt` of the items as the parser gives them: with class expressions and values in preorder.
+use Rattle.std.specs.Prelude.{◌≡◌, false, List, [], ◌∷◌, map, None}
+use Rattle.std.specs.List.{AllByRecursion}
+use Rattle.pg_pred.specs.Offer.{Offer}
+use Rattle.pg_grammar.specs.Names.{Name, has_name}
+use Rattle.pg_grammar.specs.Grammar.{Grammar}
+use Rattle.pg_grammar.specs.Made.{Made, nothing_made, made_words, with_class, with_word, with_operators, with_initial, with_start, with_rule, Says}
+use Rattle.pg_items.specs.Tree.{Item}
+use Rattle.pg_items.specs.Proper.{IsProperItem}
+use Rattle.pg_items.specs.Heads.{entry_of_item}
+use Rattle.pg_items.specs.Entries.{Entry, class, word, operators, table, start, rule}
+use Rattle.pg_meaning.specs.Names.{is_predicate_name, ClassIsKnown, FormIsKnown}
+use Rattle.pg_meaning.specs.Bodies.{parts_meant, body_meant}
+use Rattle.pg_making.specs.Spells.{made_classes, max_meant, HasInitialTable}
+
+-- what was handed in, and an entry more
+abbrev pub with_entry : Offer → Made → Entry → Made
+with_entry offer made (class s parts) = with_class made s (parts_meant offer (made_classes made) parts)
+with_entry offer made (word s head behind reserved) =
+    with_word made (record { name = s; head = parts_meant offer (made_classes made) head; rest = parts_meant offer (made_classes made) behind; reserved = reserved })
+with_entry offer made (operators parts gap reserved most) =
+    with_operators made (record { class = parts_meant offer (made_classes made) parts; gap = parts_meant offer (made_classes made) gap; reserved = reserved; max = max_meant most })
+with_entry offer made (table role precedence symbol) =
+    with_initial made (record { role = role; precedence = precedence; symbol = symbol })
+with_entry offer made (start s) = with_start made s
+with_entry offer made (rule s forms) = with_rule made s (body_meant offer (made_classes made) forms)
+
+abbrev pub with_entries : Offer → Made → List Entry → Made
+with_entries offer made [] = made
+with_entries offer made (entry ∷ entries) = with_entries offer (with_entry offer made entry) entries
+
+-- the names of classes and builders in an entry stand for something
+abbrev pub EntryIsKnown : Offer → List Name → Entry → Type 0
+EntryIsKnown offer classes (class s parts) = ClassIsKnown offer classes parts
+EntryIsKnown offer classes (word s head behind reserved) = ClassIsKnown offer classes head × ClassIsKnown offer classes behind
+EntryIsKnown offer classes (operators parts gap reserved most) = ClassIsKnown offer classes parts × ClassIsKnown offer classes gap
+EntryIsKnown offer classes (table role precedence symbol) = Unit {0}
+EntryIsKnown offer classes (start s) = Unit {0}
+EntryIsKnown offer classes (rule s forms) = AllByRecursion (FormIsKnown offer classes) forms
+
+-- what an entry defines wasn't there before
+abbrev pub EntryIsNew : Offer → Made → Entry → Type 0
+EntryIsNew offer made (class s parts) = (has_name (made_classes made) s ≡ false) × (is_predicate_name offer s ≡ false)
+EntryIsNew offer made (word s head behind reserved) = has_name (made_words made) s ≡ false
+EntryIsNew offer made (operators parts gap reserved most) = made.operators ≡ None
+EntryIsNew offer made (table role precedence symbol) = Unit {0}
+EntryIsNew offer made (start s) = made.start ≡ None
+EntryIsNew offer made (rule s forms) = has_name made.names s ≡ false
+
+-- both, as a maker has it
+pub record MayFollow (offer : Offer) (made : Made) (entry : Entry) : Type 0 where
+  pub known : EntryIsKnown offer (made_classes made) entry
+  pub new : EntryIsNew offer made entry
+
+-- so is each entry, behind what was handed in before it
+abbrev pub EntriesAreInOrder : Offer → Made → List Entry → Type 0
+EntriesAreInOrder offer made [] = Unit {0}
+EntriesAreInOrder offer made (entry ∷ entries) = MayFollow offer made entry × EntriesAreInOrder offer (with_entry offer made entry) entries
+
+-- the entries make this grammar, and its initial operators are admitted
+pub record IsGrammarOfEntries (offer : Offer) (entries : List Entry) (g : Grammar) : Type 0 where
+  pub ordered : EntriesAreInOrder offer nothing_made entries
+  pub says : Says (with_entries offer nothing_made entries) g
+  pub admitted : HasInitialTable g
+
+-- the entries are those of items as a file may have them
+pub record AreProperEntries (entries : List Entry) : Type 0 where
+  pub items : List Item
+  pub proper : AllByRecursion IsProperItem items
+  pub meant : entries ≡ map entry_of_item items
+
+-- the entry is that of an item as a file may have it
+pub record IsProperEntry (entry : Entry) : Type 0 where
+  pub item : Item
+  pub proper : IsProperItem item
+  pub meant : entry ≡ entry_of_item item
+
+-- the entries make no grammar
+abbrev pub MakeNoGrammar : Offer → List Entry → Type 0
+MakeNoGrammar offer entries = (g : Grammar) → IsGrammarOfEntries offer entries g → ⊥
+
+-- what was handed in, this entry and any others behind it make no grammar
+abbrev pub LeadsNowhere : Offer → Made → Entry → Type 0
+LeadsNowhere offer made entry =
+    (entries : List Entry) (g : Grammar) → MayFollow offer made entry → Says (with_entries offer (with_entry offer made entry) entries) g → ⊥

@@ -1,0 +1,122 @@
+//! The grammar of a file's items, with what the registry has for their names.
+//!
+//! The items are handed to a maker in file order, and the places of the base forms are kept beside it. Whatever stands in
+//! the way of a grammar refuses the items as a whole; at which name it stands is found out by who reports it. The
+//! limits have been kept by then, so the maker refuses no item for its size.
+
+ghost use Rattle.std.specs.Prelude.{◌≡◌, ◌+◌, length, IfOk, OnOk, IsErrOf};
+ghost use Rattle.pg_pred.specs.Offer.{offer_of};
+ghost use Rattle.pg_items.specs.Entries.{entry_of, entries_of};
+ghost use Rattle.pg_making.specs.Spells.{made_classes};
+ghost use Rattle.pg_making.specs.Making.{with_entry, MayFollow, LeadsNowhere, IsProperEntry, AreProperEntries, IsGrammarOfEntries, MakeNoGrammar};
+
+use crate::handing::{
+    class_item, operators_item, rule_item, start_item, table_item, unmade, word_item,
+};
+use crate::initials::has_initial_table;
+use pg_grammar::{Grammar, Maker};
+use pg_items::Item;
+use pg_meaning::Unmade;
+use pg_pred::Registry;
+use pg_text::Characters;
+use std::alloc::Global;
+
+/// A grammar, and where its nodes were written.
+#[derive(Debug, Drop)]
+pub struct PlacedGrammar {
+    pub grammar: Grammar,
+    /// For each node, how many characters of the file stand before the form that was written for it.
+    pub places: Vec<usize>,
+}
+
+/// The grammar of items as a file may have them, none of which passes a limit. Refused where they make none: a name stands
+/// for nothing or comes twice, no start names a rule, or an initial operator isn't admitted.
+pub fn grammar_of(
+    alloc: Global,
+    registry: &Registry,
+    items: &[Item],
+) -> Result<PlacedGrammar, Unmade>
+    requires { AreProperEntries (entries_of items.now) }
+    ensures ok { IfOk result (λ made. IsGrammarOfEntries (offer_of registry.now) (entries_of items.now) made.grammar) }
+    ensures places { IfOk result (λ made. length made.places.items ≡ length made.grammar.nodes) }
+    ensures refused { IsErrOf result Unmade.Refused → MakeNoGrammar (offer_of registry.now) (entries_of items.now) }
+{
+    let mut maker = Maker::new(alloc);
+    let mut classes = Vec::new(alloc);
+    let mut places = Vec::new(alloc);
+    for item in items {
+        hand_in(alloc, registry, &mut maker, &mut classes, &mut places, item)?;
+    }
+    let grammar = match maker.finish() {
+        Ok(grammar) => grammar,
+        Err(unfinished) => return Err(unmade(unfinished.fault)),
+    };
+    has_initial_table(alloc, &grammar)?;
+    Ok(PlacedGrammar { grammar, places })
+}
+
+/// Hands an item to a maker, beside which the names of its class items and the places of its base forms are kept. Refused
+/// where the item can't follow what was handed in before, or no grammar can come of both.
+fn hand_in(
+    alloc: Global,
+    registry: &Registry,
+    maker: &mut Maker,
+    classes: &mut Vec<Characters>,
+    places: &mut Vec<usize>,
+    item: &Item,
+) -> Result<(), Unmade>
+    requires proper { IsProperEntry (entry_of item.now) }
+    requires names { classes.old.items ≡ made_classes maker.old }
+    requires forms { length places.old.items ≡ length maker.old.forms }
+    ensures made { OnOk result (maker.new ≡ with_entry (offer_of registry.now) maker.old (entry_of item.now)) }
+    ensures follows { OnOk result (MayFollow (offer_of registry.now) maker.old (entry_of item.now)) }
+    ensures names { OnOk result (classes.new.items ≡ made_classes maker.new) }
+    ensures forms { OnOk result (length places.new.items ≡ length maker.new.forms) }
+    ensures refused { IsErrOf result Unmade.Refused → LeadsNowhere (offer_of registry.now) maker.old (entry_of item.now) }
+{
+    match item {
+        Item::Class { name, class, .. } => {
+            class_item(alloc, registry, maker, classes, name, &class.class)
+        }
+        Item::Word {
+            name,
+            head,
+            rest,
+            reserved,
+            ..
+        } => {
+            let (head, rest) = (&head.class, &rest.class);
+            let reserved = reserved.as_slice();
+            word_item(alloc, registry, maker, classes, name, head, rest, reserved)
+        }
+        Item::Operators {
+            class,
+            gap,
+            reserved,
+            most,
+            ..
+        } => {
+            let (class, gap) = (&class.class, &gap.class);
+            let reserved = reserved.as_slice();
+            operators_item(alloc, registry, maker, classes, class, gap, reserved, *most)
+        }
+        Item::Table {
+            role,
+            precedence,
+            symbol,
+            ..
+        } => table_item(alloc, maker, *role, *precedence, symbol),
+        Item::Start { name, .. } => start_item(alloc, maker, name),
+        Item::Rule { name, body, .. } => {
+            rule_item(
+                alloc,
+                registry,
+                maker,
+                classes,
+                places,
+                name,
+                body.as_slice(),
+            )
+        }
+    }
+}

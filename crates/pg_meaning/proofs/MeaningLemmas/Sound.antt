@@ -1,0 +1,116 @@
+-- What a value stands for is one whole form, each choice in it with an alternative, and each class item that is named
+-- is there.
+use Rattle.std.proofs.Common.{◌≡◌, ℕ, suc, ◌+◌, ◌==◌, false, List, [], ◌∷◌, ◌++◌, length, map, refl, sym, subst, arith}
+use Rattle.std.proofs.lemmas.Bool.Decides.{nat_tests}
+use Rattle.std.specs.List.{list_any, AllByRecursion}
+use Rattle.pg_pred.specs.Offer.{Offer}
+use Rattle.pg_grammar.proofs.Each.{all-weaker}
+use Rattle.pg_grammar.specs.Names as names
+use Rattle.pg_grammar.specs.Preorder.{SpellForms}
+use Rattle.pg_grammar.specs.Classes.{lacks_item}
+use Rattle.pg_grammar.specs.Forms.{part_count, lacks_alternative, has_unknown_class}
+use Rattle.pg_grammar.specs.declared.class.ClassPart.{ClassPart}
+use Rattle.pg_grammar.specs.declared.form.BaseForm.{BaseForm}
+use Rattle.pg_grammar.specs.declared.form.BaseForm.TheVariants as base
+use Rattle.pg_grammar.specs.declared.used.BuilderUse.{BuilderUse}
+use Rattle.pg_items.specs.declared.words.ClassForm.{ClassForm}
+use Rattle.pg_items.specs.declared.words.ClassForm.TheVariants as class_form
+use Rattle.pg_items.specs.declared.words.ChainForm.{ChainForm}
+use Rattle.pg_items.specs.declared.words.ChainForm.TheVariants as chain_form
+use Rattle.pg_items.specs.Tree.{Value, Of_class, String, Seq, Of_some, Of_one, Of_two, Between, Chain, Expression, Build, Build_symbol, Label, End_of_text, Word, Rule, Values, No_value, And}
+use Rattle.pg_meaning.specs.Names.{builder_named}
+use Rattle.pg_meaning.specs.Meaning.{Body, class_of, chain_of, class_meant, meant, all_meant}
+use Rattle.pg_meaning.proofs.MeaningLemmas.Kept.{IsKept, kept_some, kept_one, kept_two, kept_between, IsWhole, whole_kept, whole_two, IsFree, free_front, free_none, free_append, free_kept}
+use Rattle.pg_meaning.proofs.MeaningLemmas.ProperClasses.{known}
+
+pub record IsSound (count : ℕ) (body : Body) : Type 0 where
+  pub whole : IsWhole body
+  pub alternatives : IsFree lacks_alternative body
+  pub known : IsFree (has_unknown_class count) body
+
+-- a form with so many parts, which isn't a choice without an alternative and names no class item that isn't there
+record IsSoundForm (count n : ℕ) (form : BaseForm) : Type 0 where
+  parts : part_count form ≡ n
+  alternatives : lacks_alternative form ≡ false
+  known : has_unknown_class count form ≡ false
+
+leaf : (count : ℕ) (form : BaseForm) → IsSoundForm count 0 form → IsSound count (form ∷ [])
+leaf count form h = record {
+  whole = record { whole = let none = h.parts in omega arith };
+  alternatives = free_front _ form [] h.alternatives (free_none _);
+  known = free_front _ form [] h.known (free_none _);
+}
+
+wrap : (count : ℕ) (form : BaseForm) (body : Body) → IsSoundForm count 1 form → IsSound count body → IsSound count (form ∷ body)
+wrap count form body h e = record {
+  whole = record { whole = subst (λ (n : ℕ). SpellForms (n + 0) (map part_count body)) (sym h.parts) e.whole.whole };
+  alternatives = free_front _ form body h.alternatives e.alternatives;
+  known = free_front _ form body h.known e.known;
+}
+
+two : (count : ℕ) (form : BaseForm) (one other : Body) → IsSoundForm count 2 form → IsSound count one → IsSound count other → IsSound count (form ∷ (one ++ other))
+two count form one other h e f = record {
+  whole = record { whole = subst (λ (n : ℕ). SpellForms (n + 0) (map part_count (one ++ other))) (sym h.parts) (whole_two one other e.whole f.whole) };
+  alternatives = free_front _ form _ h.alternatives (free_append _ one other e.alternatives f.alternatives);
+  known = free_front _ form _ h.known (free_append _ one other e.known f.known);
+}
+
+some_alternative : (n : ℕ) → (suc n == 0) ≡ false
+some_alternative n = grind (arith, nat_tests)
+
+choices_kept : IsKept (IsFree lacks_alternative)
+choices_kept = free_kept lacks_alternative (record { seq = λ n. refl; choice = some_alternative; many = refl; attempt = refl; text = refl; skip = refl })
+
+known_kept : (count : ℕ) → IsKept (IsFree (has_unknown_class count))
+known_kept count = free_kept (has_unknown_class count) (record { seq = λ n. refl; choice = λ n. refl; many = refl; attempt = refl; text = refl; skip = refl })
+
+sound_kept : (count : ℕ) → IsKept (IsSound count)
+sound_kept count = record {
+  seq = λ bodies h. record {
+    whole = whole_kept.seq bodies (all-weaker (IsSound count) IsWhole (λ body e. e.whole) bodies h);
+    alternatives = choices_kept.seq bodies (all-weaker (IsSound count) (IsFree lacks_alternative) (λ body e. e.alternatives) bodies h);
+    known = (known_kept count).seq bodies (all-weaker (IsSound count) (IsFree (has_unknown_class count)) (λ body e. e.known) bodies h);
+  };
+  choice = λ body bodies h. record {
+    whole = whole_kept.choice body bodies (all-weaker (IsSound count) IsWhole (λ b e. e.whole) (body ∷ bodies) h);
+    alternatives = choices_kept.choice body bodies (all-weaker (IsSound count) (IsFree lacks_alternative) (λ b e. e.alternatives) (body ∷ bodies) h);
+    known = (known_kept count).choice body bodies (all-weaker (IsSound count) (IsFree (has_unknown_class count)) (λ b e. e.known) (body ∷ bodies) h);
+  };
+  many = λ body h. wrap count base.Many body (record { parts = refl; alternatives = refl; known = refl }) h;
+  attempt = λ body h. wrap count base.Try body (record { parts = refl; alternatives = refl; known = refl }) h;
+  text = λ body h. wrap count base.Text body (record { parts = refl; alternatives = refl; known = refl }) h;
+  skip = λ body h. wrap count base.Skip body (record { parts = refl; alternatives = refl; known = refl }) h;
+}
+
+class_form_sound : (count : ℕ) (form : ClassForm) (parts : List ClassPart) → list_any (lacks_item count) parts ≡ false → IsSoundForm count 0 (class_of form parts)
+class_form_sound count class_form.Satisfy parts h = record { parts = refl; alternatives = refl; known = h }
+class_form_sound count class_form.NotFollowedBy parts h = record { parts = refl; alternatives = refl; known = h }
+class_form_sound count class_form.Declare parts h = record { parts = refl; alternatives = refl; known = h }
+
+chain_form_sound : (count : ℕ) (form : ChainForm) (used : BuilderUse) → IsSoundForm count 2 (chain_of form used)
+chain_form_sound count chain_form.Left used = record { parts = refl; alternatives = refl; known = refl }
+chain_form_sound count chain_form.Right used = record { parts = refl; alternatives = refl; known = refl }
+
+mutual
+  pub sound_value : (offer : Offer) (items : List names.Name) (v : Value) → IsSound (length items) (meant offer items v)
+  sound_value offer items (Of_class form c) = leaf _ _ (class_form_sound (length items) form (class_meant offer items c) (known offer items c))
+  sound_value offer items (String s) = leaf _ _ (record { parts = refl; alternatives = refl; known = refl })
+  sound_value offer items (Seq vs) = (sound_kept (length items)).seq _ (sound_values offer items vs)
+  sound_value offer items (Of_some form v vs) = kept_some (IsSound (length items)) (sound_kept (length items)) form _ _ (sound_value offer items v, sound_values offer items vs)
+  sound_value offer items (Of_one form v) = kept_one (IsSound (length items)) (sound_kept (length items)) form _ (sound_value offer items v)
+  sound_value offer items (Of_two form v separator) = kept_two (IsSound (length items)) (sound_kept (length items)) form _ _ (sound_value offer items v) (sound_value offer items separator)
+  sound_value offer items (Between before after inner) =
+      kept_between (IsSound (length items)) (sound_kept (length items)) _ _ _ (sound_value offer items before) (sound_value offer items after) (sound_value offer items inner)
+  sound_value offer items (Chain form builder operand separator) =
+      two _ _ _ _ (chain_form_sound (length items) form (builder_named offer builder)) (sound_value offer items operand) (sound_value offer items separator)
+  sound_value offer items (Expression infixes prefixes postfixes term) = wrap _ _ _ (record { parts = refl; alternatives = refl; known = refl }) (sound_value offer items term)
+  sound_value offer items (Build builder v) = wrap _ _ _ (record { parts = refl; alternatives = refl; known = refl }) (sound_value offer items v)
+  sound_value offer items (Build_symbol builder symbol v) = wrap _ _ _ (record { parts = refl; alternatives = refl; known = refl }) (sound_value offer items v)
+  sound_value offer items (Label v message) = wrap _ _ _ (record { parts = refl; alternatives = refl; known = refl }) (sound_value offer items v)
+  sound_value offer items End_of_text = leaf _ _ (record { parts = refl; alternatives = refl; known = refl })
+  sound_value offer items (Word s) = leaf _ _ (record { parts = refl; alternatives = refl; known = refl })
+  sound_value offer items (Rule s) = leaf _ _ (record { parts = refl; alternatives = refl; known = refl })
+
+  sound_values : (offer : Offer) (items : List names.Name) (vs : Values) → AllByRecursion (IsSound (length items)) (all_meant offer items vs)
+  sound_values offer items No_value = tt
+  sound_values offer items (And v vs) = (sound_value offer items v, sound_values offer items vs)

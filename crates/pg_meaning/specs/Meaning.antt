@@ -1,0 +1,149 @@
+-- The base forms that a file's values and class expressions stand for. `many1`, `option`, `between`, `sepBy`, `sepBy1` and
+-- `endBy` stand for others, and so does a `try` of several values.
+use Rattle.std.specs.Prelude.{List, [], ◌∷◌, ◌++◌, length}
+use Rattle.std.specs.Str.{encode_utf8_all}
+use Rattle.pg_pred.specs.Offer.{Offer}
+use Rattle.pg_grammar.specs.Names as names
+use Rattle.pg_grammar.specs.declared.class.ClassPart.{ClassPart}
+use Rattle.pg_grammar.specs.declared.class.ClassPart.TheVariants as part
+use Rattle.pg_grammar.specs.declared.form.BaseForm.{BaseForm}
+use Rattle.pg_grammar.specs.declared.form.BaseForm.TheVariants as base
+use Rattle.pg_grammar.specs.declared.used.BuilderUse.{BuilderUse}
+use Rattle.pg_grammar.specs.declared.used.OperatorBuilders.{OperatorBuilders}
+use Rattle.pg_items.specs.declared.words.ClassForm.{ClassForm}
+use Rattle.pg_items.specs.declared.words.ClassForm.TheVariants as class_form
+use Rattle.pg_items.specs.declared.words.SomeForm.{SomeForm}
+use Rattle.pg_items.specs.declared.words.SomeForm.TheVariants as some_form
+use Rattle.pg_items.specs.declared.words.OneForm.{OneForm}
+use Rattle.pg_items.specs.declared.words.OneForm.TheVariants as one_form
+use Rattle.pg_items.specs.declared.words.TwoForm.{TwoForm}
+use Rattle.pg_items.specs.declared.words.TwoForm.TheVariants as two_form
+use Rattle.pg_items.specs.declared.words.ChainForm.{ChainForm}
+use Rattle.pg_items.specs.declared.words.ChainForm.TheVariants as chain_form
+use Rattle.pg_items.specs.Tree.{Atom, Set, Range, Name, Not, Group, Class, Of, Atoms, No_atom, Or, Value, Of_class, String, Seq, Of_some, Of_one, Of_two, Between, Chain, Expression, Build, Build_symbol, Label, End_of_text, Word, Rule, Values, No_value, And}
+use Rattle.pg_meaning.specs.Names.{builder_named, class_named}
+
+-- the base forms of a body, in preorder
+abbrev pub Body : Type 0
+Body = List BaseForm
+
+-- lists, one behind another
+abbrev pub joined : {A : Type 0} → List (List A) → List A
+joined [] = []
+joined (xs ∷ lists) = xs ++ joined lists
+
+-- ---- class expressions
+
+-- one expression as it is, several as a union
+abbrev pub expression_of : List ClassPart → List (List ClassPart) → List ClassPart
+expression_of first [] = first
+expression_of first (other ∷ others) = part.Union (length (first ∷ other ∷ others)) ∷ joined (first ∷ other ∷ others)
+
+abbrev mutual
+  pub atom_meant : Offer → List names.Name → Atom → List ClassPart
+  atom_meant offer classes (Set s) = part.Literal s ∷ []
+  atom_meant offer classes (Range low high) = part.Range low high ∷ []
+  atom_meant offer classes (Name s) = class_named offer classes s ∷ []
+  atom_meant offer classes (Not a) = part.Complement ∷ atom_meant offer classes a
+  atom_meant offer classes (Group c) = class_meant offer classes c
+
+  pub class_meant : Offer → List names.Name → Class → List ClassPart
+  class_meant offer classes (Of a others) = expression_of (atom_meant offer classes a) (atoms_meant offer classes others)
+
+  pub atoms_meant : Offer → List names.Name → Atoms → List (List ClassPart)
+  atoms_meant offer classes No_atom = []
+  atoms_meant offer classes (Or a others) = atom_meant offer classes a ∷ atoms_meant offer classes others
+
+-- ---- bodies made of bodies
+
+-- the bodies, one after another
+abbrev pub seq_of : List Body → Body
+seq_of bodies = base.Seq (length bodies) ∷ joined bodies
+
+-- one of the bodies
+abbrev pub choice_of : List Body → Body
+choice_of bodies = base.Choice (length bodies) ∷ joined bodies
+
+-- one body, or several one after another, all or nothing
+abbrev pub try_of : List Body → Body
+try_of [] = base.Try ∷ seq_of []
+try_of (body ∷ []) = base.Try ∷ body
+try_of (body ∷ other ∷ bodies) = base.Try ∷ seq_of (body ∷ other ∷ bodies)
+
+abbrev pub some_of : SomeForm → List Body → Body
+some_of some_form.Choice bodies = choice_of bodies
+some_of some_form.Try bodies = try_of bodies
+
+-- a body without its trees
+abbrev pub skipped : Body → Body
+skipped body = base.Skip ∷ body
+
+-- a body as often as it succeeds
+abbrev pub repeated : Body → Body
+repeated body = base.Many ∷ body
+
+-- a body or nothing
+abbrev pub optional : Body → Body
+optional body = choice_of (body ∷ seq_of [] ∷ [])
+
+-- a body once or more, with a separator between any two
+abbrev pub separated : Body → Body → Body
+separated body separator = seq_of (body ∷ repeated (seq_of (skipped separator ∷ body ∷ [])) ∷ [])
+
+abbrev pub one_of : OneForm → Body → Body
+one_of one_form.Many body = repeated body
+one_of one_form.Many1 body = seq_of (body ∷ repeated body ∷ [])
+one_of one_form.Option body = optional body
+one_of one_form.Text body = base.Text ∷ body
+one_of one_form.Skip body = skipped body
+
+abbrev pub two_of : TwoForm → Body → Body → Body
+two_of two_form.SepBy body separator = optional (separated body separator)
+two_of two_form.SepBy1 body separator = separated body separator
+two_of two_form.EndBy body separator = repeated (seq_of (body ∷ skipped separator ∷ []))
+
+-- what is before a body, the body, and what is behind it
+abbrev pub between_of : Body → Body → Body → Body
+between_of before behind inner = seq_of (skipped before ∷ inner ∷ skipped behind ∷ [])
+
+abbrev pub class_of : ClassForm → List ClassPart → BaseForm
+class_of class_form.Satisfy class = base.Satisfy class
+class_of class_form.NotFollowedBy class = base.NotFollowedBy class
+class_of class_form.Declare class = base.Declare class
+
+abbrev pub chain_of : ChainForm → BuilderUse → BaseForm
+chain_of chain_form.Left used = base.ChainLeft used
+chain_of chain_form.Right used = base.ChainRight used
+
+-- the builders of an expression
+abbrev pub builders_named : Offer → (infixes prefixes postfixes : names.Name) → OperatorBuilders
+builders_named offer infixes prefixes postfixes = record {
+  «infix» = builder_named offer infixes;
+  prefix = builder_named offer prefixes;
+  postfix = builder_named offer postfixes;
+}
+
+-- ---- values
+
+abbrev mutual
+  pub meant : Offer → List names.Name → Value → Body
+  meant offer classes (Of_class form c) = class_of form (class_meant offer classes c) ∷ []
+  meant offer classes (String s) = base.String s ∷ []
+  meant offer classes (Seq vs) = seq_of (all_meant offer classes vs)
+  meant offer classes (Of_some form v vs) = some_of form (meant offer classes v ∷ all_meant offer classes vs)
+  meant offer classes (Of_one form v) = one_of form (meant offer classes v)
+  meant offer classes (Of_two form v separator) = two_of form (meant offer classes v) (meant offer classes separator)
+  meant offer classes (Between before behind inner) = between_of (meant offer classes before) (meant offer classes behind) (meant offer classes inner)
+  meant offer classes (Chain form builder operand separator) = chain_of form (builder_named offer builder) ∷ (meant offer classes operand ++ meant offer classes separator)
+  meant offer classes (Expression infixes prefixes postfixes term) = base.Expression (builders_named offer infixes prefixes postfixes) ∷ meant offer classes term
+  meant offer classes (Build builder v) = base.Build (builder_named offer builder) [] ∷ meant offer classes v
+  meant offer classes (Build_symbol builder symbol v) = base.Build (builder_named offer builder) (encode_utf8_all symbol) ∷ meant offer classes v
+  meant offer classes (Label v message) = base.Label message ∷ meant offer classes v
+  meant offer classes End_of_text = base.EndOfText ∷ []
+  meant offer classes (Word s) = base.Word s ∷ []
+  meant offer classes (Rule s) = base.Rule s ∷ []
+
+  -- the bodies of values
+  pub all_meant : Offer → List names.Name → Values → List Body
+  all_meant offer classes No_value = []
+  all_meant offer classes (And v vs) = meant offer classes v ∷ all_meant offer classes vs

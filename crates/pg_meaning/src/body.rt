@@ -1,0 +1,224 @@
+//! Bodies in base forms, and what short forms make of the bodies of their parts.
+//!
+//! A body is one whole form in preorder. Each base form keeps the place of the form that was written for it, so that a
+//! finding about a node can be shown in the file. `specs/Meaning.antt` has the same functions on lists.
+
+ghost use Rattle.std.specs.Prelude.{◌≡◌, ◌∷◌, [], map, IfOk};
+ghost use Rattle.std.specs.Global.{Vec};
+ghost use Rattle.pg_meaning.specs.Bodies.{bases_of, all_bases_of};
+ghost use Rattle.pg_meaning.specs.Meaning as meaning;
+
+use pg_grammar::BaseForm;
+use pg_items::{OneForm, SomeForm, TwoForm};
+use std::alloc::{AllocError, Global};
+
+/// A base form and where the form stands that was written for it.
+#[derive(Debug, Drop)]
+pub struct PlacedBase {
+    pub form: BaseForm,
+    /// How many characters of the file stand before that form.
+    pub place: usize,
+}
+
+/// The body of one base form.
+pub fn single(alloc: Global, form: BaseForm, place: usize) -> Result<Vec<PlacedBase>, AllocError>
+    ensures { IfOk result (λ body. bases_of body.items ≡ form ∷ []) }
+{
+    Ok(vec![in alloc; PlacedBase { form, place }]?)
+}
+
+/// A base form in front of a body, or of bodies one behind another.
+pub fn in_front(
+    form: BaseForm,
+    place: usize,
+    body: Vec<PlacedBase>,
+) -> Result<Vec<PlacedBase>, AllocError>
+    ensures { IfOk result (λ whole. bases_of whole.items ≡ form ∷ bases_of body.items) }
+{
+    let mut whole = body;
+    whole.insert(0, PlacedBase { form, place })?;
+    Ok(whole)
+}
+
+/// The bodies, one behind another.
+pub fn joined(alloc: Global, bodies: Vec<Vec<PlacedBase>>) -> Result<Vec<PlacedBase>, AllocError>
+    ensures { IfOk result (λ all. bases_of all.items ≡ meaning.joined (all_bases_of bodies.items)) }
+{
+    let mut all = Vec::new(alloc);
+    for body in bodies {
+        let mut body = body;
+        all.append(&mut body)?;
+    }
+    Ok(all)
+}
+
+/// An equal body in memory of its own.
+fn copied(alloc: Global, body: &[PlacedBase]) -> Result<Vec<PlacedBase>, AllocError>
+    ensures { IfOk result (λ copies. bases_of copies.items ≡ bases_of body.now) }
+{
+    let mut copies = Vec::new(alloc);
+    for placed in body {
+        copies.push(PlacedBase {
+            form: placed.form.copy(alloc)?,
+            place: placed.place,
+        })?;
+    }
+    Ok(copies)
+}
+
+/// The bodies, one after another.
+pub fn seq_of(
+    alloc: Global,
+    place: usize,
+    bodies: Vec<Vec<PlacedBase>>,
+) -> Result<Vec<PlacedBase>, AllocError>
+    ensures { IfOk result (λ body. bases_of body.items ≡ meaning.seq_of (all_bases_of bodies.items)) }
+{
+    let form = BaseForm::Seq(bodies.len());
+    in_front(form, place, joined(alloc, bodies)?)
+}
+
+/// One of the bodies.
+fn choice_of(
+    alloc: Global,
+    place: usize,
+    bodies: Vec<Vec<PlacedBase>>,
+) -> Result<Vec<PlacedBase>, AllocError>
+    ensures { IfOk result (λ body. bases_of body.items ≡ meaning.choice_of (all_bases_of bodies.items)) }
+{
+    let form = BaseForm::Choice(bodies.len());
+    in_front(form, place, joined(alloc, bodies)?)
+}
+
+/// One body, or several one after another, all or nothing.
+fn try_of(
+    alloc: Global,
+    place: usize,
+    bodies: Vec<Vec<PlacedBase>>,
+) -> Result<Vec<PlacedBase>, AllocError>
+    ensures { IfOk result (λ body. bases_of body.items ≡ meaning.try_of (all_bases_of bodies.items)) }
+{
+    let body = if bodies.len() == 1 {
+        joined(alloc, bodies)?
+    } else {
+        seq_of(alloc, place, bodies)?
+    };
+    in_front(BaseForm::Try, place, body)
+}
+
+/// What a form of several bodies stands for.
+pub fn some_of(
+    alloc: Global,
+    form: SomeForm,
+    place: usize,
+    bodies: Vec<Vec<PlacedBase>>,
+) -> Result<Vec<PlacedBase>, AllocError>
+    ensures { IfOk result (λ body. bases_of body.items ≡ meaning.some_of form (all_bases_of bodies.items)) }
+{
+    match form {
+        SomeForm::Choice => choice_of(alloc, place, bodies),
+        SomeForm::Try => try_of(alloc, place, bodies),
+    }
+}
+
+/// A body without its trees.
+fn skipped(place: usize, body: Vec<PlacedBase>) -> Result<Vec<PlacedBase>, AllocError>
+    ensures { IfOk result (λ whole. bases_of whole.items ≡ meaning.skipped (bases_of body.items)) }
+{
+    in_front(BaseForm::Skip, place, body)
+}
+
+/// A body as often as it succeeds.
+fn repeated(place: usize, body: Vec<PlacedBase>) -> Result<Vec<PlacedBase>, AllocError>
+    ensures { IfOk result (λ whole. bases_of whole.items ≡ meaning.repeated (bases_of body.items)) }
+{
+    in_front(BaseForm::Many, place, body)
+}
+
+/// A body or nothing.
+fn optional(
+    alloc: Global,
+    place: usize,
+    body: Vec<PlacedBase>,
+) -> Result<Vec<PlacedBase>, AllocError>
+    ensures { IfOk result (λ whole. bases_of whole.items ≡ meaning.optional (bases_of body.items)) }
+{
+    let nothing = seq_of(alloc, place, Vec::new(alloc))?;
+    let bodies = vec![in alloc; body, nothing]?;
+    choice_of(alloc, place, bodies)
+}
+
+/// A body once or more, with a separator between any two.
+fn separated(
+    alloc: Global,
+    place: usize,
+    body: Vec<PlacedBase>,
+    separator: Vec<PlacedBase>,
+) -> Result<Vec<PlacedBase>, AllocError>
+    ensures { IfOk result (λ whole. bases_of whole.items ≡ meaning.separated (bases_of body.items) (bases_of separator.items)) }
+{
+    let again = copied(alloc, body.as_slice())?;
+    let round = vec![in alloc; skipped(place, separator)?, again]?;
+    let rounds = repeated(place, seq_of(alloc, place, round)?)?;
+    let bodies = vec![in alloc; body, rounds]?;
+    seq_of(alloc, place, bodies)
+}
+
+/// What a form of one body stands for.
+pub fn one_of(
+    alloc: Global,
+    form: OneForm,
+    place: usize,
+    body: Vec<PlacedBase>,
+) -> Result<Vec<PlacedBase>, AllocError>
+    ensures { IfOk result (λ whole. bases_of whole.items ≡ meaning.one_of form (bases_of body.items)) }
+{
+    match form {
+        OneForm::Many => repeated(place, body),
+        OneForm::Many1 => {
+            let again = copied(alloc, body.as_slice())?;
+            let bodies = vec![in alloc; body, repeated(place, again)?]?;
+            seq_of(alloc, place, bodies)
+        }
+        OneForm::Option => optional(alloc, place, body),
+        OneForm::Text => in_front(BaseForm::Text, place, body),
+        OneForm::Skip => skipped(place, body),
+    }
+}
+
+/// What a form of a body and a separator stands for.
+pub fn two_of(
+    alloc: Global,
+    form: TwoForm,
+    place: usize,
+    body: Vec<PlacedBase>,
+    separator: Vec<PlacedBase>,
+) -> Result<Vec<PlacedBase>, AllocError>
+    ensures { IfOk result (λ whole. bases_of whole.items ≡ meaning.two_of form (bases_of body.items) (bases_of separator.items)) }
+{
+    match form {
+        TwoForm::SepBy => {
+            let once = separated(alloc, place, body, separator)?;
+            optional(alloc, place, once)
+        }
+        TwoForm::SepBy1 => separated(alloc, place, body, separator),
+        TwoForm::EndBy => {
+            let round = vec![in alloc; body, skipped(place, separator)?]?;
+            repeated(place, seq_of(alloc, place, round)?)
+        }
+    }
+}
+
+/// What stands before a body, the body, and what stands behind it.
+pub fn between_of(
+    alloc: Global,
+    place: usize,
+    before: Vec<PlacedBase>,
+    behind: Vec<PlacedBase>,
+    inner: Vec<PlacedBase>,
+) -> Result<Vec<PlacedBase>, AllocError>
+    ensures { IfOk result (λ whole. bases_of whole.items ≡ meaning.between_of (bases_of before.items) (bases_of behind.items) (bases_of inner.items)) }
+{
+    let bodies = vec![in alloc; skipped(place, before)?, inner, skipped(place, behind)?]?;
+    seq_of(alloc, place, bodies)
+}

@@ -1,0 +1,191 @@
+//! What the names of a file stand for: class items above, and what a registry has.
+//!
+//! A name that stands for nothing is refused; which one it is, and where it stands, is found out by who reports it.
+
+ghost use Rattle.std.specs.Prelude.{◌≡◌, ◌↔◌, true, false, string_bytes, IfOk, OnOk, IsErrOf};
+ghost use Rattle.std.specs.Str.{encode_utf8_all};
+ghost use Rattle.pg_pred.specs.Offer.{offer_of};
+ghost use Rattle.pg_grammar.specs.Names.{place_of_name};
+ghost use Rattle.pg_meaning.specs.Names as names;
+ghost use Rattle.pg_meaning.specs.Names.{is_predicate_name, is_class_name, is_builder_name, BuilderIsKnown, PartIsKnown, ClassIsKnown};
+ghost use Rattle.pg_meaning.specs.Bodies.{part_meant, parts_meant};
+ghost use Rattle.pg_meaning.specs.Meaning as meaning;
+
+use crate::error::Unmade;
+use pg_grammar::{BuilderUse, ClassExpression, ClassId, ClassPart, OperatorBuilders, PredicateUse};
+use pg_items::{WrittenClass, WrittenPart};
+use pg_pred::Registry;
+use pg_text::Characters;
+use pg_tokens::{copied, utf8};
+use pg_tree::Label;
+use std::alloc::{AllocError, Global};
+
+/// The label with these characters.
+pub fn label(alloc: Global, characters: &[char]) -> Result<Label, AllocError>
+    ensures { IfOk result (λ label. label ≡ encode_utf8_all characters.now) }
+{
+    Ok(Label::new(utf8(alloc, characters)?))
+}
+
+/// Whether a predicate has this name.
+pub fn is_predicate_name(
+    alloc: Global,
+    registry: &Registry,
+    name: &[char],
+) -> Result<bool, AllocError>
+    ensures { IfOk result (λ b. b ≡ is_predicate_name (offer_of registry.now) name.now) }
+{
+    let name = utf8(alloc, name)?;
+    Ok(registry.predicate(name.as_str()).is_some())
+}
+
+/// Whether a builder has this name.
+pub fn is_builder_name(
+    alloc: Global,
+    registry: &Registry,
+    name: &[char],
+) -> Result<bool, AllocError>
+    ensures { IfOk result (λ b. b ≡ is_builder_name (offer_of registry.now) name.now) }
+{
+    let name = utf8(alloc, name)?;
+    Ok(registry.builder(name.as_str()).is_some())
+}
+
+/// The predicate with this name, and its class. Refused where there is none.
+fn predicate_named(
+    alloc: Global,
+    registry: &Registry,
+    name: &[char],
+) -> Result<PredicateUse, Unmade>
+    ensures used { IfOk result (λ used. used ≡ names.predicate_named (offer_of registry.now) name.now) }
+    ensures known { OnOk result (is_predicate_name (offer_of registry.now) name.now ≡ true) }
+    ensures refused { IsErrOf result Unmade.Refused → is_predicate_name (offer_of registry.now) name.now ≡ false }
+{
+    let name = label(alloc, name)?;
+    match registry.predicate(name.as_str()) {
+        Some(predicate) => {
+            let class = predicate.class().copy(alloc)?;
+            Ok(PredicateUse { name, class })
+        }
+        None => Err(Unmade::Refused),
+    }
+}
+
+/// The builder with this name, and its shape. Refused where there is none.
+pub fn builder_named(
+    alloc: Global,
+    registry: &Registry,
+    name: &[char],
+) -> Result<BuilderUse, Unmade>
+    ensures used { IfOk result (λ used. used ≡ names.builder_named (offer_of registry.now) name.now) }
+    ensures known { OnOk result (is_builder_name (offer_of registry.now) name.now ≡ true) }
+    ensures refused { IsErrOf result Unmade.Refused → is_builder_name (offer_of registry.now) name.now ≡ false }
+{
+    let name = label(alloc, name)?;
+    match registry.builder(name.as_str()) {
+        Some(builder) => {
+            let shape = builder.shape().copy(alloc)?;
+            Ok(BuilderUse { name, shape })
+        }
+        None => Err(Unmade::Refused),
+    }
+}
+
+/// The builders of an expression. Refused where there is none of one of the names.
+pub fn builders_named(
+    alloc: Global,
+    registry: &Registry,
+    infixes: &[char],
+    prefixes: &[char],
+    postfixes: &[char],
+) -> Result<OperatorBuilders, Unmade>
+    ensures used { IfOk result (λ used. used ≡ meaning.builders_named (offer_of registry.now) infixes.now prefixes.now postfixes.now) }
+    ensures known { OnOk result (BuilderIsKnown (offer_of registry.now) infixes.now × BuilderIsKnown (offer_of registry.now) prefixes.now × BuilderIsKnown (offer_of registry.now) postfixes.now) }
+    ensures refused { IsErrOf result Unmade.Refused → (BuilderIsKnown (offer_of registry.now) infixes.now × BuilderIsKnown (offer_of registry.now) prefixes.now × BuilderIsKnown (offer_of registry.now) postfixes.now) → ⊥ }
+{
+    let infix = builder_named(alloc, registry, infixes)?;
+    let prefix = builder_named(alloc, registry, prefixes)?;
+    let postfix = builder_named(alloc, registry, postfixes)?;
+    Ok(OperatorBuilders {
+        infix,
+        prefix,
+        postfix,
+    })
+}
+
+/// How many class items stand before the first with this name, if there is one.
+fn place_of_class(classes: &[Characters], name: &[char]) -> Option<usize>
+    ensures { result ≡ place_of_name classes.now name.now }
+{
+    classes.iter().position(|other| other.as_slice() == name)
+}
+
+/// What a name in a class expression stands for. Refused where it is nothing.
+fn class_named(
+    alloc: Global,
+    registry: &Registry,
+    classes: &[Characters],
+    name: &[char],
+) -> Result<ClassPart, Unmade>
+    ensures meant { IfOk result (λ part. part ≡ names.class_named (offer_of registry.now) classes.now name.now) }
+    ensures known { OnOk result (is_class_name (offer_of registry.now) classes.now name.now ≡ true) }
+    ensures refused { IsErrOf result Unmade.Refused → is_class_name (offer_of registry.now) classes.now name.now ≡ false }
+{
+    match place_of_class(classes, name) {
+        Some(number) => Ok(ClassPart::Class(ClassId::new(number))),
+        None => Ok(ClassPart::Predicate(predicate_named(alloc, registry, name)?)),
+    }
+}
+
+/// What a part of a class expression stands for. Refused where a name stands for nothing.
+fn part_meant(
+    alloc: Global,
+    registry: &Registry,
+    classes: &[Characters],
+    part: &WrittenPart,
+) -> Result<ClassPart, Unmade>
+    ensures meant { IfOk result (λ meant. meant ≡ part_meant (offer_of registry.now) classes.now part.now) }
+    ensures known { OnOk result (PartIsKnown (offer_of registry.now) classes.now part.now) }
+    ensures refused { IsErrOf result Unmade.Refused → PartIsKnown (offer_of registry.now) classes.now part.now → ⊥ }
+{
+    match part {
+        WrittenPart::Literal(text) => Ok(ClassPart::Literal(copied(alloc, text.as_slice())?)),
+        WrittenPart::Range(low, high) => Ok(ClassPart::Range(*low, *high)),
+        WrittenPart::Union(count) => Ok(ClassPart::Union(*count)),
+        WrittenPart::Complement => Ok(ClassPart::Complement),
+        WrittenPart::Named(name) => class_named(alloc, registry, classes, name.as_slice()),
+    }
+}
+
+/// What the parts of a class expression stand for. Refused where a name stands for nothing.
+fn parts_meant(
+    alloc: Global,
+    registry: &Registry,
+    classes: &[Characters],
+    parts: &[WrittenPart],
+) -> Result<Vec<ClassPart>, Unmade>
+    ensures meant { IfOk result (λ meant. meant.items ≡ parts_meant (offer_of registry.now) classes.now parts.now) }
+    ensures known { OnOk result (ClassIsKnown (offer_of registry.now) classes.now parts.now) }
+    ensures refused { IsErrOf result Unmade.Refused → ClassIsKnown (offer_of registry.now) classes.now parts.now → ⊥ }
+{
+    let mut meant = Vec::new(alloc);
+    for part in parts {
+        meant.push(part_meant(alloc, registry, classes, part)?)?;
+    }
+    Ok(meant)
+}
+
+/// What a class expression stands for, under class items of these names. Refused where a name stands for nothing.
+pub fn class_meant(
+    alloc: Global,
+    registry: &Registry,
+    classes: &[Characters],
+    class: &WrittenClass,
+) -> Result<ClassExpression, Unmade>
+    ensures meant { IfOk result (λ meant. meant ≡ parts_meant (offer_of registry.now) classes.now class.now) }
+    ensures known { OnOk result (ClassIsKnown (offer_of registry.now) classes.now class.now) }
+    ensures refused { IsErrOf result Unmade.Refused → ClassIsKnown (offer_of registry.now) classes.now class.now → ⊥ }
+{
+    let parts = parts_meant(alloc, registry, classes, class.parts())?;
+    Ok(ClassExpression::new(alloc, parts)?)
+}

@@ -1,0 +1,384 @@
+//! From values as they are written to base forms: short forms are replaced by what they stand for, and names of classes and
+//! builders by what they name.
+//!
+//! The forms are gone through from the last to the first, since a form's parts are the whole forms that stand next behind
+//! it. The bodies that wait to become parts are kept first to last. How large a body gets is judged before, so that
+//! nothing too large is built here.
+
+ghost use Rattle.std.specs.Prelude.{◌≡◌, ◌∷◌, ◌++◌, [], map, take, drop, IfOk, OnOk, IsErrOf};
+ghost use Rattle.std.specs.List.{AllByRecursion};
+ghost use Rattle.std.specs.Str.{encode_utf8_all};
+ghost use Rattle.pg_pred.specs.Offer.{offer_of};
+ghost use Rattle.pg_items.specs.Entries.{forms_of};
+ghost use Rattle.pg_grammar.specs.declared.form.BaseForm.TheVariants as base;
+ghost use Rattle.pg_meaning.specs.Names.{builder_named, BuilderIsKnown, ClassIsKnown, FormIsKnown};
+ghost use Rattle.pg_meaning.specs.Meaning as meaning;
+ghost use Rattle.pg_items.specs.Sizes.{part_count};
+ghost use Rattle.pg_meaning.specs.Bodies.{bases_of, all_bases_of, body_at, body_of_form, body_meant, parts_meant};
+
+use crate::body::{PlacedBase, between_of, in_front, one_of, seq_of, single, some_of, two_of};
+use crate::error::Unmade;
+use crate::lookup::{builder_named, builders_named, class_meant, label};
+use pg_grammar::{BaseForm, BuilderUse, ClassExpression};
+use pg_items::{
+    ChainForm, ClassForm, OneForm, PlacedForm, SomeForm, TwoForm, WrittenClass, WrittenForm,
+};
+use pg_pred::Registry;
+use pg_text::Characters;
+use pg_tokens::copied;
+use std::alloc::{AllocError, Global};
+use std::collections::VecDeque;
+
+/// The base forms of a value, given its forms, under class items of these names. Refused where a name of a class or a
+/// builder stands for nothing.
+pub fn body_meant(
+    alloc: Global,
+    registry: &Registry,
+    classes: &[Characters],
+    forms: &[PlacedForm],
+) -> Result<Vec<PlacedBase>, Unmade>
+    ensures meant { IfOk result (λ body. bases_of body.items ≡ body_meant (offer_of registry.now) classes.now (forms_of forms.now)) }
+    ensures known { OnOk result (AllByRecursion (FormIsKnown (offer_of registry.now) classes.now) (forms_of forms.now)) }
+    ensures refused { IsErrOf result Unmade.Refused → AllByRecursion (FormIsKnown (offer_of registry.now) classes.now) (forms_of forms.now) → ⊥ }
+{
+    let mut waiting = VecDeque::new(alloc);
+    let mut rest = forms;
+    while let Some((form, before)) = rest.split_last() {
+        let body = body_of_form(alloc, registry, classes, form, &mut waiting)?;
+        waiting.push_front(body)?;
+        rest = before;
+    }
+    Ok(next_body(alloc, &mut waiting))
+}
+
+/// Takes the first body out, or gives the empty one.
+fn next_body(alloc: Global, waiting: &mut VecDeque<Vec<PlacedBase>>) -> Vec<PlacedBase>
+    ensures first { bases_of result.items ≡ body_at 0 (all_bases_of waiting.old.items) }
+    ensures rest { waiting.new.items ≡ drop 1 waiting.old.items }
+{
+    match waiting.pop_front() {
+        Some(body) => body,
+        None => Vec::new(alloc),
+    }
+}
+
+/// Takes the first so many bodies out.
+fn next_bodies(
+    alloc: Global,
+    waiting: &mut VecDeque<Vec<PlacedBase>>,
+    count: usize,
+) -> Result<Vec<Vec<PlacedBase>>, AllocError>
+    ensures bodies { IfOk result (λ bodies. bodies.items ≡ take count waiting.old.items) }
+    ensures rest { OnOk result (waiting.new.items ≡ drop count waiting.old.items) }
+{
+    let mut bodies = Vec::new(alloc);
+    for _ in 0..count {
+        let Some(body) = waiting.pop_front() else {
+            break;
+        };
+        bodies.push(body)?;
+    }
+    Ok(bodies)
+}
+
+/// A base form around the first body that waits.
+fn around(
+    alloc: Global,
+    form: BaseForm,
+    place: usize,
+    waiting: &mut VecDeque<Vec<PlacedBase>>,
+) -> Result<Vec<PlacedBase>, AllocError>
+    ensures body { IfOk result (λ body. bases_of body.items ≡ form ∷ body_at 0 (all_bases_of waiting.old.items)) }
+    ensures rest { OnOk result (waiting.new.items ≡ drop 1 waiting.old.items) }
+{
+    let body = next_body(alloc, waiting);
+    in_front(form, place, body)
+}
+
+/// A base form around the first two bodies that wait.
+fn around_two(
+    alloc: Global,
+    form: BaseForm,
+    place: usize,
+    waiting: &mut VecDeque<Vec<PlacedBase>>,
+) -> Result<Vec<PlacedBase>, AllocError>
+    ensures body { IfOk result (λ body. bases_of body.items ≡ form ∷ (body_at 0 (all_bases_of waiting.old.items) ++ body_at 1 (all_bases_of waiting.old.items))) }
+    ensures rest { OnOk result (waiting.new.items ≡ drop 2 waiting.old.items) }
+{
+    let mut first = next_body(alloc, waiting);
+    let mut second = next_body(alloc, waiting);
+    first.append(&mut second)?;
+    in_front(form, place, first)
+}
+
+/// A `seq` of the first so many bodies that wait.
+#[tactic(auto, using(crate::proofs::MeaningLemmas::Placed::bases_taken))]
+fn seq_body(
+    alloc: Global,
+    count: usize,
+    place: usize,
+    waiting: &mut VecDeque<Vec<PlacedBase>>,
+) -> Result<Vec<PlacedBase>, Unmade>
+    ensures body { IfOk result (λ body. bases_of body.items ≡ meaning.seq_of (take count (all_bases_of waiting.old.items))) }
+    ensures rest { OnOk result (waiting.new.items ≡ drop count waiting.old.items) }
+    ensures memory { IsErrOf result Unmade.Refused → ⊥ }
+{
+    let bodies = next_bodies(alloc, waiting, count)?;
+    Ok(seq_of(alloc, place, bodies)?)
+}
+
+/// A form of the first so many bodies that wait.
+#[tactic(auto, using(crate::proofs::MeaningLemmas::Placed::bases_taken))]
+fn some_body(
+    alloc: Global,
+    form: SomeForm,
+    count: usize,
+    place: usize,
+    waiting: &mut VecDeque<Vec<PlacedBase>>,
+) -> Result<Vec<PlacedBase>, Unmade>
+    ensures body { IfOk result (λ body. bases_of body.items ≡ meaning.some_of form (take count (all_bases_of waiting.old.items))) }
+    ensures rest { OnOk result (waiting.new.items ≡ drop count waiting.old.items) }
+    ensures memory { IsErrOf result Unmade.Refused → ⊥ }
+{
+    let bodies = next_bodies(alloc, waiting, count)?;
+    Ok(some_of(alloc, form, place, bodies)?)
+}
+
+/// A form of the first body that waits.
+fn one_body(
+    alloc: Global,
+    form: OneForm,
+    place: usize,
+    waiting: &mut VecDeque<Vec<PlacedBase>>,
+) -> Result<Vec<PlacedBase>, Unmade>
+    ensures body { IfOk result (λ body. bases_of body.items ≡ meaning.one_of form (body_at 0 (all_bases_of waiting.old.items))) }
+    ensures rest { OnOk result (waiting.new.items ≡ drop 1 waiting.old.items) }
+    ensures memory { IsErrOf result Unmade.Refused → ⊥ }
+{
+    let body = next_body(alloc, waiting);
+    Ok(one_of(alloc, form, place, body)?)
+}
+
+/// A form of a body and a separator, the first two bodies that wait.
+fn two_body(
+    alloc: Global,
+    form: TwoForm,
+    place: usize,
+    waiting: &mut VecDeque<Vec<PlacedBase>>,
+) -> Result<Vec<PlacedBase>, Unmade>
+    ensures body { IfOk result (λ body. bases_of body.items ≡ meaning.two_of form (body_at 0 (all_bases_of waiting.old.items)) (body_at 1 (all_bases_of waiting.old.items))) }
+    ensures rest { OnOk result (waiting.new.items ≡ drop 2 waiting.old.items) }
+    ensures memory { IsErrOf result Unmade.Refused → ⊥ }
+{
+    let body = next_body(alloc, waiting);
+    let separator = next_body(alloc, waiting);
+    Ok(two_of(alloc, form, place, body, separator)?)
+}
+
+/// What stands before a body, what stands behind it, and the body: the first three bodies that wait.
+fn between_body(
+    alloc: Global,
+    place: usize,
+    waiting: &mut VecDeque<Vec<PlacedBase>>,
+) -> Result<Vec<PlacedBase>, Unmade>
+    ensures body { IfOk result (λ body. bases_of body.items ≡ meaning.between_of (body_at 0 (all_bases_of waiting.old.items)) (body_at 1 (all_bases_of waiting.old.items)) (body_at 2 (all_bases_of waiting.old.items))) }
+    ensures rest { OnOk result (waiting.new.items ≡ drop 3 waiting.old.items) }
+    ensures memory { IsErrOf result Unmade.Refused → ⊥ }
+{
+    let before = next_body(alloc, waiting);
+    let behind = next_body(alloc, waiting);
+    let inner = next_body(alloc, waiting);
+    Ok(between_of(alloc, place, before, behind, inner)?)
+}
+
+/// A form of a class expression.
+fn class_of(form: ClassForm, class: ClassExpression) -> BaseForm
+    ensures { result ≡ meaning.class_of form class }
+{
+    match form {
+        ClassForm::Satisfy => BaseForm::Satisfy(class),
+        ClassForm::NotFollowedBy => BaseForm::NotFollowedBy(class),
+        ClassForm::Declare => BaseForm::Declare(class),
+    }
+}
+
+/// A chain, folded by a builder.
+fn chain_of(form: ChainForm, used: BuilderUse) -> BaseForm
+    ensures { result ≡ meaning.chain_of form used }
+{
+    match form {
+        ChainForm::Left => BaseForm::ChainLeft(used),
+        ChainForm::Right => BaseForm::ChainRight(used),
+    }
+}
+
+/// The body of a form of a class expression. Refused where a name in it stands for nothing.
+fn class_body(
+    alloc: Global,
+    registry: &Registry,
+    classes: &[Characters],
+    form: ClassForm,
+    class: &WrittenClass,
+    place: usize,
+) -> Result<Vec<PlacedBase>, Unmade>
+    ensures meant { IfOk result (λ body. bases_of body.items ≡ meaning.class_of form (parts_meant (offer_of registry.now) classes.now class.now) ∷ []) }
+    ensures known { OnOk result (ClassIsKnown (offer_of registry.now) classes.now class.now) }
+    ensures refused { IsErrOf result Unmade.Refused → ClassIsKnown (offer_of registry.now) classes.now class.now → ⊥ }
+{
+    let class = class_meant(alloc, registry, classes, class)?;
+    Ok(single(alloc, class_of(form, class), place)?)
+}
+
+/// A chain of the first two bodies that wait. Refused where no builder has the name.
+fn chain_body(
+    alloc: Global,
+    registry: &Registry,
+    form: ChainForm,
+    builder: &Characters,
+    place: usize,
+    waiting: &mut VecDeque<Vec<PlacedBase>>,
+) -> Result<Vec<PlacedBase>, Unmade>
+    ensures meant { IfOk result (λ body. bases_of body.items ≡ meaning.chain_of form (builder_named (offer_of registry.now) builder.now) ∷ (body_at 0 (all_bases_of waiting.old.items) ++ body_at 1 (all_bases_of waiting.old.items))) }
+    ensures rest { OnOk result (waiting.new.items ≡ drop 2 waiting.old.items) }
+    ensures known { OnOk result (BuilderIsKnown (offer_of registry.now) builder.now) }
+    ensures refused { IsErrOf result Unmade.Refused → BuilderIsKnown (offer_of registry.now) builder.now → ⊥ }
+{
+    let used = builder_named(alloc, registry, builder.as_slice())?;
+    Ok(around_two(alloc, chain_of(form, used), place, waiting)?)
+}
+
+/// Operators around the first body that waits. Refused where one of the names is that of no builder.
+fn expression_body(
+    alloc: Global,
+    registry: &Registry,
+    infixes: &Characters,
+    prefixes: &Characters,
+    postfixes: &Characters,
+    place: usize,
+    waiting: &mut VecDeque<Vec<PlacedBase>>,
+) -> Result<Vec<PlacedBase>, Unmade>
+    ensures meant { IfOk result (λ body. bases_of body.items ≡ base.Expression (meaning.builders_named (offer_of registry.now) infixes.now prefixes.now postfixes.now) ∷ body_at 0 (all_bases_of waiting.old.items)) }
+    ensures rest { OnOk result (waiting.new.items ≡ drop 1 waiting.old.items) }
+    ensures known { OnOk result (BuilderIsKnown (offer_of registry.now) infixes.now × BuilderIsKnown (offer_of registry.now) prefixes.now × BuilderIsKnown (offer_of registry.now) postfixes.now) }
+    ensures refused { IsErrOf result Unmade.Refused → (BuilderIsKnown (offer_of registry.now) infixes.now × BuilderIsKnown (offer_of registry.now) prefixes.now × BuilderIsKnown (offer_of registry.now) postfixes.now) → ⊥ }
+{
+    let (infixes, prefixes, postfixes) = (
+        infixes.as_slice(),
+        prefixes.as_slice(),
+        postfixes.as_slice(),
+    );
+    let builders = builders_named(alloc, registry, infixes, prefixes, postfixes)?;
+    Ok(around(alloc, BaseForm::Expression(builders), place, waiting)?)
+}
+
+/// A tree of the first body that waits. Refused where no builder has the name.
+fn build_body(
+    alloc: Global,
+    registry: &Registry,
+    builder: &Characters,
+    symbol: &Characters,
+    place: usize,
+    waiting: &mut VecDeque<Vec<PlacedBase>>,
+) -> Result<Vec<PlacedBase>, Unmade>
+    ensures meant { IfOk result (λ body. bases_of body.items ≡ base.Build (builder_named (offer_of registry.now) builder.now) (encode_utf8_all symbol.now) ∷ body_at 0 (all_bases_of waiting.old.items)) }
+    ensures rest { OnOk result (waiting.new.items ≡ drop 1 waiting.old.items) }
+    ensures known { OnOk result (BuilderIsKnown (offer_of registry.now) builder.now) }
+    ensures refused { IsErrOf result Unmade.Refused → BuilderIsKnown (offer_of registry.now) builder.now → ⊥ }
+{
+    let used = builder_named(alloc, registry, builder.as_slice())?;
+    let form = BaseForm::Build(used, label(alloc, symbol.as_slice())?);
+    Ok(around(alloc, form, place, waiting)?)
+}
+
+/// The body of characters.
+fn string_body(alloc: Global, text: &Characters, place: usize) -> Result<Vec<PlacedBase>, Unmade>
+    ensures body { IfOk result (λ body. bases_of body.items ≡ base.String text.now ∷ []) }
+    ensures memory { IsErrOf result Unmade.Refused → ⊥ }
+{
+    let form = BaseForm::String(copied(alloc, text.as_slice())?);
+    Ok(single(alloc, form, place)?)
+}
+
+/// The body of a word.
+fn word_body(alloc: Global, text: &Characters, place: usize) -> Result<Vec<PlacedBase>, Unmade>
+    ensures body { IfOk result (λ body. bases_of body.items ≡ base.Word text.now ∷ []) }
+    ensures memory { IsErrOf result Unmade.Refused → ⊥ }
+{
+    let form = BaseForm::Word(copied(alloc, text.as_slice())?);
+    Ok(single(alloc, form, place)?)
+}
+
+/// The body of a rule's name.
+fn rule_body(alloc: Global, text: &Characters, place: usize) -> Result<Vec<PlacedBase>, Unmade>
+    ensures body { IfOk result (λ body. bases_of body.items ≡ base.Rule text.now ∷ []) }
+    ensures memory { IsErrOf result Unmade.Refused → ⊥ }
+{
+    let form = BaseForm::Rule(copied(alloc, text.as_slice())?);
+    Ok(single(alloc, form, place)?)
+}
+
+/// The body of the end of the text.
+fn end_body(alloc: Global, place: usize) -> Result<Vec<PlacedBase>, Unmade>
+    ensures body { IfOk result (λ body. bases_of body.items ≡ base.EndOfText ∷ []) }
+    ensures memory { IsErrOf result Unmade.Refused → ⊥ }
+{
+    Ok(single(alloc, BaseForm::EndOfText, place)?)
+}
+
+/// The first body that waits, with a message.
+fn label_body(
+    alloc: Global,
+    message: &Characters,
+    place: usize,
+    waiting: &mut VecDeque<Vec<PlacedBase>>,
+) -> Result<Vec<PlacedBase>, Unmade>
+    ensures body { IfOk result (λ body. bases_of body.items ≡ base.Label message.now ∷ body_at 0 (all_bases_of waiting.old.items)) }
+    ensures rest { OnOk result (waiting.new.items ≡ drop 1 waiting.old.items) }
+    ensures memory { IsErrOf result Unmade.Refused → ⊥ }
+{
+    let form = BaseForm::Label(copied(alloc, message.as_slice())?);
+    Ok(around(alloc, form, place, waiting)?)
+}
+
+/// What a form stands for, whose parts are taken out of the bodies that wait. Refused where a name of a class or a builder
+/// stands for nothing.
+fn body_of_form(
+    alloc: Global,
+    registry: &Registry,
+    classes: &[Characters],
+    placed: &PlacedForm,
+    waiting: &mut VecDeque<Vec<PlacedBase>>,
+) -> Result<Vec<PlacedBase>, Unmade>
+    ensures meant { IfOk result (λ body. bases_of body.items ≡ body_of_form (offer_of registry.now) classes.now placed.now.form (take (part_count placed.now.form) (all_bases_of waiting.old.items))) }
+    ensures rest { OnOk result (waiting.new.items ≡ drop (part_count placed.now.form) waiting.old.items) }
+    ensures known { OnOk result (FormIsKnown (offer_of registry.now) classes.now placed.now.form) }
+    ensures refused { IsErrOf result Unmade.Refused → FormIsKnown (offer_of registry.now) classes.now placed.now.form → ⊥ }
+{
+    let place = placed.place;
+    match &placed.form {
+        WrittenForm::OfClass(form, class) => {
+            class_body(alloc, registry, classes, *form, class, place)
+        }
+        WrittenForm::String(text) => string_body(alloc, text, place),
+        WrittenForm::Seq(count) => seq_body(alloc, *count, place, waiting),
+        WrittenForm::OfSome(form, count) => some_body(alloc, *form, *count, place, waiting),
+        WrittenForm::OfOne(form) => one_body(alloc, *form, place, waiting),
+        WrittenForm::OfTwo(form) => two_body(alloc, *form, place, waiting),
+        WrittenForm::Between => between_body(alloc, place, waiting),
+        WrittenForm::Chain { form, builder } => {
+            chain_body(alloc, registry, *form, builder, place, waiting)
+        }
+        WrittenForm::Expression {
+            infix,
+            prefix,
+            postfix,
+        } => expression_body(alloc, registry, infix, prefix, postfix, place, waiting),
+        WrittenForm::Build { builder, symbol } => {
+            build_body(alloc, registry, builder, symbol, place, waiting)
+        }
+        WrittenForm::Label(message) => label_body(alloc, message, place, waiting),
+        WrittenForm::EndOfText => end_body(alloc, place),
+        WrittenForm::Word(name) => word_body(alloc, name, place),
+        WrittenForm::Rule(name) => rule_body(alloc, name, place),
+    }
+}

@@ -1,0 +1,30 @@
+-- The items that a file's tokens spell.
+use Rattle.std.specs.Prelude.{◌≡◌, List, map}
+use Rattle.std.specs.List.{AllByRecursion}
+use Rattle.pg_parser.specs.declared.error.SyntaxError.{SyntaxError}
+use Rattle.pg_tokens.specs.Tokens.{Token}
+use Rattle.pg_items.specs.Tree.{Item}
+use Rattle.pg_items.specs.Syntax.{file_written}
+use Rattle.pg_items.specs.Proper.{IsProperItem}
+use Rattle.pg_items.specs.Depth.{IsShallow}
+use Rattle.pg_items.specs.Heads.{entry_of_item}
+use Rattle.pg_items.specs.Entries.{Entry}
+use Rattle.pg_parser.specs.Limits.{full_room, KeepWithin}
+use Rattle.pg_parser.specs.Given.{IsFault}
+
+-- the tokens are those of items that may stand in a file, not too many of a kind, and these are their entries
+pub record AreItems (tokens : List Token) (entries : List Entry) : Type 0 where
+  pub items : List Item
+  pub written : tokens ≡ file_written items
+  pub proper : AllByRecursion IsProperItem items
+  pub shallow : AllByRecursion IsShallow items
+  pub few : KeepWithin full_room (map entry_of_item items)
+  pub meant : entries ≡ map entry_of_item items
+
+-- whatever entries the tokens spell, it is these
+abbrev pub OnlyItems : List Token → List Entry → Type 0
+OnlyItems tokens entries = (others : List Entry) → AreItems tokens others → entries ≡ others
+
+-- a fault is answered only where the tokens spell no entries
+abbrev pub FaultyItems : List Token → SyntaxError → Type 0
+FaultyItems tokens e = IsFault e → (entries : List Entry) → AreItems tokens entries → ⊥

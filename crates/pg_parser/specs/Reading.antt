@@ -1,0 +1,326 @@
+-- Reading tokens from left to right, as functions: what was read and the tokens behind it, or None at a fault. The parser's
+-- code is held to them, and they read exactly what Syntax writes.
+use Rattle.std.specs.Prelude.{ℕ, zero, suc, ◌-◌, ◌&&◌, ◌==◌, nat_le, if◌then◌else◌, List, [], ◌∷◌, ◌++◌, length, Option, Some, None, codes}
+use Rattle.std.specs.Str.{bytes_eq}
+use Rattle.pg_items.specs.declared.written.WrittenPart.{WrittenPart}
+use Rattle.pg_items.specs.declared.written.WrittenPart.TheVariants as part
+use Rattle.pg_items.specs.declared.written.WrittenForm.{WrittenForm}
+use Rattle.pg_items.specs.declared.written.WrittenForm.TheVariants as written
+use Rattle.pg_tokens.specs.declared.token.Mark.{Mark}
+use Rattle.pg_tokens.specs.declared.token.Mark.TheVariants.{Open, Close, Comma, Bar, Dots}
+use Rattle.pg_items.specs.declared.words.ClassForm.{ClassForm}
+use Rattle.pg_items.specs.declared.words.SomeForm.{SomeForm}
+use Rattle.pg_items.specs.declared.words.ChainForm.{ChainForm}
+use Rattle.pg_items.specs.declared.words.FormWord.{FormWord}
+use Rattle.pg_items.specs.declared.words.FormWord.TheVariants as word
+use Rattle.pg_tokens.specs.Lexical.{passes}
+use Rattle.pg_tokens.specs.Tokens.{Token, name, number, literal, mark, wrong, bad, is_mark, is_word}
+use Rattle.pg_items.specs.Proper.{is_reserved, is_decimal, value_of}
+use Rattle.pg_items.specs.Words.{form_word}
+
+infixl 10 ◌>>=◌
+abbrev pub ◌>>=◌ : {A B : Type 0} → Option A → (A → Option B) → Option B
+(Some x) >>= f = f x
+None >>= f = None
+
+-- a value in preorder
+abbrev pub Body : Type 0
+Body = List WrittenForm
+
+-- a class expression in preorder, or an atom of one
+abbrev pub ClassParts : Type 0
+ClassParts = List WrittenPart
+
+abbrev pub Reader : Type 0 → Type 0
+Reader A = List Token → Option (A × List Token)
+
+-- ---- marks, words, names, literals and numbers
+
+-- what stands behind a mark
+abbrev pub mark_at : Mark → List Token → Option (List Token)
+mark_at m [] = None
+mark_at m (t ∷ ts) = if is_mark m t then Some ts else None
+
+-- what stands behind a word
+abbrev pub word_at : List ℕ → List Token → Option (List Token)
+word_at word [] = None
+word_at word (t ∷ ts) = if is_word word t then Some ts else None
+
+-- a name, reserved or not, of any length
+abbrev pub name_at : Reader (List ℕ)
+name_at (name s ∷ ts) = Some (s, ts)
+name_at ts = None
+
+-- a literal of any length
+abbrev pub literal_at : Reader (List ℕ)
+literal_at (literal s ∷ ts) = Some (s, ts)
+literal_at ts = None
+
+-- a number of any size
+abbrev pub number_at : Reader (List ℕ)
+number_at (number s ∷ ts) = Some (s, ts)
+number_at ts = None
+
+-- a name of at most 64 characters, reserved or not
+abbrev pub short_name : List ℕ → Option (List ℕ)
+short_name s = if nat_le (length s) 64 then Some s else None
+
+-- a name that a rule, a class or a word may have
+unfoldable pub free_name : List ℕ → Option (List ℕ)
+free_name s = if is_reserved s then None else short_name s
+
+-- the text of a literal
+abbrev pub literal_text : List ℕ → Option (List ℕ)
+literal_text s = if nat_le (length s) 1024 then Some s else None
+
+-- the text of a literal that isn't empty
+unfoldable pub filled_text : List ℕ → Option (List ℕ)
+filled_text [] = None
+filled_text (c ∷ s) = literal_text (c ∷ s)
+
+-- the number that digits write, if it is at most so great
+unfoldable pub value_within : ℕ → List ℕ → Option ℕ
+value_within high s = if passes is_decimal s && nat_le (value_of s) high then Some (value_of s) else None
+
+-- the number, if it is also at least so great
+abbrev pub value_between : ℕ → ℕ → List ℕ → Option ℕ
+value_between low high s = value_within high s >>= λ n. if nat_le low n then Some n else None
+
+-- ---- parts with a mark between
+
+-- what was read behind another part, which stood in front
+abbrev pub with_first : {A : Type 0} → A → Option (List A × List Token) → Option (List A × List Token)
+with_first x read = read >>= λ xs. Some (x ∷ xs.0, xs.1)
+
+-- the parts behind another one: none, or what stands behind the mark
+abbrev pub more_with : {A : Type 0} → Reader A → Reader (List A) → List Token → Option (List Token) → Option (List A × List Token)
+more_with part more ts None = Some ([], ts)
+more_with part more ts (Some behind) = part behind >>= λ x. with_first x.0 (more x.1)
+
+-- the parts behind another one, a mark in front of each; at most n are read
+unfoldable pub more_at : {A : Type 0} → Mark → Reader A → ℕ → Reader (List A)
+more_at between part zero ts = Some ([], ts)
+more_at between part (suc n) ts = more_with part (more_at between part n) ts (mark_at between ts)
+
+-- a part and at most n others
+unfoldable pub some_at : {A : Type 0} → Mark → Reader A → ℕ → Reader (List A)
+some_at between part n ts = part ts >>= λ x. with_first x.0 (more_at between part n x.1)
+
+-- lists, one behind another
+abbrev pub joined : {A : Type 0} → List (List A) → List A
+joined [] = []
+joined (xs ∷ lists) = xs ++ joined lists
+
+-- ---- class expressions
+
+-- an end of a range
+abbrev pub range_end : List ℕ → Option ℕ
+range_end [] = None
+range_end (c ∷ []) = Some c
+range_end (c ∷ d ∷ s) = None
+
+-- a range that ascends
+abbrev pub range_between : ℕ → ℕ → Option WrittenPart
+range_between low high = if nat_le low high then Some (part.Range low high) else None
+
+-- the rest of a range, behind the dots
+abbrev pub range_at : List ℕ → Reader ClassParts
+range_at s ts = do
+  low ← range_end s
+  t ← literal_at ts
+  high ← range_end t.0
+  range ← range_between low high
+  Some (range ∷ [], t.1)
+
+-- a set of characters
+abbrev pub set_at : List ℕ → Reader ClassParts
+set_at s ts = literal_text s >>= λ t. Some (part.Literal t ∷ [], ts)
+
+-- a literal and what stands behind it; behind that, if it is there, what stands behind the dots
+abbrev pub atom_with : List ℕ → List Token → Option (List Token) → Option (ClassParts × List Token)
+atom_with s ts None = set_at s ts
+atom_with s ts (Some behind) = range_at s behind
+
+-- a set or a range, from its first literal on
+abbrev pub literal_atom_at : Reader ClassParts
+literal_atom_at ts = literal_at ts >>= λ s. atom_with s.0 s.1 (mark_at Dots s.1)
+
+-- a class, or the predicate, with this name
+abbrev pub named_at : List ℕ → Reader ClassParts
+named_at s ts = free_name s >>= λ n. Some (part.Named n ∷ [], ts)
+
+-- one part in front
+abbrev pub in_front : WrittenPart → Option (ClassParts × List Token) → Option (ClassParts × List Token)
+in_front first read = read >>= λ x. Some (first ∷ x.0, x.1)
+
+-- an atom without `not`; group reads what stands behind a parenthesis
+unfoldable pub plain_at : Reader ClassParts → Reader ClassParts
+plain_at group [] = None
+plain_at group (name s ∷ ts) = named_at s ts
+plain_at group (number s ∷ ts) = None
+plain_at group (literal s ∷ ts) = literal_atom_at (literal s ∷ ts)
+plain_at group (mark m ∷ ts) = if is_mark Open (mark m) then group ts else None
+plain_at group (wrong ∷ ts) = None
+plain_at group (bad ∷ ts) = None
+
+-- an atom, behind any number of `not`
+unfoldable pub atom_at : Reader ClassParts → Reader ClassParts
+atom_at group [] = None
+atom_at group (t ∷ ts) = if is_word (codes "not") t then in_front part.Complement (atom_at group ts) else plain_at group (t ∷ ts)
+
+-- the expression of these atoms: a single one as it is, several as a union
+abbrev pub expressed : List ClassParts → ClassParts
+expressed [] = []
+expressed (first ∷ []) = first
+expressed (first ∷ second ∷ others) = part.Union (length (first ∷ second ∷ others)) ∷ joined (first ∷ second ∷ others)
+
+-- an expression, which ends where no `|` stands
+unfoldable pub class_with : Reader ClassParts → Reader ClassParts
+class_with group ts = some_at Bar (atom_at group) (length ts) ts >>= λ atoms. Some (expressed atoms.0, atoms.1)
+
+-- what was read, if the closing parenthesis stands behind it
+abbrev pub with_close : {A : Type 0} → A → Reader A
+with_close x ts = mark_at Close ts >>= λ rest. Some (x, rest)
+
+-- a class and its closing parenthesis
+abbrev pub closed_at : {A : Type 0} → Reader A → Reader A
+closed_at read ts = read ts >>= λ x. with_close x.0 x.1
+
+-- behind a parenthesis, where n may nest, this one included
+unfoldable pub group_at : ℕ → Reader ClassParts
+group_at zero ts = None
+group_at (suc n) ts = closed_at (class_with (group_at n)) ts
+
+-- an expression in which parentheses may nest n deep
+abbrev pub class_at : ℕ → Reader ClassParts
+class_at n = class_with (group_at n)
+
+-- ---- values: what stands in the parentheses of each form, in front of the one that closes
+
+-- a class
+abbrev pub of_class_at : ClassForm → Reader ClassParts → Reader Body
+of_class_at form class ts = class ts >>= λ c. Some (written.OfClass form c.0 ∷ [], c.1)
+
+-- a literal that isn't empty
+abbrev pub string_at : Reader Body
+string_at ts = do
+  s ← literal_at ts
+  text ← filled_text s.0
+  Some (written.String text ∷ [], s.1)
+
+-- the name of a word item
+abbrev pub word_name_at : Reader Body
+word_name_at ts = do
+  s ← name_at ts
+  n ← free_name s.0
+  Some (written.Word n ∷ [], s.1)
+
+-- as many values as there are, at least one
+abbrev pub values_at : Reader Body → Reader (List Body)
+values_at value ts = some_at Comma value (length ts) ts
+
+-- values, or none where the parenthesis closes at once
+abbrev pub seq_with : Reader Body → List Token → Option (List Token) → Option (Body × List Token)
+seq_with value ts (Some rest) = Some (written.Seq 0 ∷ [], ts)
+seq_with value ts None = values_at value ts >>= λ vs. Some (written.Seq (length vs.0) ∷ joined vs.0, vs.1)
+
+abbrev pub of_some_at : SomeForm → Reader Body → Reader Body
+of_some_at form value ts = values_at value ts >>= λ vs. Some (written.OfSome form (length vs.0) ∷ joined vs.0, vs.1)
+
+-- these parts behind a form, if they are n
+abbrev pub counted : WrittenForm → ℕ → List Body → List Token → Option (Body × List Token)
+counted head n parts rest = if length parts == n then Some (head ∷ joined parts, rest) else None
+
+-- a form of n values
+abbrev pub around_at : WrittenForm → ℕ → Reader Body → Reader Body
+around_at head n value ts = some_at Comma value (n - 1) ts >>= λ vs. counted head n vs.0 vs.1
+
+-- a builder's name, and the comma behind it
+abbrev pub builder_at : Reader (List ℕ)
+builder_at ts = do
+  s ← name_at ts
+  builder ← short_name s.0
+  rest ← mark_at Comma s.1
+  Some (builder, rest)
+
+abbrev pub chain_head_at : ChainForm → Reader WrittenForm
+chain_head_at form ts = do
+  builder ← builder_at ts
+  Some (written.Chain form builder.0, builder.1)
+
+abbrev pub expression_head_at : Reader WrittenForm
+expression_head_at ts = do
+  infixes ← builder_at ts
+  prefixes ← builder_at infixes.1
+  postfixes ← builder_at prefixes.1
+  Some (written.Expression infixes.0 prefixes.0 postfixes.0, postfixes.1)
+
+-- a builder's symbol and the comma behind it, if a literal stands there
+abbrev pub symbol_at : Reader (List ℕ)
+symbol_at [] = Some ([], [])
+symbol_at (name s ∷ ts) = Some ([], name s ∷ ts)
+symbol_at (number s ∷ ts) = Some ([], number s ∷ ts)
+symbol_at (literal s ∷ ts) = do
+  text ← literal_text s
+  rest ← mark_at Comma ts
+  Some (text, rest)
+symbol_at (mark m ∷ ts) = Some ([], mark m ∷ ts)
+symbol_at (wrong ∷ ts) = None
+symbol_at (bad ∷ ts) = Some ([], bad ∷ ts)
+
+abbrev pub build_head_at : Reader WrittenForm
+build_head_at ts = do
+  builder ← builder_at ts
+  symbol ← symbol_at builder.1
+  Some (written.Build builder.0 symbol.0, symbol.1)
+
+-- a value, a comma and a message
+abbrev pub label_at : Reader Body → Reader Body
+label_at value ts = do
+  v ← value ts
+  behind ← mark_at Comma v.1
+  s ← literal_at behind
+  message ← literal_text s.0
+  Some (written.Label message ∷ v.0, s.1)
+
+-- what stands in the parentheses behind a word; class and value read what stands in those
+unfoldable pub form_at : Reader ClassParts → Reader Body → FormWord → Reader Body
+form_at class value (word.OfClass form) ts = of_class_at form class ts
+form_at class value word.String ts = string_at ts
+form_at class value word.Seq ts = seq_with value ts (mark_at Close ts)
+form_at class value (word.OfSome form) ts = of_some_at form value ts
+form_at class value (word.OfOne form) ts = around_at (written.OfOne form) 1 value ts
+form_at class value (word.OfTwo form) ts = around_at (written.OfTwo form) 2 value ts
+form_at class value word.Between ts = around_at written.Between 3 value ts
+form_at class value (word.Chain form) ts = do
+  head ← chain_head_at form ts
+  around_at head.0 2 value head.1
+form_at class value word.Expression ts = do
+  head ← expression_head_at ts
+  around_at head.0 1 value head.1
+form_at class value word.Build ts = do
+  head ← build_head_at ts
+  around_at head.0 1 value head.1
+form_at class value word.Label ts = label_at value ts
+form_at class value word.Word ts = word_name_at ts
+
+-- a rule's name
+abbrev pub rule_named_at : List ℕ → Reader Body
+rule_named_at s ts = free_name s >>= λ n. Some (written.Rule n ∷ [], ts)
+
+-- what a name begins that isn't `eof`: a form, or nothing but itself
+abbrev pub value_of_word : (FormWord → Reader Body) → List ℕ → Option FormWord → Reader Body
+value_of_word inside s (Some word) ts = mark_at Open ts >>= closed_at (inside word)
+value_of_word inside s None ts = rule_named_at s ts
+
+-- what a name begins
+abbrev pub value_of_name : (FormWord → Reader Body) → List ℕ → Reader Body
+value_of_name inside s ts = if bytes_eq (codes "eof") s then Some (written.EndOfText ∷ [], ts) else value_of_word inside s (form_word s) ts
+
+abbrev pub value_with : (FormWord → Reader Body) → Reader Body
+value_with inside ts = name_at ts >>= λ s. value_of_name inside s.0 s.1
+
+-- parentheses may nest n deep
+unfoldable pub value_at : ℕ → Reader Body
+value_at zero = value_with (λ word ts. None)
+value_at (suc n) = value_with (form_at (class_at n) (value_at n))

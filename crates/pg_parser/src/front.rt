@@ -1,0 +1,108 @@
+//! The tokens at the front: marks, words, names, numbers and literals, each with the fault where another token stands.
+//!
+//! A token that can't stand where it is met is the fault of its place, and so is the end of the file. Names, numbers
+//! and literals are handed on in place, to be judged by what they are read for.
+
+ghost use Rattle.std.specs.Prelude.{◌≡◌};
+ghost use Rattle.pg_tokens.specs.View.{tokens_of};
+ghost use Rattle.pg_parser.specs.Given.{Gives, IsFault, behind_of};
+ghost use Rattle.pg_parser.specs.Reading as reading;
+
+use crate::error::{SyntaxError, SyntaxFault};
+use pg_tokens::{Lexeme, Mark, Token};
+
+/// The fault at the front, where none of the tokens that could stand there does.
+pub fn unexpected(tokens: &[Lexeme]) -> SyntaxError
+    ensures { IsFault result }
+{
+    match tokens {
+        [first, ..] if matches!(first.token, Token::Bad) => {
+            SyntaxError::Fault(SyntaxFault::BadToken, Some(first.place))
+        }
+        [first, ..] => SyntaxError::Fault(SyntaxFault::UnexpectedToken, Some(first.place)),
+        [] => SyntaxError::Fault(SyntaxFault::UnexpectedToken, None),
+    }
+}
+
+/// What stands behind the mark, if it is the first.
+pub fn behind_mark(tokens: &[Lexeme], which: Mark) -> Option<&[Lexeme]>
+    ensures { behind_of result ≡ reading.mark_at which (tokens_of tokens.now) }
+{
+    match tokens {
+        [first, rest @ ..] if first.token.is_mark(which) => Some(rest),
+        _ => None,
+    }
+}
+
+/// What stands behind the mark, which must be there.
+pub fn expect_mark(tokens: &[Lexeme], which: Mark) -> Result<&[Lexeme], SyntaxError>
+    ensures { Gives (λ rest. tokens_of rest.now) result (reading.mark_at which (tokens_of tokens.now)) }
+{
+    match behind_mark(tokens, which) {
+        Some(rest) => Ok(rest),
+        None => Err(unexpected(tokens)),
+    }
+}
+
+/// What stands behind the word, which is ASCII, if it is the first.
+pub fn behind_word<'a>(tokens: &'a [Lexeme], word: &str) -> Option<&'a [Lexeme]>
+    ensures { behind_of result ≡ reading.word_at word.now (tokens_of tokens.now) }
+{
+    match tokens {
+        [first, rest @ ..] if first.token.is_word(word) => Some(rest),
+        _ => None,
+    }
+}
+
+/// What stands behind the word, which is ASCII and must be there.
+pub fn expect_word<'a>(tokens: &'a [Lexeme], word: &str) -> Result<&'a [Lexeme], SyntaxError>
+    ensures { Gives (λ rest. tokens_of rest.now) result (reading.word_at word.now (tokens_of tokens.now)) }
+{
+    match behind_word(tokens, word) {
+        Some(rest) => Ok(rest),
+        None => Err(unexpected(tokens)),
+    }
+}
+
+/// A name and its place, and what stands behind it.
+pub fn name(tokens: &[Lexeme]) -> Result<(&[char], usize, &[Lexeme]), SyntaxError>
+    ensures { Gives (λ x. (x.0.now, tokens_of x.2.now)) result (reading.name_at (tokens_of tokens.now)) }
+{
+    if let [first, rest @ ..] = tokens
+        && let Token::Name(text) = &first.token
+    {
+        return Ok((text.as_slice(), first.place, rest));
+    }
+    Err(unexpected(tokens))
+}
+
+/// A number's digits and their place, and what stands behind it.
+pub fn number(tokens: &[Lexeme]) -> Result<(&[char], usize, &[Lexeme]), SyntaxError>
+    ensures { Gives (λ x. (x.0.now, tokens_of x.2.now)) result (reading.number_at (tokens_of tokens.now)) }
+{
+    if let [first, rest @ ..] = tokens
+        && let Token::Number(digits) = &first.token
+    {
+        return Ok((digits.as_slice(), first.place, rest));
+    }
+    Err(unexpected(tokens))
+}
+
+/// A literal and its place, and what stands behind it. F7 where an escape in it is none.
+pub fn literal(tokens: &[Lexeme]) -> Result<(&[char], usize, &[Lexeme]), SyntaxError>
+    ensures { Gives (λ x. (x.0.now, tokens_of x.2.now)) result (reading.literal_at (tokens_of tokens.now)) }
+{
+    match tokens {
+        [first, rest @ ..] => match &first.token {
+            Token::Literal(text) => Ok((text.as_slice(), first.place, rest)),
+            Token::WrongLiteral => Err(SyntaxError::Fault(
+                SyntaxFault::BadLiteral,
+                Some(first.place),
+            )),
+            Token::Name(_) | Token::Number(_) | Token::Mark(_) | Token::Bad => Err(unexpected(
+                tokens,
+            )),
+        },
+        [] => Err(unexpected(tokens)),
+    }
+}

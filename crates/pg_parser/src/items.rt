@@ -1,0 +1,78 @@
+//! The items of a grammar file, one after another.
+//!
+//! Names are judged later, by the places that the items keep.
+
+ghost use Rattle.std.specs.Prelude.{◌≡◌, IfOk, IfErr};
+ghost use Rattle.pg_tokens.specs.View.{tokens_of};
+ghost use Rattle.pg_items.specs.Entries.{entry_of, entries_of};
+ghost use Rattle.pg_parser.specs.Items.{AreItems, OnlyItems, FaultyItems};
+ghost use Rattle.pg_parser.specs.Given.{Gives};
+ghost use Rattle.pg_parser.specs.Limits.{room_behind};
+ghost use Rattle.pg_parser.specs.ItemReading.{turn_at, file_at};
+
+use crate::error::{SyntaxError, SyntaxFault};
+use crate::front::expect_mark;
+use crate::item::item;
+use crate::room::Room;
+use pg_items::Item;
+use pg_tokens::{Lexeme, Mark};
+use std::alloc::Global;
+
+/// An item, with the room that it leaves, and what stands behind its semicolon. F8 at the semicolon where there is no
+/// room for it.
+fn item_in(
+    alloc: Global,
+    room: Room,
+    tokens: &[Lexeme],
+) -> Result<(Item, Room, &[Lexeme]), SyntaxError>
+    ensures { Gives (λ x. ((entry_of x.0, x.1), tokens_of x.2.now)) result (turn_at room (tokens_of tokens.now)) }
+{
+    let (item, end) = item(alloc, tokens)?;
+    let rest = expect_mark(end, Mark::Semicolon)?;
+    let left = room_left(alloc, room, &item, end)?;
+    Ok((item, left, rest))
+}
+
+/// The room that an item leaves. F8 at its semicolon, the first of these tokens, where there is no room for it.
+fn room_left(alloc: Global, room: Room, item: &Item, end: &[Lexeme]) -> Result<Room, SyntaxError>
+    ensures { Gives (λ left. left) result (room_behind room (entry_of item.now)) }
+{
+    match room.behind(alloc, item)? {
+        Some(left) => Ok(left),
+        None => Err(SyntaxError::Fault(
+            SyntaxFault::LimitPassed,
+            end.first().map(|first| first.place),
+        )),
+    }
+}
+
+fn all_items(alloc: Global, lexemes: &[Lexeme]) -> Result<Vec<Item>, SyntaxError>
+    ensures { Gives (λ items. entries_of items.items) result (file_at (tokens_of lexemes.now)) }
+{
+    let mut items = Vec::new(alloc);
+    let mut rest = lexemes;
+    let mut room = Room::new();
+    while !rest.is_empty() {
+        let (item, left, behind) = item_in(alloc, room, rest)?;
+        items.push(item)?;
+        room = left;
+        rest = behind;
+    }
+    Ok(items)
+}
+
+/// The items of a grammar file, given its tokens.
+///
+/// The first fault from the left is answered, at one place the one with the lowest number: F2 at a `Bad` token and
+/// F3 at another that can't stand where it does, F7 at a literal that is wrong, F8 at a name, a literal or a
+/// parenthesis past its limit, and at the semicolon behind which there are over 256 classes, 64 words, 512 rules
+/// or 8,192 nodes (ours).
+#[tactic(auto, using(crate::proofs::ParserLemmas::Files::are_items))]
+pub fn read_items(alloc: Global, lexemes: &[Lexeme]) -> Result<Vec<Item>, SyntaxError>
+    ensures items { IfOk result (λ items. AreItems (tokens_of lexemes.now) (entries_of items.items)) }
+    ensures only { IfOk result (λ items. OnlyItems (tokens_of lexemes.now) (entries_of items.items)) }
+    ensures refused { IfErr result (λ e. FaultyItems (tokens_of lexemes.now) e) }
+{
+    let items = all_items(alloc, lexemes)?;
+    Ok(items)
+}

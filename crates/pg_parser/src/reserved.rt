@@ -1,0 +1,67 @@
+//! What may stand at the end of an item: reserved texts, and how many operators there may be.
+
+ghost use Rattle.std.specs.Prelude.{◌≡◌};
+ghost use Rattle.pg_tokens.specs.View.{tokens_of};
+ghost use Rattle.pg_parser.specs.Given.{Gives};
+ghost use Rattle.pg_parser.specs.ItemReading.{has_literal, literals_at, reserved_at, most_at};
+
+use crate::error::SyntaxError;
+use crate::front::{behind_word, number};
+use crate::text::{filled_at, value_between};
+use pg_text::Characters;
+use pg_tokens::{Lexeme, Token};
+use std::alloc::Global;
+
+/// The most operators that a file may allow.
+const OPERATOR_LIMIT: usize = 64;
+
+/// Whether a literal stands at the front, be it wrong or not.
+fn has_literal(tokens: &[Lexeme]) -> bool
+    ensures { result ≡ has_literal (tokens_of tokens.now) }
+{
+    match tokens {
+        [first, ..] => matches!(first.token, Token::Literal(_) | Token::WrongLiteral),
+        [] => false,
+    }
+}
+
+/// The literals that stand next to one another, none of them empty.
+fn literals(alloc: Global, tokens: &[Lexeme]) -> Result<(Vec<Characters>, &[Lexeme]), SyntaxError>
+    ensures { Gives (λ x. (x.0.items, tokens_of x.1.now)) result (literals_at (tokens_of tokens.now)) }
+{
+    let mut texts = Vec::new(alloc);
+    let mut rest = tokens;
+    while has_literal(rest) {
+        let (text, _place, behind) = filled_at(alloc, rest)?;
+        texts.push(text)?;
+        rest = behind;
+    }
+    Ok((texts, rest))
+}
+
+/// The texts behind the word `reserved`, if it stands there: one or more.
+pub fn reserved(
+    alloc: Global,
+    tokens: &[Lexeme],
+) -> Result<(Vec<Characters>, &[Lexeme]), SyntaxError>
+    ensures { Gives (λ x. (x.0.items, tokens_of x.1.now)) result (reserved_at (tokens_of tokens.now)) }
+{
+    let Some(behind) = behind_word(tokens, "reserved") else {
+        return Ok((Vec::new(alloc), tokens));
+    };
+    let (first, _place, rest) = filled_at(alloc, behind)?;
+    let (mut texts, rest) = literals(alloc, rest)?;
+    texts.insert(0, first)?;
+    Ok((texts, rest))
+}
+
+/// The number behind the word `max`, if it stands there. F3 where it isn't 1 to 64.
+pub fn most(tokens: &[Lexeme]) -> Result<(Option<usize>, &[Lexeme]), SyntaxError>
+    ensures { Gives (λ x. (x.0, tokens_of x.1.now)) result (most_at (tokens_of tokens.now)) }
+{
+    let Some(behind) = behind_word(tokens, "max") else {
+        return Ok((None, tokens));
+    };
+    let (digits, place, rest) = number(behind)?;
+    Ok((Some(value_between(1, OPERATOR_LIMIT, digits, place)?), rest))
+}

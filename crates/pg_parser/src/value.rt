@@ -1,0 +1,268 @@
+//! Values: the bodies of rules, read as forms in preorder, each with its place.
+//!
+//! A form's parts are read whole before the form is put in front of them. How deep parentheses may still nest is
+//! handed down, so that the recursion ends at the limit.
+
+ghost use Rattle.std.specs.Prelude.{◌≡◌, [], ◌∷◌, ◌<◌, length, IfOk};
+ghost use Rattle.pg_tokens.specs.declared.token.Mark.TheVariants.{Comma, Close};
+ghost use Rattle.pg_tokens.specs.View.{tokens_of};
+ghost use Rattle.pg_items.specs.Entries.{forms_of};
+ghost use Rattle.pg_parser.specs.Given.{Gives, bodies_of, body_of};
+ghost use Rattle.pg_parser.specs.Reading.{with_close, more_at, some_at, mark_at, class_at, seq_with, of_some_at, counted, around_at, label_at, form_at, value_at, rule_named_at};
+ghost use Rattle.pg_parser.specs.Reading as reading;
+
+use crate::error::{SyntaxError, SyntaxFault};
+use crate::front::{behind_mark, expect_mark, literal, name, unexpected};
+use crate::head::{
+    Form, Head, build_head, chain_head, expression_head, of_class, string, unnamed, word_name,
+};
+use crate::text::{free_name, literal_text};
+use pg_items::{FormWord, PlacedForm, SomeForm, WrittenForm, form_word};
+use pg_tokens::{Lexeme, Mark, is_word};
+use std::alloc::{AllocError, Global};
+
+/// Bodies, one behind another.
+fn joined(alloc: Global, bodies: Vec<Vec<PlacedForm>>) -> Result<Vec<PlacedForm>, AllocError>
+    ensures { IfOk result (λ parts. forms_of parts.items ≡ reading.joined (bodies_of bodies.items)) }
+{
+    let mut parts = Vec::new(alloc);
+    for mut body in bodies {
+        parts.append(&mut body)?;
+    }
+    Ok(parts)
+}
+
+/// The form at a place, in front of its parts.
+fn placed(form: Form, place: usize) -> Result<Vec<PlacedForm>, AllocError>
+    ensures { IfOk result (λ body. forms_of body.items ≡ body_of form) }
+{
+    let Form { head, parts } = form;
+    let Head { form, names } = head;
+    let mut body = parts;
+    body.insert(0, PlacedForm { form, place, names })?;
+    Ok(body)
+}
+
+/// The body of the form at a place, and what stands behind the parenthesis that closes.
+fn closed(
+    form: Form,
+    place: usize,
+    tokens: &[Lexeme],
+) -> Result<(Vec<PlacedForm>, &[Lexeme]), SyntaxError>
+    ensures { Gives (λ x. (forms_of x.0.items, tokens_of x.1.now)) result (with_close (body_of form) (tokens_of tokens.now)) }
+{
+    let rest = expect_mark(tokens, Mark::Close)?;
+    Ok((placed(form, place)?, rest))
+}
+
+/// The form around these bodies, in front of the tokens behind them. F3 at these where there are not so many bodies.
+fn counted(
+    alloc: Global,
+    head: Head,
+    count: usize,
+    values: Vec<Vec<PlacedForm>>,
+    rest: &[Lexeme],
+) -> Result<(Form, &[Lexeme]), SyntaxError>
+    ensures { Gives (λ x. (body_of x.0, tokens_of x.1.now)) result (counted head.form count (bodies_of values.items) (tokens_of rest.now)) }
+{
+    if values.len() != count {
+        return Err(unexpected(rest));
+    }
+    let parts = joined(alloc, values)?;
+    Ok((Form { head, parts }, rest))
+}
+
+/// The body of this one form, in which nothing is named but perhaps itself.
+fn single(alloc: Global, form: WrittenForm, place: usize) -> Result<Vec<PlacedForm>, AllocError>
+    ensures { IfOk result (λ body. forms_of body.items ≡ form ∷ []) }
+{
+    let names = Vec::new(alloc);
+    Ok(vec![in alloc; PlacedForm { form, place, names }]?)
+}
+
+/// The values behind another one, a comma in front of each; at most so many.
+#[cycle(value)]
+fn more_values(
+    alloc: Global,
+    depth: usize,
+    most: usize,
+    tokens: &[Lexeme],
+) -> Result<(Vec<Vec<PlacedForm>>, &[Lexeme]), SyntaxError>
+    ensures { Gives (λ x. (bodies_of x.0.items, tokens_of x.1.now)) result (more_at Comma (value_at depth) most (tokens_of tokens.now)) }
+{
+    let mut values = Vec::new(alloc);
+    let mut rest = tokens;
+    for _ in 0..most {
+        let Some(behind) = behind_mark(rest, Mark::Comma) else {
+            return Ok((values, rest));
+        };
+        let (next, after) = value(alloc, depth, behind)?;
+        values.push(next)?;
+        rest = after;
+    }
+    Ok((values, rest))
+}
+
+/// A value and at most so many others.
+#[cycle(value)]
+#[tactic(auto, unfolding(crate::specs::Reading::some_at))]
+fn values(
+    alloc: Global,
+    depth: usize,
+    most: usize,
+    tokens: &[Lexeme],
+) -> Result<(Vec<Vec<PlacedForm>>, &[Lexeme]), SyntaxError>
+    ensures { Gives (λ x. (bodies_of x.0.items, tokens_of x.1.now)) result (some_at Comma (value_at depth) most (tokens_of tokens.now)) }
+{
+    let (first, rest) = value(alloc, depth, tokens)?;
+    let (mut values, rest) = more_values(alloc, depth, most, rest)?;
+    values.insert(0, first)?;
+    Ok((values, rest))
+}
+
+/// A form of so many values.
+#[cycle(value)]
+fn around(
+    alloc: Global,
+    depth: usize,
+    head: Head,
+    count: usize,
+    tokens: &[Lexeme],
+) -> Result<(Form, &[Lexeme]), SyntaxError>
+    requires { 0 < count }
+    ensures { Gives (λ x. (body_of x.0, tokens_of x.1.now)) result (around_at head.form count (value_at depth) (tokens_of tokens.now)) }
+{
+    let (values, rest) = values(alloc, depth, count - 1, tokens)?;
+    counted(alloc, head, count, values, rest)
+}
+
+/// A `seq`, of any number of values.
+#[cycle(value)]
+fn seq(alloc: Global, depth: usize, tokens: &[Lexeme]) -> Result<(Form, &[Lexeme]), SyntaxError>
+    ensures { Gives (λ x. (body_of x.0, tokens_of x.1.now)) result (seq_with (value_at depth) (tokens_of tokens.now) (mark_at Close (tokens_of tokens.now))) }
+{
+    if behind_mark(tokens, Mark::Close).is_some() {
+        let head = unnamed(alloc, WrittenForm::Seq(0));
+        let parts = Vec::new(alloc);
+        return Ok((Form { head, parts }, tokens));
+    }
+    let (values, rest) = values(alloc, depth, tokens.len(), tokens)?;
+    let head = unnamed(alloc, WrittenForm::Seq(values.len()));
+    let parts = joined(alloc, values)?;
+    Ok((Form { head, parts }, rest))
+}
+
+/// A form of one value or more.
+#[cycle(value)]
+fn of_some(
+    alloc: Global,
+    depth: usize,
+    form: SomeForm,
+    tokens: &[Lexeme],
+) -> Result<(Form, &[Lexeme]), SyntaxError>
+    ensures { Gives (λ x. (body_of x.0, tokens_of x.1.now)) result (of_some_at form (value_at depth) (tokens_of tokens.now)) }
+{
+    let (values, rest) = values(alloc, depth, tokens.len(), tokens)?;
+    let head = unnamed(alloc, WrittenForm::OfSome(form, values.len()));
+    let parts = joined(alloc, values)?;
+    Ok((Form { head, parts }, rest))
+}
+
+/// A `label`: a value and its message.
+#[cycle(value)]
+fn label(alloc: Global, depth: usize, tokens: &[Lexeme]) -> Result<(Form, &[Lexeme]), SyntaxError>
+    ensures { Gives (λ x. (body_of x.0, tokens_of x.1.now)) result (label_at (value_at depth) (tokens_of tokens.now)) }
+{
+    let (parts, rest) = value(alloc, depth, tokens)?;
+    let rest = expect_mark(rest, Mark::Comma)?;
+    let (text, place, rest) = literal(rest)?;
+    let message = literal_text(alloc, text, place)?;
+    let head = unnamed(alloc, WrittenForm::Label(message));
+    Ok((Form { head, parts }, rest))
+}
+
+/// What stands behind a form's word and parenthesis, up to the one that closes.
+#[cycle(value)]
+#[tactic(auto, unfolding(crate::specs::Reading::form_at))]
+fn form(
+    alloc: Global,
+    depth: usize,
+    word: FormWord,
+    tokens: &[Lexeme],
+) -> Result<(Form, &[Lexeme]), SyntaxError>
+    ensures { Gives (λ x. (body_of x.0, tokens_of x.1.now)) result (form_at (class_at depth) (value_at depth) word (tokens_of tokens.now)) }
+{
+    match word {
+        FormWord::OfClass(form) => of_class(alloc, depth, form, tokens),
+        FormWord::String => string(alloc, tokens),
+        FormWord::Seq => seq(alloc, depth, tokens),
+        FormWord::OfSome(form) => of_some(alloc, depth, form, tokens),
+        FormWord::OfOne(form) => {
+            let head = unnamed(alloc, WrittenForm::OfOne(form));
+            around(alloc, depth, head, 1, tokens)
+        }
+        FormWord::OfTwo(form) => {
+            let head = unnamed(alloc, WrittenForm::OfTwo(form));
+            around(alloc, depth, head, 2, tokens)
+        }
+        FormWord::Between => {
+            let head = unnamed(alloc, WrittenForm::Between);
+            around(alloc, depth, head, 3, tokens)
+        }
+        FormWord::Chain(form) => {
+            let (head, rest) = chain_head(alloc, form, tokens)?;
+            around(alloc, depth, head, 2, rest)
+        }
+        FormWord::Expression => {
+            let (head, rest) = expression_head(alloc, tokens)?;
+            around(alloc, depth, head, 1, rest)
+        }
+        FormWord::Build => {
+            let (head, rest) = build_head(alloc, tokens)?;
+            around(alloc, depth, head, 1, rest)
+        }
+        FormWord::Label => label(alloc, depth, tokens),
+        FormWord::Word => word_name(alloc, tokens),
+    }
+}
+
+/// The name of a rule, which stands at a place.
+fn rule_named<'a>(
+    alloc: Global,
+    text: &[char],
+    place: usize,
+    rest: &'a [Lexeme],
+) -> Result<(Vec<PlacedForm>, &'a [Lexeme]), SyntaxError>
+    ensures { Gives (λ x. (forms_of x.0.items, tokens_of x.1.now)) result (rule_named_at text.now (tokens_of rest.now)) }
+{
+    let name = free_name(alloc, text, place)?;
+    Ok((single(alloc, WrittenForm::Rule(name), place)?, rest))
+}
+
+/// A value, in which parentheses may nest so deep. F8 at the first parenthesis that nests deeper.
+#[cycle(value)]
+#[tactic(auto, using(crate::proofs::ParserLemmas::Loop::value_nested), unfolding(crate::specs::Reading::value_at))]
+pub fn value(
+    alloc: Global,
+    depth: usize,
+    tokens: &[Lexeme],
+) -> Result<(Vec<PlacedForm>, &[Lexeme]), SyntaxError>
+    ensures { Gives (λ x. (forms_of x.0.items, tokens_of x.1.now)) result (value_at depth (tokens_of tokens.now)) }
+{
+    let (text, place, rest) = name(tokens)?;
+    if is_word("eof", text) {
+        return Ok((single(alloc, WrittenForm::EndOfText, place)?, rest));
+    }
+    let Some(word) = form_word(text) else {
+        return rule_named(alloc, text, place, rest);
+    };
+    let inside = expect_mark(rest, Mark::Open)?;
+    if depth == 0 {
+        return Err(SyntaxError::Fault(
+            SyntaxFault::LimitPassed,
+            rest.first().map(|first| first.place),
+        ));
+    }
+    let (form, rest) = form(alloc, depth - 1, word, inside)?;
+    closed(form, place, rest)
+}

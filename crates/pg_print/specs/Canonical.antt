@@ -1,0 +1,153 @@
+-- The tree that a grammar is printed as: its items in groups by kind, each group in file order, and base forms alone.
+-- Names stand for the numbers that they have in the grammar, and parentheses only where a class expression needs them.
+use Rattle.std.specs.Prelude.{ℕ, zero, suc, List, [], ◌∷◌, ◌++◌, map, take, drop, Option, Some, None}
+use Rattle.std.specs.Str.{chars}
+use Rattle.std.specs.Fmt.{decimal}
+use Rattle.pg_grammar.specs.Names as names
+use Rattle.pg_grammar.specs.Names.{name_at}
+use Rattle.pg_grammar.specs.Classes.{member_count}
+use Rattle.pg_grammar.specs.ClassItems.{item_name}
+use Rattle.pg_grammar.specs.Operators as operators
+use Rattle.pg_grammar.specs.Forms.{part_count}
+use Rattle.pg_grammar.specs.Grammar.{Grammar, rule_names, forms_of}
+use Rattle.pg_grammar.specs.declared.class.ClassPart.{ClassPart}
+use Rattle.pg_grammar.specs.declared.class.ClassPart.TheVariants as part
+use Rattle.pg_grammar.specs.declared.class_item.ClassItem.{ClassItem}
+use Rattle.pg_grammar.specs.declared.form.BaseForm.{BaseForm}
+use Rattle.pg_grammar.specs.declared.form.BaseForm.TheVariants as base
+use Rattle.pg_grammar.specs.declared.operators_item.OperatorsItem.{OperatorsItem}
+use Rattle.pg_grammar.specs.declared.word_item.WordItem.{WordItem}
+use Rattle.pg_items.specs.declared.words.ClassForm.TheVariants as class_form
+use Rattle.pg_items.specs.declared.words.SomeForm.TheVariants as some_form
+use Rattle.pg_items.specs.declared.words.OneForm.TheVariants as one_form
+use Rattle.pg_items.specs.declared.words.ChainForm.TheVariants as chain_form
+use Rattle.pg_items.specs.Tree.{Atom, Set, Range, Name, Not, Group, Class, Of, Atoms, No_atom, Or, Value, Of_class, String, Seq, Of_some, Of_one, Chain, Expression, Build, Build_symbol, Label, End_of_text, Word, Rule, Values, No_value, And, Item, Class_item, Word_item, Operators, Table, Start, Rule_item}
+
+-- ---- class expressions
+
+abbrev pub atoms_from : List Atom → Atoms
+atoms_from [] = No_atom
+atoms_from (a ∷ others) = Or a (atoms_from others)
+
+-- the union of atoms; of none it is the empty set
+abbrev pub union_of : List Atom → Class
+union_of [] = Of (Set []) No_atom
+union_of (a ∷ others) = Of a (atoms_from others)
+
+-- the first of some atoms, or the empty set
+abbrev pub first_atom : List Atom → Atom
+first_atom [] = Set []
+first_atom (a ∷ others) = a
+
+-- the atom of a part, over those that it has for members, where the class items have these names: a union stands in
+-- parentheses
+abbrev pub atom_of : List names.Name → ClassPart → List Atom → Atom
+atom_of items (part.Literal s) members = Set s
+atom_of items (part.Range low high) members = Range low high
+atom_of items (part.Union n) members = Group (union_of members)
+atom_of items part.Complement members = Not (first_atom members)
+atom_of items (part.Class k) members = Name (name_at items k)
+atom_of items (part.Predicate used) members = Name (chars used.name)
+
+-- the atoms of the whole expressions that the parts spell, from left to right
+abbrev pub atoms_of : List names.Name → List ClassPart → List Atom
+atoms_of items [] = []
+atoms_of items (p ∷ parts) = atom_of items p (take (member_count p) (atoms_of items parts)) ∷ drop (member_count p) (atoms_of items parts)
+
+-- an atom as a whole class expression, without parentheses around the whole
+abbrev pub whole_class : Atom → Class
+whole_class (Set s) = Of (Set s) No_atom
+whole_class (Range low high) = Of (Range low high) No_atom
+whole_class (Name s) = Of (Name s) No_atom
+whole_class (Not a) = Of (Not a) No_atom
+whole_class (Group c) = c
+
+-- the class expression that the parts spell
+abbrev pub class_from : List names.Name → List ClassPart → Class
+class_from items parts = whole_class (first_atom (atoms_of items parts))
+
+-- ---- values
+
+abbrev pub values_from : List Value → Values
+values_from [] = No_value
+values_from (v ∷ others) = And v (values_from others)
+
+-- the value with a number, or `seq()`
+abbrev pub value_at : ℕ → List Value → Value
+value_at k [] = Seq No_value
+value_at zero (v ∷ others) = v
+value_at (suc k) (v ∷ others) = value_at k others
+
+-- one of the values, the first of them tried first
+abbrev pub choice_from : List Value → Value
+choice_from [] = Of_some some_form.Choice (Seq No_value) No_value
+choice_from (v ∷ others) = Of_some some_form.Choice v (values_from others)
+
+-- a builder with its symbol, which is left out where it is empty
+abbrev pub build_from : List ℕ → List ℕ → Value → Value
+build_from builder [] v = Build builder v
+build_from builder (c ∷ symbol) v = Build_symbol builder (c ∷ symbol) v
+
+-- the value of a base form, over those that are its parts, where the class items have these names
+abbrev pub value_of_form : List names.Name → BaseForm → List Value → Value
+value_of_form items (base.Satisfy class) parts = Of_class class_form.Satisfy (class_from items class)
+value_of_form items (base.String s) parts = String s
+value_of_form items (base.Seq n) parts = Seq (values_from parts)
+value_of_form items (base.Choice n) parts = choice_from parts
+value_of_form items base.Many parts = Of_one one_form.Many (value_at 0 parts)
+value_of_form items (base.ChainLeft used) parts = Chain chain_form.Left (chars used.name) (value_at 0 parts) (value_at 1 parts)
+value_of_form items (base.ChainRight used) parts = Chain chain_form.Right (chars used.name) (value_at 0 parts) (value_at 1 parts)
+value_of_form items base.Try parts = Of_some some_form.Try (value_at 0 parts) No_value
+value_of_form items (base.NotFollowedBy class) parts = Of_class class_form.NotFollowedBy (class_from items class)
+value_of_form items base.EndOfText parts = End_of_text
+value_of_form items (base.Word s) parts = Word s
+value_of_form items (base.Rule s) parts = Rule s
+value_of_form items (base.Expression builders) parts = Expression (chars builders.«infix».name) (chars builders.prefix.name) (chars builders.postfix.name) (value_at 0 parts)
+value_of_form items (base.Declare class) parts = Of_class class_form.Declare (class_from items class)
+value_of_form items base.Text parts = Of_one one_form.Text (value_at 0 parts)
+value_of_form items base.Skip parts = Of_one one_form.Skip (value_at 0 parts)
+value_of_form items (base.Build used symbol) parts = build_from (chars used.name) (chars symbol) (value_at 0 parts)
+value_of_form items (base.Label message) parts = Label (value_at 0 parts) message
+
+-- the values that the base forms spell, from left to right
+abbrev pub values_of : List names.Name → List BaseForm → List Value
+values_of items [] = []
+values_of items (form ∷ forms) = value_of_form items form (take (part_count form) (values_of items forms)) ∷ drop (part_count form) (values_of items forms)
+
+-- ---- items
+
+-- the names of the class items
+abbrev pub class_names : Grammar → List names.Name
+class_names g = map item_name g.classes
+
+abbrev pub class_item : List names.Name → ClassItem → Item
+class_item items item = Class_item item.name (class_from items item.class)
+
+abbrev pub word_item : List names.Name → WordItem → Item
+word_item items item = Word_item item.name (class_from items item.head) (class_from items item.rest) item.reserved
+
+-- how many operators there may be is always said
+abbrev pub operators_item : List names.Name → OperatorsItem → Item
+operators_item items item = Operators (class_from items item.class) (class_from items item.gap) item.reserved (Some (decimal item.max))
+
+abbrev pub operators_items : List names.Name → Option OperatorsItem → List Item
+operators_items items None = []
+operators_items items (Some item) = operators_item items item ∷ []
+
+abbrev pub table_item : operators.Operator → Item
+table_item operator = Table operator.role (decimal operator.precedence) operator.symbol
+
+-- rules with these names and these bodies
+abbrev pub rule_items : List names.Name → List Value → List Item
+rule_items [] values = []
+rule_items (s ∷ rules) [] = []
+rule_items (s ∷ rules) (v ∷ values) = Rule_item s v ∷ rule_items rules values
+
+-- the items of a grammar: classes, words, operators, the table, the start, the rules
+abbrev pub items_of : Grammar → List Item
+items_of g =
+    map (class_item (class_names g)) g.classes
+    ++ (map (word_item (class_names g)) g.words
+    ++ (operators_items (class_names g) g.operators
+    ++ (map table_item g.initials
+    ++ (Start (name_at (rule_names g) g.start) ∷ rule_items (rule_names g) (values_of (class_names g) (forms_of g))))))

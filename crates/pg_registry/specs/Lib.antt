@@ -1,0 +1,4 @@
+pub mod Categories
+pub mod Kinds
+pub mod Builders
+pub mod ProgramOffer

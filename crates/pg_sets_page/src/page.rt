@@ -1,0 +1,292 @@
+//! The page of a grammar's sets.
+//!
+//! What sets name by numbers, rules and starts, is made into texts once; then the page is pushed together, rule by rule and
+//! node by node. Each function that pushes says by which text the page is longer. The only error is that memory ran out.
+
+ghost use Rattle.std.specs.Prelude.{◌≡◌, ◌++◌, ◌+◌, ◌^◌, ◌<◌, ◌≤◌, codes, length, map, string_bytes, IfOk, OnOk};
+ghost use Rattle.std.specs.List.{filter, join_by, range_with_len};
+ghost use Rattle.pg_numbers.specs.Numbers.{contains};
+ghost use Rattle.pg_predict.specs.Findings.{name_text, body_of};
+ghost use Rattle.pg_sets.specs.PrintedStarts.{start_text};
+ghost use Rattle.pg_sets_page.specs.SetsPage.{IsSetsPage, text_at, list_text, set_text, form_word, word_of, nullable_text, place_text, sets_text, node_line, rank_text, rule_line, end_of, node_lines, rule_text, page_text};
+
+use pg_grammar::{Grammar, Node, NodeId, Rule, RuleId};
+use pg_numbers::NumberSet;
+use pg_sets::{ListedStart, Sets, printed_start};
+use std::alloc::{AllocError, Global};
+
+/// The page of the sets of a grammar.
+pub fn sets_page(alloc: Global, grammar: &Grammar) -> Result<Vec<u8>, AllocError>
+    ensures { IfOk result (λ page. IsSetsPage grammar.now page.items) }
+{
+    let sets = Sets::compute(alloc, grammar)?;
+    let names = names_of(alloc, grammar.rules())?;
+    let starts = start_texts(alloc, grammar, sets.starts())?;
+    page_of(alloc, grammar, &names, &starts, &sets)
+}
+
+/// The names of rules.
+fn names_of(alloc: Global, rules: &[Rule]) -> Result<Vec<String>, AllocError>
+    ensures { IfOk result (λ names. map string_bytes names.items ≡ map name_text rules.now) }
+{
+    let mut names = Vec::new(alloc);
+    for rule in rules {
+        names.push(format!(in alloc; "{}", rule.name)?)?;
+    }
+    Ok(names)
+}
+
+/// The printed forms of starts.
+fn start_texts(
+    alloc: Global,
+    grammar: &Grammar,
+    starts: &[ListedStart],
+) -> Result<Vec<String>, AllocError>
+    ensures { IfOk result (λ texts. map string_bytes texts.items ≡ map (start_text grammar.now) starts.now) }
+{
+    let mut texts = Vec::new(alloc);
+    for start in starts {
+        texts.push(printed_start(alloc, grammar, start)?)?;
+    }
+    Ok(texts)
+}
+
+/// The page, by the texts of rules and starts.
+fn page_of(
+    alloc: Global,
+    grammar: &Grammar,
+    names: &[String],
+    starts: &[String],
+    sets: &Sets,
+) -> Result<Vec<u8>, AllocError>
+    ensures { IfOk result (λ page. page.items ≡ page_text grammar.now (map string_bytes names.now) (map string_bytes starts.now) sets.now) }
+{
+    let mut page = Vec::new(alloc);
+    for rule in 0..grammar.rules().len() {
+        push_rule_line(alloc, &mut page, names, sets, RuleId::new(rule))?;
+        let body = body_of(grammar.rules(), rule);
+        let end = end_of(grammar, rule);
+        push_node_lines(alloc, &mut page, grammar, starts, sets, body, end)?;
+    }
+    Ok(page)
+}
+
+/// The node that is a rule's body.
+fn body_of(rules: &[Rule], rule: usize) -> usize
+    ensures { result ≡ body_of rules.now rule }
+{
+    match rules.get(rule) {
+        Some(rule) => rule.body.index(),
+        None => 0,
+    }
+}
+
+/// The node behind the last of a rule.
+fn end_of(grammar: &Grammar, rule: usize) -> usize
+    requires { rule < length grammar.now.rules }
+    ensures { result ≡ end_of grammar.now rule }
+{
+    match grammar.rules().get(rule + 1) {
+        Some(next) => next.body.index(),
+        None => grammar.nodes().len(),
+    }
+}
+
+/// Pushes a rule's name, its heads and its rank.
+fn push_rule_line(
+    alloc: Global,
+    page: &mut Vec<u8>,
+    names: &[String],
+    sets: &Sets,
+    rule: RuleId,
+) -> Result<(), AllocError>
+    ensures { OnOk result (page.new.items ≡ page.old.items ++ rule_line (map string_bytes names.now) sets.now rule) }
+{
+    let heads = numbers_of(alloc, sets.heads(rule))?;
+    page.extend_from_slice(text_at(names, rule.index()).as_bytes())?;
+    page.extend_from_slice(b": heads ")?;
+    push_list(page, names, &heads)?;
+    page.extend_from_slice(b", rank ")?;
+    push_rank(alloc, page, sets.rank(rule))?;
+    page.extend_from_slice(b"\n")
+}
+
+/// The numbers of rules.
+fn numbers_of(alloc: Global, rules: &[RuleId]) -> Result<Vec<usize>, AllocError>
+    ensures { IfOk result (λ numbers. numbers.items ≡ rules.now) }
+{
+    let mut numbers = Vec::new(alloc);
+    for rule in rules {
+        numbers.push(rule.index())?;
+    }
+    Ok(numbers)
+}
+
+/// Pushes a rank, or that there is none.
+fn push_rank(alloc: Global, page: &mut Vec<u8>, rank: Option<u32>) -> Result<(), AllocError>
+    ensures { OnOk result (page.new.items ≡ page.old.items ++ rank_text rank) }
+{
+    match rank {
+        Some(rank) => {
+            let rank = format!(in alloc; "{rank}")?;
+            page.extend_from_slice(rank.as_bytes())
+        }
+        None => page.extend_from_slice(b"none"),
+    }
+}
+
+/// Pushes the lines of the nodes from the body on, up to the end, which is left out.
+fn push_node_lines(
+    alloc: Global,
+    page: &mut Vec<u8>,
+    grammar: &Grammar,
+    starts: &[String],
+    sets: &Sets,
+    body: usize,
+    end: usize,
+) -> Result<(), AllocError>
+    ensures { OnOk result (page.new.items ≡ page.old.items ++ node_lines grammar.now (map string_bytes starts.now) sets.now body end) }
+{
+    for node in body..end {
+        push_place(alloc, page, grammar, body, node)?;
+        push_sets(alloc, page, starts, sets, NodeId::new(node))?;
+    }
+    Ok(())
+}
+
+/// Pushes a node's number behind the body, from 1, and the word of its form.
+fn push_place(
+    alloc: Global,
+    page: &mut Vec<u8>,
+    grammar: &Grammar,
+    body: usize,
+    node: usize,
+) -> Result<(), AllocError>
+    requires behind { body ≤ node }
+    requires fits { node + 1 < 2 ^ 64 }
+    ensures { OnOk result (page.new.items ≡ page.old.items ++ place_text grammar.now body node) }
+{
+    let number = node - body + 1;
+    let word = word_of(grammar, node);
+    let text = format!(in alloc; "  {number} {word}: ")?;
+    page.extend_from_slice(text.as_bytes())
+}
+
+/// The word of the form at a node; none where there is no node.
+fn word_of(grammar: &Grammar, node: usize) -> &'static str
+    ensures { result.now ≡ word_of grammar.now node }
+{
+    match grammar.nodes().get(node) {
+        Some(node) => form_word(node),
+        None => "",
+    }
+}
+
+/// The word that a grammar file has for the form; a use of a rule, which has none there, is called `rule`.
+fn form_word(node: &Node) -> &'static str
+    ensures { result.now ≡ form_word node.now }
+{
+    match node {
+        Node::Satisfy(_) => "satisfy",
+        Node::String(_) => "string",
+        Node::Seq(_) => "seq",
+        Node::Choice(_) => "choice",
+        Node::Many(_) => "many",
+        Node::ChainLeft(_, _, _) => "chainl1",
+        Node::ChainRight(_, _, _) => "chainr1",
+        Node::Try(_) => "try",
+        Node::NotFollowedBy(_) => "notFollowedBy",
+        Node::EndOfText => "eof",
+        Node::Word(_) => "word",
+        Node::Rule(_) => "rule",
+        Node::Expression(_, _) => "expr",
+        Node::Declare(_) => "declare",
+        Node::Text(_) => "text",
+        Node::Skip(_) => "skip",
+        Node::Build(_, _, _) => "build",
+        Node::Label(_, _) => "label",
+    }
+}
+
+/// Pushes whether a node is nullable, its first set and its follow set.
+fn push_sets(
+    alloc: Global,
+    page: &mut Vec<u8>,
+    starts: &[String],
+    sets: &Sets,
+    node: NodeId,
+) -> Result<(), AllocError>
+    ensures { OnOk result (page.new.items ≡ page.old.items ++ sets_text (map string_bytes starts.now) sets.now node) }
+{
+    page.extend_from_slice(nullable_text(sets.nullable(node)).as_bytes())?;
+    page.extend_from_slice(b", first ")?;
+    push_set(alloc, page, starts, sets.first(node))?;
+    page.extend_from_slice(b", follow ")?;
+    push_set(alloc, page, starts, sets.follow(node))?;
+    page.extend_from_slice(b"\n")
+}
+
+fn nullable_text(nullable: bool) -> &'static str
+    ensures { result.now ≡ nullable_text nullable }
+{
+    if nullable { "nullable" } else { "not nullable" }
+}
+
+/// Pushes the texts whose numbers are in a set.
+fn push_set(
+    alloc: Global,
+    page: &mut Vec<u8>,
+    texts: &[String],
+    set: &NumberSet,
+) -> Result<(), AllocError>
+    ensures { OnOk result (page.new.items ≡ page.old.items ++ set_text (map string_bytes texts.now) set.now) }
+{
+    let numbers = members(alloc, set, texts.len())?;
+    push_list(page, texts, &numbers)
+}
+
+/// The numbers in a set below a limit.
+fn members(alloc: Global, set: &NumberSet, limit: usize) -> Result<Vec<usize>, AllocError>
+    ensures { IfOk result (λ numbers. numbers.items ≡ filter (contains set.now) (range_with_len 0 limit)) }
+{
+    let mut numbers = Vec::new(alloc);
+    for number in 0..limit {
+        if set.contains(number) {
+            numbers.push(number)?;
+        }
+    }
+    Ok(numbers)
+}
+
+/// Pushes the texts with these numbers, in brackets and with semicolons between.
+fn push_list(page: &mut Vec<u8>, texts: &[String], numbers: &[usize]) -> Result<(), AllocError>
+    ensures { OnOk result (page.new.items ≡ page.old.items ++ list_text (map string_bytes texts.now) numbers.now) }
+{
+    page.extend_from_slice(b"[")?;
+    push_joined(page, texts, numbers)?;
+    page.extend_from_slice(b"]")
+}
+
+/// Pushes the texts with these numbers, with semicolons between.
+fn push_joined(page: &mut Vec<u8>, texts: &[String], numbers: &[usize]) -> Result<(), AllocError>
+    ensures { OnOk result (page.new.items ≡ page.old.items ++ join_by (text_at (map string_bytes texts.now)) (codes "; ") numbers.now) }
+{
+    if let [first, rest @ ..] = numbers {
+        page.extend_from_slice(text_at(texts, *first).as_bytes())?;
+        for number in rest {
+            page.extend_from_slice(b"; ")?;
+            page.extend_from_slice(text_at(texts, *number).as_bytes())?;
+        }
+    }
+    Ok(())
+}
+
+/// The text with this number; none where there is none.
+fn text_at(texts: &[String], number: usize) -> &str
+    ensures { result.now ≡ text_at (map string_bytes texts.now) number }
+{
+    match texts.get(number) {
+        Some(text) => text.as_str(),
+        None => "",
+    }
+}

@@ -1,0 +1,158 @@
+-- Reading characters from left to right, as functions. The lexer's code is held to them, and proofs lead from them to
+-- Lexical, which says what a file's characters mean.
+use Rattle.std.specs.Prelude.{ℕ, zero, suc, ◌==◌, if◌then◌else◌, List, [], ◌∷◌, take, drop, length, Option, Some, None}
+use Rattle.std.specs.List.{prefix_len}
+use Rattle.std.specs.Char.{is_ascii_alphabetic, is_ascii_digit}
+use Rattle.std.specs.Str.Parse.{digits_value}
+use Rattle.pg_tokens.specs.declared.token.Mark.{Mark}
+use Rattle.pg_tokens.specs.declared.token.Mark.TheVariants.{Open, Close, Comma, Semicolon, Equals, Bar, Dots}
+use Rattle.pg_tokens.specs.Tokens.{Token, name, number, literal, mark, wrong, bad}
+use Rattle.pg_tokens.specs.Lexical.{is_blank, isnt_line_feed, goes_in_name, passes, short_escape, is_hex, is_code}
+
+-- the number that hexadecimal digits write
+abbrev pub hex_value : List ℕ → Option ℕ
+hex_value ds = if passes is_hex ds then Some (digits_value 16 ds) else None
+
+-- the character that the digits name
+abbrev pub code_point : List ℕ → Option ℕ
+code_point ds = if is_code ds then Some (digits_value 16 ds) else None
+
+-- a character, and what stands behind it
+abbrev pub with_rest : List ℕ → Option ℕ → Option (ℕ × List ℕ)
+with_rest rest (Some c) = Some (c, rest)
+with_rest rest None = None
+
+-- behind the digits: the closing brace
+abbrev pub brace_at : Option ℕ → List ℕ → Option (ℕ × List ℕ)
+brace_at code [] = None
+brace_at code (c ∷ cs) = if c == 125 then with_rest cs code else None
+
+-- behind `\u`
+abbrev pub unicode_at : List ℕ → Option (ℕ × List ℕ)
+unicode_at [] = None
+unicode_at (c ∷ cs) =
+    if c == 123 then brace_at (code_point (take (prefix_len is_hex cs) cs)) (drop (prefix_len is_hex cs) cs)
+    else None
+
+-- behind a backslash
+abbrev pub escape_at : List ℕ → Option (ℕ × List ℕ)
+escape_at [] = None
+escape_at (c ∷ cs) = if c == 117 then unicode_at cs else with_rest cs (short_escape c)
+
+-- what a quote begins
+pub data Quoted : Type 0 where
+  -- a literal: its text, and what follows
+  text : List ℕ → List ℕ → Quoted
+  -- a literal with a wrong escape, and what follows
+  spoilt : List ℕ → Quoted
+  -- its line ends first
+  unclosed : Quoted
+
+abbrev pub with_char : ℕ → Quoted → Quoted
+with_char c (text s rest) = text (c ∷ s) rest
+with_char c (spoilt rest) = spoilt rest
+with_char c unclosed = unclosed
+
+abbrev pub without_text : Quoted → Quoted
+without_text (text s rest) = spoilt rest
+without_text (spoilt rest) = spoilt rest
+without_text unclosed = unclosed
+
+-- a backslash with cs behind it: a wrong escape's characters are read as plain ones
+abbrev pub after_escape : (List ℕ → Quoted) → List ℕ → Option (ℕ × List ℕ) → Quoted
+after_escape others cs (Some x) = with_char x.0 (others x.1)
+after_escape others cs None = without_text (others cs)
+
+-- one character of a literal, or one escape
+abbrev pub literal_turn : (List ℕ → Quoted) → ℕ → List ℕ → Quoted
+literal_turn others c cs =
+    if c == 34 then text [] cs
+    else if c == 10 then unclosed
+    else if c == 92 then after_escape others cs (escape_at cs)
+    else with_char c (others cs)
+
+-- behind a quote; n bounds the turns
+unfoldable pub literal_within : ℕ → List ℕ → Quoted
+literal_within n [] = unclosed
+literal_within zero (c ∷ cs) = unclosed
+literal_within (suc n) (c ∷ cs) = literal_turn (literal_within n) c cs
+
+-- behind a quote
+unfoldable pub literal_at : List ℕ → Quoted
+literal_at cs = literal_within (length cs) cs
+
+-- what stands at the front
+pub data Front : Type 0 where
+  nothing : Front
+  -- white space or a comment, and what follows
+  blank : List ℕ → Front
+  token : Token → List ℕ → Front
+  broken : Front
+
+abbrev pub literal_front : Quoted → Front
+literal_front (text s rest) = token (literal s) rest
+literal_front (spoilt rest) = token wrong rest
+literal_front unclosed = broken
+
+abbrev pub behind_line : List ℕ → List ℕ
+behind_line cs = drop (prefix_len isnt_line_feed cs) cs
+
+abbrev pub name_at : List ℕ → Front
+name_at cs = token (name (take (prefix_len goes_in_name cs) cs)) (drop (prefix_len goes_in_name cs) cs)
+
+abbrev pub number_at : List ℕ → Front
+number_at cs = token (number (take (prefix_len is_ascii_digit cs) cs)) (drop (prefix_len is_ascii_digit cs) cs)
+
+-- behind a dot: a second one
+abbrev pub dots_at : List ℕ → Option (Mark × List ℕ)
+dots_at [] = None
+dots_at (c ∷ cs) = if c == 46 then Some (Dots, cs) else None
+
+-- a mark, and what stands behind it
+unfoldable pub mark_at : List ℕ → Option (Mark × List ℕ)
+mark_at [] = None
+mark_at (c ∷ cs) =
+    if c == 40 then Some (Open, cs)
+    else if c == 41 then Some (Close, cs)
+    else if c == 44 then Some (Comma, cs)
+    else if c == 59 then Some (Semicolon, cs)
+    else if c == 61 then Some (Equals, cs)
+    else if c == 124 then Some (Bar, cs)
+    else if c == 46 then dots_at cs
+    else None
+
+abbrev pub mark_front : Option (Mark × List ℕ) → Front
+mark_front (Some x) = token (mark x.0) x.1
+mark_front None = broken
+
+abbrev pub front_at : List ℕ → Front
+front_at [] = nothing
+front_at (c ∷ cs) =
+    if c == 35 then blank (behind_line cs)
+    else if c == 34 then literal_front (literal_at cs)
+    else if is_blank c then blank cs
+    else if is_ascii_alphabetic c then name_at (c ∷ cs)
+    else if is_ascii_digit c then number_at (c ∷ cs)
+    else mark_front (mark_at (c ∷ cs))
+
+abbrev pub after : (List ℕ → List Token) → Front → List Token
+after others nothing = []
+after others (blank rest) = others rest
+after others (token t rest) = t ∷ others rest
+after others broken = bad ∷ []
+
+-- n bounds the tokens, blanks and comments
+unfoldable pub lex_within : ℕ → List ℕ → List Token
+lex_within zero cs = []
+lex_within (suc n) cs = after (lex_within n) (front_at cs)
+
+-- the tokens, up to and with the first that is bad
+unfoldable pub lex_of : List ℕ → List Token
+lex_of cs = lex_within (length cs) cs
+
+-- the token at the front
+abbrev pub token_front : Front → Option Token
+token_front nothing = None
+token_front (blank rest) = None
+token_front (token t rest) = Some t
+token_front broken = Some bad

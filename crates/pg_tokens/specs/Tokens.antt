@@ -1,0 +1,57 @@
+-- The tokens of a grammar file, as contracts see them.
+use Rattle.std.specs.Prelude.{ℕ, Bool, false, ◌==◌, List, [], ◌∷◌}
+use Rattle.std.specs.Str.{bytes_eq}
+use Rattle.pg_tokens.specs.declared.token.Mark.{Mark}
+use Rattle.pg_tokens.specs.declared.token.Mark.TheVariants.{Open, Close, Comma, Semicolon, Equals, Bar, Dots}
+
+pub data Token : Type 0 where
+  name : List ℕ → Token
+  number : List ℕ → Token
+  -- what it stands for, its escapes resolved
+  literal : List ℕ → Token
+  mark : Mark → Token
+  -- a closed literal with an escape that is none
+  wrong : Token
+  -- no token: nothing behind it is read
+  bad : Token
+
+-- neither wrong nor bad
+abbrev pub IsGood : Token → Type 0
+IsGood (name s) = Unit {0}
+IsGood (number s) = Unit {0}
+IsGood (literal s) = Unit {0}
+IsGood (mark m) = Unit {0}
+IsGood wrong = ⊥
+IsGood bad = ⊥
+
+abbrev pub AreGood : List Token → Type 0
+AreGood [] = Unit {0}
+AreGood (t ∷ ts) = IsGood t × AreGood ts
+
+-- the marks, numbered
+abbrev pub mark_number : Mark → ℕ
+mark_number Open = 0
+mark_number Close = 1
+mark_number Comma = 2
+mark_number Semicolon = 3
+mark_number Equals = 4
+mark_number Bar = 5
+mark_number Dots = 6
+
+-- whether a token is this mark
+abbrev pub is_mark : Mark → Token → Bool
+is_mark m (name s) = false
+is_mark m (number s) = false
+is_mark m (literal s) = false
+is_mark m (mark n) = mark_number n == mark_number m
+is_mark m wrong = false
+is_mark m bad = false
+
+-- whether a token is this word
+abbrev pub is_word : List ℕ → Token → Bool
+is_word word (name s) = bytes_eq word s
+is_word word (number s) = false
+is_word word (literal s) = false
+is_word word (mark m) = false
+is_word word wrong = false
+is_word word bad = false

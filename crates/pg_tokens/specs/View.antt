@@ -1,0 +1,41 @@
+-- What the code's tokens stand for.
+use Rattle.std.specs.Prelude.{◌≡◌, ℕ, List, map, drop, Option, Some, None}
+use Rattle.std.specs.Borrow.{Bor}
+use Rattle.pg_tokens.specs.declared.token.Mark.{Mark}
+use Rattle.pg_tokens.specs.declared.token.Token as declared
+use Rattle.pg_tokens.specs.declared.token.Token.TheVariants.{Name, Number, Literal, Mark as MarkToken, WrongLiteral, Bad}
+use Rattle.pg_tokens.specs.declared.token.Lexeme.{Lexeme}
+use Rattle.pg_tokens.specs.declared.token.Front as fronts
+use Rattle.pg_tokens.specs.declared.token.Front.TheVariants as front
+use Rattle.pg_tokens.specs.Tokens.{Token, name, number, literal, mark, wrong, bad}
+use Rattle.pg_tokens.specs.Lexing.{Front, nothing, blank, token, broken, front_at, token_front}
+
+abbrev pub token_of : declared.Token → Token
+token_of (Name s) = name s.items
+token_of (Number s) = number s.items
+token_of (Literal s) = literal s.items
+token_of (MarkToken m) = mark m
+token_of WrongLiteral = wrong
+token_of Bad = bad
+
+-- without the places
+abbrev pub tokens_of : List Lexeme → List Token
+tokens_of lexemes = map (λ (l : Lexeme). token_of l.token) lexemes
+
+-- the token is the one that stands at its place
+abbrev pub StandsIn : List ℕ → Lexeme → Type 0
+StandsIn cs l = token_front (front_at (drop l.place cs)) ≡ Some (token_of l.token)
+
+abbrev pub front_of : fronts.Front → Front
+front_of front.End = nothing
+front_of (front.Blank rest) = blank rest.now
+front_of (front.Token t rest) = token (token_of t) rest.now
+front_of front.Bad = broken
+
+abbrev pub mark_read : Option (Mark × Bor (List ℕ)) → Option (Mark × List ℕ)
+mark_read (Some x) = Some (x.0, x.1.now)
+mark_read None = None
+
+abbrev pub escape_read : Option (ℕ × Bor (List ℕ)) → Option (ℕ × List ℕ)
+escape_read (Some x) = Some (x.0, x.1.now)
+escape_read None = None

@@ -1,0 +1,97 @@
+//! The characters of a grammar file, cut into tokens.
+//!
+//! White space and comments are passed over, and of what may stand at one place the longest run counts.
+//! The list ends with the file, or with the first `Bad` token: nothing behind that one is read. The
+//! parser relies on the places to say where a fault stands.
+ghost use Rattle.std.specs.Prelude.{◌≡◌, ◌<◌, ◌≤◌, length, All, AllPairs, IfOk};
+ghost use Rattle.pg_tokens.specs.Lexical.{SpelledIfGood, OnlySpelled};
+ghost use Rattle.pg_tokens.specs.Lexing.{lex_of, front_at, mark_at};
+ghost use Rattle.pg_tokens.specs.Lexing as lexing;
+ghost use Rattle.pg_tokens.specs.View.{front_of, tokens_of, StandsIn};
+
+use super::blank::{is_blank, skip_line};
+use super::literal::literal;
+use super::mark::mark;
+use super::word::{name, number};
+use crate::token::{Front, Lexeme, Token};
+use std::alloc::{AllocError, Global};
+
+fn mark_front(characters: &[char]) -> Front<'_>
+    ensures { front_of result ≡ lexing.mark_front (mark_at characters.now) }
+{
+    match mark(characters) {
+        Some((mark, rest)) => Front::Token(Token::Mark(mark), rest),
+        None => Front::Bad,
+    }
+}
+
+fn front(alloc: Global, characters: &[char]) -> Result<Front<'_>, AllocError>
+    ensures { IfOk result (λ found. front_of found ≡ front_at characters.now) }
+{
+    match characters {
+        [] => Ok(Front::End),
+        ['#', behind @ ..] => Ok(Front::Blank(skip_line(behind))),
+        ['"', behind @ ..] => literal(alloc, behind),
+        [first, behind @ ..] => {
+            if is_blank(*first) {
+                Ok(Front::Blank(behind))
+            } else if first.is_ascii_alphabetic() {
+                name(alloc, characters)
+            } else if first.is_ascii_digit() {
+                number(alloc, characters)
+            } else {
+                Ok(mark_front(characters))
+            }
+        }
+    }
+}
+
+/// The tokens of a grammar file, up to and with the first that is `Bad` (ours).
+///
+/// It fails where memory runs out, and then only; a fault of the file is a token.
+pub fn lex(alloc: Global, characters: &[char]) -> Result<Vec<Lexeme>, AllocError>
+    ensures tokens { IfOk result (λ found. tokens_of found.items ≡ lex_of characters.now) }
+    ensures spelled { IfOk result (λ found. SpelledIfGood characters.now (tokens_of found.items)) }
+    ensures only { IfOk result (λ found. OnlySpelled characters.now (tokens_of found.items)) }
+    ensures placed { IfOk result (λ found. All (StandsIn characters.now) found.items) }
+    ensures within { IfOk result (λ found. All (λ l. l.place < length characters.now) found.items) }
+    ensures ascending { IfOk result (λ found. AllPairs (λ l m. l.place < m.place) found.items) }
+{
+    let lexemes = lex_up_to(alloc, characters, characters.len())?;
+    Ok(lexemes)
+}
+
+/// The same, but no further than the first token that starts behind a place: what is wrong with a file up to there is
+/// seen from these tokens alone.
+pub fn lex_up_to(alloc: Global, characters: &[char], last: usize) -> Result<Vec<Lexeme>, AllocError>
+    ensures tokens { length characters.now ≤ last → IfOk result (λ found. tokens_of found.items ≡ lex_of characters.now) }
+    ensures spelled { length characters.now ≤ last → IfOk result (λ found. SpelledIfGood characters.now (tokens_of found.items)) }
+    ensures only { length characters.now ≤ last → IfOk result (λ found. OnlySpelled characters.now (tokens_of found.items)) }
+    ensures placed { length characters.now ≤ last → IfOk result (λ found. All (StandsIn characters.now) found.items) }
+    ensures within { length characters.now ≤ last → IfOk result (λ found. All (λ l. l.place < length characters.now) found.items) }
+    ensures ascending { length characters.now ≤ last → IfOk result (λ found. AllPairs (λ l m. l.place < m.place) found.items) }
+{
+    let mut lexemes = Vec::new(alloc);
+    let mut rest = characters;
+    loop {
+        let place = characters.len() - rest.len();
+        match front(alloc, rest)? {
+            Front::End => return Ok(lexemes),
+            Front::Blank(behind) => rest = behind,
+            Front::Token(token, behind) => {
+                lexemes.push(Lexeme { token, place })?;
+                if place > last {
+                    return Ok(lexemes);
+                }
+                rest = behind;
+            }
+            Front::Bad => {
+                lexemes.push(Lexeme {
+                    token: Token::Bad,
+                    place,
+                })?;
+                return Ok(lexemes);
+            }
+        }
+    }
+}

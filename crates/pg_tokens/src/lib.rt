@@ -1,0 +1,13 @@
+//! The tokens of a grammar file, and the characters that they are cut from.
+//!
+//! `lex` cuts a file into tokens, each with its place, and answers exactly the tokens that the characters spell
+//! (`specs/Lexical.antt`). Nothing here knows what a token is for: a reserved word is a name like any other.
+#![tactic(auto)]
+
+mod characters;
+mod lexer;
+mod token;
+
+pub use characters::{characters_of, copied, is_word, utf8};
+pub use lexer::{lex, lex_up_to};
+pub use token::{Lexeme, Mark, Token};

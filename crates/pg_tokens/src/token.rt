@@ -1,0 +1,90 @@
+//! The tokens of a grammar file.
+//!
+//! A reserved word is a name here: the parser tells it by its text. `Bad` stands last in a list of
+//! tokens, if it stands there at all, since nothing behind it is read. The parser relies on both.
+
+ghost use Rattle.std.specs.Prelude.{◌≡◌};
+ghost use Rattle.pg_tokens.specs.View.{token_of};
+ghost use Rattle.pg_tokens.specs.Tokens.{is_mark, is_word};
+
+use crate::characters::is_word;
+
+/// A punctuation mark.
+#[derive(Clone, Copy, Debug, PartialEq, Eq)]
+pub enum Mark {
+    /// `(`
+    Open,
+    /// `)`
+    Close,
+    /// `,`
+    Comma,
+    /// `;`
+    Semicolon,
+    /// `=`
+    Equals,
+    /// `|`
+    Bar,
+    /// `..`, between the ends of a range
+    Dots,
+}
+
+/// A token, with its text if it has one.
+#[derive(Debug, Drop)]
+pub enum Token {
+    /// An ASCII letter, and then ASCII letters, digits and `_`.
+    Name(Vec<char>),
+    /// ASCII digits, at least one.
+    Number(Vec<char>),
+    /// What stands between quotes, each escape replaced by the character that it names.
+    Literal(Vec<char>),
+    /// A punctuation mark.
+    Mark(Mark),
+    /// A literal that is closed, and has an escape that is none.
+    WrongLiteral,
+    /// No token begins here, or a literal begins and isn't closed on its line.
+    Bad,
+}
+
+/// A token and where it stands.
+#[derive(Debug, Drop)]
+pub struct Lexeme {
+    pub token: Token,
+    /// How many characters of the file stand before the token.
+    pub place: usize,
+}
+
+/// What stands at the front of some characters.
+#[derive(Debug, Drop)]
+pub enum Front<'a> {
+    /// The end of the file.
+    End,
+    /// White space or a comment, and what follows it.
+    Blank(&'a [char]),
+    /// A token, and what follows it.
+    Token(Token, &'a [char]),
+    /// No token.
+    Bad,
+}
+
+impl Token {
+    /// Whether it is this mark.
+    pub fn is_mark(&self, which: Mark) -> bool
+        ensures { result ≡ is_mark which (token_of self.now) }
+    {
+        matches!(self, Token::Mark(mark) if *mark == which)
+    }
+
+    /// Whether it is this word, which is ASCII.
+    pub fn is_word(&self, word: &str) -> bool
+        ensures { result ≡ is_word word.now (token_of self.now) }
+    {
+        match self {
+            Token::Name(text) => is_word(word, text.as_slice()),
+            Token::Number(_)
+            | Token::Literal(_)
+            | Token::Mark(_)
+            | Token::WrongLiteral
+            | Token::Bad => false,
+        }
+    }
+}

@@ -1,0 +1,178 @@
+-- What came of parts can be joined as they answer: joining is associative.
+use Rattle.std.proofs.Common.{◌≡◌, ℕ, suc, ◌+◌, List, [], ◌∷◌, ◌++◌, Bool, true, false, refl, ap, sym, ◌∙◌, append_assoc, append-nil, arith}
+use Rattle.std.specs.Prelude.{◌||◌, ◌&&◌, nat_lt, if◌then◌else◌, not}
+use Rattle.pg_tree.specs.Trees.{Tree}
+use Rattle.pg_grammar.specs.declared.trail.TrailItem.{TrailItem}
+use Rattle.pg_grammar.specs.declared.trail.TrailItem.TheVariants.{Rounds}
+use Rattle.pg_message.specs.Messages.{is_empty, with_messages}
+use Rattle.pg_message.specs.Errors.{merged}
+use Rattle.pg_message.specs.declared.error.ParseError.{ParseError}
+use Rattle.pg_message.proofs.Merging.{merged_assoc}
+use Rattle.pg_text.specs.Position.{start}
+use Rattle.pg_language.specs.Derives.{Spot}
+use Rattle.pg_language.specs.Errors.{Error, merge, with_position, without_position}
+use Rattle.pg_language.specs.Outcomes.{Outcome, ok, failed, empty_round}
+use Rattle.pg_language.specs.Reactions.{error_behind, then_rest, then_round, noted, after_failure, unless_consumed, as_finished}
+use Rattle.pg_turns.specs.Frames.{Before, none_before, before, behind_parts, with_part, Kept, none_kept, failed_kept, ok_kept, behind_kept, with_failure, with_empty_ok, behind_rounds, Chain, Linked, folded, behind_links}
+use Rattle.pg_turns.specs.Turns.{with_link}
+
+-- ---- errors
+
+-- merging leaves the position alone
+placed : (e f : Error) → with_position start (merge e f) ≡ merged (with_position start e) (with_position start f)
+placed e f = by_tests (is_empty e.messages && not (is_empty f.messages)) (is_empty f.messages && not (is_empty e.messages)) (nat_lt e.place f.place) (nat_lt f.place e.place)
+  where
+    one : ParseError
+    one = with_position start e
+
+    other : ParseError
+    other = with_position start f
+
+    by_tests : (a b c d : Bool) → (let m : ParseError = if a then with_position start f else if b then with_position start e else
+        if c then with_position start f else if d then with_position start e else record (with_position start e) { messages = with_messages e.messages f.messages } in
+        with_position start (without_position m) ≡ m)
+    by_tests true b c d = refl
+    by_tests false true c d = refl
+    by_tests false false true d = refl
+    by_tests false false false true = refl
+    by_tests false false false false = refl
+
+pub merge_assoc : (e f g : Error) → merge e (merge f g) ≡ merge (merge e f) g
+merge_assoc e f g =
+    ap (λ (x : ParseError). without_position (merged (with_position start e) x)) (placed f g)
+    ∙ ap without_position (merged_assoc (with_position start e) (with_position start f) (with_position start g))
+    ∙ ap (λ (x : ParseError). without_position (merged x (with_position start g))) (sym (placed e f))
+
+or_assoc : (a b c : Bool) → ((a || b) || c) ≡ (a || (b || c))
+or_assoc true b c = refl
+or_assoc false b c = refl
+
+error_assoc : (d b : Bool) (e f g : Error) → error_behind (d || b) e (error_behind b f g) ≡ error_behind b (error_behind d e f) g
+error_assoc true true e f g = refl
+error_assoc false true e f g = refl
+error_assoc true false e f g = refl
+error_assoc false false e f g = merge_assoc e f g
+
+-- ---- sequences
+
+pub rest_rest : (c d : Bool) (v w : List Tree) (t u : List TrailItem) (e f : Error) (x : Outcome) →
+    then_rest c v t e (then_rest d w u f x) ≡ then_rest (c || d) (v ++ w) (t ++ u) (error_behind d e f) x
+rest_rest c d v w t u e f (ok b y z s g) =
+    let a = or_assoc c d b in let k = append_assoc v w z in let h = append_assoc t u s in let q = error_assoc d b e f g in cc
+rest_rest c d v w t u e f (failed b g) = let a = or_assoc c d b in let q = error_assoc d b e f g in cc
+rest_rest c d v w t u e f empty_round = refl
+
+pub behind_part : (done : Before) (c : Bool) (v : List Tree) (t : List TrailItem) (e : Error) (o : Outcome) →
+    behind_parts done (then_rest c v t e o) ≡ behind_parts (with_part done c v t e) o
+behind_part none_before c v t e o = refl
+behind_part (before d w u f) c v t e o = rest_rest d c w v u t f e o
+
+pub stuck_parts : (done : Before) → behind_parts done empty_round ≡ empty_round
+stuck_parts none_before = refl
+stuck_parts (before c v t e) = refl
+
+-- ---- choices
+
+pub behind_failure : (kept : Kept) (f : Error) (o : Outcome) → behind_kept kept (after_failure f o) ≡ behind_kept (with_failure kept f) o
+behind_failure none_kept f o = refl
+behind_failure (failed_kept e) f (ok true b v t g) = refl
+behind_failure (failed_kept e) f (ok false b v t g) = ap (ok false b v t) (merge_assoc e f g)
+behind_failure (failed_kept e) f (failed true g) = refl
+behind_failure (failed_kept e) f (failed false g) = ap (failed false) (merge_assoc e f g)
+behind_failure (failed_kept e) f empty_round = refl
+behind_failure (ok_kept b v t e) f (ok true d w u g) = refl
+behind_failure (ok_kept b v t e) f (ok false d w u g) = ap (ok false b v t) (merge_assoc e f g)
+behind_failure (ok_kept b v t e) f (failed true g) = refl
+behind_failure (ok_kept b v t e) f (failed false g) = ap (ok false b v t) (merge_assoc e f g)
+behind_failure (ok_kept b v t e) f empty_round = refl
+
+pub behind_empty_ok : (kept : Kept) (b : Spot) (v : List Tree) (t : List TrailItem) (f : Error) (o : Outcome) →
+    behind_kept kept (unless_consumed b v t f o) ≡ behind_kept (with_empty_ok kept b v t f) o
+behind_empty_ok none_kept b v t f o = refl
+behind_empty_ok (failed_kept e) b v t f (ok true d w u g) = refl
+behind_empty_ok (failed_kept e) b v t f (ok false d w u g) = ap (ok false b v t) (merge_assoc e f g)
+behind_empty_ok (failed_kept e) b v t f (failed true g) = refl
+behind_empty_ok (failed_kept e) b v t f (failed false g) = ap (ok false b v t) (merge_assoc e f g)
+behind_empty_ok (failed_kept e) b v t f empty_round = refl
+behind_empty_ok (ok_kept a x y e) b v t f (ok true d w u g) = refl
+behind_empty_ok (ok_kept a x y e) b v t f (ok false d w u g) = ap (ok false a x y) (merge_assoc e f g)
+behind_empty_ok (ok_kept a x y e) b v t f (failed true g) = refl
+behind_empty_ok (ok_kept a x y e) b v t f (failed false g) = ap (ok false a x y) (merge_assoc e f g)
+behind_empty_ok (ok_kept a x y e) b v t f empty_round = refl
+
+pub stuck_kept : (kept : Kept) → behind_kept kept empty_round ≡ empty_round
+stuck_kept none_kept = refl
+stuck_kept (failed_kept e) = refl
+stuck_kept (ok_kept b v t e) = refl
+
+-- ---- repetitions
+
+pub behind_round : (c : Bool) (v w : List Tree) (t u : List TrailItem) (o : Outcome) →
+    behind_rounds c v t (then_round w u o) ≡ behind_rounds true (v ++ w) (t ++ u) o
+behind_round true v w t u (ok d b x y g) = let k = append_assoc v w x in let h = append_assoc t u y in cc
+behind_round false v w t u (ok d b x y g) = let k = append_assoc v w x in let h = append_assoc t u y in cc
+behind_round true v w t u (failed d g) = refl
+behind_round false v w t u (failed d g) = refl
+behind_round c v w t u empty_round = refl
+
+or_false : (c : Bool) → (c || false) ≡ c
+or_false true = refl
+or_false false = refl
+
+pub no_round : (c : Bool) (b : Spot) (v : List Tree) (t : List TrailItem) (e : Error) → behind_rounds c v t (ok false b [] [] e) ≡ ok c b v t e
+no_round c b v t e = let f = append-nil v in let h = append-nil t in let o = or_false c in cc
+
+pub round_failed_so : (c : Bool) (v : List Tree) (t : List TrailItem) (e : Error) → behind_rounds c v t (failed true e) ≡ failed true e
+round_failed_so true v t e = refl
+round_failed_so false v t e = refl
+
+pub rounds_none : (o : Outcome) → behind_rounds false [] [] o ≡ o
+rounds_none (ok c b v t e) = refl
+rounds_none (failed c e) = refl
+rounds_none empty_round = refl
+
+-- ---- chains
+
+-- a forest is folded apart from the rest of an outcome
+pub folded_rest : (chain : Chain) (waiting : List (List Tree × List Tree)) (c : Bool) (t : List TrailItem) (e : Error) (o : Outcome) →
+    folded chain waiting (then_rest c [] t e o) ≡ then_rest c [] t e (folded chain waiting o)
+folded_rest chain [] c t e o = refl
+folded_rest chain (x ∷ waiting) c t e o =
+    ap (folded chain waiting) (apart o) ∙ folded_rest chain waiting c t e (as_finished chain.fold chain.shape x.0 x.1 o)
+  where
+    apart : (o : Outcome) → as_finished chain.fold chain.shape x.0 x.1 (then_rest c [] t e o) ≡ then_rest c [] t e (as_finished chain.fold chain.shape x.0 x.1 o)
+    apart (ok d b v u f) = refl
+    apart (failed d f) = refl
+    apart empty_round = refl
+
+or_true : (c : Bool) → (c || true) ≡ true
+or_true true = refl
+or_true false = refl
+
+-- the trails and errors of a link that consumed
+link_rest : (c d k : Bool) (t u s : List TrailItem) (e f g : Error) (o : Outcome) → (c || d) ≡ true →
+    then_rest k [] s g (then_rest c [] t e (then_rest d [] u f o)) ≡ then_rest true [] (s ++ (t ++ u)) (error_behind d e f) o
+link_rest c d k t u s e f g o h =
+    ap (then_rest k [] s g) (rest_rest c d [] [] t u e f o)
+    ∙ rest_rest k (c || d) [] [] s (t ++ u) g (error_behind d e f) o
+    ∙ ap (λ b. then_rest (k || b) [] (s ++ (t ++ u)) (error_behind b g (error_behind d e f)) o) h
+    ∙ ap (λ b. then_rest b [] (s ++ (t ++ u)) (error_behind d e f) o) (or_true k)
+
+pub behind_link : (chain : Chain) (linked : Linked) (v w : List Tree) (t u : List TrailItem) (e f : Error) (c d : Bool) (o : Outcome) → (c || d) ≡ true →
+    behind_links chain linked (then_rest c [] t e (then_rest d [] u f (as_finished chain.fold chain.shape linked.left v o))) ≡
+    behind_links chain (with_link chain linked v t e d w u f) o
+behind_link chain linked v w t u e f c d o h =
+    let x = as_finished chain.fold chain.shape linked.left v o in
+    ap (then_rest linked.consumed [] linked.trail linked.error)
+    (folded_rest chain linked.waiting c t e (then_rest d [] u f x) ∙ ap (then_rest c [] t e) (folded_rest chain linked.waiting d u f x))
+    ∙ link_rest c d linked.consumed t u linked.trail e f linked.error (folded chain linked.waiting x) h
+
+pub stuck_links : (chain : Chain) (linked : Linked) → behind_links chain linked empty_round ≡ empty_round
+stuck_links chain linked = ap (then_rest linked.consumed [] linked.trail linked.error) (stuck linked.waiting)
+  where
+    stuck : (waiting : List (List Tree × List Tree)) → folded chain waiting empty_round ≡ empty_round
+    stuck [] = refl
+    stuck (x ∷ waiting) = stuck waiting
+
+pub noted_more : (k l : ℕ) (o : Outcome) → noted (Rounds (k + suc l)) o ≡ noted (Rounds (suc k + l)) o
+noted_more k l o = let e : k + suc l ≡ suc k + l = omega arith in ap (λ n. noted (Rounds n) o) e

@@ -1,0 +1,15 @@
+pub mod Stack
+pub mod Characters
+pub mod LeavesRead
+pub mod Said
+pub mod Joined
+pub mod Back
+pub mod Forth
+pub mod Runs
+pub mod Merged
+pub mod Shown
+pub mod ChainsShown
+pub mod Labels
+pub mod Turned
+pub mod Ready
+pub mod Places

@@ -1,0 +1,327 @@
+-- Where frames stand in the text. What they count is bounded by that: rounds and links consume, and alternatives are nodes.
+use Rattle.std.proofs.Common.{◌≡◌, ℕ, suc, ◌+◌, ◌<◌, ◌≤◌, List, [], ◌∷◌, Bool, true, false, arith, length, take, drop, refl, sym, subst, ◌∙◌}
+use Rattle.std.proofs.lemmas.Bool.Decides.{nat_tests}
+use Rattle.std.specs.Prelude.{Option, Some, None, slice_get, ◌||◌, nat_lt}
+use Rattle.pg_tree.specs.Trees.{Tree}
+use Rattle.pg_pred.specs.Offer.{Offer}
+use Rattle.pg_grammar.specs.Grammar.{Grammar}
+use Rattle.pg_grammar.specs.declared.form.Node.{Node}
+use Rattle.pg_grammar.specs.declared.form.Node.TheVariants as form
+use Rattle.pg_grammar.specs.declared.grammar.Rule as declared
+use Rattle.pg_grammar.specs.declared.trail.TrailItem.{TrailItem}
+use Rattle.pg_grammar.specs.declared.word_item.WordItem.{WordItem}
+use Rattle.pg_table.specs.Tables.{Table, first_operators}
+use Rattle.pg_language.specs.Answers.{Given, Answers, entered, satisfy, string, word, not_followed_by, end_of_text}
+use Rattle.pg_language.proofs.Moves.{tells}
+use Rattle.pg_language.proofs.Sound.{sound}
+use Rattle.pg_language.proofs.Onward.{leads_on}
+use Rattle.pg_language.specs.Outcomes as outcome
+use Rattle.pg_language.specs.Outcomes.{Outcome}
+use Rattle.pg_language.specs.declared.reading.Reading.{Reading}
+use Rattle.pg_language.specs.declared.reading.Reading.TheVariants.{Library, Report}
+use Rattle.pg_turns.specs.Messages.{Said}
+use Rattle.pg_turns.specs.Tape.{OnKept, no_kept, kept_failure, kept_empty_ok, OnChain, OnLinks, OnFrame, on_parts, on_choice, on_rounds, on_first, on_separator, on_operand, on_try, on_label, on_rule, on_text, on_skip, on_build, Tape, tape_at, tape_with, tape_endless, spot_at, tape_leaf, joined_consumed, joined_why, joined_messages, tape_next_part, tape_to_parts, tape_settled, tape_next_alternative, kept_with_failure, kept_with_empty_ok, kept_held, kept_messages, tape_empty_ok, tape_to_choice, tape_to_rounds, tape_to_first, tape_ended, tape_to_separator, link_forest, tape_linked, tape_to_operand, tape_tried, tape_hand, tape_seq, tape_rule, tape_word, tape_enter, tape_enter_at, tape_turn}
+use Rattle.pg_turns.specs.Ready.{IsReady, AreReady, IsTapeReady}
+use Rattle.pg_turns.specs.Why.{why_at, held_at, why_behind, messages_behind}
+use Rattle.pg_turns.specs.declared.frame.Before as before
+use Rattle.pg_turns.specs.declared.frame.Reply.{Reply}
+use Rattle.pg_turns.specs.declared.frame.Reply.TheVariants.{Fine, Failed, EmptyRound}
+use Rattle.pg_turns.specs.declared.message_tape.Held.{Held}
+use Rattle.pg_turns.specs.declared.message_tape.Why.{Why}
+
+-- from the first place to the second, consuming or not
+pub record Goes (c : Bool) (i j : ℕ) : Type 0 where
+  pub onward : i ≤ j
+  pub consumes : c ≡ true → i < j
+
+goes_nowhere : (i : ℕ) → Goes false i i
+goes_nowhere i = record { onward = omega arith; consumes = λ e. cc }
+
+goes_empty : (i j : ℕ) → i ≤ j → Goes false i j
+goes_empty i j l = record { onward = l; consumes = λ e. cc }
+
+goes_on : (b c : Bool) (h i j : ℕ) → Goes b h i → Goes c i j → Goes (b || c) h j
+goes_on true c h i j one two = let l = one.consumes refl in let m = two.onward in record { onward = omega arith; consumes = λ e. omega arith }
+goes_on false c h i j one two = let l = one.onward in let m = two.onward in record { onward = omega arith; consumes = λ e. let k = two.consumes e in omega arith }
+
+abbrev pub consumed_before : Option before.Before → Bool
+consumed_before None = false
+consumed_before (Some b) = b.consumed
+
+joined_goes : (b : Option before.Before) (c : Bool) (h i j : ℕ) → Goes (consumed_before b) h i → Goes c i j → Goes (joined_consumed b c) h j
+joined_goes None c h i j one two = goes_on false c h i j one two
+joined_goes (Some b) c h i j one two = goes_on b.consumed c h i j one two
+
+module _ (far most : ℕ) where
+  -- what is kept of an alternative that was ok and empty ends behind its start
+  abbrev pub IsKeptBehind : ℕ → OnKept → Type 0
+  IsKeptBehind h no_kept = Unit {0}
+  IsKeptBehind h (kept_failure held) = Unit {0}
+  IsKeptBehind h (kept_empty_ok j v t held) = (h ≤ j) × (j ≤ far)
+
+  -- a frame of a node that began at the first place, the part of which that runs began at the second
+  abbrev pub IsPlaced : OnFrame → ℕ → ℕ → Type 0
+  IsPlaced (on_parts rest b) h i = Goes (consumed_before b) h i
+  IsPlaced (on_choice k ps s kept n m o) h i = (s ≡ h) × (h ≡ i) × (k + length ps ≤ most) × IsKeptBehind h kept
+  IsPlaced (on_rounds p k c s slot n m o l) h i = (s ≡ i) × (k ≤ i) × Goes c h i
+  IsPlaced (on_first chain slot n) h i = h ≡ i
+  IsPlaced (on_separator links) h i = (links.start ≡ i) × (links.count ≤ i) × Goes links.consumed h i
+  IsPlaced (on_operand links b n) h i = Goes b.consumed links.start i × (links.count ≤ links.start) × Goes links.consumed h links.start
+  IsPlaced on_try h i = h ≡ i
+  IsPlaced (on_label message) h i = h ≡ i
+  IsPlaced on_rule h i = h ≡ i
+  IsPlaced (on_text s n) h i = h ≡ i
+  IsPlaced (on_skip n) h i = h ≡ i
+  IsPlaced (on_build used symbol n) h i = h ≡ i
+
+  -- the frames below a node that began at the place
+  abbrev pub ArePlaced : List OnFrame → ℕ → Type 0
+  ArePlaced [] i = Unit {0}
+  ArePlaced (f ∷ fs) i = (h : ℕ) × IsPlaced f h i × ArePlaced fs h
+
+  -- what was answered by a node that began at the place
+  abbrev pub IsReplyFrom : ℕ → Reply → Type 0
+  IsReplyFrom i (Fine c j why) = Goes c i j × (j ≤ far)
+  IsReplyFrom i (Failed c why) = i ≤ far
+  IsReplyFrom i EmptyRound = i ≤ far
+
+  abbrev pub IsTapePlaced : Tape → Type 0
+  IsTapePlaced (tape_at p i fs v t x T) = (i ≤ far) × ArePlaced fs i
+  IsTapePlaced (tape_with reply fs v t x T) = (h : ℕ) × IsReplyFrom h reply × ArePlaced fs h
+  IsTapePlaced tape_endless = Unit {0}
+
+  -- ---- an answer is handed to a frame
+
+  next_part_placed : (ps : List ℕ) (c : Bool) (h j : ℕ) (why : Why) (fs : List OnFrame) (v : List Tree) (t : List TrailItem) (x : List Said) (T : Table) → Goes c h j → j ≤ far → ArePlaced fs h →
+      IsTapePlaced (tape_next_part ps c j why fs v t x T)
+  next_part_placed [] c h j why fs v t x T g l r = (h, (g, l), r)
+  next_part_placed (p ∷ ps) c h j why fs v t x T g l r = (l, (h, g, r))
+
+  parts_placed : (ps : List ℕ) (b : Option before.Before) (h i : ℕ) (reply : Reply) (fs : List OnFrame) (v : List Tree) (t : List TrailItem) (x : List Said) (T : Table) → Goes (consumed_before b) h i → ArePlaced fs h →
+      IsReplyFrom i reply → IsTapePlaced (tape_to_parts ps b reply fs v t x T)
+  parts_placed ps b h i (Fine c j why) fs v t x T g r a =
+      next_part_placed ps (joined_consumed b c) h j (joined_why b c why x) fs v t (joined_messages b c why x) T (joined_goes b c h i j g a.0) a.1 r
+  parts_placed ps b h i (Failed c why) fs v t x T g r a = let l = g.onward in (h, omega arith, r)
+  parts_placed ps b h i EmptyRound fs v t x T g r a = let l = g.onward in (h, omega arith, r)
+
+  settled_placed : (q : OnKept) (n m o h : ℕ) (reply : Reply) (fs : List OnFrame) (v : List Tree) (t : List TrailItem) (x : List Said) (T : Table) → IsKeptBehind h q → ArePlaced fs h → IsReplyFrom h reply →
+      IsTapePlaced (tape_settled q n m o reply fs v t x T)
+  settled_placed no_kept n m o h reply fs v t x T k r a = (h, a, r)
+  settled_placed (kept_failure held) n m o h (Fine c j why) fs v t x T k r a = (h, a, r)
+  settled_placed (kept_failure held) n m o h (Failed c why) fs v t x T k r a = (h, a, r)
+  settled_placed (kept_failure held) n m o h EmptyRound fs v t x T k r a = (h, a, r)
+  settled_placed (kept_empty_ok i w u held) n m o h (Fine true j why) fs v t x T k r a = (h, a, r)
+  settled_placed (kept_empty_ok i w u held) n m o h (Fine false j why) fs v t x T k r a = (h, (goes_empty h i k.0, k.1), r)
+  settled_placed (kept_empty_ok i w u held) n m o h (Failed true why) fs v t x T k r a = (h, a, r)
+  settled_placed (kept_empty_ok i w u held) n m o h (Failed false why) fs v t x T k r a = (h, (goes_empty h i k.0, k.1), r)
+  settled_placed (kept_empty_ok i w u held) n m o h EmptyRound fs v t x T k r a = (h, a, r)
+
+  alternative_placed : (k : ℕ) (ps : List ℕ) (h : ℕ) (q : OnKept) (fs : List OnFrame) (v : List Tree) (t : List TrailItem) (x : List Said) (T : Table) → k + length ps ≤ suc most → h ≤ far → IsKeptBehind h q → ArePlaced fs h →
+      IsTapePlaced (tape_next_alternative k ps h q fs v t x T)
+  alternative_placed k [] h q fs v t x T l m b r = settled_placed q (length v) (length t) (length T.operators) h (Failed false (why_at h (length x))) fs v t x T b r m
+  alternative_placed k (p ∷ ps) h q fs v t x T l m b r = (m, (h, (refl, refl, omega arith, b), r))
+
+  failure_kept : (h : ℕ) (q : OnKept) (held : Held) → IsKeptBehind h q → IsKeptBehind h (kept_with_failure q held)
+  failure_kept h no_kept held b = tt
+  failure_kept h (kept_failure before) held b = tt
+  failure_kept h (kept_empty_ok i w u before) held b = b
+
+  empty_ok_kept : (h j : ℕ) (q : OnKept) (w : List Tree) (u : List TrailItem) (held : Held) → h ≤ j → j ≤ far → IsKeptBehind h q → IsKeptBehind h (kept_with_empty_ok q j w u held)
+  empty_ok_kept h j no_kept w u held l m b = (l, m)
+  empty_ok_kept h j (kept_failure before) w u held l m b = (l, m)
+  empty_ok_kept h j (kept_empty_ok i y z before) w u held l m b = b
+
+  empty_ok_placed : (reading : Reading) (k : ℕ) (ps : List ℕ) (h : ℕ) (q : OnKept) (n m o j : ℕ) (why : Why) (fs : List OnFrame) (v : List Tree) (t : List TrailItem) (x : List Said) (T : Table) → k + length ps ≤ most →
+      IsKeptBehind h q → ArePlaced fs h → Goes false h j → j ≤ far → IsTapePlaced (tape_empty_ok reading k ps h q n m o j why fs v t x T)
+  empty_ok_placed Library k ps h q n m o j why fs v t x T l b r g f = settled_placed q n m o h (Fine false j why) fs v t x T b r (g, f)
+  empty_ok_placed Report k ps h q n m o j why fs v t x T l b r g f =
+      let onward = g.onward in
+      alternative_placed (suc k) ps h (kept_with_empty_ok q j (drop n v) (drop m t) (kept_held q why x)) fs (take n v) (take m t) (kept_messages q why x) (first_operators o T) (omega arith) (omega arith)
+      (empty_ok_kept h j q (drop n v) (drop m t) (kept_held q why x) onward f b) r
+
+  choice_placed : (reading : Reading) (k : ℕ) (ps : List ℕ) (h : ℕ) (q : OnKept) (n m o : ℕ) (reply : Reply) (fs : List OnFrame) (v : List Tree) (t : List TrailItem) (x : List Said) (T : Table) → k + length ps ≤ most →
+      IsKeptBehind h q → ArePlaced fs h → IsReplyFrom h reply → IsTapePlaced (tape_to_choice reading k ps h q n m o reply fs v t x T)
+  choice_placed reading k ps h q n m o (Fine true j why) fs v t x T l b r a = settled_placed q n m o h (Fine true j why) fs v t x T b r a
+  choice_placed reading k ps h q n m o (Fine false j why) fs v t x T l b r a = empty_ok_placed reading k ps h q n m o j why fs v t x T l b r a.0 a.1
+  choice_placed reading k ps h q n m o (Failed true why) fs v t x T l b r a = settled_placed q n m o h (Failed true why) fs v t x T b r a
+  choice_placed reading k ps h q n m o (Failed false why) fs v t x T l b r a =
+      alternative_placed (suc k) ps h (kept_with_failure q (kept_held q why x)) fs (take n v) (take m t) (kept_messages q why x) (first_operators o T) (omega arith) a (failure_kept h q (kept_held q why x) b) r
+  choice_placed reading k ps h q n m o EmptyRound fs v t x T l b r a = (h, a, r)
+
+  rounds_placed : (p k : ℕ) (c : Bool) (i slot n m o y h : ℕ) (reply : Reply) (fs : List OnFrame) (v : List Tree) (t : List TrailItem) (x : List Said) (T : Table) → k ≤ i → Goes c h i → ArePlaced fs h → IsReplyFrom i reply →
+      IsTapePlaced (tape_to_rounds p k c i slot n m o y reply fs v t x T)
+  rounds_placed p k c i slot n m o y h (Fine true j why) fs v t x T l g r a =
+      let more = a.0.consumes refl in let s = g.onward in
+      (a.1, (h, (refl, omega arith, record { onward = omega arith; consumes = λ e. omega arith }), r))
+  rounds_placed p k c i slot n m o y h (Fine false j why) fs v t x T l g r a = let on = a.0.onward in let f = a.1 in let s = g.onward in (h, omega arith, r)
+  rounds_placed p k c i slot n m o y h (Failed true why) fs v t x T l g r a = let s = g.onward in (h, omega arith, r)
+  rounds_placed p k c i slot n m o y h (Failed false why) fs v t x T l g r a = (h, (g, a), r)
+  rounds_placed p k c i slot n m o y h EmptyRound fs v t x T l g r a = let s = g.onward in (h, omega arith, r)
+
+  first_placed : (ch : OnChain) (slot n h : ℕ) (reply : Reply) (fs : List OnFrame) (v : List Tree) (t : List TrailItem) (x : List Said) (T : Table) → ArePlaced fs h → IsReplyFrom h reply →
+      IsTapePlaced (tape_to_first ch slot n reply fs v t x T)
+  first_placed ch slot n h (Fine c j why) fs v t x T r a = (a.1, (h, (refl, omega arith, a.0), r))
+  first_placed ch slot n h (Failed c why) fs v t x T r a = (h, a, r)
+  first_placed ch slot n h EmptyRound fs v t x T r a = (h, a, r)
+
+  ended_placed : (links : OnLinks) (c : Bool) (why : Why) (h : ℕ) (fs : List OnFrame) (v : List Tree) (t : List TrailItem) (x : List Said) (T : Table) → links.start ≤ far → Goes links.consumed h links.start → ArePlaced fs h →
+      IsTapePlaced (tape_ended links c why fs v t x T)
+  ended_placed links true why h fs v t x T l g r = let s = g.onward in (h, omega arith, r)
+  ended_placed links false why h fs v t x T l g r = (h, (g, l), r)
+
+  separator_placed : (links : OnLinks) (h : ℕ) (reply : Reply) (fs : List OnFrame) (v : List Tree) (t : List TrailItem) (x : List Said) (T : Table) → links.count ≤ links.start → Goes links.consumed h links.start → ArePlaced fs h →
+      IsReplyFrom links.start reply → IsTapePlaced (tape_to_separator links reply fs v t x T)
+  separator_placed links h (Fine c j why) fs v t x T l g r a = (a.1, (h, (a.0, l, g), r))
+  separator_placed links h (Failed c why) fs v t x T l g r a = ended_placed links c why h fs v t x T a g r
+  separator_placed links h EmptyRound fs v t x T l g r a = let s = g.onward in (h, omega arith, r)
+
+  linked_placed : (c : Bool) (links : OnLinks) (h j n : ℕ) (held : Held) (fs : List OnFrame) (v : List Tree) (t : List TrailItem) (x : List Said) (T : Table) → links.count ≤ links.start → h ≤ links.start → ArePlaced fs h →
+      Goes c links.start j → j ≤ far → IsTapePlaced (tape_linked c links j n held fs v t x T)
+  linked_placed true links h j n held fs v t x T l m r g f =
+      let o = g.consumes refl in (f, (h, (refl, omega arith, record { onward = omega arith; consumes = λ e. omega arith }), r))
+  linked_placed false links h j n held fs v t x T l m r g f = tt
+
+  operand_placed : (links : OnLinks) (b : before.Before) (n h i : ℕ) (reply : Reply) (fs : List OnFrame) (v : List Tree) (t : List TrailItem) (x : List Said) (T : Table) → Goes b.consumed links.start i →
+      links.count ≤ links.start → Goes links.consumed h links.start → ArePlaced fs h → IsReplyFrom i reply → IsTapePlaced (tape_to_operand links b n reply fs v t x T)
+  operand_placed links b n h i (Fine d j why) fs v t x T s l g r a =
+      linked_placed (b.consumed || d) links h j n (held_at (length (messages_behind d b.held why x)) (why_behind d b.held why x)) fs
+      (link_forest links.chain.fold links.chain.used.shape links.left v) t (messages_behind d b.held why x) T l g.onward r (goes_on b.consumed d links.start i j s a.0) a.1
+  operand_placed links b n h i (Failed d why) fs v t x T s l g r a =
+      let o = s.onward in ended_placed links (b.consumed || d) (why_behind d b.held why x) h fs v t (messages_behind d b.held why x) T (omega arith) g r
+  operand_placed links b n h i EmptyRound fs v t x T s l g r a = let o = s.onward in let m = g.onward in (h, omega arith, r)
+
+  tried_placed : (h : ℕ) (reply : Reply) → IsReplyFrom h reply → IsReplyFrom h (tape_tried reply)
+  tried_placed h (Fine c j why) a = a
+  tried_placed h (Failed c why) a = a
+  tried_placed h EmptyRound a = a
+
+  hand_placed : (G : Given) (f : OnFrame) (h i : ℕ) (reply : Reply) (fs : List OnFrame) (v : List Tree) (t : List TrailItem) (x : List Said) (T : Table) → IsPlaced f h i → ArePlaced fs h → IsReplyFrom i reply →
+      IsTapePlaced (tape_hand G f reply fs v t x T)
+  hand_placed G (on_parts rest b) h i reply fs v t x T f r a = parts_placed rest b h i reply fs v t x T f r a
+  hand_placed G (on_choice k ps s kept n m o) h i reply fs v t x T f r a =
+      subst (λ (j : ℕ). IsTapePlaced (tape_to_choice G.reading k ps j kept n m o reply fs v t x T)) (sym f.0)
+      (choice_placed G.reading k ps h kept n m o reply fs v t x T f.2 f.3 r (subst (λ (j : ℕ). IsReplyFrom j reply) (sym f.1) a))
+  hand_placed G (on_rounds p k c s slot n m o y) h i reply fs v t x T f r a =
+      subst (λ (j : ℕ). IsTapePlaced (tape_to_rounds p k c j slot n m o y reply fs v t x T)) (sym f.0) (rounds_placed p k c i slot n m o y h reply fs v t x T f.1 f.2 r a)
+  hand_placed G (on_first ch slot n) h i reply fs v t x T f r a = first_placed ch slot n h reply fs v t x T r (subst (λ (j : ℕ). IsReplyFrom j reply) (sym f) a)
+  hand_placed G (on_separator links) h i reply fs v t x T f r a =
+      let e = f.0 in let l = f.1 in
+      separator_placed links h reply fs v t x T (omega arith) (subst (Goes links.consumed h) (sym e) f.2) r (subst (λ (j : ℕ). IsReplyFrom j reply) (sym e) a)
+  hand_placed G (on_operand links b n) h i reply fs v t x T f r a = operand_placed links b n h i reply fs v t x T f.0 f.1 f.2 r a
+  hand_placed G on_try h i reply fs v t x T f r a = (h, tried_placed h reply (subst (λ (j : ℕ). IsReplyFrom j reply) (sym f) a), r)
+  hand_placed G (on_label message) h i reply fs v t x T f r a = (h, subst (λ (j : ℕ). IsReplyFrom j reply) (sym f) a, r)
+  hand_placed G on_rule h i reply fs v t x T f r a = (h, subst (λ (j : ℕ). IsReplyFrom j reply) (sym f) a, r)
+  hand_placed G (on_text s n) h i reply fs v t x T f r a = (h, subst (λ (j : ℕ). IsReplyFrom j reply) (sym f) a, r)
+  hand_placed G (on_skip n) h i reply fs v t x T f r a = (h, subst (λ (j : ℕ). IsReplyFrom j reply) (sym f) a, r)
+  hand_placed G (on_build used symbol n) h i reply fs v t x T f r a = (h, subst (λ (j : ℕ). IsReplyFrom j reply) (sym f) a, r)
+
+  -- ---- a node is entered
+
+  abbrev IsLeafFrom : ℕ → Outcome → Type 0
+  IsLeafFrom i (outcome.ok c b v t e) = Goes c i b.place × (b.place ≤ far)
+  IsLeafFrom i (outcome.failed c e) = Unit {0}
+  IsLeafFrom i outcome.empty_round = Unit {0}
+
+  leaf_placed : (o : Outcome) (i : ℕ) (fs : List OnFrame) (v : List Tree) (t : List TrailItem) (x : List Said) (T : Table) → i ≤ far → ArePlaced fs i → IsLeafFrom i o → IsTapePlaced (tape_leaf o fs v t x T)
+  leaf_placed (outcome.ok c b w u e) i fs v t x T l r a = (i, a, r)
+  leaf_placed (outcome.failed c e) i fs v t x T l r a = (i, l, r)
+  leaf_placed outcome.empty_round i fs v t x T l r a = (i, l, r)
+
+  -- ---- room for the counts
+
+  frame_roomy : (offer : Offer) (n room h i : ℕ) → far < room → most < room → i ≤ far → (f : OnFrame) → IsPlaced f h i → IsReady offer n f → IsReady offer room f × (h ≤ far)
+  frame_roomy offer n room h i a b l (on_parts rest q) f r = let m = f.onward in (tt, omega arith)
+  frame_roomy offer n room h i a b l (on_choice k ps s kept x y z) f r = let e = f.1 in let m = f.2 in (omega arith, omega arith)
+  frame_roomy offer n room h i a b l (on_rounds p k c s slot w x y z) f r = let e = f.1 in let m = f.2.onward in (omega arith, omega arith)
+  frame_roomy offer n room h i a b l (on_first ch slot x) f r = (r, omega arith)
+  frame_roomy offer n room h i a b l (on_separator links) f r = let e = f.1 in let m = f.2.onward in ((omega arith, r.1), omega arith)
+  frame_roomy offer n room h i a b l (on_operand links q x) f r = let d = f.0.onward in let e = f.1 in let m = f.2.onward in ((omega arith, r.1), omega arith)
+  frame_roomy offer n room h i a b l on_try f r = (tt, omega arith)
+  frame_roomy offer n room h i a b l (on_label message) f r = (tt, omega arith)
+  frame_roomy offer n room h i a b l on_rule f r = (tt, omega arith)
+  frame_roomy offer n room h i a b l (on_text s x) f r = (tt, omega arith)
+  frame_roomy offer n room h i a b l (on_skip x) f r = (tt, omega arith)
+  frame_roomy offer n room h i a b l (on_build used symbol x) f r = (r, omega arith)
+
+  frames_roomy : (offer : Offer) (n room i : ℕ) → far < room → most < room → i ≤ far → (fs : List OnFrame) → ArePlaced fs i → AreReady offer n fs → AreReady offer room fs
+  frames_roomy offer n room i a b l [] p r = tt
+  frames_roomy offer n room i a b l (f ∷ fs) p r =
+      let one = frame_roomy offer n room p.0 i a b l f p.1 r.0 in (one.0, frames_roomy offer n room p.0 a b one.1 fs p.2 r.1)
+
+  -- a reply's node began within the text
+  reply_within : (h : ℕ) (reply : Reply) → IsReplyFrom h reply → h ≤ far
+  reply_within h (Fine c j why) a = let m = a.0.onward in let l = a.1 in omega arith
+  reply_within h (Failed c why) a = a
+  reply_within h EmptyRound a = a
+
+  pub tape_roomy : (offer : Offer) (n room : ℕ) → far < room → most < room → (x : Tape) → IsTapePlaced x → IsTapeReady offer n x → IsTapeReady offer room x
+  tape_roomy offer n room a b (tape_at p i fs v t x T) h r = frames_roomy offer n room i a b h.0 fs h.1 r
+  tape_roomy offer n room a b (tape_with reply fs v t x T) h r = frames_roomy offer n room h.0 a b (reply_within h.0 reply h.1) fs h.2 r
+  tape_roomy offer n room a b tape_endless h r = tt
+
+-- ---- turns
+
+-- of a grammar: no string is empty, and no choice has so many alternatives
+pub record IsBounded (g : Grammar) (most : ℕ) : Type 0 where
+  pub spelled : (p : ℕ) (s : List ℕ) → slice_get g.nodes p ≡ Some (form.String s) → 0 < length s
+  pub few : (p : ℕ) (ps : List ℕ) → slice_get g.nodes p ≡ Some (form.Choice ps) → length ps ≤ most
+
+module _ (G : Given) (most : ℕ) (bounded : IsBounded G.grammar most) where
+  flag_moves : (c : Bool) (i j : ℕ) → c ≡ nat_lt i j → c ≡ true → i < j
+  flag_moves c i j e h = let f : nat_lt i j ≡ true = sym e ∙ h in grind (arith, nat_tests)
+
+  leaf_from : {p m : ℕ} (T : Table) (i : ℕ) (o : Outcome) → Answers G p (spot_at T i) o m → i ≤ length G.text → IsLeafFrom (length G.text) most i o
+  leaf_from T i (outcome.ok c b v t e) d l =
+      let h = tells G bounded.spelled d in
+      (record { onward = h.1; consumes = flag_moves c i b.place h.0 }, (leads_on (sound d)).within l)
+  leaf_from T i (outcome.failed c e) d l = tt
+  leaf_from T i outcome.empty_round d l = tt
+
+  module _ (i : ℕ) (fs : List OnFrame) (v : List Tree) (t : List TrailItem) (x : List Said) (T : Table) (within : i ≤ length G.text) (placed : ArePlaced (length G.text) most fs i) where
+    abbrev Placed : Tape → Type 0
+    Placed y = IsTapePlaced (length G.text) most y
+
+    leaf : (p m : ℕ) (o : Outcome) → Answers G p (spot_at T i) o m → Placed (tape_leaf o fs v t x T)
+    leaf p m o d = leaf_placed (length G.text) most o i fs v t x T within placed (leaf_from T i o d within)
+
+    rule_placed : (named : Option declared.Rule) → Placed (tape_rule named i fs v t x T)
+    rule_placed None = tt
+    rule_placed (Some named) = (within, (i, refl, placed))
+
+    word_placed : (p w : ℕ) (item : Option WordItem) → slice_get G.grammar.nodes p ≡ Some (form.Word w) → slice_get G.grammar.words w ≡ item → Placed (tape_word G item i fs v t x T)
+    word_placed p w None e h = tt
+    word_placed p w (Some item) e h = leaf p 1 _ (entered e (word h))
+
+    seq_placed : (ps : List ℕ) → Placed (tape_seq ps i fs v t x T)
+    seq_placed [] = (i, (goes_nowhere i, within), placed)
+    seq_placed (p ∷ ps) = (within, (i, goes_nowhere i, placed))
+
+    form_placed : (p : ℕ) (f : Node) → slice_get G.grammar.nodes p ≡ Some f → Placed (tape_enter G f i fs v t x T)
+    form_placed p (form.Satisfy class) e = leaf p 1 _ (entered e satisfy)
+    form_placed p (form.String s) e = leaf p 1 _ (entered e string)
+    form_placed p (form.Seq ps) e = seq_placed ps
+    form_placed p (form.Choice ps) e = let l = bounded.few p ps e in alternative_placed (length G.text) most 1 ps i no_kept fs v t x T (omega arith) within tt placed
+    form_placed p (form.Many q) e = (within, (i, (refl, omega arith, goes_nowhere i), placed))
+    form_placed p (form.ChainLeft used q s) e = (within, (i, refl, placed))
+    form_placed p (form.ChainRight used q s) e = (within, (i, refl, placed))
+    form_placed p (form.Try q) e = (within, (i, refl, placed))
+    form_placed p (form.NotFollowedBy class) e = leaf p 1 _ (entered e not_followed_by)
+    form_placed p form.EndOfText e = leaf p 1 _ (entered e end_of_text)
+    form_placed p (form.Word w) e = word_placed p w (slice_get G.grammar.words w) e refl
+    form_placed p (form.Rule r) e = rule_placed (slice_get G.grammar.rules r)
+    form_placed p (form.Expression builders q) e = tt
+    form_placed p (form.Declare class) e = tt
+    form_placed p (form.Text q) e = (within, (i, refl, placed))
+    form_placed p (form.Skip q) e = (within, (i, refl, placed))
+    form_placed p (form.Build used symbol q) e = (within, (i, refl, placed))
+    form_placed p (form.Label q message) e = (within, (i, refl, placed))
+
+    node_placed : (p : ℕ) (f : Option Node) → slice_get G.grammar.nodes p ≡ f → Placed (tape_enter_at G f i fs v t x T)
+    node_placed p None e = tt
+    node_placed p (Some f) e = form_placed p f e
+
+  pub turn_placed : (x : Tape) → IsTapePlaced (length G.text) most x → IsTapePlaced (length G.text) most (tape_turn G x)
+  turn_placed (tape_at p i fs v t x T) h = node_placed i fs v t x T h.0 h.1 p (slice_get G.grammar.nodes p) refl
+  turn_placed (tape_with reply [] v t x T) h = h
+  turn_placed (tape_with reply (f ∷ fs) v t x T) h = hand_placed (length G.text) most G f h.2.0 h.0 reply fs v t x T h.2.1 h.2.2 h.1
+  turn_placed tape_endless h = tt

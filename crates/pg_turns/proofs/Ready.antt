@@ -1,0 +1,198 @@
+-- Frames stay ready: their counts are bounded by the number of turns, and the builders that they name are offered.
+use Rattle.std.proofs.Common.{◌≡◌, ℕ, suc, ◌<◌, ◌≤◌, List, [], ◌∷◌, Bool, true, false, arith, length, take, drop, refl}
+use Rattle.std.specs.Prelude.{Option, Some, None, slice_get, ◌||◌}
+use Rattle.pg_tree.specs.Trees.{Tree}
+use Rattle.pg_pred.specs.Offer.{Offer}
+use Rattle.pg_grammar.specs.Fits.{Fits, NodeFits, BuilderFits}
+use Rattle.pg_grammar.specs.declared.form.Node.{Node}
+use Rattle.pg_grammar.specs.declared.form.Node.TheVariants as form
+use Rattle.pg_grammar.specs.declared.grammar.Rule as declared
+use Rattle.pg_grammar.specs.declared.trail.TrailItem.{TrailItem}
+use Rattle.pg_grammar.specs.declared.word_item.WordItem.{WordItem}
+use Rattle.pg_grammar.proofs.Each.{all-get}
+use Rattle.pg_table.specs.Tables.{Table, first_operators}
+use Rattle.pg_language.specs.Answers.{Given}
+use Rattle.pg_language.specs.Outcomes as outcome
+use Rattle.pg_language.specs.Outcomes.{Outcome}
+use Rattle.pg_language.specs.declared.reading.Reading.{Reading}
+use Rattle.pg_language.specs.declared.reading.Reading.TheVariants.{Library, Report}
+use Rattle.pg_turns.specs.Messages.{Said}
+use Rattle.pg_turns.specs.Tape.{OnKept, no_kept, kept_failure, kept_empty_ok, OnChain, OnLinks, OnFrame, on_parts, on_choice, on_rounds, on_first, on_separator, on_operand, on_try, on_label, on_rule, on_text, on_skip, on_build, Tape, tape_at, tape_with, tape_endless, tape_leaf, joined_consumed, joined_why, joined_messages, tape_next_part, tape_to_parts, tape_settled, tape_next_alternative, kept_messages, kept_with_failure, kept_with_empty_ok, kept_held, tape_empty_ok, tape_to_choice, tape_to_rounds, tape_to_first, tape_ended, tape_to_separator, link_forest, tape_linked, tape_to_operand, tape_hand, tape_rule, tape_word, tape_enter, tape_enter_at, tape_turn}
+use Rattle.pg_turns.specs.Ready.{IsReady, AreReady, IsTapeReady}
+use Rattle.pg_turns.specs.Why.{held_at, why_behind, messages_behind}
+use Rattle.pg_turns.specs.declared.frame.Before as before
+use Rattle.pg_turns.specs.declared.frame.Reply.{Reply}
+use Rattle.pg_turns.specs.declared.frame.Reply.TheVariants.{Fine, Failed, EmptyRound}
+use Rattle.pg_turns.specs.declared.message_tape.Held.{Held}
+use Rattle.pg_turns.specs.declared.message_tape.Why.{Why}
+
+module _ (offer : Offer) where
+  -- ---- more room
+
+  frame_more : (n m : ℕ) → n ≤ m → (f : OnFrame) → IsReady offer n f → IsReady offer m f
+  frame_more n m l (on_parts rest b) r = tt
+  frame_more n m l (on_choice k ps i q a b d) r = omega arith
+  frame_more n m l (on_rounds p k c i slot a b d e) r = omega arith
+  frame_more n m l (on_first ch slot a) r = r
+  frame_more n m l (on_separator links) r = let h = r.0 in (omega arith, r.1)
+  frame_more n m l (on_operand links b a) r = let h = r.0 in (omega arith, r.1)
+  frame_more n m l on_try r = tt
+  frame_more n m l (on_label message) r = tt
+  frame_more n m l on_rule r = tt
+  frame_more n m l (on_text i a) r = tt
+  frame_more n m l (on_skip a) r = tt
+  frame_more n m l (on_build used symbol a) r = r
+
+  frames_more : (n m : ℕ) → n ≤ m → (fs : List OnFrame) → AreReady offer n fs → AreReady offer m fs
+  frames_more n m l [] r = tt
+  frames_more n m l (f ∷ fs) r = (frame_more n m l f r.0, frames_more n m l fs r.1)
+
+  pub tape_more : (n m : ℕ) → n ≤ m → (x : Tape) → IsTapeReady offer n x → IsTapeReady offer m x
+  tape_more n m l (tape_at p i fs v t x T) r = frames_more n m l fs r
+  tape_more n m l (tape_with reply fs v t x T) r = frames_more n m l fs r
+  tape_more n m l tape_endless r = tt
+
+  module _ (n : ℕ) where
+    -- ---- an answer is handed to a frame
+
+    part_ready : (ps : List ℕ) (c : Bool) (j : ℕ) (why : Why) (fs : List OnFrame) (v : List Tree) (t : List TrailItem) (x : List Said) (T : Table) → AreReady offer n fs → IsTapeReady offer n (tape_next_part ps c j why fs v t x T)
+    part_ready [] c j why fs v t x T r = r
+    part_ready (p ∷ ps) c j why fs v t x T r = (tt, r)
+
+    parts_ready : (ps : List ℕ) (b : Option before.Before) (reply : Reply) (fs : List OnFrame) (v : List Tree) (t : List TrailItem) (x : List Said) (T : Table) → AreReady offer n fs → IsTapeReady offer n (tape_to_parts ps b reply fs v t x T)
+    parts_ready ps b (Fine c j why) fs v t x T r = part_ready ps (joined_consumed b c) j (joined_why b c why x) fs v t (joined_messages b c why x) T r
+    parts_ready ps b (Failed c why) fs v t x T r = r
+    parts_ready ps b EmptyRound fs v t x T r = r
+
+    settled_ready : (q : OnKept) (a b d : ℕ) (reply : Reply) (fs : List OnFrame) (v : List Tree) (t : List TrailItem) (x : List Said) (T : Table) → AreReady offer n fs → IsTapeReady offer n (tape_settled q a b d reply fs v t x T)
+    settled_ready no_kept a b d reply fs v t x T r = r
+    settled_ready (kept_failure held) a b d (Fine c j why) fs v t x T r = r
+    settled_ready (kept_failure held) a b d (Failed c why) fs v t x T r = r
+    settled_ready (kept_failure held) a b d EmptyRound fs v t x T r = r
+    settled_ready (kept_empty_ok i w u held) a b d (Fine true j why) fs v t x T r = r
+    settled_ready (kept_empty_ok i w u held) a b d (Fine false j why) fs v t x T r = r
+    settled_ready (kept_empty_ok i w u held) a b d (Failed true why) fs v t x T r = r
+    settled_ready (kept_empty_ok i w u held) a b d (Failed false why) fs v t x T r = r
+    settled_ready (kept_empty_ok i w u held) a b d EmptyRound fs v t x T r = r
+
+    alternative_ready : (k : ℕ) (ps : List ℕ) (i : ℕ) (q : OnKept) (fs : List OnFrame) (v : List Tree) (t : List TrailItem) (x : List Said) (T : Table) → k < n → AreReady offer n fs →
+        IsTapeReady offer n (tape_next_alternative k ps i q fs v t x T)
+    alternative_ready k [] i q fs v t x T l r = settled_ready q (length v) (length t) (length T.operators) (Failed false (record { place = i; from = length x })) fs v t x T r
+    alternative_ready k (p ∷ ps) i q fs v t x T l r = (l, r)
+
+    empty_ok_ready : (reading : Reading) (k : ℕ) (ps : List ℕ) (i : ℕ) (q : OnKept) (a b d j : ℕ) (why : Why) (fs : List OnFrame) (v : List Tree) (t : List TrailItem) (x : List Said) (T : Table) → suc k < n → AreReady offer n fs →
+        IsTapeReady offer n (tape_empty_ok reading k ps i q a b d j why fs v t x T)
+    empty_ok_ready Library k ps i q a b d j why fs v t x T l r = settled_ready q a b d (Fine false j why) fs v t x T r
+    empty_ok_ready Report k ps i q a b d j why fs v t x T l r =
+        alternative_ready (suc k) ps i (kept_with_empty_ok q j (drop a v) (drop b t) (kept_held q why x)) fs (take a v) (take b t) (kept_messages q why x) (first_operators d T) l r
+
+    choice_ready : (reading : Reading) (k : ℕ) (ps : List ℕ) (i : ℕ) (q : OnKept) (a b d : ℕ) (reply : Reply) (fs : List OnFrame) (v : List Tree) (t : List TrailItem) (x : List Said) (T : Table) → suc k < n → AreReady offer n fs →
+        IsTapeReady offer n (tape_to_choice reading k ps i q a b d reply fs v t x T)
+    choice_ready reading k ps i q a b d (Fine true j why) fs v t x T l r = settled_ready q a b d (Fine true j why) fs v t x T r
+    choice_ready reading k ps i q a b d (Fine false j why) fs v t x T l r = empty_ok_ready reading k ps i q a b d j why fs v t x T l r
+    choice_ready reading k ps i q a b d (Failed true why) fs v t x T l r = settled_ready q a b d (Failed true why) fs v t x T r
+    choice_ready reading k ps i q a b d (Failed false why) fs v t x T l r =
+        alternative_ready (suc k) ps i (kept_with_failure q (kept_held q why x)) fs (take a v) (take b t) (kept_messages q why x) (first_operators d T) l r
+    choice_ready reading k ps i q a b d EmptyRound fs v t x T l r = r
+
+    rounds_ready : (p k : ℕ) (c : Bool) (i slot a b d e : ℕ) (reply : Reply) (fs : List OnFrame) (v : List Tree) (t : List TrailItem) (x : List Said) (T : Table) → suc k < n → AreReady offer n fs →
+        IsTapeReady offer n (tape_to_rounds p k c i slot a b d e reply fs v t x T)
+    rounds_ready p k c i slot a b d e (Fine true j why) fs v t x T l r = (l, r)
+    rounds_ready p k c i slot a b d e (Fine false j why) fs v t x T l r = r
+    rounds_ready p k c i slot a b d e (Failed true why) fs v t x T l r = r
+    rounds_ready p k c i slot a b d e (Failed false why) fs v t x T l r = r
+    rounds_ready p k c i slot a b d e EmptyRound fs v t x T l r = r
+
+    first_ready : (ch : OnChain) (slot a : ℕ) (reply : Reply) (fs : List OnFrame) (v : List Tree) (t : List TrailItem) (x : List Said) (T : Table) → 0 < n → BuilderFits offer ch.used → AreReady offer n fs →
+        IsTapeReady offer n (tape_to_first ch slot a reply fs v t x T)
+    first_ready ch slot a (Fine c j why) fs v t x T l h r = ((l, h), r)
+    first_ready ch slot a (Failed c why) fs v t x T l h r = r
+    first_ready ch slot a EmptyRound fs v t x T l h r = r
+
+    ended_ready : (links : OnLinks) (c : Bool) (why : Why) (fs : List OnFrame) (v : List Tree) (t : List TrailItem) (x : List Said) (T : Table) → AreReady offer n fs → IsTapeReady offer n (tape_ended links c why fs v t x T)
+    ended_ready links true why fs v t x T r = r
+    ended_ready links false why fs v t x T r = r
+
+    separator_ready : (links : OnLinks) (reply : Reply) (fs : List OnFrame) (v : List Tree) (t : List TrailItem) (x : List Said) (T : Table) → IsReady offer n (on_separator links) → AreReady offer n fs →
+        IsTapeReady offer n (tape_to_separator links reply fs v t x T)
+    separator_ready links (Fine c j why) fs v t x T h r = (h, r)
+    separator_ready links (Failed c why) fs v t x T h r = ended_ready links c why fs v t x T r
+    separator_ready links EmptyRound fs v t x T h r = r
+
+    linked_ready : (b : Bool) (links : OnLinks) (j a : ℕ) (held : Held) (fs : List OnFrame) (v : List Tree) (t : List TrailItem) (x : List Said) (T : Table) → suc links.count < n → BuilderFits offer links.chain.used → AreReady offer n fs →
+        IsTapeReady offer n (tape_linked b links j a held fs v t x T)
+    linked_ready true links j a held fs v t x T l h r = ((l, h), r)
+    linked_ready false links j a held fs v t x T l h r = tt
+
+    operand_ready : (links : OnLinks) (b : before.Before) (a : ℕ) (reply : Reply) (fs : List OnFrame) (v : List Tree) (t : List TrailItem) (x : List Said) (T : Table) → suc links.count < n → BuilderFits offer links.chain.used → AreReady offer n fs →
+        IsTapeReady offer n (tape_to_operand links b a reply fs v t x T)
+    operand_ready links b a (Fine d j why) fs v t x T l h r =
+        linked_ready (b.consumed || d) links j a (held_at (length (messages_behind d b.held why x)) (why_behind d b.held why x)) fs (link_forest links.chain.fold links.chain.used.shape links.left v) t (messages_behind d b.held why x) T l h r
+    operand_ready links b a (Failed d why) fs v t x T l h r = ended_ready links (b.consumed || d) (why_behind d b.held why x) fs v t (messages_behind d b.held why x) T r
+    operand_ready links b a EmptyRound fs v t x T l h r = r
+
+    -- ---- a node is entered
+
+    leaf_ready : (o : Outcome) (fs : List OnFrame) (v : List Tree) (t : List TrailItem) (x : List Said) (T : Table) → AreReady offer n fs → IsTapeReady offer n (tape_leaf o fs v t x T)
+    leaf_ready (outcome.ok c b w u e) fs v t x T r = r
+    leaf_ready (outcome.failed c e) fs v t x T r = r
+    leaf_ready outcome.empty_round fs v t x T r = r
+
+    rule_ready : (named : Option declared.Rule) (i : ℕ) (fs : List OnFrame) (v : List Tree) (t : List TrailItem) (x : List Said) (T : Table) → AreReady offer n fs → IsTapeReady offer n (tape_rule named i fs v t x T)
+    rule_ready None i fs v t x T r = tt
+    rule_ready (Some named) i fs v t x T r = (tt, r)
+
+    word_ready : (G : Given) (item : Option WordItem) (i : ℕ) (fs : List OnFrame) (v : List Tree) (t : List TrailItem) (x : List Said) (T : Table) → AreReady offer n fs → IsTapeReady offer n (tape_word G item i fs v t x T)
+    word_ready G None i fs v t x T r = tt
+    word_ready G (Some item) i fs v t x T r = leaf_ready _ fs v t x T r
+
+    form_ready : (G : Given) (f : Node) (i : ℕ) (fs : List OnFrame) (v : List Tree) (t : List TrailItem) (x : List Said) (T : Table) → 1 < n → NodeFits offer f → AreReady offer n fs →
+        IsTapeReady offer n (tape_enter G f i fs v t x T)
+    form_ready G (form.Satisfy class) i fs v t x T l h r = leaf_ready _ fs v t x T r
+    form_ready G (form.String s) i fs v t x T l h r = leaf_ready _ fs v t x T r
+    form_ready G (form.Seq []) i fs v t x T l h r = r
+    form_ready G (form.Seq (p ∷ ps)) i fs v t x T l h r = (tt, r)
+    form_ready G (form.Choice ps) i fs v t x T l h r = alternative_ready 1 ps i no_kept fs v t x T l r
+    form_ready G (form.Many p) i fs v t x T l h r = (omega arith, r)
+    form_ready G (form.ChainLeft used p s) i fs v t x T l h r = (h.1.0, r)
+    form_ready G (form.ChainRight used p s) i fs v t x T l h r = (h.1.0, r)
+    form_ready G (form.Try p) i fs v t x T l h r = (tt, r)
+    form_ready G (form.NotFollowedBy class) i fs v t x T l h r = leaf_ready _ fs v t x T r
+    form_ready G form.EndOfText i fs v t x T l h r = leaf_ready _ fs v t x T r
+    form_ready G (form.Word w) i fs v t x T l h r = word_ready G (slice_get G.grammar.words w) i fs v t x T r
+    form_ready G (form.Rule k) i fs v t x T l h r = rule_ready (slice_get G.grammar.rules k) i fs v t x T r
+    form_ready G (form.Expression builders p) i fs v t x T l h r = tt
+    form_ready G (form.Declare class) i fs v t x T l h r = tt
+    form_ready G (form.Text p) i fs v t x T l h r = (tt, r)
+    form_ready G (form.Skip p) i fs v t x T l h r = (tt, r)
+    form_ready G (form.Build used symbol p) i fs v t x T l h r = (h.1.0, r)
+    form_ready G (form.Label p message) i fs v t x T l h r = (tt, r)
+
+    node_ready : (G : Given) (fits : Fits offer G.grammar) (p : ℕ) (f : Option Node) (i : ℕ) (fs : List OnFrame) (v : List Tree) (t : List TrailItem) (x : List Said) (T : Table) → slice_get G.grammar.nodes p ≡ f → 1 < n →
+        AreReady offer n fs → IsTapeReady offer n (tape_enter_at G f i fs v t x T)
+    node_ready G fits p None i fs v t x T e l r = tt
+    node_ready G fits p (Some f) i fs v t x T e l r = form_ready G f i fs v t x T l (all-get (NodeFits offer) G.grammar.nodes p f fits.nodes e) r
+
+  hand_ready : (n : ℕ) (G : Given) (f : OnFrame) (reply : Reply) (fs : List OnFrame) (v : List Tree) (t : List TrailItem) (x : List Said) (T : Table) → 0 < n → IsReady offer n f → AreReady offer (suc n) fs →
+      IsTapeReady offer (suc n) (tape_hand G f reply fs v t x T)
+  hand_ready n G (on_parts rest b) reply fs v t x T z h r = parts_ready (suc n) rest b reply fs v t x T r
+  hand_ready n G (on_choice k ps i q a b d) reply fs v t x T z h r = let l : suc k < suc n = omega arith in choice_ready (suc n) G.reading k ps i q a b d reply fs v t x T l r
+  hand_ready n G (on_rounds p k c i slot a b d e) reply fs v t x T z h r = let l : suc k < suc n = omega arith in rounds_ready (suc n) p k c i slot a b d e reply fs v t x T l r
+  hand_ready n G (on_first ch slot a) reply fs v t x T z h r = let l : 0 < suc n = omega arith in first_ready (suc n) ch slot a reply fs v t x T l h r
+  hand_ready n G (on_separator links) reply fs v t x T z h r = let k = h.0 in let l : links.count < suc n = omega arith in separator_ready (suc n) links reply fs v t x T (l, h.1) r
+  hand_ready n G (on_operand links b a) reply fs v t x T z h r = let k = h.0 in let l : suc links.count < suc n = omega arith in operand_ready (suc n) links b a reply fs v t x T l h.1 r
+  hand_ready n G on_try reply fs v t x T z h r = r
+  hand_ready n G (on_label message) reply fs v t x T z h r = r
+  hand_ready n G on_rule reply fs v t x T z h r = r
+  hand_ready n G (on_text i a) reply fs v t x T z h r = r
+  hand_ready n G (on_skip a) reply fs v t x T z h r = r
+  hand_ready n G (on_build used symbol a) reply fs v t x T z h r = r
+
+  pub turn_ready : (n : ℕ) (G : Given) (x : Tape) → Fits offer G.grammar → 0 < n → IsTapeReady offer n x → IsTapeReady offer (suc n) (tape_turn G x)
+  turn_ready n G (tape_at p i fs v t x T) fits z r =
+      let l : 1 < suc n = omega arith in
+      let m : n ≤ suc n = omega arith in
+      node_ready (suc n) G fits p (slice_get G.grammar.nodes p) i fs v t x T refl l (frames_more n (suc n) m fs r)
+  turn_ready n G (tape_with reply [] v t x T) fits z r = tt
+  turn_ready n G (tape_with reply (f ∷ fs) v t x T) fits z r = let m : n ≤ suc n = omega arith in hand_ready n G f reply fs v t x T z r.0 (frames_more n (suc n) m fs r.1)
+  turn_ready n G tape_endless fits z r = tt

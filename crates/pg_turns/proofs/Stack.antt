@@ -1,0 +1,47 @@
+-- The topmost frame stands last in the machine.
+use Rattle.std.proofs.Common.{◌≡◌, ℕ, suc, List, [], ◌∷◌, ◌++◌, length, Bool, true, false, refl, sym, ap, ◌∙◌, arith}
+use Rattle.std.proofs.lemmas.Bool.Decides.{nat_tests}
+use Rattle.std.specs.Prelude.{◌==◌}
+use Rattle.pg_tree.specs.Trees.{Tree}
+use Rattle.pg_grammar.specs.declared.trail.TrailItem.{TrailItem}
+use Rattle.pg_table.specs.Tables.{Table}
+use Rattle.pg_turns.specs.Messages.{Said}
+use Rattle.pg_turns.specs.Tape.{OnFrame, tape_with, tape_is_last}
+use Rattle.pg_turns.specs.declared.frame.Reply.TheVariants.{Fine, Failed}
+use Rattle.pg_turns.specs.declared.message_tape.Why.{Why}
+use Rattle.pg_turns.specs.View.{frame_of, stack_on, stack_of}
+use Rattle.pg_turns.specs.declared.frame.Frame.{Frame}
+
+pub stack_pushed : (fs : List Frame) (f : Frame) → stack_of (fs ++ f ∷ []) ≡ frame_of f ∷ stack_of fs
+stack_pushed fs f = go fs []
+  where
+    go : (fs : List Frame) (below : List OnFrame) → stack_on below (fs ++ f ∷ []) ≡ frame_of f ∷ stack_on below fs
+    go [] below = refl
+    go (x ∷ fs) below = go fs (frame_of x ∷ below)
+
+some_stack : (below : List OnFrame) (f : OnFrame) (fs : List Frame) → (g : OnFrame) × (gs : List OnFrame) × (stack_on (f ∷ below) fs ≡ g ∷ gs)
+some_stack below f [] = (f, below, refl)
+some_stack below f (x ∷ fs) = some_stack (f ∷ below) (frame_of x) fs
+
+not_empty : (n : ℕ) → (suc n == 0) ≡ false
+not_empty n = grind (arith, nat_tests)
+
+-- an answer is the last one where no frame is left
+pub last_fine : (c : Bool) (j : ℕ) (why : Why) (fs : List Frame) (v : List Tree) (t : List TrailItem) (x : List Said) (T : Table) → (length fs == 0) ≡ tape_is_last (tape_with (Fine c j why) (stack_of fs) v t x T)
+last_fine c j why [] v t x T = refl
+last_fine c j why (f ∷ fs) v t x T =
+    let r = some_stack [] (frame_of f) fs in not_empty (length fs) ∙ ap (λ (gs : List OnFrame). tape_is_last (tape_with (Fine c j why) gs v t x T)) (sym r.2)
+
+pub last_failed : (c : Bool) (why : Why) (fs : List Frame) (v : List Tree) (t : List TrailItem) (x : List Said) (T : Table) → (length fs == 0) ≡ tape_is_last (tape_with (Failed c why) (stack_of fs) v t x T)
+last_failed c why [] v t x T = refl
+last_failed c why (f ∷ fs) v t x T =
+    let r = some_stack [] (frame_of f) fs in not_empty (length fs) ∙ ap (λ (gs : List OnFrame). tape_is_last (tape_with (Failed c why) gs v t x T)) (sym r.2)
+
+-- no frame
+pub none_left : (fs : List Frame) → (length fs == 0) ≡ true → stack_of fs ≡ []
+none_left [] h = refl
+none_left (f ∷ fs) h = let z = not_empty (length fs) in cc
+
+pub some_left : (fs : List Frame) → (length fs == 0) ≡ false → (g : OnFrame) × (gs : List OnFrame) × (stack_of fs ≡ g ∷ gs)
+some_left [] h = absurd cc
+some_left (f ∷ fs) h = some_stack [] (frame_of f) fs

@@ -1,0 +1,201 @@
+-- A turn of the machine over lists is a turn of the machine on plain values.
+use Rattle.std.proofs.Common.{◌≡◌, ℕ, suc, ◌+◌, List, [], ◌∷◌, ◌++◌, Bool, true, false, refl, subst, append-nil, length}
+use Rattle.std.specs.Prelude.{Option, Some, None, slice_get, codes, ◌==◌, nat_lt, if◌then◌else◌}
+use Rattle.std.specs.List.{list_any}
+use Rattle.std.specs.Str.{bytes_eq}
+use Rattle.pg_tree.specs.Trees.{Tree}
+use Rattle.pg_tree.specs.Built.{built}
+use Rattle.pg_tree.specs.declared.shape.Shape.{Shape}
+use Rattle.pg_grammar.specs.ClassItems.{has_character}
+use Rattle.pg_grammar.specs.Grammar.{Grammar}
+use Rattle.pg_grammar.specs.declared.class.ClassPart.{ClassPart}
+use Rattle.pg_grammar.specs.declared.form.Node.{Node}
+use Rattle.pg_grammar.specs.declared.form.Node.TheVariants as form
+use Rattle.pg_grammar.specs.declared.grammar.Rule as declared
+use Rattle.pg_grammar.specs.declared.trail.TrailItem.{TrailItem}
+use Rattle.pg_grammar.specs.declared.trail.TrailItem.TheVariants.{Rounds}
+use Rattle.pg_grammar.specs.declared.word_item.WordItem.{WordItem}
+use Rattle.pg_language.specs.Runs.{run_at}
+use Rattle.pg_table.specs.Tables.{Table}
+use Rattle.pg_language.specs.Answers.{Given}
+use Rattle.pg_language.specs.Errors.{Error, quote, seen_at, stopped_by, stopped_before, refused, refused_before}
+use Rattle.pg_language.specs.Leaves.{taken, satisfy_next, word_read, word_next, not_followed_next, matched, string_outcome, end_outcome}
+use Rattle.pg_language.specs.Outcomes.{Outcome, ok, failed}
+use Rattle.pg_turns.specs.Frames.{Frame}
+use Rattle.pg_turns.specs.Messages.{Said, error_of}
+use Rattle.pg_turns.specs.Shows.{same_table, nothing_kept, Stands, no_frames, stands_parts, stands_choice, stands_rounds, stands_first, stands_separator, stands_operand, stands_try, stands_label, stands_rule, stands_text, stands_skip, stands_build, no_parts, Shows, shows_at, shows_fine, shows_failed, shows_stuck, shows_endless}
+use Rattle.pg_turns.specs.Tape.{spot_at, OnFrame, Tape, tape_leaf, listed, built_behind, tape_rule, tape_word, tape_enter, tape_enter_at, tape_turn, tape_is_last}
+use Rattle.pg_turns.specs.Why.{why_at, Says}
+use Rattle.pg_turns.specs.Turns.{State, with_outcome, enter_word, enter_rule, enter_form, enter_node, turn, is_last}
+use Rattle.pg_turns.proofs.ChainsShown.{first_fine, first_failed, separator_fine, ended_shown, operand_fine, operand_failed}
+use Rattle.pg_turns.proofs.Labels.{label_fine_says, label_failed_says}
+use Rattle.pg_turns.proofs.Merged.{take_seam, drop_seam, nothing_says, just_says}
+use Rattle.pg_turns.proofs.Shown.{moved, parts_fine, parts_failed, next_shown, choice_fine, choice_failed, rounds_fine, rounds_failed}
+
+-- ---- leaves
+
+-- an outcome of a leaf: it stays under the table, and each of its messages stands once
+data IsLeaf (T : Table) : Outcome → Type 0 where
+  leaf_ok : {c : Bool} {w : List Tree} {u : List TrailItem} {e : Error} (j : ℕ) → error_of e.place (listed e.messages) ≡ e → IsLeaf T (ok c (spot_at T j) w u e)
+  leaf_failed : {c : Bool} {e : Error} → error_of e.place (listed e.messages) ≡ e → IsLeaf T (failed c e)
+
+taken_leaf : (T : Table) (i : ℕ) (s : List ℕ) → IsLeaf T (taken (spot_at T i) s)
+taken_leaf T i s = leaf_ok (i + length s) refl
+
+satisfy_leaf : (T : Table) (g : Grammar) (class : List ClassPart) (i : ℕ) (next : Option ℕ) → IsLeaf T (satisfy_next g class (spot_at T i) next)
+satisfy_leaf T g class i None = leaf_failed refl
+satisfy_leaf T g class i (Some c) = either (has_character g.classes class c)
+  where
+    either : (b : Bool) → IsLeaf T (if b then taken (spot_at T i) (c ∷ []) else failed false (stopped_by (quote (c ∷ [])) i))
+    either true = taken_leaf T i (c ∷ [])
+    either false = leaf_failed refl
+
+read_leaf : (T : Table) (item : WordItem) (i : ℕ) (s : List ℕ) → IsLeaf T (word_read item (spot_at T i) s)
+read_leaf T item i s = either (list_any (λ reserved. bytes_eq reserved s) item.reserved)
+  where
+    either : (b : Bool) → IsLeaf T (if b then failed false (refused (codes "reserved word " ++ quote s) i) else taken (spot_at T i) s)
+    either true = leaf_failed refl
+    either false = taken_leaf T i s
+
+word_leaf : (T : Table) (g : Grammar) (text : List ℕ) (item : WordItem) (i : ℕ) (next : Option ℕ) → IsLeaf T (word_next g text item (spot_at T i) next)
+word_leaf T g text item i None = leaf_failed refl
+word_leaf T g text item i (Some c) = either (has_character g.classes item.head c)
+  where
+    either : (b : Bool) → IsLeaf T (if b then word_read item (spot_at T i) (c ∷ run_at g text item.rest (suc i)) else failed false (stopped_by (quote (c ∷ [])) i))
+    either true = read_leaf T item i (c ∷ run_at g text item.rest (suc i))
+    either false = leaf_failed refl
+
+not_followed_leaf : (T : Table) (g : Grammar) (class : List ClassPart) (i : ℕ) (next : Option ℕ) → IsLeaf T (not_followed_next g class (spot_at T i) next)
+not_followed_leaf T g class i None = leaf_ok i refl
+not_followed_leaf T g class i (Some c) = either (has_character g.classes class c)
+  where
+    either : (b : Bool) → IsLeaf T (if b then failed false (refused (quote (c ∷ [])) i) else ok false (spot_at T i) [] [] (stopped_by (quote (c ∷ [])) i))
+    either true = leaf_failed refl
+    either false = leaf_ok i refl
+
+string_leaf : (T : Table) (text s : List ℕ) (i : ℕ) → IsLeaf T (string_outcome text s (spot_at T i))
+string_leaf T text s i = either (matched text s i == length s)
+  where
+    either : (b : Bool) → IsLeaf T (if b then taken (spot_at T i) s else failed (nat_lt 0 (matched text s i)) (stopped_before (quote s) (seen_at text (i + matched text s i)) i))
+    either true = taken_leaf T i s
+    either false = leaf_failed refl
+
+end_leaf : (T : Table) (text : List ℕ) (i : ℕ) → IsLeaf T (end_outcome text (spot_at T i))
+end_leaf T text i = either (i == length text)
+  where
+    either : (b : Bool) → IsLeaf T (if b then ok false (spot_at T i) [] [] (stopped_before (codes "end of input") [] i) else failed false (refused_before (codes "end of input") (seen_at text i) i))
+    either true = leaf_ok i refl
+    either false = leaf_failed refl
+
+built_seam : (shape : Shape) (symbol : List ℕ) (v w : List Tree) → built_behind shape symbol (length v) (v ++ w) ≡ v ++ built shape symbol w ∷ []
+built_seam shape symbol v w = let a = take_seam v w in let b = drop_seam v w in cc
+
+module _ {T : Table} where
+  leaf_shown : {fs : List Frame} {gs : List OnFrame} {v : List Tree} {t : List TrailItem} {x : List Said} {o : Outcome} → IsLeaf T o → Stands fs gs v t x T → Shows (with_outcome o fs) (tape_leaf o gs v t x T)
+  leaf_shown {x = x} (leaf_ok {e = e} j is) h = shows_fine h (subst (λ (w : Error). Says x (why_at e.place (length x)) w (x ++ listed e.messages)) is (just_says x (listed e.messages) e.place)) same_table
+  leaf_shown {v = v} {t = t} {x = x} (leaf_failed {e = e} is) h =
+      let a = append-nil v in let d = append-nil t in moved (shows_failed [] [] h (subst (λ (w : Error). Says x (why_at e.place (length x)) w (x ++ listed e.messages)) is (just_says x (listed e.messages) e.place)) same_table) cc
+
+  -- ---- nodes are entered
+
+  rule_shown : {fs : List Frame} {gs : List OnFrame} {v : List Tree} {t : List TrailItem} {x : List Said} (named : Option declared.Rule) (i : ℕ) → Stands fs gs v t x T →
+      Shows (enter_rule named (spot_at T i) fs) (tape_rule named i gs v t x T)
+  rule_shown None i h = shows_endless
+  rule_shown (Some named) i h = shows_at (stands_rule h)
+
+  word_shown : {fs : List Frame} {gs : List OnFrame} {v : List Tree} {t : List TrailItem} {x : List Said} (G : Given) (item : Option WordItem) (i : ℕ) → Stands fs gs v t x T →
+      Shows (enter_word G item (spot_at T i) fs) (tape_word G item i gs v t x T)
+  word_shown G None i h = shows_endless
+  word_shown G (Some item) i h = leaf_shown (word_leaf T G.grammar G.text item i (slice_get G.text i)) h
+
+  form_shown : {fs : List Frame} {gs : List OnFrame} {v : List Tree} {t : List TrailItem} {x : List Said} (G : Given) (f : Node) (i : ℕ) → Stands fs gs v t x T →
+      Shows (enter_form G f (spot_at T i) fs) (tape_enter G f i gs v t x T)
+  form_shown G (form.Satisfy class) i h = leaf_shown (satisfy_leaf T G.grammar class i (slice_get G.text i)) h
+  form_shown G (form.String s) i h = leaf_shown (string_leaf T G.text s i) h
+  form_shown {v = v} {t = t} {x = x} G (form.Seq []) i h = let a = append-nil v in let d = append-nil t in moved (shows_fine h (nothing_says x i) same_table) cc
+  form_shown {v = v} {t = t} G (form.Seq (p ∷ ps)) i h = let a = append-nil v in let d = append-nil t in moved (shows_at (stands_parts h no_parts)) cc
+  form_shown G (form.Choice ps) i h = next_shown 1 ps i h nothing_kept
+  form_shown {v = v} G (form.Many p) i h = let a = append-nil v in moved (shows_at (stands_rounds {w = []} {u = []} (Rounds 0) h same_table)) cc
+  form_shown G (form.ChainLeft used p s) i h = shows_at (stands_first (Rounds 0) h)
+  form_shown G (form.ChainRight used p s) i h = shows_at (stands_first (Rounds 0) h)
+  form_shown G (form.Try p) i h = shows_at (stands_try h)
+  form_shown G (form.NotFollowedBy class) i h = leaf_shown (not_followed_leaf T G.grammar class i (slice_get G.text i)) h
+  form_shown G form.EndOfText i h = leaf_shown (end_leaf T G.text i) h
+  form_shown G (form.Word w) i h = word_shown G (slice_get G.grammar.words w) i h
+  form_shown G (form.Rule r) i h = rule_shown (slice_get G.grammar.rules r) i h
+  form_shown G (form.Expression builders p) i h = shows_endless
+  form_shown G (form.Declare class) i h = shows_endless
+  form_shown G (form.Text p) i h = shows_at (stands_text h)
+  form_shown G (form.Skip p) i h = shows_at (stands_skip h)
+  form_shown G (form.Build used symbol p) i h = shows_at (stands_build h)
+  form_shown G (form.Label p message) i h = shows_at (stands_label h)
+
+  node_shown : {fs : List Frame} {gs : List OnFrame} {v : List Tree} {t : List TrailItem} {x : List Said} (G : Given) (f : Option Node) (i : ℕ) → Stands fs gs v t x T →
+      Shows (enter_node G f (spot_at T i) fs) (tape_enter_at G f i gs v t x T)
+  node_shown G None i h = shows_endless
+  node_shown G (Some f) i h = form_shown G f i h
+
+-- ---- one turn
+
+pub turn_shown : (G : Given) {st : State} {x : Tape} → Shows st x → is_last st ≡ false → Shows (turn G st) (tape_turn G x)
+turn_shown G (shows_at {p = p} {i = i} h) going = node_shown G (slice_get G.grammar.nodes p) i h
+turn_shown G (shows_fine no_frames o e) going = cc
+turn_shown G (shows_fine {w = s} {u = r} {c = c} {j = j} (stands_parts {ps = ps} h k) o e) going = parts_fine ps c j s r h k o e
+turn_shown G (shows_fine {w = s} {u = r} {c = c} {j = j} (stands_choice {ps = ps} {k = k} {i = i} h q) o e) going = choice_fine G.reading k ps i c j s r h q o e
+turn_shown G (shows_fine {w = s} {u = r} {c = c} {j = j} (stands_rounds {w = w} {u = u} {p = p} {k = k} {i = i} {c = b} item h l) o e) going = rounds_fine w u p k b i item c j s r h l o e
+turn_shown G (shows_fine {w = s} {u = r} {c = c} {j = j} (stands_first {ch = ch} item h) o e) going = first_fine ch item c j s r h o e
+turn_shown G (shows_fine {w = s} {u = r} {c = c} {j = j} (stands_separator h k) o e) going = separator_fine c j s r h k o e
+turn_shown G (shows_fine {w = s} {u = r} {c = d} {j = j} (stands_operand {s = a} {r = q} {c = c} h k m l) o e) going = operand_fine a q c d j s r h k m l o e
+turn_shown G (shows_fine (stands_try h) o e) going = shows_fine h o e
+turn_shown G (shows_fine {c = c} (stands_label {message = message} h) o e) going = shows_fine h (label_fine_says c message o) e
+turn_shown G (shows_fine (stands_rule h) o e) going = shows_fine h o e
+turn_shown G (shows_fine {v = v} {w = s} (stands_text h) o e) going = let a = take_seam v s in moved (shows_fine h o e) cc
+turn_shown G (shows_fine {v = v} {w = s} (stands_skip h) o e) going = let a = take_seam v s in let d = append-nil v in moved (shows_fine h o e) cc
+turn_shown G (shows_fine {v = v} {w = s} (stands_build {used = used} {symbol = symbol} h) o e) going = let a = built_seam used.shape symbol v s in moved (shows_fine h o e) cc
+turn_shown G (shows_failed w u no_frames o e) going = cc
+turn_shown G (shows_failed {c = c} s r (stands_parts {ps = ps} h k) o e) going = parts_failed ps c s r h k o e
+turn_shown G (shows_failed {c = c} s r (stands_choice {ps = ps} {k = k} {i = i} h q) o e) going = choice_failed G.reading k ps i c s r h q o e
+turn_shown G (shows_failed {c = c} s r (stands_rounds {w = w} {u = u} {p = p} {k = k} {i = i} {c = b} item h l) o e) going = rounds_failed w u p k b i item c s r h l o e
+turn_shown G (shows_failed {c = c} s r (stands_first {ch = ch} item h) o e) going = first_failed ch item c s r h o e
+turn_shown G (shows_failed {c = c} s r (stands_separator h k) o e) going = ended_shown c s r h k o e
+turn_shown G (shows_failed {c = d} s r (stands_operand {s = a} {r = q} {c = c} h k m l) o e) going = operand_failed a q c d s r h k m l o e
+turn_shown G (shows_failed s r (stands_try h) o e) going = shows_failed s r h o e
+turn_shown G (shows_failed {c = c} s r (stands_label {message = message} h) o e) going = shows_failed s r h (label_failed_says c message o) e
+turn_shown G (shows_failed s r (stands_rule h) o e) going = shows_failed s r h o e
+turn_shown G (shows_failed s r (stands_text h) o e) going = shows_failed s r h o e
+turn_shown G (shows_failed s r (stands_skip h) o e) going = shows_failed s r h o e
+turn_shown G (shows_failed s r (stands_build h) o e) going = shows_failed s r h o e
+turn_shown G shows_stuck going = cc
+turn_shown G shows_endless going = cc
+
+-- a state is the last one where its tape is
+pub last_shown : {st : State} {x : Tape} → Shows st x → is_last st ≡ tape_is_last x
+last_shown (shows_at h) = refl
+last_shown (shows_fine no_frames o e) = refl
+last_shown (shows_fine (stands_parts h k) o e) = refl
+last_shown (shows_fine (stands_choice h q) o e) = refl
+last_shown (shows_fine (stands_rounds item h l) o e) = refl
+last_shown (shows_fine (stands_first item h) o e) = refl
+last_shown (shows_fine (stands_separator h k) o e) = refl
+last_shown (shows_fine (stands_operand h k m l) o e) = refl
+last_shown (shows_fine (stands_try h) o e) = refl
+last_shown (shows_fine (stands_label h) o e) = refl
+last_shown (shows_fine (stands_rule h) o e) = refl
+last_shown (shows_fine (stands_text h) o e) = refl
+last_shown (shows_fine (stands_skip h) o e) = refl
+last_shown (shows_fine (stands_build h) o e) = refl
+last_shown (shows_failed s r no_frames o e) = refl
+last_shown (shows_failed s r (stands_parts h k) o e) = refl
+last_shown (shows_failed s r (stands_choice h q) o e) = refl
+last_shown (shows_failed s r (stands_rounds item h l) o e) = refl
+last_shown (shows_failed s r (stands_first item h) o e) = refl
+last_shown (shows_failed s r (stands_separator h k) o e) = refl
+last_shown (shows_failed s r (stands_operand h k m l) o e) = refl
+last_shown (shows_failed s r (stands_try h) o e) = refl
+last_shown (shows_failed s r (stands_label h) o e) = refl
+last_shown (shows_failed s r (stands_rule h) o e) = refl
+last_shown (shows_failed s r (stands_text h) o e) = refl
+last_shown (shows_failed s r (stands_skip h) o e) = refl
+last_shown (shows_failed s r (stands_build h) o e) = refl
+last_shown shows_stuck = refl
+last_shown shows_endless = refl

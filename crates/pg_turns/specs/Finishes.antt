@@ -1,0 +1,53 @@
+-- What the machine comes to from a state, told by the relation of answers and not by turns.
+use Rattle.std.specs.Prelude.{◌≡◌, ℕ, zero, ◌+◌, List, [], ◌∷◌, Bool}
+use Rattle.pg_tree.specs.Trees.{Tree}
+use Rattle.pg_grammar.specs.declared.trail.TrailItem.{TrailItem}
+use Rattle.pg_grammar.specs.declared.trail.TrailItem.TheVariants.{Rounds}
+use Rattle.pg_language.specs.Derives.{Spot}
+use Rattle.pg_language.specs.Answers.{Given, Answers, AfterPart, AfterAlternative, AfterRound, AfterFirst, AfterSeparator, AfterOperand}
+use Rattle.pg_language.specs.Errors.{Error}
+use Rattle.pg_language.specs.Outcomes.{Outcome}
+use Rattle.pg_language.specs.Reactions.{noted}
+use Rattle.pg_turns.specs.Frames.{Before, behind_parts, Kept, behind_kept, behind_rounds, Chain, Linked, behind_links, Around, around, Frame, in_parts, in_choice, in_rounds, in_first, in_separator, in_operand, in_around}
+use Rattle.pg_turns.specs.Turns.{State, at_node, with_outcome}
+
+-- the frame, handed the first outcome, comes to the second after so many nodes
+pub data Gives (G : Given) : Frame → Outcome → Outcome → ℕ → Type 0 where
+  gives_parts : {ps : List ℕ} {x o : Outcome} {n : ℕ} (done : Before) → AfterPart G ps x o n →
+      Gives G (in_parts ps done) x (behind_parts done o) n
+  gives_choice : {k n : ℕ} {ps : List ℕ} {a : Spot} {x o : Outcome} (kept : Kept) → AfterAlternative G k ps a x o n →
+      Gives G (in_choice k ps a kept) x (behind_kept kept o) n
+  gives_rounds : {p l n : ℕ} {a : Spot} {x o : Outcome} (k : ℕ) (c : Bool) (v : List Tree) (t : List TrailItem) → AfterRound G p l a x o n →
+      Gives G (in_rounds p k c a v t) x (noted (Rounds (k + l)) (behind_rounds c v t o)) n
+  gives_first : {chain : Chain} {k n : ℕ} {x o : Outcome} → AfterFirst G chain.fold chain.shape chain.operand chain.separator k x o n →
+      Gives G (in_first chain) x (noted (Rounds k) o) n
+  gives_separator : {chain : Chain} {k n : ℕ} {a : Spot} {x o : Outcome} (linked : Linked) →
+      AfterSeparator G chain.fold chain.shape chain.operand chain.separator linked.left k a x o n →
+      Gives G (in_separator chain linked a) x (noted (Rounds (linked.count + k)) (behind_links chain linked o)) n
+  gives_operand : {chain : Chain} {k n : ℕ} {a : Spot} {c : Bool} {v : List Tree} {t : List TrailItem} {e : Error}
+      {x o : Outcome} (linked : Linked) →
+      AfterOperand G chain.fold chain.shape chain.operand chain.separator linked.left k a c v t e x o n →
+      Gives G (in_operand chain linked a c v t e) x (noted (Rounds (linked.count + k)) (behind_links chain linked o)) n
+  gives_around : {w : Around} {x : Outcome} → Gives G (in_around w) x (around G.text w x) zero
+
+-- the frames, handed the first outcome, come to the second after so many nodes
+pub data Returns (G : Given) : List Frame → Outcome → Outcome → ℕ → Type 0 where
+  returned : {x : Outcome} → Returns G [] x x zero
+  over : {f : Frame} {fs : List Frame} {x o out : Outcome} {m n : ℕ} → Gives G f x o m → Returns G fs o out n →
+      Returns G (f ∷ fs) x out (m + n)
+
+-- the state comes to the outcome after so many nodes
+pub data Finishes (G : Given) : State → Outcome → ℕ → Type 0 where
+  entering : {p m n : ℕ} {a : Spot} {fs : List Frame} {x out : Outcome} → Answers G p a x m → Returns G fs x out n →
+      Finishes G (at_node p a fs) out (m + n)
+  handing : {fs : List Frame} {x out : Outcome} {n : ℕ} → Returns G fs x out n → Finishes G (with_outcome x fs) out n
+
+-- an outcome of so many nodes in all is handed on, changed by a function
+pub record HandedOn (G : Given) (outcomes : Outcome → ℕ → Type 0) (changed : Outcome →
+    Outcome) (fs : List Frame) (out : Outcome) (n : ℕ) : Type 0 where
+  pub outcome : Outcome
+  pub nodes : ℕ
+  pub further : ℕ
+  pub answers : outcomes outcome nodes
+  pub returns : Returns G fs (changed outcome) out further
+  pub count : n ≡ nodes + further

@@ -1,0 +1,125 @@
+-- What nodes that were entered wait for, on plain values: each frame owns what came of its parts so far.
+use Rattle.std.specs.Prelude.{ℕ, List, [], ◌∷◌, ◌++◌, Bool, ◌||◌}
+use Rattle.pg_tree.specs.Trees.{Tree}
+use Rattle.pg_tree.specs.declared.shape.Shape.{Shape}
+use Rattle.pg_grammar.specs.declared.trail.TrailItem.{TrailItem}
+use Rattle.pg_language.specs.Derives.{Spot}
+use Rattle.pg_language.specs.Errors.{Error, merge}
+use Rattle.pg_language.specs.Outcomes.{Outcome, ok, failed, empty_round}
+use Rattle.pg_language.specs.Reactions.{error_behind, then_rest, after_failure, unless_consumed, tried, with_label, as_text, skipped, as_tree, as_finished}
+use Rattle.pg_language.specs.declared.fold.Fold.{Fold}
+
+-- ---- sequences
+
+-- the parts before, if there are any: they were ok
+pub data Before : Type 0 where
+  none_before : Before
+  before : (c : Bool) (v : List Tree) (t : List TrailItem) (e : Error) → Before
+
+-- what the sequence answers where those from here on answer so
+abbrev pub behind_parts : Before → Outcome → Outcome
+behind_parts none_before o = o
+behind_parts (before c v t e) o = then_rest c v t e o
+
+-- one part more
+abbrev pub with_part : Before → Bool → List Tree → List TrailItem → Error → Before
+with_part none_before d w u f = before d w u f
+with_part (before c v t e) d w u f = before (c || d) (v ++ w) (t ++ u) (error_behind d e f)
+
+-- ---- choices
+
+-- what the alternatives before came to: there was none, or they failed with this error, or one of them was ok and empty
+pub data Kept : Type 0 where
+  none_kept : Kept
+  failed_kept : (e : Error) → Kept
+  ok_kept : (b : Spot) (v : List Tree) (t : List TrailItem) (e : Error) → Kept
+
+-- what the choice answers where those from here on answer so
+abbrev pub behind_kept : Kept → Outcome → Outcome
+behind_kept none_kept o = o
+behind_kept (failed_kept e) o = after_failure e o
+behind_kept (ok_kept b v t e) o = unless_consumed b v t e o
+
+-- one more that failed empty
+abbrev pub with_failure : Kept → Error → Kept
+with_failure none_kept f = failed_kept f
+with_failure (failed_kept e) f = failed_kept (merge e f)
+with_failure (ok_kept b v t e) f = ok_kept b v t (merge e f)
+
+-- one more that was ok and empty: the first of these stands
+abbrev pub with_empty_ok : Kept → Spot → List Tree → List TrailItem → Error → Kept
+with_empty_ok none_kept d w u f = ok_kept d w u f
+with_empty_ok (failed_kept e) d w u f = ok_kept d w u (merge e f)
+with_empty_ok (ok_kept b v t e) d w u f = ok_kept b v t (merge e f)
+
+-- ---- repetitions
+
+-- what a repetition answers, behind rounds that consumed so and came to this, where those from here on answer so
+abbrev pub behind_rounds : Bool → List Tree → List TrailItem → Outcome → Outcome
+behind_rounds c v t (ok d b w u f) = ok (c || d) b (v ++ w) (t ++ u) f
+behind_rounds c v t (failed d f) = failed (c || d) f
+behind_rounds c v t empty_round = empty_round
+
+-- ---- chains
+
+pub record Chain : Type 0 where
+  pub fold : Fold
+  pub shape : Shape
+  pub operand : ℕ
+  pub separator : ℕ
+
+-- what a chain came to behind its first operand and some links
+pub record Linked : Type 0 where
+  pub count : ℕ
+  pub consumed : Bool
+  pub trail : List TrailItem
+  pub error : Error
+  -- the forests of operands and of the separators behind them, the last ones first, that are still to be folded
+  pub waiting : List (List Tree × List Tree)
+  -- the forest on the left of the next separator
+  pub left : List Tree
+
+-- the outcome, with all that waits folded around its forest
+abbrev pub folded : Chain → List (List Tree × List Tree) → Outcome → Outcome
+folded chain [] o = o
+folded chain (x ∷ waiting) o = folded chain waiting (as_finished chain.fold chain.shape x.0 x.1 o)
+
+-- what the chain answers, but for its item, where the links from here on answer so
+abbrev pub behind_links : Chain → Linked → Outcome → Outcome
+behind_links chain linked o = then_rest linked.consumed [] linked.trail linked.error (folded chain linked.waiting o)
+
+-- ---- forms around one part
+
+pub data Around : Type 0 where
+  a_try : Around
+  a_label : (message : List ℕ) → Around
+  a_rule : Around
+  a_text : (from : Spot) → Around
+  a_skip : Around
+  a_build : (shape : Shape) (symbol : List ℕ) → Around
+
+abbrev pub around : List ℕ → Around → Outcome → Outcome
+around text a_try o = tried o
+around text (a_label message) o = with_label message o
+around text a_rule o = o
+around text (a_text from) o = as_text text from o
+around text a_skip o = skipped o
+around text (a_build shape symbol) o = as_tree shape symbol o
+
+-- ---- frames
+
+pub data Frame : Type 0 where
+  -- a part of a sequence runs, and these come behind it
+  in_parts : (rest : List ℕ) (done : Before) → Frame
+  -- the alternative with this number runs, from the choice's start, and these come behind it
+  in_choice : (which : ℕ) (rest : List ℕ) (start : Spot) (kept : Kept) → Frame
+  -- a round of a repetition runs from this spot, behind so many
+  in_rounds : (part count : ℕ) (c : Bool) (start : Spot) (v : List Tree) (t : List TrailItem) → Frame
+  -- a chain's first operand runs
+  in_first : Chain → Frame
+  -- a separator runs from this spot
+  in_separator : Chain → Linked → (start : Spot) → Frame
+  -- the operand of a link that began at this spot runs, behind a separator that was ok with this
+  in_operand : Chain → Linked → (start : Spot) (c : Bool) (v : List Tree) (t : List TrailItem) (e : Error) → Frame
+  -- the one part runs
+  in_around : Around → Frame

@@ -1,0 +1,9 @@
+pub mod Messages
+pub mod Why
+pub mod Frames
+pub mod Turns
+pub mod Finishes
+pub mod Tape
+pub mod Ready
+pub mod Shows
+pub mod View

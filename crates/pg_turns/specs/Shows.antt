@@ -1,0 +1,140 @@
+-- The machine on plain values that the machine over lists stands for: what frames own lies on the lists, those of the
+-- topmost frame last. Lengths that frames keep are those of what stands below. The table on the tape is that of the spot where
+-- the machine stands: the first operators of it, as many as a frame kept, are those of the frame's spot.
+use Rattle.std.specs.Prelude.{◌≡◌, ℕ, Bool, List, [], ◌∷◌, ◌++◌, true, length, Option, Some, None}
+use Rattle.pg_tree.specs.Trees.{Tree}
+use Rattle.pg_grammar.specs.Operators.{Operator}
+use Rattle.pg_grammar.specs.declared.used.BuilderUse.{BuilderUse}
+use Rattle.pg_grammar.specs.declared.trail.TrailItem.{TrailItem}
+use Rattle.pg_grammar.specs.declared.trail.TrailItem.TheVariants.{Alt}
+use Rattle.pg_table.specs.Tables.{Table}
+use Rattle.pg_language.specs.Errors.{Error}
+use Rattle.pg_language.specs.Outcomes.{ok, failed, empty_round}
+use Rattle.pg_language.specs.declared.fold.Fold.TheVariants.{FromLeft, FromRight}
+use Rattle.pg_turns.specs.Frames.{Before, none_before, before, Kept, none_kept, failed_kept, ok_kept, Chain, Linked, a_try, a_label, a_rule, a_text, a_skip, a_build, Frame, in_parts, in_choice, in_rounds, in_first, in_separator, in_operand, in_around}
+use Rattle.pg_turns.specs.Messages.{Said}
+use Rattle.pg_turns.specs.Tape.{spot_at, OnKept, no_kept, kept_failure, kept_empty_ok, OnChain, OnLinks, OnFrame, on_parts, on_choice, on_rounds, on_first, on_separator, on_operand, on_try, on_label, on_rule, on_text, on_skip, on_build, Tape, tape_at, tape_with, tape_endless}
+use Rattle.pg_turns.specs.Turns.{State, at_node, with_outcome, endless}
+use Rattle.pg_turns.specs.Why.{Says, Holds}
+use Rattle.pg_turns.specs.declared.frame.Before as declared
+use Rattle.pg_turns.specs.declared.frame.Reply.TheVariants.{Fine, Failed, EmptyRound}
+use Rattle.pg_turns.specs.declared.message_tape.Held.{Held}
+use Rattle.pg_turns.specs.declared.message_tape.Why.{Why}
+
+-- the table with these operators more, at the end
+abbrev pub with_operators : Table → List Operator → Table
+with_operators T ds = record { operators = T.operators ++ ds; reserved = T.reserved; most = T.most }
+
+-- from the first table to the second by what consumed or not: operators came at the end, and none where nothing was consumed
+pub data Extends : Bool → Table → Table → Type 0 where
+  same_table : {c : Bool} {T : Table} → Extends c T T
+  more_operators : {T : Table} (ds : List Operator) → Extends true T (with_operators T ds)
+
+-- a chain as the definitions have it
+abbrev pub plain : OnChain → Chain
+plain ch = record { fold = ch.fold; shape = ch.used.shape; operand = ch.operand; separator = ch.separator }
+
+-- the parts before, with their forest, their trail, the list that ends with their messages and the table behind them, behind
+-- the first list and the first table
+pub data ShowsBefore : List Said → Table → Before → List Tree → List TrailItem → Option declared.Before → List Said → Table →
+    Type 0 where
+  no_parts : {x : List Said} {T : Table} → ShowsBefore x T none_before [] [] None x T
+  some_parts : {x y : List Said} {T U : Table} {held : Held} {c : Bool} {v : List Tree} {t : List TrailItem} {e : Error} →
+      Holds x held e y → Extends c T U → ShowsBefore x T (before c v t e) v t (Some (record { consumed = c; held = held })) y U
+
+pub data ShowsKept (T : Table) : List Said → Kept → OnKept → List Said → Type 0 where
+  nothing_kept : {x : List Said} → ShowsKept T x none_kept no_kept x
+  a_failure : {x y : List Said} {held : Held} {e : Error} → Holds x held e y → ShowsKept T x (failed_kept e) (kept_failure held) y
+  an_empty_ok : {x y : List Said} {held : Held} {i : ℕ} {v : List Tree} {t : List TrailItem} {e : Error} → Holds x held e y →
+      ShowsKept T x (ok_kept (spot_at T i) v t e) (kept_empty_ok i v t held) y
+
+-- the trees that wait to be folded lie behind the first list; from the left none do
+pub data Waits : OnChain → List Tree → List (List Tree × List Tree) → List ℕ → List Tree → Type 0 where
+  none_wait : {ch : OnChain} {v : List Tree} → Waits ch v [] [] v
+  from_left : {ch : OnChain} {v : List Tree} {waiting : List (List Tree × List Tree)} → ch.fold ≡ FromLeft → Waits ch v waiting [] v
+  from_right : {ch : OnChain} {v y a s : List Tree} {waiting : List (List Tree × List Tree)} {ns : List ℕ} → ch.fold ≡ FromRight →
+      Waits ch v waiting ns y →
+      Waits ch v ((a, s) ∷ waiting) (length y ∷ ns) (y ++ a ++ s)
+
+-- a chain behind some links, over the lists and the table below it
+pub data ShowsLinks : List Tree → List TrailItem → List Said → Table → Linked → ℕ → OnLinks → List Tree → List TrailItem → List Said →
+    Table → Type 0 where
+  links : {ch : OnChain} {v y w : List Tree} {t u : List TrailItem} {x z : List Said} {T U : Table}
+      {waiting : List (List Tree × List Tree)} {ns : List ℕ} {n i : ℕ} {c : Bool} {held : Held} {e : Error}
+      (item : TrailItem) → Waits ch v waiting ns y → Holds x held e z → Extends c T U →
+      ShowsLinks v t x T (record { count = n; consumed = c; trail = u; error = e; waiting = waiting; left = w }) i
+      (record {
+        chain = ch;
+        slot = length t;
+        count = n;
+        consumed = c;
+        held = held;
+        waiting = ns;
+        left = length y;
+        start = i;
+        forest = length (y ++ w);
+        trail = length (t ++ item ∷ u);
+        operators = length U.operators;
+      })
+      (y ++ w) (t ++ item ∷ u) z U
+
+-- the frames of the one, over these lists and under this table, are those of the other with what they own
+pub data Stands : List Frame → List OnFrame → List Tree → List TrailItem → List Said → Table → Type 0 where
+  no_frames : {T : Table} → Stands [] [] [] [] [] T
+  stands_parts : {fs : List Frame} {gs : List OnFrame} {v w : List Tree} {t u : List TrailItem} {x y : List Said} {T U : Table}
+      {ps : List ℕ} {done : Before} {b : Option declared.Before} →
+      Stands fs gs v t x T → ShowsBefore x T done w u b y U →
+      Stands (in_parts ps done ∷ fs) (on_parts ps b ∷ gs) (v ++ w) (t ++ u) y U
+  stands_choice : {fs : List Frame} {gs : List OnFrame} {v : List Tree} {t : List TrailItem} {x y : List Said} {T : Table}
+      {ps : List ℕ} {k i : ℕ} {kept : Kept} {q : OnKept} →
+      Stands fs gs v t x T → ShowsKept T x kept q y →
+      Stands (in_choice k ps (spot_at T i) kept ∷ fs) (on_choice k ps i q (length v) (length t) (length T.operators) ∷ gs) v
+      (t ++ Alt k ∷ []) y T
+  stands_rounds : {fs : List Frame} {gs : List OnFrame} {v w : List Tree} {t u : List TrailItem} {x : List Said} {T U : Table}
+      {p k i : ℕ} {c : Bool} (item : TrailItem) →
+      Stands fs gs v t x T → Extends c T U →
+      Stands (in_rounds p k c (spot_at U i) w u ∷ fs) (on_rounds p k c i (length t) (length (v ++ w)) (length (t ++ item ∷ u))
+      (length U.operators) (length x) ∷ gs) (v ++ w) (t ++ item ∷ u) x U
+  stands_first : {fs : List Frame} {gs : List OnFrame} {v : List Tree} {t : List TrailItem} {x : List Said} {T : Table}
+      {ch : OnChain} (item : TrailItem) →
+      Stands fs gs v t x T → Stands (in_first (plain ch) ∷ fs) (on_first ch (length t) (length v) ∷ gs) v (t ++ item ∷ []) x T
+  stands_separator : {fs : List Frame} {gs : List OnFrame} {v w : List Tree} {t u : List TrailItem} {x y : List Said} {T U : Table}
+      {linked : Linked} {i : ℕ} {l : OnLinks} →
+      Stands fs gs v t x T → ShowsLinks v t x T linked i l w u y U →
+      Stands (in_separator (plain l.chain) linked (spot_at U i) ∷ fs) (on_separator l ∷ gs) w u y U
+  stands_operand : {fs : List Frame} {gs : List OnFrame} {v w s : List Tree} {t u r : List TrailItem} {x y z : List Said}
+      {T U W : Table} {linked : Linked} {i : ℕ} {l : OnLinks} {c : Bool} {held : Held} {e : Error} →
+      Stands fs gs v t x T → ShowsLinks v t x T linked i l w u y U → Holds y held e z → Extends c U W →
+      Stands (in_operand (plain l.chain) linked (spot_at U i) c s r e ∷ fs) (on_operand l (record { consumed = c; held = held })
+      (length (w ++ s)) ∷ gs) (w ++ s) (u ++ r) z W
+  stands_try : {fs : List Frame} {gs : List OnFrame} {v : List Tree} {t : List TrailItem} {x : List Said} {T : Table} →
+      Stands fs gs v t x T → Stands (in_around a_try ∷ fs) (on_try ∷ gs) v t x T
+  stands_label : {fs : List Frame} {gs : List OnFrame} {v : List Tree} {t : List TrailItem} {x : List Said} {T : Table}
+      {message : List ℕ} →
+      Stands fs gs v t x T → Stands (in_around (a_label message) ∷ fs) (on_label message ∷ gs) v t x T
+  stands_rule : {fs : List Frame} {gs : List OnFrame} {v : List Tree} {t : List TrailItem} {x : List Said} {T : Table} →
+      Stands fs gs v t x T → Stands (in_around a_rule ∷ fs) (on_rule ∷ gs) v t x T
+  stands_text : {fs : List Frame} {gs : List OnFrame} {v : List Tree} {t : List TrailItem} {x : List Said} {T : Table} {i : ℕ} →
+      Stands fs gs v t x T → Stands (in_around (a_text (spot_at T i)) ∷ fs) (on_text i (length v) ∷ gs) v t x T
+  stands_skip : {fs : List Frame} {gs : List OnFrame} {v : List Tree} {t : List TrailItem} {x : List Said} {T : Table} →
+      Stands fs gs v t x T → Stands (in_around a_skip ∷ fs) (on_skip (length v) ∷ gs) v t x T
+  stands_build : {fs : List Frame} {gs : List OnFrame} {v : List Tree} {t : List TrailItem} {x : List Said} {T : Table}
+      {used : BuilderUse} {symbol : List ℕ} →
+      Stands fs gs v t x T → Stands (in_around (a_build used.shape symbol) ∷ fs) (on_build used symbol (length v) ∷ gs) v t x T
+
+-- the state of the one is the tape of the other: an ok outcome's trees, items, messages and operators stand last, and behind a
+-- failed one others may
+pub data Shows : State → Tape → Type 0 where
+  shows_at : {fs : List Frame} {gs : List OnFrame} {v : List Tree} {t : List TrailItem} {x : List Said} {T : Table} {p i : ℕ} →
+      Stands fs gs v t x T → Shows (at_node p (spot_at T i) fs) (tape_at p i gs v t x T)
+  shows_fine : {fs : List Frame} {gs : List OnFrame} {v w : List Tree} {t u : List TrailItem} {x y : List Said} {T U : Table}
+      {c : Bool} {j : ℕ} {why : Why} {e : Error} →
+      Stands fs gs v t x T → Says x why e y → Extends c T U →
+      Shows (with_outcome (ok c (spot_at U j) w u e) fs) (tape_with (Fine c j why) gs (v ++ w) (t ++ u) y U)
+  shows_failed : {fs : List Frame} {gs : List OnFrame} {v : List Tree} {t : List TrailItem} {x y : List Said} {T U : Table} {c : Bool}
+      {why : Why} {e : Error} (w : List Tree) (u : List TrailItem) →
+      Stands fs gs v t x T → Says x why e y → Extends true T U →
+      Shows (with_outcome (failed c e) fs) (tape_with (Failed c why) gs (v ++ w) (t ++ u) y U)
+  shows_stuck : {fs : List Frame} {gs : List OnFrame} {v : List Tree} {t : List TrailItem} {x : List Said} {T : Table} →
+      Shows (with_outcome empty_round fs) (tape_with EmptyRound gs v t x T)
+  shows_endless : Shows endless tape_endless

@@ -1,0 +1,170 @@
+-- The machine on plain values: one turn enters a node, or hands an outcome to the topmost frame.
+use Rattle.std.specs.Prelude.{ℕ, zero, suc, List, [], ◌∷◌, ◌++◌, Bool, true, false, ◌||◌, Option, Some, None, slice_get}
+use Rattle.pg_tree.specs.Trees.{Tree}
+use Rattle.pg_grammar.specs.declared.form.Node.{Node}
+use Rattle.pg_grammar.specs.declared.form.Node.TheVariants as form
+use Rattle.pg_grammar.specs.declared.grammar.Rule as declared
+use Rattle.pg_grammar.specs.declared.trail.TrailItem.{TrailItem}
+use Rattle.pg_grammar.specs.declared.trail.TrailItem.TheVariants.{Alt, Rounds}
+use Rattle.pg_grammar.specs.declared.word_item.WordItem.{WordItem}
+use Rattle.pg_language.specs.Derives.{Spot}
+use Rattle.pg_language.specs.Answers.{Given}
+use Rattle.pg_language.specs.Errors.{Error, nothing_said}
+use Rattle.pg_language.specs.Leaves.{satisfy_outcome, string_outcome, word_outcome, not_followed_outcome, end_outcome}
+use Rattle.pg_language.specs.Outcomes.{Outcome, ok, failed, empty_round}
+use Rattle.pg_language.specs.Reactions.{noted, error_behind, unless_begun, carried}
+use Rattle.pg_language.specs.declared.fold.Fold.TheVariants.{FromLeft, FromRight}
+use Rattle.pg_language.specs.declared.reading.Reading.{Reading}
+use Rattle.pg_language.specs.declared.reading.Reading.TheVariants.{Library, Report}
+use Rattle.pg_turns.specs.Frames.{Before, none_before, behind_parts, with_part, Kept, none_kept, behind_kept, with_failure, with_empty_ok, Chain, Linked, behind_links, a_try, a_label, a_rule, a_text, a_skip, a_build, around, Frame, in_parts, in_choice, in_rounds, in_first, in_separator, in_operand, in_around}
+
+-- a node is to be entered, or an outcome to be handed to the topmost frame, or there is no outcome: a chain goes on without
+-- an end, or the node has no form that is run
+pub data State : Type 0 where
+  at_node : (node : ℕ) (a : Spot) (frames : List Frame) → State
+  with_outcome : (o : Outcome) (frames : List Frame) → State
+  endless : State
+
+-- ---- a node is entered
+
+abbrev pub next_alternative : ℕ → List ℕ → Spot → Kept → List Frame → State
+next_alternative k [] a kept fs = with_outcome (behind_kept kept (failed false (nothing_said a.place))) fs
+next_alternative k (p ∷ ps) a kept fs = at_node p a (in_choice k ps a kept ∷ fs)
+
+abbrev pub enter_word : Given → Option WordItem → Spot → List Frame → State
+enter_word G None a fs = endless
+enter_word G (Some item) a fs = with_outcome (word_outcome G.grammar G.text item a) fs
+
+abbrev pub enter_rule : Option declared.Rule → Spot → List Frame → State
+enter_rule None a fs = endless
+enter_rule (Some named) a fs = at_node named.body a (in_around a_rule ∷ fs)
+
+abbrev pub enter_form : Given → Node → Spot → List Frame → State
+enter_form G (form.Satisfy class) a fs = with_outcome (satisfy_outcome G.grammar G.text class a) fs
+enter_form G (form.String s) a fs = with_outcome (string_outcome G.text s a) fs
+enter_form G (form.Seq []) a fs = with_outcome (ok false a [] [] (nothing_said a.place)) fs
+enter_form G (form.Seq (p ∷ ps)) a fs = at_node p a (in_parts ps none_before ∷ fs)
+enter_form G (form.Choice ps) a fs = next_alternative (suc zero) ps a none_kept fs
+enter_form G (form.Many p) a fs = at_node p a (in_rounds p zero false a [] [] ∷ fs)
+enter_form G (form.ChainLeft used p s) a fs = at_node p a (in_first (record {
+  fold = FromLeft;
+  shape = used.shape;
+  operand = p;
+  separator
+      = s;
+}) ∷ fs)
+enter_form G (form.ChainRight used p s) a fs = at_node p a (in_first (record {
+  fold = FromRight;
+  shape = used.shape;
+  operand = p;
+  separator = s;
+}) ∷ fs)
+enter_form G (form.Try p) a fs = at_node p a (in_around a_try ∷ fs)
+enter_form G (form.NotFollowedBy class) a fs = with_outcome (not_followed_outcome G.grammar G.text class a) fs
+enter_form G form.EndOfText a fs = with_outcome (end_outcome G.text a) fs
+enter_form G (form.Word w) a fs = enter_word G (slice_get G.grammar.words w) a fs
+enter_form G (form.Rule r) a fs = enter_rule (slice_get G.grammar.rules r) a fs
+enter_form G (form.Expression builders p) a fs = endless
+enter_form G (form.Declare class) a fs = endless
+enter_form G (form.Text p) a fs = at_node p a (in_around (a_text a) ∷ fs)
+enter_form G (form.Skip p) a fs = at_node p a (in_around a_skip ∷ fs)
+enter_form G (form.Build used symbol p) a fs = at_node p a (in_around (a_build used.shape symbol) ∷ fs)
+enter_form G (form.Label p message) a fs = at_node p a (in_around (a_label message) ∷ fs)
+
+abbrev pub enter_node : Given → Option Node → Spot → List Frame → State
+enter_node G None a fs = endless
+enter_node G (Some n) a fs = enter_form G n a fs
+
+-- ---- an outcome is handed to a frame
+
+-- an alternative was ok and empty
+abbrev pub hand_empty_ok : Reading → ℕ → List ℕ → Spot → Kept → Spot → List Tree → List TrailItem → Error → List Frame → State
+hand_empty_ok Library k ps a kept b v t e fs = with_outcome (behind_kept kept (ok false b v (Alt k ∷ t) e)) fs
+hand_empty_ok Report k ps a kept b v t e fs = next_alternative (suc k) ps a (with_empty_ok kept b v (Alt k ∷ t) e) fs
+
+abbrev pub hand_to_choice : Reading → ℕ → List ℕ → Spot → Kept → Outcome → List Frame → State
+hand_to_choice reading k ps a kept (ok true b v t e) fs = with_outcome (behind_kept kept (ok true b v (Alt k ∷ t) e)) fs
+hand_to_choice reading k ps a kept (ok false b v t e) fs = hand_empty_ok reading k ps a kept b v t e fs
+hand_to_choice reading k ps a kept (failed true e) fs = with_outcome (behind_kept kept (failed true e)) fs
+hand_to_choice reading k ps a kept (failed false e) fs = next_alternative (suc k) ps a (with_failure kept e) fs
+hand_to_choice reading k ps a kept empty_round fs = with_outcome empty_round fs
+
+abbrev pub hand_to_parts : List ℕ → Before → Outcome → List Frame → State
+hand_to_parts [] done o fs = with_outcome (behind_parts done o) fs
+hand_to_parts (q ∷ ps) done (ok c b v t e) fs = at_node q b (in_parts ps (with_part done c v t e) ∷ fs)
+hand_to_parts (q ∷ ps) done (failed c e) fs = with_outcome (behind_parts done (failed c e)) fs
+hand_to_parts (q ∷ ps) done empty_round fs = with_outcome empty_round fs
+
+abbrev pub hand_to_rounds : ℕ → ℕ → Bool → Spot → List Tree → List TrailItem → Outcome → List Frame → State
+hand_to_rounds p k c a v t (ok true b w u f) fs = at_node p b (in_rounds p (suc k) true b (v ++ w) (t ++ u) ∷ fs)
+hand_to_rounds p k c a v t (ok false b w u f) fs = with_outcome empty_round fs
+hand_to_rounds p k c a v t (failed true f) fs = with_outcome (failed true f) fs
+hand_to_rounds p k c a v t (failed false f) fs = with_outcome (ok c a v (Rounds k ∷ t) f) fs
+hand_to_rounds p k c a v t empty_round fs = with_outcome empty_round fs
+
+-- what the chain answers where no link comes any more and those that would come answer so
+abbrev pub ended : Chain → Linked → Outcome → Outcome
+ended chain linked o = noted (Rounds linked.count) (behind_links chain linked o)
+
+-- a chain behind its first operand
+abbrev pub first_linked : Bool → List Tree → List TrailItem → Error → Linked
+first_linked c v t e = record { count = zero; consumed = c; trail = t; error = e; waiting = []; left = v }
+
+-- one link more, which consumed: a separator's forest, trail and error, then an operand's and whether it consumed
+abbrev pub with_link : Chain → Linked → List Tree → List TrailItem → Error → Bool → List Tree → List TrailItem → Error → Linked
+with_link chain linked v t e d w u f = record {
+  count = suc linked.count;
+  consumed = true;
+  trail = linked.trail ++ (t ++ u);
+  error = error_behind d e f;
+  waiting = (linked.left, v) ∷ linked.waiting;
+  left = carried chain.fold chain.shape linked.left v w;
+}
+
+abbrev pub hand_to_first : Chain → Outcome → List Frame → State
+hand_to_first chain (ok c b v t e) fs = at_node chain.separator b (in_separator chain (first_linked c v t e) b ∷ fs)
+hand_to_first chain (failed c e) fs = with_outcome (failed c e) fs
+hand_to_first chain empty_round fs = with_outcome empty_round fs
+
+abbrev pub hand_to_separator : Chain → Linked → Spot → Outcome → List Frame → State
+hand_to_separator chain linked a (ok c b v t e) fs = at_node chain.operand b (in_operand chain linked a c v t e ∷ fs)
+hand_to_separator chain linked a (failed c e) fs = with_outcome (ended chain linked (unless_begun c a linked.left e)) fs
+hand_to_separator chain linked a empty_round fs = with_outcome empty_round fs
+
+-- the next link runs, but a link that consumed nothing would be run again without end
+abbrev pub next_link : Bool → Chain → Linked → Spot → List Frame → State
+next_link true chain linked b fs = at_node chain.separator b (in_separator chain linked b ∷ fs)
+next_link false chain linked b fs = endless
+
+abbrev pub hand_to_operand : Chain → Linked → Spot → Bool → List Tree → List TrailItem → Error → Outcome → List Frame → State
+hand_to_operand chain linked a c v t e (ok d b w u f) fs = next_link (c || d) chain (with_link chain linked v t e d w u f) b fs
+hand_to_operand chain linked a c v t e (failed d f) fs = with_outcome (ended chain linked (unless_begun (c || d) a linked.left
+    (error_behind d e f))) fs
+hand_to_operand chain linked a c v t e empty_round fs = with_outcome empty_round fs
+
+abbrev pub hand : Given → Frame → Outcome → List Frame → State
+hand G (in_parts rest done) o fs = hand_to_parts rest done o fs
+hand G (in_choice k ps a kept) o fs = hand_to_choice G.reading k ps a kept o fs
+hand G (in_rounds p k c a v t) o fs = hand_to_rounds p k c a v t o fs
+hand G (in_first chain) o fs = hand_to_first chain o fs
+hand G (in_separator chain linked a) o fs = hand_to_separator chain linked a o fs
+hand G (in_operand chain linked a c v t e) o fs = hand_to_operand chain linked a c v t e o fs
+hand G (in_around w) o fs = with_outcome (around G.text w o) fs
+
+-- ---- one turn
+
+abbrev pub turn : Given → State → State
+turn G (at_node p a fs) = enter_node G (slice_get G.grammar.nodes p) a fs
+turn G (with_outcome o []) = with_outcome o []
+turn G (with_outcome o (f ∷ fs)) = hand G f o fs
+turn G endless = endless
+
+-- no turn is left
+abbrev pub is_last : State → Bool
+is_last (at_node p a fs) = false
+is_last (with_outcome (ok c b v t e) []) = true
+is_last (with_outcome (failed c e) []) = true
+is_last (with_outcome empty_round fs) = true
+is_last (with_outcome (ok c b v t e) (f ∷ fs)) = false
+is_last (with_outcome (failed c e) (f ∷ fs)) = false
+is_last endless = true

@@ -1,0 +1,71 @@
+-- What the definitions see of the machine's values.
+use Rattle.std.specs.Prelude.{List, [], ◌∷◌, reverse}
+use Rattle.pg_tree.specs.Trees.{Tree}
+use Rattle.pg_grammar.specs.declared.trail.TrailItem.{TrailItem}
+use Rattle.pg_table.specs.Tables.{Table}
+use Rattle.pg_turns.specs.Messages.{Said}
+use Rattle.pg_turns.specs.Tape.{OnKept, no_kept, kept_failure, kept_empty_ok, OnChain, OnLinks, OnFrame, on_parts, on_choice, on_rounds, on_first, on_separator, on_operand, on_try, on_label, on_rule, on_text, on_skip, on_build, Tape, tape_at, tape_with, tape_endless}
+use Rattle.pg_turns.specs.declared.frame.ChainFrame.{ChainFrame}
+use Rattle.pg_turns.specs.declared.frame.LinksFrame.{LinksFrame}
+use Rattle.pg_turns.specs.declared.frame.Kept.{Kept}
+use Rattle.pg_turns.specs.declared.frame.Kept.TheVariants as kept
+use Rattle.pg_turns.specs.declared.frame.Frame.{Frame}
+use Rattle.pg_turns.specs.declared.frame.Frame.TheVariants as frame
+use Rattle.pg_turns.specs.declared.frame.Mode.{Mode}
+use Rattle.pg_turns.specs.declared.frame.Mode.TheVariants as mode
+use Rattle.pg_turns.specs.declared.machine.Machine.{Machine}
+
+abbrev pub kept_of : Kept → OnKept
+kept_of kept.Nothing = no_kept
+kept_of (kept.Failure held) = kept_failure held
+kept_of (kept.EmptyOk ok held) = kept_empty_ok ok.value.end ok.value.forest ok.value.trail.items held
+
+abbrev pub chain_of : ChainFrame → OnChain
+chain_of c = record { fold = c.fold; used = c.used.now; operand = c.operand; separator = c.separator }
+
+-- the last place that waits stands first
+abbrev pub links_of : LinksFrame → OnLinks
+links_of l = record {
+  chain = chain_of l.chain;
+  slot = l.chain.slot;
+  count = l.count;
+  consumed = l.consumed;
+  held = l.held;
+  waiting = reverse l.waiting.items;
+  left = l.left;
+  start = l.start;
+  forest = l.marks.forest;
+  trail = l.marks.trail;
+  operators = l.marks.operators;
+}
+
+abbrev pub frame_of : Frame → OnFrame
+frame_of (frame.Parts f) = on_parts f.rest.now f.before
+frame_of (frame.Choice f) = on_choice f.which f.rest.now f.start (kept_of f.kept) f.marks.forest f.marks.trail f.marks.operators
+frame_of (frame.Rounds f) = on_rounds f.part f.count f.consumed f.start f.slot f.marks.forest f.marks.trail f.marks.operators f.messages
+frame_of (frame.First c) = on_first (chain_of c) c.slot c.forest
+frame_of (frame.Separator l) = on_separator (links_of l.value)
+frame_of (frame.Operand l before trees) = on_operand (links_of l.value) before trees
+frame_of frame.Try = on_try
+frame_of (frame.Label message) = on_label message.now
+frame_of frame.Rule = on_rule
+frame_of (frame.Text start forest) = on_text start forest
+frame_of (frame.Skip forest) = on_skip forest
+frame_of (frame.Build used symbol forest) = on_build used.now symbol.now forest
+
+-- the topmost frame stands last in the machine
+abbrev pub stack_on : List OnFrame → List Frame → List OnFrame
+stack_on fs [] = fs
+stack_on fs (f ∷ more) = stack_on (frame_of f ∷ fs) more
+
+abbrev pub stack_of : List Frame → List OnFrame
+stack_of fs = stack_on [] fs
+
+abbrev pub tape_of : Mode → Machine → Tape
+tape_of (mode.At node place) m = tape_at node place (stack_of m.frames.items) m.forest m.trail.items m.messages m.table
+tape_of (mode.With reply) m = tape_with reply (stack_of m.frames.items) m.forest m.trail.items m.messages m.table
+tape_of mode.Endless m = tape_endless
+
+-- the tape of a turn that goes by the machine's lists and table
+abbrev pub on_lists : (List OnFrame → List Tree → List TrailItem → List Said → Table → Tape) → Machine → Tape
+on_lists made m = made (stack_of m.frames.items) m.forest m.trail.items m.messages m.table

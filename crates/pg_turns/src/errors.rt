@@ -1,0 +1,38 @@
+//! Errors with their positions: the last answer's, and what is said where a text has to end.
+
+ghost use Rattle.std.specs.Prelude.{◌≡◌, drop, IfOk};
+ghost use Rattle.pg_text.specs.Position.{position_of};
+ghost use Rattle.pg_language.specs.Errors.{without_position};
+ghost use Rattle.pg_turns.specs.Messages.{error_of, end_error};
+
+use crate::machine::Machine;
+use crate::message::Message;
+use crate::message_tape::{Why, told};
+use pg_message::ParseError;
+use pg_text::Text;
+use std::alloc::{AllocError, Global};
+
+impl Machine<'_> {
+    /// The error of the last answer, with its texts and its position. The only error is that memory ran out.
+    pub fn error(&self, alloc: Global, text: &Text, why: Why) -> Result<ParseError, AllocError>
+        ensures error { IfOk result (λ e. without_position e ≡ error_of why.place (drop why.from self.now.messages)) }
+        ensures position { IfOk result (λ e. e.position ≡ position_of text.now why.place) }
+    {
+        let position = text.position(why.place.min(text.len()));
+        self.messages.error(alloc, why, position)
+    }
+}
+
+/// What is said at a place where the text has to end, there and before its end. The only error is that memory ran out.
+pub fn end_said(alloc: Global, text: &Text, place: usize) -> Result<ParseError, AllocError>
+    ensures error { IfOk result (λ e. without_position e ≡ end_error text.now place) }
+    ensures position { IfOk result (λ e. e.position ≡ position_of text.now place) }
+{
+    let position = text.position(place.min(text.len()));
+    let seen = if place == text.len() {
+        Message::Stopped(None)
+    } else {
+        Message::Refused(text.char_at(place))
+    };
+    told(alloc, place, position, &[seen, Message::WantedEnd])
+}

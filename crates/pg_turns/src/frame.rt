@@ -1,0 +1,179 @@
+//! What nodes that were entered wait for, and what the machine does next.
+//!
+//! The trees, the trail and the messages of all that runs lie on three lists of the machine, those of a frame behind
+//! those of the frames below; the operators in force are those of its table, the newest last. So a frame keeps only how
+//! long the lists were, and how many operators there were, where it may cut them back.
+
+use crate::message_tape::{Held, Why};
+use pg_grammar::{BuilderUse, NodeId, TrailItem};
+use pg_language::Fold;
+use pg_text::Characters;
+use pg_tree::{Forest, Label};
+
+/// What a node answered. Its trees, its items and the messages of its error are the last ones on the lists; behind an
+/// error others may lie there, which whoever goes on cuts off.
+#[derive(Clone, Copy)]
+pub enum Reply {
+    /// It is ok, up to this place.
+    Fine {
+        consumed: bool,
+        end: usize,
+        why: Why,
+    },
+    /// It failed.
+    Failed {
+        consumed: bool,
+        why: Why,
+    },
+    /// A round of a repetition was ok and consumed nothing.
+    EmptyRound,
+}
+
+/// What the next turn does.
+#[derive(Clone, Copy)]
+pub enum Mode {
+    /// It enters the node at the place.
+    At(NodeId, usize),
+    /// It hands the answer to the topmost frame.
+    With(Reply),
+    /// No turn comes to an answer: a chain goes on without an end, or a node has a form that isn't run.
+    Endless,
+}
+
+/// How many trees, items and operators there were.
+#[derive(Clone, Copy)]
+pub struct Marks {
+    pub forest: usize,
+    pub trail: usize,
+    pub operators: usize,
+}
+
+/// What the parts of a sequence before the one that runs came to.
+#[derive(Clone, Copy)]
+pub struct Before {
+    pub consumed: bool,
+    pub held: Held,
+}
+
+/// A part of a sequence runs.
+#[derive(Clone, Copy)]
+pub struct PartsFrame<'a> {
+    /// The parts behind it.
+    pub rest: &'a [NodeId],
+    /// The parts before it, if there are any.
+    pub before: Option<Before>,
+}
+
+/// An alternative that was ok and empty, which stands unless a later one consumes.
+#[derive(Drop)]
+pub struct EmptyOk {
+    pub end: usize,
+    pub forest: Forest,
+    pub trail: Vec<TrailItem>,
+}
+
+/// What the alternatives of a choice before the one that runs came to.
+#[derive(Drop)]
+pub enum Kept {
+    /// There was none.
+    Nothing,
+    /// They failed.
+    Failure(Held),
+    /// One of them was ok and empty, the first of these being kept.
+    EmptyOk(Box<EmptyOk>, Held),
+}
+
+/// An alternative of a choice runs.
+#[derive(Drop)]
+pub struct ChoiceFrame<'a> {
+    /// Its number, from 1.
+    pub which: usize,
+    /// The alternatives behind it.
+    pub rest: &'a [NodeId],
+    /// The place where they begin.
+    pub start: usize,
+    /// What there was before them.
+    pub marks: Marks,
+    /// What those before it came to.
+    pub kept: Kept,
+}
+
+/// A round of a repetition runs.
+#[derive(Clone, Copy)]
+pub struct RoundsFrame {
+    pub part: NodeId,
+    /// How many rounds there were before.
+    pub count: usize,
+    /// Whether they consumed: whether there were any.
+    pub consumed: bool,
+    /// The place where this one begins.
+    pub start: usize,
+    /// Where the trail has the item of the repetition.
+    pub slot: usize,
+    /// What there was before this round.
+    pub marks: Marks,
+    /// How many messages there were before the repetition.
+    pub messages: usize,
+}
+
+/// A chain whose first operand runs.
+#[derive(Clone, Copy)]
+pub struct ChainFrame<'a> {
+    pub fold: Fold,
+    pub used: &'a BuilderUse,
+    pub operand: NodeId,
+    pub separator: NodeId,
+    /// Where the trail has the item of the chain.
+    pub slot: usize,
+    /// How many trees there were before the chain.
+    pub forest: usize,
+}
+
+/// A chain behind its first operand: a separator or an operand behind one runs.
+#[derive(Drop)]
+pub struct LinksFrame<'a> {
+    pub chain: ChainFrame<'a>,
+    /// How many links there were before.
+    pub count: usize,
+    pub consumed: bool,
+    pub held: Held,
+    /// Where the trees begin that are still to be folded into those behind them, of a chain that is folded from the right.
+    pub waiting: Vec<usize>,
+    /// Where the trees begin that stand on the left of the link.
+    pub left: usize,
+    /// The place where the link begins.
+    pub start: usize,
+    /// What there was before the link.
+    pub marks: Marks,
+}
+
+/// What a node that was entered waits for.
+#[derive(Drop)]
+pub enum Frame<'a> {
+    Parts(PartsFrame<'a>),
+    Choice(ChoiceFrame<'a>),
+    Rounds(RoundsFrame),
+    First(ChainFrame<'a>),
+    /// A separator runs.
+    Separator(Box<LinksFrame<'a>>),
+    /// An operand runs, behind a separator that was ok; so many trees were there before it.
+    Operand(Box<LinksFrame<'a>>, Before, usize),
+    Try,
+    Label(&'a Characters),
+    Rule,
+    /// The leaf of the text from the place on takes the place of the trees behind the first.
+    Text {
+        start: usize,
+        forest: usize,
+    },
+    /// The trees behind the first are dropped.
+    Skip {
+        forest: usize,
+    },
+    /// The trees behind the first are made into one.
+    Build {
+        used: &'a BuilderUse,
+        symbol: &'a Label,
+        forest: usize,
+    },
+}

@@ -1,0 +1,318 @@
+//! The forms that read the text themselves.
+
+ghost use Rattle.std.specs.Prelude.{◌≡◌, ◌<◌, ◌≤◌, ◌+◌, ◌^◌, ◌++◌, ◌∷◌, [], false, nat_eq, length, drop, slice_get, IfOk, IfSome};
+ghost use Rattle.std.specs.List.{list_any, prefix_len, common_prefix_len};
+ghost use Rattle.std.specs.Str.{bytes_eq};
+ghost use Rattle.pg_pred.specs.Offer.{offer_of};
+ghost use Rattle.pg_grammar.specs.Fits.{Fits, IsClassIn};
+ghost use Rattle.pg_grammar.specs.ClassItems.{has_character};
+ghost use Rattle.pg_language.specs.Leaves.{taken, satisfy_outcome, string_outcome, word_outcome, word_read, not_followed_outcome, end_outcome};
+ghost use Rattle.pg_turns.specs.Messages.{said_of};
+ghost use Rattle.pg_turns.specs.Tape.{spot_at, tape_with, tape_leaf};
+ghost use Rattle.pg_turns.specs.View.{on_lists, stack_of, tape_of};
+ghost use Rattle.pg_turns.specs.Why.{why_at};
+ghost use Rattle.pg_turns.specs.declared.frame.Reply.TheVariants.{Fine, Failed};
+
+use crate::frame::{Mode, Reply};
+use crate::machine::Machine;
+use crate::message::{Message, utf8};
+use pg_grammar::{ClassExpression, Grammar, WordItem};
+use pg_pred::Registry;
+use pg_text::Text;
+use pg_tree::Tree;
+use std::alloc::{AllocError, Global};
+
+impl<'a> Machine<'a> {
+    /// One character of the class.
+    pub(crate) fn satisfy(
+        &mut self,
+        alloc: Global,
+        grammar: &Grammar,
+        registry: &Registry,
+        text: &Text,
+        class: &ClassExpression,
+        place: usize,
+    ) -> Result<Mode, AllocError>
+        requires fits { Fits (offer_of registry.now) grammar.now }
+        requires class { IsClassIn grammar.now class.now }
+        ensures { IfOk result (λ mode. tape_of mode self.new ≡
+            on_lists (tape_leaf (satisfy_outcome grammar.now text.now class.now (spot_at self.old.table place))) self.old) }
+    {
+        match next_in(text, place) {
+            Some(c) => {
+                if grammar.test(registry, class, c) {
+                    return self.take(alloc, &[c], place, place + 1);
+                }
+                self.fail(false, place, Message::Stopped(Some(c)))
+            }
+            None => self.fail(false, place, Message::Stopped(None)),
+        }
+    }
+
+    /// The characters, all of them.
+    pub(crate) fn string(
+        &mut self,
+        alloc: Global,
+        text: &'a Text,
+        characters: &'a [char],
+        place: usize,
+    ) -> Result<Mode, AllocError>
+        ensures { IfOk result (λ mode. tape_of mode self.new ≡
+            on_lists (tape_leaf (string_outcome text.now characters.now (spot_at self.old.table place))) self.old) }
+    {
+        let rest = behind(text.characters(), place);
+        let count = matched(characters, rest);
+        if count == characters.len() {
+            return self.take(alloc, characters, place, place + count);
+        }
+        let next = character_at(rest, count);
+        self.fail_wanting(
+            count > 0,
+            place,
+            Message::Stopped(next),
+            Message::Wanted(characters),
+        )
+    }
+
+    /// A word of the item: it is read whole and then judged.
+    pub(crate) fn word(
+        &mut self,
+        alloc: Global,
+        grammar: &Grammar,
+        registry: &Registry,
+        text: &'a Text,
+        item: &WordItem,
+        place: usize,
+    ) -> Result<Mode, AllocError>
+        requires fits { Fits (offer_of registry.now) grammar.now }
+        requires head { IsClassIn grammar.now item.now.head }
+        requires rest { IsClassIn grammar.now item.now.rest }
+        ensures { IfOk result (λ mode. tape_of mode self.new ≡
+            on_lists (tape_leaf (word_outcome grammar.now text.now item.now (spot_at self.old.table place))) self.old) }
+    {
+        match next_in(text, place) {
+            Some(c) => {
+                if !grammar.test(registry, &item.head, c) {
+                    return self.fail(false, place, Message::Stopped(Some(c)));
+                }
+                let rest = behind(text.characters(), place + 1);
+                let count = run_len(grammar, registry, &item.rest, rest);
+                let word = &behind(text.characters(), place)[..count + 1];
+                self.read_word(alloc, item, word, place)
+            }
+            None => self.fail(false, place, Message::Stopped(None)),
+        }
+    }
+
+    /// The word that stands at the place, unless it is reserved.
+    fn read_word(
+        &mut self,
+        alloc: Global,
+        item: &WordItem,
+        word: &'a [char],
+        place: usize,
+    ) -> Result<Mode, AllocError>
+        requires { place + length word.now < 2 ^ 64 }
+        ensures { IfOk result (λ mode. tape_of mode self.new ≡
+            on_lists (tape_leaf (word_read item.now (spot_at self.old.table place) word.now)) self.old) }
+    {
+        if is_reserved(item, word) {
+            return self.fail(false, place, Message::Reserved(word));
+        }
+        self.take(alloc, word, place, place + word.len())
+    }
+
+    /// No character of the class comes next.
+    pub(crate) fn not_followed_by(
+        &mut self,
+        grammar: &Grammar,
+        registry: &Registry,
+        text: &Text,
+        class: &ClassExpression,
+        place: usize,
+    ) -> Result<Mode, AllocError>
+        requires fits { Fits (offer_of registry.now) grammar.now }
+        requires class { IsClassIn grammar.now class.now }
+        ensures { IfOk result (λ mode. tape_of mode self.new ≡
+            on_lists (tape_leaf (not_followed_outcome grammar.now text.now class.now (spot_at self.old.table place))) self.old) }
+    {
+        match next_in(text, place) {
+            Some(c) => {
+                if grammar.test(registry, class, c) {
+                    return self.fail(false, place, Message::Refused(Some(c)));
+                }
+                self.stay(place, Message::Stopped(Some(c)))
+            }
+            None => self.stay(place, Message::Stopped(None)),
+        }
+    }
+
+    /// The end of the text.
+    pub(crate) fn end_of_text(&mut self, text: &Text, place: usize) -> Result<Mode, AllocError>
+        ensures { IfOk result (λ mode. tape_of mode self.new ≡
+            on_lists (tape_leaf (end_outcome text.now (spot_at self.old.table place))) self.old) }
+    {
+        if place == text.len() {
+            return self.stay_wanting(place, Message::Stopped(None), Message::WantedEnd);
+        }
+        let next = text.char_at(place);
+        self.fail_wanting(false, place, Message::Refused(next), Message::WantedEnd)
+    }
+
+    /// An ok answer that consumed these characters, as one leaf.
+    fn take(
+        &mut self,
+        alloc: Global,
+        characters: &[char],
+        place: usize,
+        end: usize,
+    ) -> Result<Mode, AllocError>
+        requires { end ≡ place + length characters.now }
+        ensures { IfOk result (λ mode. tape_of mode self.new ≡
+            on_lists (tape_leaf (taken (spot_at self.old.table place) characters.now)) self.old) }
+    {
+        let content = utf8(alloc, characters)?;
+        self.forest.push(Tree::leaf(alloc, content.as_str())?)?;
+        let consumed = true;
+        let why = self.nothing_said(end);
+        Ok(Mode::With(Reply::Fine { consumed, end, why }))
+    }
+
+    /// An error answer, and what is said of it.
+    fn fail(
+        &mut self,
+        consumed: bool,
+        place: usize,
+        message: Message<'a>,
+    ) -> Result<Mode, AllocError>
+        ensures { IfOk result (λ mode. tape_of mode self.new ≡
+            tape_with (Failed consumed (why_at place (length self.old.messages)))
+            (stack_of self.old.frames.items) self.old.forest self.old.trail.items (self.old.messages ++ said_of message.entry ∷ [])
+            self.old.table) }
+    {
+        let why = self.nothing_said(place);
+        self.messages.push(message)?;
+        Ok(Mode::With(Reply::Failed { consumed, why }))
+    }
+
+    /// The same, and what was expected.
+    fn fail_wanting(
+        &mut self,
+        consumed: bool,
+        place: usize,
+        message: Message<'a>,
+        wanted: Message<'a>,
+    ) -> Result<Mode, AllocError>
+        ensures { IfOk result (λ mode. tape_of mode self.new ≡
+            tape_with (Failed consumed (why_at place (length self.old.messages)))
+            (stack_of self.old.frames.items) self.old.forest self.old.trail.items
+            (self.old.messages ++ said_of message.entry ∷ said_of wanted.entry ∷ []) self.old.table) }
+    {
+        let why = self.nothing_said(place);
+        self.messages.push(message)?;
+        self.messages.push(wanted)?;
+        Ok(Mode::With(Reply::Failed { consumed, why }))
+    }
+
+    /// An ok answer that consumed nothing, and what is said of it.
+    fn stay(&mut self, place: usize, message: Message<'a>) -> Result<Mode, AllocError>
+        ensures { IfOk result (λ mode. tape_of mode self.new ≡
+            tape_with (Fine false place (why_at place (length self.old.messages)))
+            (stack_of self.old.frames.items) self.old.forest self.old.trail.items (self.old.messages ++ said_of message.entry ∷ [])
+            self.old.table) }
+    {
+        let why = self.nothing_said(place);
+        self.messages.push(message)?;
+        let (consumed, end) = (false, place);
+        Ok(Mode::With(Reply::Fine { consumed, end, why }))
+    }
+
+    /// The same, and what was expected.
+    fn stay_wanting(
+        &mut self,
+        place: usize,
+        message: Message<'a>,
+        wanted: Message<'a>,
+    ) -> Result<Mode, AllocError>
+        ensures { IfOk result (λ mode. tape_of mode self.new ≡
+            tape_with (Fine false place (why_at place (length self.old.messages)))
+            (stack_of self.old.frames.items) self.old.forest self.old.trail.items
+            (self.old.messages ++ said_of message.entry ∷ said_of wanted.entry ∷ []) self.old.table) }
+    {
+        let why = self.nothing_said(place);
+        self.messages.push(message)?;
+        self.messages.push(wanted)?;
+        let (consumed, end) = (false, place);
+        Ok(Mode::With(Reply::Fine { consumed, end, why }))
+    }
+}
+
+/// The character at the place of the text, if there is one.
+fn next_in(text: &Text, place: usize) -> Option<char>
+    ensures value { result ≡ slice_get text.now place }
+    ensures within { IfSome result (λ c. place < length text.now) }
+    ensures limit { length text.now ≤ 4096 }
+{
+    character_at(text.characters(), place)
+}
+
+/// The characters from the place on.
+fn behind(characters: &[char], place: usize) -> &[char]
+    ensures { result.now ≡ drop place characters.now }
+{
+    &characters[place.min(characters.len())..]
+}
+
+/// The character at the place, if there is one.
+fn character_at(characters: &[char], place: usize) -> Option<char>
+    ensures { result ≡ slice_get characters.now place }
+{
+    characters.get(place).copied()
+}
+
+/// How many of the characters the other ones begin with.
+fn matched(characters: &[char], rest: &[char]) -> usize
+    ensures value { result ≡ common_prefix_len nat_eq characters.now rest.now }
+    ensures within { result ≤ length rest.now }
+{
+    let mut count = 0;
+    for wanted in characters {
+        if character_at(rest, count) != Some(*wanted) {
+            break;
+        }
+        count += 1;
+    }
+    count
+}
+
+/// How many characters of the class these begin with.
+fn run_len(
+    grammar: &Grammar,
+    registry: &Registry,
+    class: &ClassExpression,
+    characters: &[char],
+) -> usize
+    requires fits { Fits (offer_of registry.now) grammar.now }
+    requires class { IsClassIn grammar.now class.now }
+    ensures value { result ≡ prefix_len (has_character grammar.now.classes class.now) characters.now }
+    ensures within { result ≤ length characters.now }
+{
+    let mut count = 0;
+    for c in characters {
+        if !grammar.test(registry, class, *c) {
+            break;
+        }
+        count += 1;
+    }
+    count
+}
+
+/// Whether a word of the item is reserved.
+fn is_reserved(item: &WordItem, word: &[char]) -> bool
+    ensures { result ≡ list_any (λ reserved. bytes_eq reserved word.now) item.now.reserved }
+{
+    item.reserved
+        .as_slice()
+        .iter()
+        .any(|reserved| reserved.as_slice() == word)
+}

@@ -1,0 +1,27 @@
+//! The turns of the machine that gives Parsec's four answers, on any grammar.
+//!
+//! A [`Machine`] runs a node by turns over a stack of frames, without recursion: a turn enters a node or hands an answer on
+//! to the topmost frame. One forest, one trail, one list of messages and one operator table serve all that runs; frames keep
+//! how long these were, so that what failed is cut back and nothing is moved when a part ends. `specs/Tape.antt` gives each
+//! turn as a function on lists, `specs/Turns.antt` the same on plain values; proofs/ shows that the one does what the other
+//! does, and that an answer of a run is the one of the relation in `pg_language`, after about two turns for each node.
+#![tactic(auto)]
+
+mod around;
+mod chains;
+mod choices;
+mod enter;
+mod errors;
+mod frame;
+mod leaves;
+mod machine;
+mod message;
+mod message_tape;
+mod parts;
+mod rounds;
+mod turn;
+
+pub use errors::end_said;
+pub use frame::{Frame, Mode, Reply};
+pub use machine::Machine;
+pub use message_tape::{MessageTape, Why};

@@ -1,0 +1,152 @@
+//! The machine's lists and its table, and how frames keep, cut and join what lies on them.
+
+ghost use Rattle.std.specs.Prelude.{◌≡◌, ◌∷◌, [], length, take, drop, slice_set, IfOk, OnOk};
+ghost use Rattle.pg_table.specs.Tables.{first_operators};
+ghost use Rattle.pg_turns.specs.View.{frame_of, stack_of};
+ghost use Rattle.pg_turns.specs.Why.{why_at, why_behind, messages_behind};
+
+use crate::frame::{Frame, Marks};
+use crate::message_tape::{Held, MessageTape, Why};
+use pg_grammar::TrailItem;
+use pg_table::Table;
+use pg_tree::Forest;
+use std::alloc::{AllocError, Global};
+
+/// The frames, the trees, the items and the messages of all that runs, and the operator table in force. The topmost frame
+/// stands last.
+#[derive(Drop)]
+pub struct Machine<'a> {
+    pub frames: Vec<Frame<'a>>,
+    pub forest: Forest,
+    pub trail: Vec<TrailItem>,
+    pub messages: MessageTape<'a>,
+    pub table: Table,
+}
+
+impl<'a> Machine<'a> {
+    /// A machine in which nothing runs, under the table. It takes no memory.
+    pub fn new(alloc: Global, table: Table) -> Machine<'a>
+        ensures frames { stack_of result.frames.items ≡ [] }
+        ensures forest { result.forest ≡ [] }
+        ensures trail { result.trail.items ≡ [] }
+        ensures messages { result.messages ≡ [] }
+        ensures table { result.table ≡ table }
+    {
+        Machine {
+            frames: Vec::new(alloc),
+            forest: Forest::new(alloc),
+            trail: Vec::new(alloc),
+            messages: MessageTape::new(alloc),
+            table,
+        }
+    }
+
+    /// Puts a frame on top.
+    #[tactic(auto, using(crate::proofs::Stack::stack_pushed))]
+    pub(crate) fn push(&mut self, frame: Frame<'a>) -> Result<(), AllocError>
+        ensures frames { OnOk result (stack_of self.new.frames.items ≡ frame_of frame.entry ∷ stack_of self.old.frames.items) }
+        ensures forest { OnOk result (self.new.forest ≡ self.old.forest) }
+        ensures trail { OnOk result (self.new.trail.items ≡ self.old.trail.items) }
+        ensures messages { OnOk result (self.new.messages ≡ self.old.messages) }
+        ensures table { OnOk result (self.new.table ≡ self.old.table) }
+    {
+        self.frames.push(frame)?;
+        Ok(())
+    }
+
+    /// How many trees, items and operators there are.
+    pub(crate) fn marks(&self) -> Marks
+        ensures forest { result.forest ≡ length self.now.forest }
+        ensures trail { result.trail ≡ length self.now.trail.items }
+        ensures operators { result.operators ≡ length self.now.table.operators }
+    {
+        Marks {
+            forest: self.forest.len(),
+            trail: self.trail.len(),
+            operators: self.table.operators().len(),
+        }
+    }
+
+    /// Cuts trees, items and operators back to the marks.
+    pub(crate) fn cut(&mut self, marks: Marks)
+        ensures frames { self.new.frames ≡ self.old.frames }
+        ensures forest { self.new.forest ≡ take marks.forest self.old.forest }
+        ensures trail { self.new.trail.items ≡ take marks.trail self.old.trail.items }
+        ensures messages { self.new.messages ≡ self.old.messages }
+        ensures table { self.new.table ≡ first_operators marks.operators self.old.table }
+    {
+        self.cut_forest(marks.forest);
+        self.trail.truncate(marks.trail);
+        self.table.cut(marks.operators);
+    }
+
+    /// Cuts trees.
+    pub(crate) fn cut_forest(&mut self, count: usize)
+        ensures frames { self.new.frames ≡ self.old.frames }
+        ensures forest { self.new.forest ≡ take count self.old.forest }
+        ensures trail { self.new.trail ≡ self.old.trail }
+        ensures messages { self.new.messages ≡ self.old.messages }
+        ensures table { self.new.table ≡ self.old.table }
+    {
+        if count < self.forest.len() {
+            self.forest.cut(count);
+        }
+    }
+
+    /// The trees behind the first leave the forest.
+    pub(crate) fn forest_behind(&mut self, count: usize) -> Result<Forest, AllocError>
+        ensures behind { IfOk result (λ behind. behind ≡ drop count self.old.forest) }
+        ensures frames { OnOk result (self.new.frames ≡ self.old.frames) }
+        ensures forest { OnOk result (self.new.forest ≡ take count self.old.forest) }
+        ensures trail { OnOk result (self.new.trail ≡ self.old.trail) }
+        ensures messages { OnOk result (self.new.messages ≡ self.old.messages) }
+        ensures table { OnOk result (self.new.table ≡ self.old.table) }
+    {
+        let behind = self.forest.split_off(count.min(self.forest.len()))?;
+        Ok(behind)
+    }
+
+    /// The error without messages at the place.
+    pub(crate) fn nothing_said(&self, place: usize) -> Why
+        ensures { result ≡ why_at place (length self.now.messages) }
+    {
+        Why {
+            place,
+            from: self.messages.len(),
+        }
+    }
+
+    /// Replaces the item of a repetition or a chain.
+    pub(crate) fn note(&mut self, slot: usize, item: TrailItem)
+        ensures frames { self.new.frames ≡ self.old.frames }
+        ensures forest { self.new.forest ≡ self.old.forest }
+        ensures trail { self.new.trail.items ≡ slice_set self.old.trail.items slot item }
+        ensures messages { self.new.messages ≡ self.old.messages }
+        ensures table { self.new.table ≡ self.old.table }
+    {
+        if slot < self.trail.len() {
+            self.trail[slot] = item;
+        }
+    }
+
+    /// The error behind one that is kept, of an answer that consumed or not.
+    pub(crate) fn error_behind(
+        &mut self,
+        held: Held,
+        consumed: bool,
+        why: Why,
+    ) -> Result<Why, AllocError>
+        ensures why { IfOk result (λ after. after ≡ why_behind consumed held why self.old.messages) }
+        ensures frames { OnOk result (self.new.frames ≡ self.old.frames) }
+        ensures forest { OnOk result (self.new.forest ≡ self.old.forest) }
+        ensures trail { OnOk result (self.new.trail ≡ self.old.trail) }
+        ensures messages { OnOk result (self.new.messages ≡ messages_behind consumed held why self.old.messages) }
+        ensures table { OnOk result (self.new.table ≡ self.old.table) }
+    {
+        if consumed {
+            return Ok(why);
+        }
+        let merged = self.messages.merge(held, why)?;
+        Ok(merged)
+    }
+}

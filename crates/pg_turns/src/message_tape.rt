@@ -1,0 +1,265 @@
+//! The messages of all errors of a run that may still be wanted, on one list.
+//!
+//! An error's own messages stand together; those of the error of the last answer stand last. So errors are merged by
+//! leaving messages where they are, and dropped by cutting the list.
+
+ghost use Rattle.std.specs.Prelude.{◌≡◌, ◌∷◌, ◌++◌, [], length, map, take, drop, IfOk, OnOk};
+ghost use Rattle.pg_message.specs.Messages.{has_text, of_kind};
+ghost use Rattle.pg_language.specs.Errors.{without_position};
+ghost use Rattle.pg_turns.specs.Messages.{said_of, error_of, message_kind, message_text, with_said, unexpected, relabelled};
+ghost use Rattle.pg_turns.specs.Why.{merged_why, merged_messages, held_at};
+
+use crate::message::Message;
+use pg_message::{MessageKind, ParseError};
+use pg_text::{Characters, Pos};
+use std::alloc::{AllocError, Global};
+use std::marker::Model;
+
+/// The error of the last answer: where it stands, and where its messages begin, which are the last of all.
+#[derive(Clone, Copy)]
+pub struct Why {
+    /// The place where it stands, in characters from 0.
+    pub place: usize,
+    /// How many messages stand before its own.
+    pub from: usize,
+}
+
+/// The error of an answer before, which is kept to be merged with later ones.
+#[derive(Clone, Copy)]
+pub struct Held {
+    /// The place where it stands, in characters from 0.
+    pub place: usize,
+    /// How many messages stand before its own.
+    pub from: usize,
+    /// How many messages stand before those that came behind it.
+    pub upto: usize,
+}
+
+/// The messages, seen as the list of their kinds and texts.
+#[derive(Drop)]
+pub struct MessageTape<'a> {
+    messages: Vec<Message<'a>>,
+}
+
+impl<'a> Model for MessageTape<'a> {
+    ghost use Rattle.std.specs.Prelude.{List, map};
+    ghost use Rattle.pg_turns.specs.Messages.{Said, said_of};
+
+    ghost Value = { List Said };
+
+    ghost view = { λ t. map said_of t.messages.items };
+}
+
+impl<'a> MessageTape<'a> {
+    /// No messages.
+    pub(crate) fn new(alloc: Global) -> MessageTape<'a>
+        ensures { result ≡ [] }
+    {
+        MessageTape {
+            messages: Vec::new(alloc),
+        }
+    }
+
+    /// How many there are.
+    pub(crate) fn len(&self) -> usize
+        ensures { result ≡ length self.now }
+    {
+        self.messages.len()
+    }
+
+    /// One more.
+    pub(crate) fn push(&mut self, message: Message<'a>) -> Result<(), AllocError>
+        ensures { OnOk result (self.new ≡ self.old ++ said_of message.entry ∷ []) }
+    {
+        self.messages.push(message)?;
+        Ok(())
+    }
+
+    /// The first ones stay.
+    pub(crate) fn cut(&mut self, count: usize)
+        ensures { self.new ≡ take count self.old }
+    {
+        self.messages.truncate(count);
+    }
+
+    /// The error of the last answer, to be kept.
+    pub(crate) fn held(&self, why: Why) -> Held
+        ensures { result ≡ held_at (length self.now) why }
+    {
+        Held {
+            place: why.place,
+            from: why.from,
+            upto: self.len(),
+        }
+    }
+
+    /// One error of one that is kept and that of the last answer: the only one with messages, or else the later one, or
+    /// at one place the first with the messages of both.
+    pub(crate) fn merge(&mut self, held: Held, why: Why) -> Result<Why, AllocError>
+        ensures why { IfOk result (λ merged. merged ≡ merged_why held why self.old) }
+        ensures messages { OnOk result (self.new ≡ merged_messages held why self.old) }
+    {
+        let none_held = held.from == held.upto;
+        let none_last = why.from == self.len();
+        if none_held != none_last {
+            if none_held {
+                return Ok(why);
+            }
+            self.cut(held.upto);
+            return Ok(before(held));
+        }
+        if held.place < why.place {
+            return Ok(why);
+        }
+        if held.place == why.place {
+            self.close(held.upto, why.from)?;
+        } else {
+            self.cut(held.upto);
+        }
+        Ok(before(held))
+    }
+
+    /// Takes out the messages from the one place on up to the other.
+    fn close(&mut self, from: usize, upto: usize) -> Result<(), AllocError>
+        ensures { OnOk result (self.new ≡ take from (take upto self.old) ++ drop upto self.old) }
+    {
+        if upto >= self.len() {
+            self.cut(from);
+            return Ok(());
+        }
+        if from == upto {
+            return Ok(());
+        }
+        let last = self.take_off(upto)?;
+        self.cut(from);
+        self.put_back(last)
+    }
+
+    /// Takes off the messages behind the first.
+    fn take_off(&mut self, from: usize) -> Result<Vec<Message<'a>>, AllocError>
+        ensures behind { IfOk result (λ own. map said_of own.items ≡ drop from self.old) }
+        ensures before { OnOk result (self.new ≡ take from self.old) }
+    {
+        let own = split_off(&mut self.messages, from)?;
+        Ok(own)
+    }
+
+    /// Puts messages at the end.
+    fn put_back(&mut self, messages: Vec<Message<'a>>) -> Result<(), AllocError>
+        ensures { OnOk result (self.new ≡ self.old ++ map said_of messages.entry.items) }
+    {
+        let mut messages = messages;
+        self.messages.append(&mut messages)?;
+        Ok(())
+    }
+
+    /// The messages behind the first.
+    fn behind(&self, from: usize) -> &[Message<'a>]
+        ensures { map said_of result.now ≡ drop from self.now }
+    {
+        behind(&self.messages, from)
+    }
+
+    /// Makes this name all that is expected in the error whose messages begin at the place.
+    pub(crate) fn relabel(&mut self, from: usize, name: &'a Characters) -> Result<(), AllocError>
+        ensures { OnOk result (self.new ≡ relabelled name.now from self.old) }
+    {
+        let own = self.take_off(from)?;
+        self.push_unexpected(own.as_slice())?;
+        self.push(Message::Named(name.as_slice()))
+    }
+
+    /// Puts those of the messages at the end that aren't about what would have been taken.
+    fn push_unexpected(&mut self, messages: &[Message<'a>]) -> Result<(), AllocError>
+        ensures { OnOk result (self.new ≡ self.old ++ unexpected (map said_of messages.now)) }
+    {
+        for message in messages {
+            if !message.is_expected() {
+                self.push(*message)?;
+            }
+        }
+        Ok(())
+    }
+
+    /// The error of the last answer with its texts. Its position is handed in.
+    pub(crate) fn error(
+        &self,
+        alloc: Global,
+        why: Why,
+        position: Pos,
+    ) -> Result<ParseError, AllocError>
+        ensures error { IfOk result (λ e. without_position e ≡ error_of why.place (drop why.from self.now)) }
+        ensures position { IfOk result (λ e. e.position ≡ position) }
+    {
+        told(alloc, why.place, position, self.behind(why.from))
+    }
+}
+
+/// Takes off the messages behind the first.
+fn split_off<'a>(
+    messages: &mut Vec<Message<'a>>,
+    from: usize,
+) -> Result<Vec<Message<'a>>, AllocError>
+    ensures behind { IfOk result (λ own. own.items ≡ drop from messages.old.items) }
+    ensures before { OnOk result (messages.new.items ≡ take from messages.old.items) }
+{
+    messages.split_off(from.min(messages.len()))
+}
+
+/// The messages behind the first.
+fn behind<'m, 'a>(messages: &'m [Message<'a>], from: usize) -> &'m [Message<'a>]
+    ensures { result.now ≡ drop from messages.now }
+{
+    &messages[from.min(messages.len())..]
+}
+
+/// The error at the place of which all this is said.
+pub(crate) fn told(
+    alloc: Global,
+    place: usize,
+    position: Pos,
+    messages: &[Message<'_>],
+) -> Result<ParseError, AllocError>
+    ensures error { IfOk result (λ e. without_position e ≡ error_of place (map said_of messages.now)) }
+    ensures position { IfOk result (λ e. e.position ≡ position) }
+{
+    let mut error = ParseError::new(alloc, place, position);
+    for message in messages {
+        say(alloc, &mut error, message)?;
+    }
+    Ok(error)
+}
+
+/// Says one message more, unless it is there already.
+fn say(alloc: Global, error: &mut ParseError, message: &Message<'_>) -> Result<(), AllocError>
+    ensures { OnOk result (error.new ≡
+        record error.old { messages = with_said error.old.messages (message_kind message.now) (message_text message.now) }) }
+{
+    let text = message.text(alloc)?;
+    if !is_said(error, message.kind(), text.as_str()) {
+        error.add(message.kind(), text)?;
+    }
+    Ok(())
+}
+
+/// The error that was kept, which is the last one again.
+fn before(held: Held) -> Why
+    ensures place { result.place ≡ held.place }
+    ensures from { result.from ≡ held.from }
+{
+    Why {
+        place: held.place,
+        from: held.from,
+    }
+}
+
+/// Whether the error has this text among those of the kind.
+fn is_said(error: &ParseError, kind: MessageKind, text: &str) -> bool
+    ensures { result ≡ has_text (of_kind error.now.messages kind) text.now }
+{
+    error
+        .messages
+        .of_kind(kind)
+        .iter()
+        .any(|message| message.as_str() == text)
+}

@@ -1,0 +1,62 @@
+//! Repetitions: rounds of one part, until one fails empty.
+
+ghost use Rattle.std.specs.Prelude.{◌≡◌, ◌<◌, ◌-◌, ◌^◌, IfOk};
+ghost use Rattle.pg_turns.specs.Tape.{tape_to_rounds};
+ghost use Rattle.pg_turns.specs.View.{on_lists, stack_of, tape_of};
+
+use crate::frame::{Frame, Mode, Reply, RoundsFrame};
+use crate::machine::Machine;
+use pg_grammar::TrailItem;
+use std::alloc::AllocError;
+
+impl<'a> Machine<'a> {
+    /// An answer of a round: behind one that consumed the next one runs, and one that failed empty ends the repetition
+    /// with its error alone.
+    pub(crate) fn hand_to_rounds(
+        &mut self,
+        rounds: RoundsFrame,
+        reply: Reply,
+    ) -> Result<Mode, AllocError>
+        requires { rounds.count < 2 ^ 64 - 1 }
+        ensures { IfOk result (λ mode. tape_of mode self.new ≡
+            on_lists (tape_to_rounds rounds.part rounds.count rounds.consumed rounds.start rounds.slot
+            rounds.marks.forest rounds.marks.trail rounds.marks.operators rounds.messages reply) self.old) }
+    {
+        match reply {
+            Reply::Fine {
+                consumed,
+                end,
+                why: _,
+            } => {
+                if !consumed {
+                    return Ok(Mode::With(Reply::EmptyRound));
+                }
+                self.messages.cut(rounds.messages);
+                let marks = self.marks();
+                self.push(Frame::Rounds(RoundsFrame {
+                    part: rounds.part,
+                    count: rounds.count + 1,
+                    consumed: true,
+                    start: end,
+                    slot: rounds.slot,
+                    marks,
+                    messages: rounds.messages,
+                }))?;
+                Ok(Mode::At(rounds.part, end))
+            }
+            Reply::Failed { consumed, why } => {
+                if consumed {
+                    return Ok(Mode::With(Reply::Failed { consumed, why }));
+                }
+                self.cut(rounds.marks);
+                self.note(rounds.slot, TrailItem::Rounds(rounds.count));
+                Ok(Mode::With(Reply::Fine {
+                    consumed: rounds.consumed,
+                    end: rounds.start,
+                    why,
+                }))
+            }
+            Reply::EmptyRound => Ok(Mode::With(Reply::EmptyRound)),
+        }
+    }
+}

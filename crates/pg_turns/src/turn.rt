@@ -1,0 +1,119 @@
+//! One turn: a node is entered, or an answer is handed to the topmost frame.
+
+ghost use Rattle.std.specs.Prelude.{◌≡◌, ◌-◌, ◌^◌, IfOk};
+ghost use Rattle.pg_pred.specs.Offer.{offer_of};
+ghost use Rattle.pg_grammar.specs.Fits.{Fits};
+ghost use Rattle.pg_grammar.specs.Grammar.{Grammar as Parts};
+ghost use Rattle.pg_language.specs.Answers.{given};
+ghost use Rattle.pg_turns.specs.Tape.{tape_turn, tape_hand, tape_is_last};
+ghost use Rattle.pg_turns.specs.Ready.{IsReady, IsTapeReady};
+ghost use Rattle.pg_turns.specs.View.{frame_of, on_lists, stack_of, tape_of};
+
+use crate::around::{as_text, build, label, skip, tried};
+use crate::frame::{Frame, Mode, Reply};
+use crate::machine::Machine;
+use pg_grammar::Grammar;
+use pg_language::Reading;
+use pg_pred::Registry;
+use pg_text::Text;
+use std::alloc::{AllocError, Global};
+
+impl<'a> Machine<'a> {
+    /// One turn: the node at hand is entered, or the answer at hand is handed to the topmost frame. The caller owes that the
+    /// registry fits and that the frames are ready: their counts can grow, and the builders that they name are offered. The
+    /// only error is that memory ran out; what the machine holds then isn't said.
+    pub fn step(
+        &mut self,
+        alloc: Global,
+        grammar: &'a Grammar,
+        registry: &Registry,
+        text: &'a Text,
+        reading: Reading,
+        mode: Mode,
+    ) -> Result<Mode, AllocError>
+        requires fits { Fits (offer_of registry.now) grammar.now }
+        requires ready { IsTapeReady (offer_of registry.now) (2 ^ 64 - 1) (tape_of mode self.now) }
+        ensures { IfOk result (λ next. tape_of next self.new ≡
+            tape_turn (given reading grammar.now text.now) (tape_of mode self.old)) }
+    {
+        match mode {
+            Mode::At(node, place) => self.enter(alloc, grammar, registry, text, node, place),
+            Mode::With(reply) => match self.frames.pop() {
+                Some(frame) => self.hand_to(alloc, registry, text, reading, frame, reply),
+                None => Ok(Mode::With(reply)),
+            },
+            Mode::Endless => Ok(Mode::Endless),
+        }
+    }
+
+    /// Hands an answer to a frame.
+    fn hand_to(
+        &mut self,
+        alloc: Global,
+        registry: &Registry,
+        text: &Text,
+        reading: Reading,
+        frame: Frame<'a>,
+        reply: Reply,
+    ) -> Result<Mode, AllocError>
+        requires { IsReady (offer_of registry.now) (2 ^ 64 - 1) (frame_of frame) }
+        ensures { IfOk result (λ mode. (grammar : Parts) → tape_of mode self.new ≡
+            on_lists (tape_hand (given reading grammar text.now) (frame_of frame.entry) reply) self.old) }
+    {
+        match frame {
+            Frame::Parts(parts) => self.hand_to_parts(parts, reply),
+            Frame::Choice(choice) => self.hand_to_choice(alloc, reading, choice, reply),
+            Frame::Rounds(rounds) => self.hand_to_rounds(rounds, reply),
+            Frame::First(chain) => self.hand_to_first(alloc, chain, reply),
+            Frame::Separator(links) => self.hand_to_separator(alloc, registry, links, reply),
+            Frame::Operand(links, before, trees) => {
+                self.hand_to_operand(alloc, registry, links, before, trees, reply)
+            }
+            Frame::Try => Ok(Mode::With(tried(reply))),
+            Frame::Label(name) => {
+                label(&mut self.messages, name, reply)?;
+                Ok(Mode::With(reply))
+            }
+            Frame::Rule => Ok(Mode::With(reply)),
+            Frame::Text { start, forest } => {
+                as_text(alloc, text, start, forest, reply, &mut self.forest)?;
+                Ok(Mode::With(reply))
+            }
+            Frame::Skip { forest } => {
+                skip(forest, reply, &mut self.forest);
+                Ok(Mode::With(reply))
+            }
+            Frame::Build {
+                used,
+                symbol,
+                forest,
+            } => {
+                build(
+                    alloc,
+                    registry,
+                    used,
+                    symbol,
+                    forest,
+                    reply,
+                    &mut self.forest,
+                )?;
+                Ok(Mode::With(reply))
+            }
+        }
+    }
+
+    /// Whether no turn is left: an answer is at hand and no frame waits for it, a round was empty, or the run has no end.
+    pub fn is_over(&self, mode: &Mode) -> bool
+        ensures { result ≡ tape_is_last (tape_of mode.now self.now) }
+    {
+        match mode {
+            Mode::At(_, _) => false,
+            Mode::With(reply) => match reply {
+                Reply::EmptyRound => true,
+                Reply::Fine { .. } => self.frames.is_empty(),
+                Reply::Failed { .. } => self.frames.is_empty(),
+            },
+            Mode::Endless => true,
+        }
+    }
+}

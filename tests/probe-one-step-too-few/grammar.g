@@ -1,0 +1,2 @@
+start a;
+a = seq(string("x"), string("y"));

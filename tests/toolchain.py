@@ -1,0 +1,86 @@
+"""What the scripts here take from the toolchain's command rt: the repository's crates, and how they are checked and built."""
+
+import concurrent.futures
+import importlib.machinery
+import importlib.util
+import os
+import shutil
+import subprocess
+import sys
+import tempfile
+import time
+
+sys.dont_write_bytecode = True
+TESTS = os.path.dirname(os.path.realpath(__file__))
+# More processors for one check hardly help.
+MOST_JOBS = 4
+
+
+def command():
+    """The command rt as a module."""
+    loader = importlib.machinery.SourceFileLoader("rt_command", os.path.realpath(shutil.which("rt")))
+    module = importlib.util.module_from_spec(importlib.util.spec_from_loader("rt_command", loader))
+    loader.exec_module(module)
+    return module
+
+
+rt = command()
+
+
+def crates_of(root):
+    """The crates of the repository, by their names. It goes there, as the command does."""
+    os.chdir(root)
+    # Its first call sets a signal's handler, which only the main thread may.
+    rt.rtlib.guarded()
+    return {it.name: it for it in rt.rtlib.crates_below(root)}
+
+
+def lanes():
+    """How many checks run side by side."""
+    return int(subprocess.run([sys.executable, f"{TESTS}/jobs"], stdout=subprocess.PIPE, text=True).stdout)
+
+
+def in_order(crates, work):
+    """Calls work with each crate and how many jobs it may take, as many side by side as there are lanes, once it answered true
+    of those below it that are among the crates, and first those with the most lines above them. Returns whether all did."""
+    lines = {it: it.count(rb"\n") for it in crates}
+    above = {it: lines[it] + sum(lines[other] for other in crates if it in other.below()) for it in crates}
+    waiting, running, done, limit = sorted(crates, key=lambda it: -above[it]), {}, set(), lanes()
+    with concurrent.futures.ThreadPoolExecutor(limit) as pool:
+        while waiting or running:
+            ready = [it for it in waiting if all(below in done or below not in lines for below in it.below())]
+            idle = limit - sum(jobs for _, jobs in running.values())
+            for at, crate in enumerate(ready):
+                if idle > 0:
+                    jobs = max(1, min(MOST_JOBS, idle // (len(ready) - at)))
+                    running[pool.submit(work, crate, jobs)] = crate, jobs
+                    waiting.remove(crate)
+                    idle -= jobs
+            if not running:
+                return False
+            for run in concurrent.futures.wait(running, return_when=concurrent.futures.FIRST_COMPLETED).done:
+                crate, _ = running.pop(run)
+                if run.result():
+                    done.add(crate)
+    return len(done) == len(lines)
+
+
+def build(crates, tell):
+    """Proves and builds these libraries, each after those below it, where they aren't built. It tells of each as it ends, and
+    of one that fails what was said. What was built before an interruption isn't built again. Returns whether all are built."""
+    left = [it for it in crates if not it.is_built()]
+    ended = []
+
+    def work(crate, jobs):
+        started = time.monotonic()
+        with tempfile.TemporaryFile("w+", errors="replace") as crate.out:
+            well = crate.build_rlib(["--jobs", str(jobs)], anew=False) == 0
+            crate.out.seek(0)
+            said = crate.out.read()
+        ended.append(crate)
+        tell(f"{len(ended)} of {len(left)}: {crate.name} {'proved' if well else 'NOT PROVED'}, {time.monotonic() - started:.0f} s")
+        if not well:
+            tell(said)
+        return well
+
+    return in_order(left, work)
