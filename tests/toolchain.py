@@ -12,8 +12,10 @@ import time
 
 sys.dont_write_bytecode = True
 TESTS = os.path.dirname(os.path.realpath(__file__))
-# More processors for one check hardly help.
+# More jobs for one check hardly help.
 MOST_JOBS = 4
+# A job reads all libraries below before it proves anything: so many of them take what one more job gives.
+LIBRARIES_A_JOB = 5
 
 
 def command():
@@ -40,6 +42,11 @@ def lanes():
     return int(subprocess.run([sys.executable, f"{TESTS}/jobs"], stdout=subprocess.PIPE, text=True).stdout)
 
 
+def most_jobs(crate):
+    """How many jobs the check of a crate may have."""
+    return max(1, MOST_JOBS - len(crate.below()) // LIBRARIES_A_JOB)
+
+
 def in_order(crates, work):
     """Calls work with each crate and how many jobs it may take, as many side by side as there are lanes, once it answered true
     of those below it that are among the crates, and first those with the most lines above them. Returns whether all did."""
@@ -52,7 +59,7 @@ def in_order(crates, work):
             idle = limit - sum(jobs for _, jobs in running.values())
             for at, crate in enumerate(ready):
                 if idle > 0:
-                    jobs = max(1, min(MOST_JOBS, idle // (len(ready) - at)))
+                    jobs = max(1, min(most_jobs(crate), idle // (len(ready) - at)))
                     running[pool.submit(work, crate, jobs)] = crate, jobs
                     waiting.remove(crate)
                     idle -= jobs

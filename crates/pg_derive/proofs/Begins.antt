@@ -5,14 +5,18 @@ use Rattle.std.specs.List.{Contains}
 use Rattle.std.specs.Str.{all_scalars}
 use Rattle.pg_tree.specs.Trees.{Tree}
 use Rattle.pg_grammar.specs.Grammar.{Grammar}
-use Rattle.pg_grammar.specs.declared.form.Node.{Node}
+use Rattle.pg_grammar.specs.Forms.{Node}
+use Rattle.pg_grammar.specs.declared.form.Leaf.{Leaf}
+use Rattle.pg_grammar.specs.declared.form.Around.{Around}
+use Rattle.pg_grammar.specs.declared.form.Around.TheVariants as kind
 use Rattle.pg_grammar.specs.declared.trail.TrailItem.{TrailItem}
 use Rattle.pg_start.specs.Starts.{MatchesAt}
 use Rattle.pg_start.specs.declared.kind.StartKind.{StartKind}
 use Rattle.pg_table.specs.Tables.{ComesFrom}
-use Rattle.pg_language.specs.Derives.{Spot, Link, Derives, at_node, DerivesForm, satisfy, string, word, not_followed_by, end_of_text, seq, choice, many, chain_left, chain_right, try, label, rule, text as as_text, skip, build, expression, declare, DerivesParts, no_part, first_part, DerivesRounds, no_round, first_round, DerivesLinks, no_link, first_link}
+use Rattle.pg_language.specs.Derives as derives
+use Rattle.pg_language.specs.Derives.{Spot, Link, Derives, at_node, DerivesForm, Reads, satisfy, string, word, not_followed_by, end_of_text, declare, seq, choice, many, rule, expression, DerivesParts, no_part, first_part, DerivesRounds, no_round, first_round, DerivesLinks, no_link, first_link}
 use Rattle.pg_derive.specs.ClosedSets.{NodeSets, SomeMatches, AllNullable, BeginsParts}
-use Rattle.pg_derive.specs.Predictive.{PartFits, TryFits, of_part, of_string, of_key, AlternativesFit, ManyFits, ChainFits, Fits}
+use Rattle.pg_derive.specs.Predictive.{PartFits, TryFits, of_part, of_string, of_key, AlternativesFit, ManyFits, ChainFits, LeafFits, AroundFits, Fits}
 use Rattle.pg_derive.proofs.Inverted.{form_at, spans_string, spans_key, first_stands, forward, forward_parts, forward_rounds, forward_links}
 
 -- one of these starts matches at the place
@@ -99,32 +103,34 @@ module _ (g : Grammar) (s : List ℕ) (scalars : all_scalars s ≡ true) (sets :
       let ends = ap (λ (x : Spot). x.place) spans.end in
       by_matching g sets s p (omega arith) (m s scalars a.place (spans.stands, spans.bare))
 
+  begins_leaf : {l : Leaf ℕ} {a b : Spot} {v : List Tree} → Reads g s l a b v → (p : ℕ) → LeafFits g sets p l → BeginsNode g sets s p a b
+  begins_leaf (satisfy {a = a} has) p f = by_matching g sets s p (omega arith) (f s scalars a.place has)
+  begins_leaf (string {characters = cs} {a = a} h) p f =
+      let l = f.spelled in by_matching g sets s p (omega arith) (f.first s scalars a.place (first_stands s cs a.place f.spelled h))
+  begins_leaf (word {w = w} {item = item} {s = cs} {a = a} e is) p f =
+      let counted = ap length is.whole in
+      by_matching g sets s p (omega arith) (f s scalars a.place (record { item = item; named = e; word = cs; there = is }))
+  begins_leaf (not_followed_by h) p f = still refl f
+  begins_leaf (end_of_text h) p f = still refl f
+  begins_leaf (declare e x d) p f = absurd f
+
+  begins_around : (k : Around) {p q : ℕ} {a b : Spot} {v : List Tree} {t : List TrailItem} → Derives g s q a b v t → BeginsNode g sets s q a b → AroundFits g sets p k q → BeginsNode g sets s p a b
+  begins_around kind.Try d h f = in_try d h f
+  begins_around _ d h f = in_part f h
+
   mutual
     pub begins : {p : ℕ} {a b : Spot} {v : List Tree} {t : List TrailItem} → Derives g s p a b v t → BeginsNode g sets s p a b
     begins (at_node {p = p} {n = n} e d) = begins_form d p (good p n e)
 
     begins_form : {n : Node} {a b : Spot} {v : List Tree} {t : List TrailItem} → DerivesForm g s n a b v t → (p : ℕ) → Fits g sets p n → BeginsNode g sets s p a b
-    begins_form (satisfy {a = a} has) p f = by_matching g sets s p (omega arith) (f s scalars a.place has)
-    begins_form (string {characters = cs} {a = a} h) p f =
-        let l = f.spelled in by_matching g sets s p (omega arith) (f.first s scalars a.place (first_stands s cs a.place f.spelled h))
-    begins_form (word {w = w} {item = item} {s = cs} {a = a} e is) p f =
-        let counted = ap length is.whole in
-        by_matching g sets s p (omega arith) (f s scalars a.place (record { item = item; named = e; word = cs; there = is }))
-    begins_form (not_followed_by h) p f = still refl f
-    begins_form (end_of_text h) p f = still refl f
+    begins_form (derives.leaf h) p f = begins_leaf h p f
     begins_form (seq d) p f = widened f.empty f.first (begins_parts d)
     begins_form (choice {parts = ps} {k = k} {p = q} e d) p f = in_part (alternative_fits sets p ps f k q e) (begins d)
     begins_form (many {p = q} d) p f = begins_rounds d p f
-    begins_form (chain_left {p = q} {s = r} d ds) p f = a_chain f (forward_links ds) (begins d) (begins_links ds p f)
-    begins_form (chain_right {p = q} {s = r} d ds) p f = a_chain f (forward_links ds) (begins d) (begins_links ds p f)
-    begins_form (try d) p f = in_try d (begins d) f
-    begins_form (label d) p f = in_part f (begins d)
+    begins_form (derives.chain {p = q} {s = r} d ds) p f = a_chain f (forward_links ds) (begins d) (begins_links ds p f)
     begins_form (rule {named = named} e d) p f = in_part (f.body named e) (begins d)
-    begins_form (as_text d) p f = in_part f (begins d)
-    begins_form (skip d) p f = in_part f (begins d)
-    begins_form (build d) p f = in_part f (begins d)
     begins_form (expression e x d) p f = absurd f
-    begins_form (declare e x d) p f = absurd f
+    begins_form (derives.around {k = k} d) p f = begins_around k d (begins d) f
 
     pub begins_parts : {ps : List ℕ} {a b : Spot} {v : List Tree} {t : List TrailItem} → DerivesParts g s ps a b v t → BeginsList g sets s ps a b
     begins_parts no_part = still refl tt

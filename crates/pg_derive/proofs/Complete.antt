@@ -6,28 +6,31 @@ use Rattle.std.specs.Str.{all_scalars}
 use Rattle.std.proofs.lemmas.Option.{slice_get_within, get_or_from_slice_get}
 use Rattle.pg_tree.specs.Trees.{Tree}
 use Rattle.pg_tree.specs.declared.shape.Shape.{Shape}
-use Rattle.pg_grammar.specs.declared.form.Node.{Node}
-use Rattle.pg_grammar.specs.declared.form.Node.TheVariants as form
+use Rattle.pg_grammar.specs.Forms.{Node}
+use Rattle.pg_grammar.specs.declared.form.Form.TheVariants as form
+use Rattle.pg_grammar.specs.declared.form.Leaf.{Leaf}
+use Rattle.pg_grammar.specs.declared.form.Leaf.TheVariants as leaf
+use Rattle.pg_grammar.specs.declared.form.Around.{Around}
+use Rattle.pg_grammar.specs.declared.form.Around.TheVariants as kind
 use Rattle.pg_grammar.specs.declared.trail.TrailItem.{TrailItem}
 use Rattle.pg_grammar.specs.declared.trail.TrailItem.TheVariants.{Alt}
 use Rattle.pg_start.specs.declared.kind.StartKind.{StartKind}
 use Rattle.pg_start.proofs.Meeting.{never_meet}
-use Rattle.pg_language.specs.Derives.{Spot, behind, leaf_of, Link, Derives, DerivesForm, DerivesParts, DerivesRounds, DerivesLinks}
+use Rattle.pg_language.specs.Derives.{Spot, behind, leaf_of, Link, carried, finished, folded, made_by, Reads, Derives, DerivesForm, DerivesParts, DerivesRounds, DerivesLinks}
 use Rattle.pg_language.specs.Derives as derives
 use Rattle.pg_table.specs.Tables.{ComesFrom}
 use Rattle.pg_language.specs.Runs.{HasAt, StandsAt}
 use Rattle.pg_grammar.specs.declared.class.ClassPart.{ClassPart}
-use Rattle.pg_language.specs.Answers.{Given, Answers, entered, AnswersForm, satisfy, string, word, not_followed_by, end_of_text, nothing, seq, choice, many, chain_left, chain_right, try, label, rule, text as as_text, skip, build, AnswersParts, part, part_last, part_ok, AnswersAlternatives, no_alternative, alternative, alternative_consumed, alternative_stands, alternative_waits, alternative_failed, AnswersRounds, round, round_ended, round_ok, AnswersChain, chain, first_ok, AnswersLinks, link, separator_failed, separator_ok, operand_failed, operand_ok}
+use Rattle.pg_language.specs.Answers as answers
+use Rattle.pg_language.specs.Answers.{Given, Answers, entered, AnswersForm, nothing, seq, choice, many, rule, AnswersParts, part, part_last, part_ok, AnswersAlternatives, no_alternative, alternative, alternative_consumed, alternative_stands, alternative_waits, alternative_failed, AnswersRounds, round, round_ended, round_ok, AnswersChain, first_operand, first_ok, AnswersLinks, link, separator_failed, separator_ok, operand_failed, operand_ok}
 use Rattle.pg_language.specs.Errors.{Error}
 use Rattle.pg_language.specs.Outcomes.{Outcome, ok, failed}
-use Rattle.pg_language.specs.Reactions.{carried, finished}
-use Rattle.pg_language.specs.declared.fold.Fold.{Fold}
-use Rattle.pg_language.specs.declared.fold.Fold.TheVariants.{FromLeft, FromRight}
+use Rattle.pg_language.specs.Leaves.{some_word_outcome}
+use Rattle.pg_grammar.specs.declared.side.Side.{Side}
 use Rattle.pg_language.specs.declared.reading.Reading.{Reading}
 use Rattle.pg_language.specs.declared.reading.Reading.TheVariants.{Library, Report}
-use Rattle.pg_language.proofs.ChainsDerived.{folded, folded_none, folded_more}
 use Rattle.pg_derive.specs.ClosedSets.{NodeSets, SomeMatches, Within, AllApart, PartsFollowed}
-use Rattle.pg_derive.specs.Predictive.{TryFits, of_part, of_string, of_key, ComesBefore, AlternativesFit, ManyFits, ChainFits, Fits}
+use Rattle.pg_derive.specs.Predictive.{PartFits, LeafFits, AroundFits, TryFits, of_part, of_string, of_key, ComesBefore, AlternativesFit, ManyFits, ChainFits, Fits}
 use Rattle.pg_derive.proofs.Begins.{Begun, still, moves, BeginsNode, BeginsList, alternative_fits, consumes, begins, begins_parts, begins_links}
 use Rattle.pg_language.proofs.Flags.{moved, stayed, both_moved}
 use Rattle.pg_derive.proofs.Inverted.{form_at, spans_string, spans_key, forward, comes_on, forward_parts, forward_rounds, forward_links}
@@ -180,13 +183,13 @@ module _ (G : Given) (scalars : all_scalars G.text ≡ true) (whole : IsWhole G.
   link_moves p q r a b c f l (still e n) (still d o) = absurd (f.full (n, (o, tt)))
 
   -- no link comes any more
-  no_more : (fold : Fold) (shape : Shape) (p q r : ℕ) (left : List Tree) (a : Spot) → Comes a → IsNode q → IsNode r → ChainFits sets p q r → SomeMatches G.text (sets.follow p) a.place →
-      IsOk (AnswersLinks G fold shape q r left zero a) a a left []
-  no_more fold shape p q r left a from is_q is_r f m =
+  no_more : (side : Side) (shape : Shape) (p q r : ℕ) (left : List Tree) (a : Spot) → Comes a → IsNode q → IsNode r → ChainFits sets p q r → SomeMatches G.text (sets.follow p) a.place →
+      IsOk (AnswersLinks G side shape q r left zero a) a a left []
+  no_more side shape p q r left a from is_q is_r f m =
       go (quiet G scalars whole sets good r a from is_r (λ s b x. never_meet s m.start (f.apart s m.start (inl b) m.among) G.text scalars a.place x m.there))
     where
       Result : Type 0
-      Result = IsOk (AnswersLinks G fold shape q r left zero a) a a left []
+      Result = IsOk (AnswersLinks G side shape q r left zero a) a a left []
 
       behind_separator : sets.nullable r ≡ true → (w : List Tree) (u : List TrailItem) (e : Error) (i : ℕ) → Answers G r a (ok false a w u e) i →
           QuietNode G scalars whole sets q a → Result
@@ -200,53 +203,73 @@ module _ (G : Given) (scalars : all_scalars G.text ≡ true) (whole : IsWhole G.
           (quiet G scalars whole sets good q a from is_q (λ s b x. never_meet s m.start (f.apart s m.start (inr (er, inl b)) m.among) G.text scalars a.place x m.there))
 
   -- a link more, between an operand and the links behind it
-  one_more : (fold : Fold) (shape : Shape) (q r n : ℕ) (left v w : List Tree) (links : List Link) (a b c d : Spot) (t u items : List TrailItem) →
+  one_more : (side : Side) (shape : Shape) (q r n : ℕ) (left v w : List Tree) (links : List Link) (a b c d : Spot) (t u items : List TrailItem) →
       a.place ≤ b.place → b.place ≤ c.place → c.place ≤ d.place → a.place < c.place →
-      IsOk (Answers G r a) a b v t → IsOk (Answers G q b) b c w u → IsOk (AnswersLinks G fold shape q r (carried fold shape left v w) n c) c d (folded fold shape (carried fold shape left v w) links) items →
-      IsOk (AnswersLinks G fold shape q r left (suc n) a) a d (folded fold shape left ((v, w) ∷ links)) (t ++ u ++ items)
-  one_more fold shape q r n left v w links a b c d t u items l k j beyond separator operand rest =
+      IsOk (Answers G r a) a b v t → IsOk (Answers G q b) b c w u → IsOk (AnswersLinks G side shape q r (carried side shape left v w) n c) c d (folded side shape (carried side shape left v w) links) items →
+      IsOk (AnswersLinks G side shape q r left (suc n) a) a d (folded side shape left ((v, w) ∷ links)) (t ++ u ++ items)
+  one_more side shape q r n left v w links a b c d t u items l k j beyond separator operand rest =
       let first = both_moved l k in
       let second = both_moved k j in
       let all = both_moved l (le_trans k j) in
       let consumed : (nat_lt a.place b.place || nat_lt b.place c.place) ≡ true = first ∙ moved beyond in
       let flag : (nat_lt a.place b.place || (nat_lt b.place c.place || nat_lt c.place d.place)) ≡ nat_lt a.place d.place = ap (λ x. nat_lt a.place b.place || x) second ∙ all in
       let run = link separator.run (separator_ok operand.run (operand_ok consumed rest.run)) in
-      let made = ok_flag _ a d _ (finished fold shape left v (folded fold shape (carried fold shape left v w) links)) (t ++ (u ++ items)) _ _ flag run in
-      subst (λ x. IsOk (AnswersLinks G fold shape q r left (suc n) a) a d (folded fold shape left ((v, w) ∷ links)) x) (sym (append_assoc t u items))
-      (subst (λ x. IsOk (AnswersLinks G fold shape q r left (suc n) a) a d x (t ++ (u ++ items))) (sym (folded_more fold shape left v w links)) made)
+      let made = ok_flag _ a d _ (finished side shape left v (folded side shape (carried side shape left v w) links)) (t ++ (u ++ items)) _ _ flag run in
+      subst (λ x. IsOk (AnswersLinks G side shape q r left (suc n) a) a d (folded side shape left ((v, w) ∷ links)) x) (sym (append_assoc t u items)) made
 
   -- an operand, and the links behind it
-  chained : (fold : Fold) (shape : Shape) (q r n : ℕ) (v w : List Tree) (a b c : Spot) (t u : List TrailItem) → a.place ≤ b.place → b.place ≤ c.place →
-      IsOk (Answers G q a) a b v t → IsOk (AnswersLinks G fold shape q r v n b) b c w u → IsOk (AnswersChain G fold shape q r n a) a c w (t ++ u)
-  chained fold shape q r n v w a b c t u l k operand links =
-      ok_flag _ a c _ w (t ++ u) _ _ (both_moved l k) (chain operand.run (first_ok links.run))
+  chained : (side : Side) (shape : Shape) (q r n : ℕ) (v w : List Tree) (a b c : Spot) (t u : List TrailItem) → a.place ≤ b.place → b.place ≤ c.place →
+      IsOk (Answers G q a) a b v t → IsOk (AnswersLinks G side shape q r v n b) b c w u → IsOk (AnswersChain G side shape q r n a) a c w (t ++ u)
+  chained side shape q r n v w a b c t u l k operand links =
+      ok_flag _ a c _ w (t ++ u) _ _ (both_moved l k) (first_operand operand.run (first_ok links.run))
 
   -- ---- `try`
 
-  string_tried : (q : ℕ) (s : List ℕ) (a : Spot) → slice_get G.grammar.nodes q ≡ Some (form.String s) → 0 < length s → StandsAt G.text a.place s →
-      IsOk (AnswersForm G (form.Try q) a) a (behind a (length s)) (leaf_of s ∷ []) []
+  string_tried : (q : ℕ) (s : List ℕ) (a : Spot) → slice_get G.grammar.nodes q ≡ Some (form.Leaf (leaf.String s)) → 0 < length s → StandsAt G.text a.place s →
+      IsOk (AnswersForm G (form.Around kind.Try q) a) a (behind a (length s)) (leaf_of s ∷ []) []
   string_tried q s a e spelled h =
       ok_moved _ a (behind a (length s)) (leaf_of s ∷ []) [] _ _ (omega arith)
-      (try (entered e (subst (λ o. AnswersForm G (form.String s) a o zero) (string_ok G.text s a h) string)))
+      (answers.around (entered e (answers.leaf (ap Some (string_ok G.text s a h)))))
 
   key_tried : (q x y : ℕ) (s : List ℕ) (class : List ClassPart) (a : Spot) → slice_get G.grammar.nodes q ≡ Some (form.Seq (x ∷ y ∷ [])) →
-      slice_get G.grammar.nodes x ≡ Some (form.String s) → slice_get G.grammar.nodes y ≡ Some (form.NotFollowedBy class) → 0 < length s →
+      slice_get G.grammar.nodes x ≡ Some (form.Leaf (leaf.String s)) → slice_get G.grammar.nodes y ≡ Some (form.Leaf (leaf.NotFollowedBy class)) → 0 < length s →
       StandsAt G.text a.place s → (HasAt G.grammar G.text class (a.place + length s) → ⊥) →
-      IsOk (AnswersForm G (form.Try q) a) a (behind a (length s)) (leaf_of s ∷ []) []
+      IsOk (AnswersForm G (form.Around kind.Try q) a) a (behind a (length s)) (leaf_of s ∷ []) []
   key_tried q x y s class a e first second spelled h bare =
       let b : Spot = behind a (length s) in
       let ends = not_followed_ok G.grammar G.text class b bare in
-      let read = entered first (subst (λ o. AnswersForm G (form.String s) a o zero) (string_ok G.text s a h) string) in
-      let seen = entered second (subst (λ o. AnswersForm G (form.NotFollowedBy class) b o zero) ends.is not_followed_by) in
-      ok_moved _ a b (leaf_of s ∷ []) [] _ _ (omega arith) (try (entered e (seq (part read (part_ok (part seen part_last))))))
+      let read = entered first (answers.leaf (ap Some (string_ok G.text s a h))) in
+      let seen = entered second (answers.leaf (ap Some ends.is)) in
+      ok_moved _ a b (leaf_of s ∷ []) [] _ _ (omega arith) (answers.around (entered e (seq (part read (part_ok (part seen part_last))))))
+
+  -- a form that makes something of a part that fits
+  around_part : (k : Around) (p q : ℕ) {a b : Spot} {v : List Tree} {t : List TrailItem} → PartFits sets p q → Derives G.grammar G.text q a b v t → (SomeMatches G.text (sets.follow q) b.place → IsOk (Answers G q a) a b v t) →
+      SomeMatches G.text (sets.follow p) b.place → IsOk (AnswersForm G (form.Around k q) a) a b (made_by k G.text a.place b.place v) t
+  around_part k p q f d answered m = let r = answered (widen f.follow m) in record { error = _; count = r.count; run = answers.around r.run }
 
   complete_try : {q : ℕ} {a b : Spot} {v : List Tree} {t : List TrailItem} → Derives G.grammar G.text q a b v t → (SomeMatches G.text (sets.follow q) b.place → IsOk (Answers G q a) a b v t) → (p : ℕ) → TryFits G.grammar sets p q →
-      SomeMatches G.text (sets.follow p) b.place → IsOk (AnswersForm G (form.Try q) a) a b v t
-  complete_try d answers p (of_part f) m = let r = answers (widen f.follow m) in record { error = r.error; count = r.count; run = try r.run }
-  complete_try {q = q} {a = a} d answers p (of_string {s = s} e spelled falls f) m =
+      SomeMatches G.text (sets.follow p) b.place → IsOk (AnswersForm G (form.Around kind.Try q) a) a b v t
+  complete_try {q = q} d answered p (of_part f) m = around_part kind.Try p q f d answered m
+  complete_try {q = q} {a = a} d answered p (of_string {s = s} e spelled falls f) m =
       let h = spans_string (form_at d e) in renamed _ a h.end h.forest h.trail (string_tried q s a e spelled h.stands)
-  complete_try {q = q} {a = a} d answers p (of_key {x = x} {y = y} {s = s} {class = class} e first second spelled falls f) m =
+  complete_try {q = q} {a = a} d answered p (of_key {x = x} {y = y} {s = s} {class = class} e first second spelled falls f) m =
       let h = spans_key (form_at d e) first second in renamed _ a h.end h.forest h.trail (key_tried q x y s class a e first second spelled h.stands h.bare)
+
+  complete_around : (k : Around) (p q : ℕ) {a b : Spot} {v : List Tree} {t : List TrailItem} → AroundFits G.grammar sets p k q → Derives G.grammar G.text q a b v t →
+      (SomeMatches G.text (sets.follow q) b.place → IsOk (Answers G q a) a b v t) → SomeMatches G.text (sets.follow p) b.place → IsOk (AnswersForm G (form.Around k q) a) a b (made_by k G.text a.place b.place v) t
+  complete_around kind.Try p q f d answered m = complete_try d answered p f m
+  complete_around k p q f d answered m = around_part k p q f d answered m
+
+  complete_leaf : {l : Leaf ℕ} {a b : Spot} {v : List Tree} → Reads G.grammar G.text l a b v → (p : ℕ) → LeafFits G.grammar sets p l → IsOk (AnswersForm G (form.Leaf l) a) a b v []
+  complete_leaf (derives.satisfy {class = class} {a = a} has) p f = ok_moved _ a _ _ [] _ _ (omega arith) (answers.leaf (ap Some (satisfy_ok G.grammar G.text class a has)))
+  complete_leaf (derives.string {characters = s} {a = a} h) p f =
+      let spelled = f.spelled in ok_moved _ a _ _ [] _ _ (omega arith) (answers.leaf (ap Some (string_ok G.text s a h)))
+  complete_leaf (derives.word {w = w} {item = item} {s = s} {a = a} there is) p f =
+      let counted = ap length is.whole in
+      ok_moved _ a _ _ [] _ _ (omega arith) (answers.leaf (ap (some_word_outcome G.grammar G.text a) there ∙ ap Some (word_ok G.grammar G.text item a s is)))
+  complete_leaf (derives.not_followed_by {class = class} {a = a} h) p f = stays _ a _ _ (answers.leaf refl) (not_followed_ok G.grammar G.text class a h)
+  complete_leaf (derives.end_of_text {a = a} h) p f = stays _ a _ _ (answers.leaf refl) (end_ok G.text a h)
+  complete_leaf (derives.declare e x d) p f = absurd f
 
   mutual
     pub complete : {p : ℕ} {a b : Spot} {v : List Tree} {t : List TrailItem} → Derives G.grammar G.text p a b v t → Comes a → SomeMatches G.text (sets.follow p) b.place → IsOk (Answers G p a) a b v t
@@ -255,16 +278,7 @@ module _ (G : Given) (scalars : all_scalars G.text ≡ true) (whole : IsWhole G.
 
     complete_form : {n : Node} {a b : Spot} {v : List Tree} {t : List TrailItem} → DerivesForm G.grammar G.text n a b v t → Comes a → (p : ℕ) → slice_get G.grammar.nodes p ≡ Some n →
         Fits G.grammar sets p n → SomeMatches G.text (sets.follow p) b.place → IsOk (AnswersForm G n a) a b v t
-    complete_form (derives.satisfy {class = class} {a = a} has) from p e f m =
-        ok_moved _ a _ _ [] _ _ (omega arith) (subst (λ o. AnswersForm G (form.Satisfy class) a o zero) (satisfy_ok G.grammar G.text class a has) satisfy)
-    complete_form (derives.string {characters = s} {a = a} h) from p e f m =
-        let spelled = f.spelled in
-        ok_moved _ a _ _ [] _ _ (omega arith) (subst (λ o. AnswersForm G (form.String s) a o zero) (string_ok G.text s a h) string)
-    complete_form (derives.word {w = w} {item = item} {s = s} {a = a} there is) from p e f m =
-        let counted = ap length is.whole in
-        ok_moved _ a _ _ [] _ _ (omega arith) (subst (λ o. AnswersForm G (form.Word w) a o zero) (word_ok G.grammar G.text item a s is) (word there))
-    complete_form (derives.not_followed_by {class = class} {a = a} h) from p e f m = stays _ a _ _ not_followed_by (not_followed_ok G.grammar G.text class a h)
-    complete_form (derives.end_of_text {a = a} h) from p e f m = stays _ a _ _ end_of_text (end_ok G.text a h)
+    complete_form (derives.leaf h) from p e f m = complete_leaf h p f
     complete_form (derives.seq {parts = []} derives.no_part) from p e f m = ok_stayed _ _ [] [] _ _ nothing
     complete_form (derives.seq {parts = q ∷ qs} d) from p e f m =
         let r = complete_parts d from (sets.follow p) f.follow m in record { error = r.error; count = r.count; run = seq r.run }
@@ -275,26 +289,15 @@ module _ (G : Given) (scalars : all_scalars G.text ≡ true) (whole : IsWhole G.
         subst (λ i. IsOk (AnswersForm G (form.Choice ps) a) a b v (Alt i ∷ t)) number (record { error = r.error; count = r.count; run = choice r.run })
     complete_form (derives.many {p = q} d) from p e f m =
         let r = complete_rounds d from p (whole.parts p _ e).0 f m in record { error = r.error; count = r.count; run = many r.run }
-    complete_form (derives.chain_left {used = used} {p = q} {s = r} {a = a} {b = b} {c = c} {trail = t} {items = u} d ds) from p e f m =
+    complete_form (derives.chain {side = side} {used = used} {p = q} {s = r} {a = a} {b = b} {c = c} {trail = t} {items = u} d ds) from p e f m =
         let there = whole.parts p _ e in
         let operand = complete d from (link_behind p q r b c (comes_on d from) f (begins_links G.grammar G.text scalars sets good ds p f) m) in
-        let links = complete_links FromLeft used.shape ds (comes_on d from) p there.0 there.1.0 f _ m in
-        let r = chained FromLeft used.shape q r _ _ _ a b c t u (forward d) (forward_links ds) operand links in
-        record { error = r.error; count = r.count; run = chain_left r.run }
-    complete_form (derives.chain_right {used = used} {p = q} {s = r} {a = a} {b = b} {c = c} {trail = t} {items = u} d ds) from p e f m =
-        let there = whole.parts p _ e in
-        let operand = complete d from (link_behind p q r b c (comes_on d from) f (begins_links G.grammar G.text scalars sets good ds p f) m) in
-        let links = complete_links FromRight used.shape ds (comes_on d from) p there.0 there.1.0 f _ m in
-        let r = chained FromRight used.shape q r _ _ _ a b c t u (forward d) (forward_links ds) operand links in
-        record { error = r.error; count = r.count; run = chain_right r.run }
-    complete_form (derives.try {p = q} d) from p e f m = complete_try d (λ k. complete d from k) p f m
-    complete_form (derives.label d) from p e f m = let r = complete d from (widen f.follow m) in record { error = _; count = r.count; run = label r.run }
+        let links = complete_links side used.shape ds (comes_on d from) p there.0 there.1.0 f _ m in
+        let r = chained side used.shape q r _ _ _ a b c t u (forward d) (forward_links ds) operand links in
+        record { error = r.error; count = r.count; run = answers.chain r.run }
     complete_form (derives.rule {named = named} x d) from p e f m = let r = complete d from (widen (f.body named x).follow m) in record { error = r.error; count = r.count; run = rule x r.run }
-    complete_form (derives.text d) from p e f m = let r = complete d from (widen f.follow m) in record { error = r.error; count = r.count; run = as_text r.run }
-    complete_form (derives.skip d) from p e f m = let r = complete d from (widen f.follow m) in record { error = r.error; count = r.count; run = skip r.run }
-    complete_form (derives.build d) from p e f m = let r = complete d from (widen f.follow m) in record { error = r.error; count = r.count; run = build r.run }
     complete_form (derives.expression x y d) from p e f m = absurd f
-    complete_form (derives.declare x y d) from p e f m = absurd f
+    complete_form (derives.around {k = k} {p = q} d) from p e f m = complete_around k p q f d (λ x. complete d from x) m
 
     complete_parts : {q : ℕ} {qs : List ℕ} {a b : Spot} {v : List Tree} {t : List TrailItem} → DerivesParts G.grammar G.text (q ∷ qs) a b v t → Comes a → (follow : List StartKind) →
         PartsFollowed sets follow (q ∷ qs) → SomeMatches G.text follow b.place → IsOk (AnswersParts G q qs a) a b v t
@@ -319,15 +322,15 @@ module _ (G : Given) (scalars : all_scalars G.text ≡ true) (whole : IsWhole G.
         let consumed = subst (λ x. Answers G q a (ok x b v t first.error) first.count) (moved l) first.run in
         ok_moved _ a c (v ++ w) (t ++ u) _ _ (omega arith) (round consumed (round_ok rest.run))
 
-    complete_links : (fold : Fold) (shape : Shape) {q r n : ℕ} {a b : Spot} {links : List Link} {t : List TrailItem} → DerivesLinks G.grammar G.text q r n a b links t → Comes a → (p : ℕ) → IsNode q → IsNode r →
-        ChainFits sets p q r → (left : List Tree) → SomeMatches G.text (sets.follow p) b.place → IsOk (AnswersLinks G fold shape q r left n a) a b (folded fold shape left links) t
-    complete_links fold shape (derives.no_link {p = q} {s = r} {a = a}) from p is_q is_r f left m =
-        renamed _ a refl (folded_none fold shape left) refl (no_more fold shape p q r left a from is_q is_r f m)
-    complete_links fold shape (derives.first_link {p = q} {s = r} {n = n} {a = a} {b = b} {c = c} {d = z} {separator = v} {operand = w} {links = links} {trail = t} {items = u} {others = o} d e ds) from p is_q is_r f left m =
+    complete_links : (side : Side) (shape : Shape) {q r n : ℕ} {a b : Spot} {links : List Link} {t : List TrailItem} → DerivesLinks G.grammar G.text q r n a b links t → Comes a → (p : ℕ) → IsNode q → IsNode r →
+        ChainFits sets p q r → (left : List Tree) → SomeMatches G.text (sets.follow p) b.place → IsOk (AnswersLinks G side shape q r left n a) a b (folded side shape left links) t
+    complete_links side shape (derives.no_link {p = q} {s = r} {a = a}) from p is_q is_r f left m =
+        no_more side shape p q r left a from is_q is_r f m
+    complete_links side shape (derives.first_link {p = q} {s = r} {n = n} {a = a} {b = b} {c = c} {d = z} {separator = v} {operand = w} {links = links} {trail = t} {items = u} {others = o} d e ds) from p is_q is_r f left m =
         let middle = comes_on d from in
         let last = comes_on e middle in
         let onward = begins_links G.grammar G.text scalars sets good ds p f in
         let separator = complete d from (operand_behind p q r b c z middle f (begun e) onward m) in
         let operand = complete e middle (link_behind p q r c z last f onward m) in
-        let rest = complete_links fold shape ds last p is_q is_r f (carried fold shape left v w) m in
-        one_more fold shape q r n left v w links a b c z t u o (forward d) (forward e) (forward_links ds) (link_moves p q r a b c f (forward e) (begun d) (begun e)) separator operand rest
+        let rest = complete_links side shape ds last p is_q is_r f (carried side shape left v w) m in
+        one_more side shape q r n left v w links a b c z t u o (forward d) (forward e) (forward_links ds) (link_moves p q r a b c f (forward e) (begun d) (begun e)) separator operand rest

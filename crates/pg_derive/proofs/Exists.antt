@@ -12,25 +12,29 @@ use Rattle.std.specs.Str.{all_scalars}
 use Rattle.pg_tree.specs.Trees.{Tree}
 use Rattle.pg_tree.specs.declared.shape.Shape.{Shape}
 use Rattle.pg_grammar.specs.Grammar.{Grammar}
-use Rattle.pg_grammar.specs.declared.form.Node.{Node}
-use Rattle.pg_grammar.specs.declared.form.Node.TheVariants as form
+use Rattle.pg_grammar.specs.Forms.{Node}
+use Rattle.pg_grammar.specs.declared.form.Form.TheVariants as form
+use Rattle.pg_grammar.specs.declared.form.Leaf.{Leaf}
+use Rattle.pg_grammar.specs.declared.form.Leaf.TheVariants as leaf
+use Rattle.pg_grammar.specs.declared.form.Around.{Around}
+use Rattle.pg_grammar.specs.declared.form.Around.TheVariants as kind
 use Rattle.pg_grammar.specs.declared.grammar.Rule as declared
 use Rattle.pg_grammar.specs.declared.trail.TrailItem.{TrailItem}
-use Rattle.pg_language.specs.Derives.{Spot, Derives}
+use Rattle.pg_language.specs.Derives.{Spot, Derives, carried}
 use Rattle.pg_table.specs.Tables.{ComesFrom}
 use Rattle.pg_language.proofs.Onward.{leads_on}
-use Rattle.pg_language.specs.Answers.{Given, Answers, entered, AnswersForm, satisfy, string, word, not_followed_by, end_of_text, nothing, seq, choice, many, chain_left, chain_right, try, label, rule, text as as_text, skip, build, AnswersParts, part, part_last, part_failed, part_ok, AnswersAlternatives, no_alternative, alternative, alternative_consumed, alternative_stands, alternative_waits, alternative_commits, alternative_failed, AnswersRounds, round, round_ended, round_failed, round_ok, AnswersChain, chain, first_failed, first_ok, AnswersLinks, link, separator_failed, separator_ok, operand_failed, operand_ok}
+use Rattle.pg_language.specs.Answers as answers
+use Rattle.pg_language.specs.Answers.{Given, Answers, entered, AnswersForm, nothing, seq, choice, many, rule, AnswersParts, part, part_last, part_failed, part_ok, AnswersAlternatives, no_alternative, alternative, alternative_consumed, alternative_stands, alternative_waits, alternative_commits, alternative_failed, AnswersRounds, round, round_ended, round_failed, round_ok, AnswersChain, first_operand, first_failed, first_ok, AnswersLinks, link, separator_failed, separator_ok, operand_failed, operand_ok}
 use Rattle.pg_language.specs.Errors.{Error}
 use Rattle.pg_language.specs.Outcomes.{Outcome, ok, failed, empty_round}
-use Rattle.pg_language.specs.Leaves.{satisfy_next, satisfy_outcome, matched, string_outcome, word_read, word_next, word_outcome, not_followed_next, not_followed_outcome, end_outcome}
-use Rattle.pg_language.specs.Reactions.{carried, unless_begun}
-use Rattle.pg_language.specs.declared.fold.Fold.{Fold}
-use Rattle.pg_language.specs.declared.fold.Fold.TheVariants.{FromLeft, FromRight}
+use Rattle.pg_language.specs.Leaves.{satisfy_next, satisfy_outcome, matched, string_outcome, word_read, word_next, word_outcome, not_followed_next, not_followed_outcome, end_outcome, some_word_outcome, leaf_outcome}
+use Rattle.pg_language.specs.Reactions.{unless_begun}
+use Rattle.pg_grammar.specs.declared.side.Side.{Side}
 use Rattle.pg_language.specs.declared.reading.Reading.{Reading}
 use Rattle.pg_language.specs.declared.reading.Reading.TheVariants.{Library, Report}
 use Rattle.pg_language.proofs.Sound.{sound}
 use Rattle.pg_derive.specs.ClosedSets.{NodeSets, PartsFall}
-use Rattle.pg_derive.specs.Predictive.{PartFits, TryFits, of_part, of_string, of_key, AlternativesFit, ManyFits, ChainFits, Fits}
+use Rattle.pg_derive.specs.Predictive.{PartFits, TryFits, of_part, of_string, of_key, AlternativesFit, ManyFits, ChainFits, LeafFits, AroundFits, Fits}
 use Rattle.pg_derive.proofs.Begins.{still, moves, BeginsNode}
 use Rattle.pg_derive.proofs.Complete.{begun, link_moves}
 use Rattle.pg_language.proofs.Flags.{moved, both_moved}
@@ -93,7 +97,7 @@ end_answers text a = answers_if (a.place == length text) _ _ tt tt
 
 module _ (G : Given) (scalars : all_scalars G.text ≡ true) (whole : IsWhole G.grammar) (sets : NodeSets)
     (good : (p : ℕ) (n : Node) → slice_get G.grammar.nodes p ≡ Some n → Fits G.grammar sets p n)
-    (spelled : (p : ℕ) (s : List ℕ) → slice_get G.grammar.nodes p ≡ Some (form.String s) → 0 < length s) where
+    (spelled : (p : ℕ) (s : List ℕ) → slice_get G.grammar.nodes p ≡ Some (form.Leaf (leaf.String s)) → 0 < length s) where
   -- a place in the text, under a table of the grammar
   abbrev IsSpot : Spot → Type 0
   IsSpot a = (a.place ≤ length G.text) × ComesFrom G.grammar a.table
@@ -218,27 +222,27 @@ module _ (G : Given) (scalars : all_scalars G.text ≡ true) (whole : IsWhole G.
       go (settles_failed false e m run) rest = settles_ok false b [] [] e _ (zero, round run round_ended)
 
   -- links of q and r from b on, with so many of them
-  abbrev SomeLinks : Fold → Shape → ℕ → ℕ → List Tree → Spot → Outcome → ℕ → Type 0
-  SomeLinks fold shape q r left b o m = (k : ℕ) × AnswersLinks G fold shape q r left k b o m
+  abbrev SomeLinks : Side → Shape → ℕ → ℕ → List Tree → Spot → Outcome → ℕ → Type 0
+  SomeLinks side shape q r left b o m = (k : ℕ) × AnswersLinks G side shape q r left k b o m
 
-  settle_links : (p : ℕ) (a : Spot) → Nearby p a → (fold : Fold) (shape : Shape) (q r : ℕ) → q < length G.grammar.nodes → r < length G.grammar.nodes → ChainFits sets p q r →
-      (n : ℕ) (left : List Tree) (b : Spot) → IsSpot b → length G.text < n + b.place → Ahead p a b (r ∷ q ∷ []) → Settles (SomeLinks fold shape q r left b)
-  settle_links p a near fold shape q r is_q is_r f zero left b within l h = let inside = within.0 in absurd (omega arith)
-  settle_links p a near fold shape q r is_q is_r f (suc n) left b within l h =
-      go (near r is_r b within (first_ahead h)) (λ left z x y k. settle_links p a near fold shape q r is_q is_r f n left z x y k)
+  settle_links : (p : ℕ) (a : Spot) → Nearby p a → (side : Side) (shape : Shape) (q r : ℕ) → q < length G.grammar.nodes → r < length G.grammar.nodes → ChainFits sets p q r →
+      (n : ℕ) (left : List Tree) (b : Spot) → IsSpot b → length G.text < n + b.place → Ahead p a b (r ∷ q ∷ []) → Settles (SomeLinks side shape q r left b)
+  settle_links p a near side shape q r is_q is_r f zero left b within l h = let inside = within.0 in absurd (omega arith)
+  settle_links p a near side shape q r is_q is_r f (suc n) left b within l h =
+      go (near r is_r b within (first_ahead h)) (λ left z x y k. settle_links p a near side shape q r is_q is_r f n left z x y k)
     where
       Result : Type 0
-      Result = Settles (SomeLinks fold shape q r left b)
+      Result = Settles (SomeLinks side shape q r left b)
 
       Again : Type 0
-      Again = (left : List Tree) (z : Spot) → IsSpot z → length G.text < n + z.place → Ahead p a z (r ∷ q ∷ []) → Settles (SomeLinks fold shape q r left z)
+      Again = (left : List Tree) (z : Spot) → IsSpot z → length G.text < n + z.place → Ahead p a z (r ∷ q ∷ []) → Settles (SomeLinks side shape q r left z)
 
       ahead : {z : Spot} → b.place < z.place → Ahead p a b (r ∷ q ∷ []) → Ahead p a z (r ∷ q ∷ [])
       ahead m (beyond x) = beyond (omega arith)
       ahead m (beside x y) = beyond (omega arith)
 
       more : {c d : Bool} {y z : Spot} {v w : List Tree} {t u : List TrailItem} {e g : Error} {i j : ℕ} → Answers G r b (ok c z v t e) i → Answers G q z (ok d y w u g) j → (c || d) ≡ true →
-          Settles (SomeLinks fold shape q r (carried fold shape left v w) y) → Result
+          Settles (SomeLinks side shape q r (carried side shape left v w) y) → Result
       more separator operand x (settles_ok k y w u g i rest) = settles_ok _ y _ _ _ _ (suc rest.0, link separator (separator_ok operand (operand_ok x rest.1)))
       more separator operand x (settles_failed k g i rest) = settles_failed _ _ _ (suc rest.0, link separator (separator_ok operand (operand_ok x rest.1)))
 
@@ -249,29 +253,29 @@ module _ (G : Given) (scalars : all_scalars G.text ≡ true) (whole : IsWhole G.
           let x = link_moves G scalars whole sets good p q r b z y f second.1 (begins_at separator) (begins_at operand) in
           let both = both_moved first.1 second.1 in
           let consumed : (c || d) ≡ true = ap (λ k. k || d) first.0 ∙ ap (λ k. nat_lt b.place z.place || k) second.0 ∙ both ∙ moved x in
-          more separator operand consumed (again (carried fold shape left v w) y (ends_at_spot operand (ends_at_spot separator within)) (omega arith) (ahead x h))
+          more separator operand consumed (again (carried side shape left v w) y (ends_at_spot operand (ends_at_spot separator within)) (omega arith) (ahead x h))
       linked separator (settles_failed d g j operand) again = settles_begun _ _ b left _ _ (zero, link separator (separator_ok operand operand_failed))
 
       go : Settles (Answers G r b) → Again → Result
       go (settles_ok c z v t e m run) again = linked run (near q is_q z (ends_at_spot run within) (first_ahead (rest_ahead h run))) again
       go (settles_failed c e m run) again = settles_begun _ c b left e _ (zero, link run separator_failed)
 
-  settle_chain : (p : ℕ) (a : Spot) → Nearby p a → IsSpot a → (fold : Fold) (shape : Shape) (q r : ℕ) → q < length G.grammar.nodes → r < length G.grammar.nodes → ChainFits sets p q r →
-      Settles (λ o m. (k : ℕ) × AnswersChain G fold shape q r k a o m)
-  settle_chain p a near within fold shape q r is_q is_r f = go (near q is_q a within (lower refl f.falls.0))
+  settle_chain : (p : ℕ) (a : Spot) → Nearby p a → IsSpot a → (side : Side) (shape : Shape) (q r : ℕ) → q < length G.grammar.nodes → r < length G.grammar.nodes → ChainFits sets p q r →
+      Settles (λ o m. (k : ℕ) × AnswersChain G side shape q r k a o m)
+  settle_chain p a near within side shape q r is_q is_r f = go (near q is_q a within (lower refl f.falls.0))
     where
       Result : Type 0
-      Result = Settles (λ o m. (k : ℕ) × AnswersChain G fold shape q r k a o m)
+      Result = Settles (λ o m. (k : ℕ) × AnswersChain G side shape q r k a o m)
 
-      linked : {c : Bool} {b : Spot} {v : List Tree} {t : List TrailItem} {e : Error} {m : ℕ} → Answers G q a (ok c b v t e) m → Settles (SomeLinks fold shape q r v b) → Result
-      linked run (settles_ok d z w u g i rest) = settles_ok _ z _ _ _ _ (rest.0, chain run (first_ok rest.1))
-      linked run (settles_failed d g i rest) = settles_failed _ _ _ (rest.0, chain run (first_ok rest.1))
+      linked : {c : Bool} {b : Spot} {v : List Tree} {t : List TrailItem} {e : Error} {m : ℕ} → Answers G q a (ok c b v t e) m → Settles (SomeLinks side shape q r v b) → Result
+      linked run (settles_ok d z w u g i rest) = settles_ok _ z _ _ _ _ (rest.0, first_operand run (first_ok rest.1))
+      linked run (settles_failed d g i rest) = settles_failed _ _ _ (rest.0, first_operand run (first_ok rest.1))
 
       go : Settles (Answers G q a) → Result
       go (settles_ok c b v t e m run) =
           let ahead : Ahead p a b (r ∷ q ∷ []) = rest_ahead (beside refl f.falls) run in
-          linked run (settle_links p a near fold shape q r is_q is_r f (suc (length G.text)) v b (ends_at_spot run within) (omega arith) ahead)
-      go (settles_failed c e m run) = settles_failed c e _ (zero, chain run first_failed)
+          linked run (settle_links p a near side shape q r is_q is_r f (suc (length G.text)) v b (ends_at_spot run within) (omega arith) ahead)
+      go (settles_failed c e m run) = settles_failed c e _ (zero, first_operand run first_failed)
 
   -- a leaf's one outcome is an answer
   by_outcome : (n : Node) (a : Spot) (o : Outcome) (m : ℕ) → AnswersForm G n a o m → IsAnswer o → Settles (AnswersForm G n a)
@@ -288,12 +292,26 @@ module _ (G : Given) (scalars : all_scalars G.text ≡ true) (whole : IsWhole G.
     falls_to (of_string e spelled falls f) = falls
     falls_to (of_key e first second spelled falls f) = falls
 
+    settle_leaf : (l : Leaf ℕ) → slice_get G.grammar.nodes p ≡ Some (form.Leaf l) → LeafFits G.grammar sets p l → Settles (AnswersForm G (form.Leaf l) a)
+    settle_leaf (leaf.Satisfy class) e f = by_outcome _ a _ _ (answers.leaf refl) (satisfy_answers G.grammar G.text class a)
+    settle_leaf (leaf.String s) e f = by_outcome _ a _ _ (answers.leaf refl) (string_answers G.text s a)
+    settle_leaf (leaf.Word w) e f =
+        let item = whole.words p w e in by_outcome _ a _ _ (answers.leaf (ap (some_word_outcome G.grammar G.text a) item.1)) (word_answers G.grammar G.text item.0 a)
+    settle_leaf (leaf.NotFollowedBy class) e f = by_outcome _ a _ _ (answers.leaf refl) (not_followed_answers G.grammar G.text class a)
+    settle_leaf leaf.EndOfText e f = by_outcome _ a _ _ (answers.leaf refl) (end_answers G.text a)
+    settle_leaf (leaf.Declare class) e f = absurd f
+
+    -- what stands around a part falls to it
+    around_falls : (k : Around) (q : ℕ) → AroundFits G.grammar sets p k q → sets.level q < sets.level p
+    around_falls kind.Try q f = falls_to f
+    around_falls _ q f = f.falls
+
+    settle_around : (k : Around) (q : ℕ) → Settles (Answers G q a) → Settles (AnswersForm G (form.Around k q) a)
+    settle_around k q (settles_ok c b v t e m run) = settles_ok c b _ t _ _ (answers.around run)
+    settle_around k q (settles_failed c e m run) = settles_failed _ _ _ (answers.around run)
+
     settle_form : (n : Node) → slice_get G.grammar.nodes p ≡ Some n → Fits G.grammar sets p n → Settles (AnswersForm G n a)
-    settle_form (form.Satisfy class) e f = by_outcome _ a _ _ satisfy (satisfy_answers G.grammar G.text class a)
-    settle_form (form.String s) e f = by_outcome _ a _ _ string (string_answers G.text s a)
-    settle_form (form.Word w) e f = let item = whole.words p w e in by_outcome _ a _ _ (word item.1) (word_answers G.grammar G.text item.0 a)
-    settle_form (form.NotFollowedBy class) e f = by_outcome _ a _ _ not_followed_by (not_followed_answers G.grammar G.text class a)
-    settle_form form.EndOfText e f = by_outcome _ a _ _ end_of_text (end_answers G.text a)
+    settle_form (form.Leaf l) e f = settle_leaf l e f
     settle_form (form.Seq []) e f = settles_ok false a [] [] _ _ nothing
     settle_form (form.Seq (q ∷ qs)) e f = go (settle_parts p a near q qs a within (whole.parts p _ e) (beside refl f.falls))
       where
@@ -312,23 +330,12 @@ module _ (G : Given) (scalars : all_scalars G.text ≡ true) (whole : IsWhole G.
         go : Settles (SomeRounds q a) → Settles (AnswersForm G (form.Many q) a)
         go (settles_ok c b v t e m run) = settles_ok c b v _ e _ (many run.1)
         go (settles_failed c e m run) = settles_failed c e _ (many run.1)
-    settle_form (form.ChainLeft used q r) e f =
-        let there = whole.parts p _ e in go (settle_chain p a near within FromLeft used.shape q r there.0 there.1.0 f)
+    settle_form (form.Chain side used q r) e f =
+        let there = whole.parts p _ e in go (settle_chain p a near within side used.shape q r there.0 there.1.0 f)
       where
-        go : Settles (λ o m. (k : ℕ) × AnswersChain G FromLeft used.shape q r k a o m) → Settles (AnswersForm G (form.ChainLeft used q r) a)
-        go (settles_ok c b v t e m run) = settles_ok c b v _ e _ (chain_left run.1)
-        go (settles_failed c e m run) = settles_failed c e _ (chain_left run.1)
-    settle_form (form.ChainRight used q r) e f =
-        let there = whole.parts p _ e in go (settle_chain p a near within FromRight used.shape q r there.0 there.1.0 f)
-      where
-        go : Settles (λ o m. (k : ℕ) × AnswersChain G FromRight used.shape q r k a o m) → Settles (AnswersForm G (form.ChainRight used q r) a)
-        go (settles_ok c b v t e m run) = settles_ok c b v _ e _ (chain_right run.1)
-        go (settles_failed c e m run) = settles_failed c e _ (chain_right run.1)
-    settle_form (form.Try q) e f = go (near q (whole.parts p _ e).0 a within (lower refl (falls_to f)))
-      where
-        go : Settles (Answers G q a) → Settles (AnswersForm G (form.Try q) a)
-        go (settles_ok c b v t e m run) = settles_ok c b v t e _ (try run)
-        go (settles_failed c e m run) = settles_failed false e _ (try run)
+        go : Settles (λ o m. (k : ℕ) × AnswersChain G side used.shape q r k a o m) → Settles (AnswersForm G (form.Chain side used q r) a)
+        go (settles_ok c b v t e m run) = settles_ok c b v _ e _ (answers.chain run.1)
+        go (settles_failed c e m run) = settles_failed c e _ (answers.chain run.1)
     settle_form (form.Rule r) e f =
         let named = whole.rules p r e in go named.1 (at_part named.0.body (f.body named.0 named.1) named.2)
       where
@@ -336,27 +343,7 @@ module _ (G : Given) (scalars : all_scalars G.text ≡ true) (whole : IsWhole G.
         go x (settles_ok c b v t e m run) = settles_ok c b v t e _ (rule x run)
         go x (settles_failed c e m run) = settles_failed c e _ (rule x run)
     settle_form (form.Expression builders q) e f = absurd f
-    settle_form (form.Declare class) e f = absurd f
-    settle_form (form.Text q) e f = go (at_part q f (whole.parts p _ e).0)
-      where
-        go : Settles (Answers G q a) → Settles (AnswersForm G (form.Text q) a)
-        go (settles_ok c b v t e m run) = settles_ok c b _ t e _ (as_text run)
-        go (settles_failed c e m run) = settles_failed c e _ (as_text run)
-    settle_form (form.Skip q) e f = go (at_part q f (whole.parts p _ e).0)
-      where
-        go : Settles (Answers G q a) → Settles (AnswersForm G (form.Skip q) a)
-        go (settles_ok c b v t e m run) = settles_ok c b _ t e _ (skip run)
-        go (settles_failed c e m run) = settles_failed c e _ (skip run)
-    settle_form (form.Build used symbol q) e f = go (at_part q f (whole.parts p _ e).0)
-      where
-        go : Settles (Answers G q a) → Settles (AnswersForm G (form.Build used symbol q) a)
-        go (settles_ok c b v t e m run) = settles_ok c b _ t e _ (build run)
-        go (settles_failed c e m run) = settles_failed c e _ (build run)
-    settle_form (form.Label q message) e f = go (at_part q f (whole.parts p _ e).0)
-      where
-        go : Settles (Answers G q a) → Settles (AnswersForm G (form.Label q message) a)
-        go (settles_ok c b v t e m run) = settles_ok c b v t _ _ (label run)
-        go (settles_failed c e m run) = settles_failed c _ _ (label run)
+    settle_form (form.Around k q) e f = settle_around k q (near q (whole.parts p _ e).0 a within (lower refl (around_falls k q f)))
 
     settle_at : (n : Node) → slice_get G.grammar.nodes p ≡ Some n → Settles (Answers G p a)
     settle_at n e = go (settle_form n e (good p n e))

@@ -4,10 +4,13 @@ use Rattle.std.specs.List.{Contains}
 use Rattle.std.proofs.lemmas.Option.{slice_get_within, same_Some}
 use Rattle.pg_grammar.specs.Grammar.{Grammar, IsGrammar}
 use Rattle.pg_grammar.specs.declared.class.ClassPart.{ClassPart}
-use Rattle.pg_grammar.specs.declared.form.Node.{Node}
-use Rattle.pg_grammar.specs.declared.form.Node.TheVariants as form
+use Rattle.pg_grammar.specs.Forms.{Node}
+use Rattle.pg_grammar.specs.declared.form.Form.TheVariants as form
+use Rattle.pg_grammar.specs.declared.form.Leaf.{Leaf}
+use Rattle.pg_grammar.specs.declared.form.Leaf.TheVariants as leaf
+use Rattle.pg_grammar.specs.declared.form.Around.{Around}
+use Rattle.pg_grammar.specs.declared.form.Around.TheVariants as kind
 use Rattle.pg_grammar.specs.declared.grammar.Rule as declared
-use Rattle.pg_grammar.specs.declared.used.BuilderUse.{BuilderUse}
 use Rattle.pg_start.specs.declared.kind.StartKind.TheVariants.{End}
 use Rattle.pg_sets.specs.First as of
 use Rattle.pg_sets.specs.Follow as follow
@@ -24,8 +27,8 @@ use Rattle.pg_predict.specs.Conditions as lexeme
 use Rattle.pg_predict.specs.Operators.{HasNoOperators}
 use Rattle.pg_derive.specs.Accepted.{AcceptedGrammarsArePredictive}
 use Rattle.pg_derive.specs.LeastSets.{node_sets}
-use Rattle.pg_derive.specs.Predictive.{PartFits, TryFits, of_part, RuleFits, Fits}
-use Rattle.pg_derive.proofs.FormsFit.{choice_fits, many_fits, left_fits, right_fits}
+use Rattle.pg_derive.specs.Predictive.{PartFits, TryFits, of_part, RuleFits, LeafFits, AroundFits, Fits}
+use Rattle.pg_derive.proofs.FormsFit.{choice_fits, many_fits, links_fit}
 use Rattle.pg_derive.proofs.LeastSets.{first_is, first_in, follow_is, follow_in}
 use Rattle.pg_derive.proofs.LeavesFit.{satisfy_meets, string_fits, word_meets, string_try, key_try}
 use Rattle.pg_derive.proofs.Levels.{rule_falls}
@@ -43,46 +46,34 @@ pub acyclic : (g : Grammar) → IsFaultless g → (r : ℕ) → Chain g r r → 
 acyclic g faultless r chain = let first = (first_rule chain).1 in faultless first.rule.body _ (left_recursion first.is_rule chain)
 
 -- a try around a character of a class or a word gives no key
-no_key_class : {g : Grammar} {q : ℕ} {class : List ClassPart} → slice_get g.nodes q ≡ Some (form.Satisfy class) → IsKeyTry g (form.Try q) → ⊥
-no_key_class {class = class} e (own.string {characters = s} f) = let same : form.Satisfy class ≡ form.String s = same_Some _ _ (sym e ∙ f) in absurd cc
-no_key_class {class = class} e (own.keyed k) = let same = same_Some (form.Satisfy class) _ (sym e ∙ k.both) in absurd cc
+no_key_class : {g : Grammar} {q : ℕ} {class : List ClassPart} → slice_get g.nodes q ≡ Some (form.Leaf (leaf.Satisfy class)) → IsKeyTry g (form.Around kind.Try q) → ⊥
+no_key_class {class = class} e (own.string {characters = s} f) = let same : ◌≡◌ {A = Node} (form.Leaf (leaf.Satisfy class)) (form.Leaf (leaf.String s)) = same_Some _ _ (sym e ∙ f) in absurd cc
+no_key_class {class = class} e (own.keyed k) = let same = same_Some (form.Leaf (leaf.Satisfy class)) _ (sym e ∙ k.both) in absurd cc
 
-no_key_word : {g : Grammar} {q w : ℕ} → slice_get g.nodes q ≡ Some (form.Word w) → IsKeyTry g (form.Try q) → ⊥
-no_key_word {w = w} e (own.string {characters = s} f) = let same : form.Word w ≡ form.String s = same_Some _ _ (sym e ∙ f) in absurd cc
-no_key_word {w = w} e (own.keyed k) = let same = same_Some (form.Word w) _ (sym e ∙ k.both) in absurd cc
-
-no_key_text : {g : Grammar} {q : ℕ} → IsKeyTry g (form.Text q) → ⊥
-no_key_text h = elim h [ ]
-
-no_key_skip : {g : Grammar} {q : ℕ} → IsKeyTry g (form.Skip q) → ⊥
-no_key_skip h = elim h [ ]
-
-no_key_build : {g : Grammar} {used : BuilderUse} {symbol : List ℕ} {q : ℕ} → IsKeyTry g (form.Build used symbol q) → ⊥
-no_key_build h = elim h [ ]
-
-no_key_label : {g : Grammar} {q : ℕ} {message : List ℕ} → IsKeyTry g (form.Label q message) → ⊥
-no_key_label h = elim h [ ]
+no_key_word : {g : Grammar} {q w : ℕ} → slice_get g.nodes q ≡ Some (form.Leaf (leaf.Word w)) → IsKeyTry g (form.Around kind.Try q) → ⊥
+no_key_word {w = w} e (own.string {characters = s} f) = let same : ◌≡◌ {A = Node} (form.Leaf (leaf.Word w)) (form.Leaf (leaf.String s)) = same_Some _ _ (sym e ∙ f) in absurd cc
+no_key_word {w = w} e (own.keyed k) = let same = same_Some (form.Leaf (leaf.Word w)) _ (sym e ∙ k.both) in absurd cc
 
 module _ (g : Grammar) (sets : Sets) (are : AreSets g sets) (grammar : IsGrammar g) (bare : HasNoOperators g) (faultless : IsFaultless g) where
   none_on_cycle : (r : ℕ) → Chain g r r → ⊥
   none_on_cycle = acyclic g faultless
 
-  try_part : (p q : ℕ) → slice_get g.nodes p ≡ Some (form.Try q) → (IsKeyTry g (form.Try q) → ⊥) → TryFits g (node_sets g sets) p q
+  try_part : (p q : ℕ) → slice_get g.nodes p ≡ Some (form.Around kind.Try q) → (IsKeyTry g (form.Around kind.Try q) → ⊥) → TryFits g (node_sets g sets) p q
   try_part p q e no_key =
-      of_part (part_fits g sets are none_on_cycle p q (form.Try q) e (are_parts g grammar p (form.Try q) e).0 no_key reached.try (λ n. null.try n) (λ s h. follow.only e follow.try h))
+      of_part (part_fits g sets are none_on_cycle p q (form.Around kind.Try q) e (are_parts g grammar p (form.Around kind.Try q) e).0 no_key reached.around (λ n. null.around n) (λ s h. follow.only e follow.around h))
 
-  try_falls : (p q : ℕ) → slice_get g.nodes p ≡ Some (form.Try q) → (node_sets g sets).level q < (node_sets g sets).level p
-  try_falls p q e = in_falls g sets are none_on_cycle p q (form.Try q) e (are_parts g grammar p (form.Try q) e).0 reached.try
+  try_falls : (p q : ℕ) → slice_get g.nodes p ≡ Some (form.Around kind.Try q) → (node_sets g sets).level q < (node_sets g sets).level p
+  try_falls p q e = in_falls g sets are none_on_cycle p q (form.Around kind.Try q) e (are_parts g grammar p (form.Around kind.Try q) e).0 reached.around
 
-  lexeme_fits : (p q : ℕ) → slice_get g.nodes p ≡ Some (form.Try q) → IsLexeme g q → TryFits g (node_sets g sets) p q
+  lexeme_fits : (p q : ℕ) → slice_get g.nodes p ≡ Some (form.Around kind.Try q) → IsLexeme g q → TryFits g (node_sets g sets) p q
   lexeme_fits p q e (lexeme.string {text = s} f) = string_try g grammar sets are p q s e f (try_falls p q e)
   lexeme_fits p q e (lexeme.keyed {text = s} {excluded = class} f) = key_try g grammar sets are p q s class e f (try_falls p q e)
   lexeme_fits p q e (lexeme.satisfy f) = try_part p q e (no_key_class f)
   lexeme_fits p q e (lexeme.word f) = try_part p q e (no_key_word f)
 
-  try_fits : (p q : ℕ) → slice_get g.nodes p ≡ Some (form.Try q) → TryFits g (node_sets g sets) p q
+  try_fits : (p q : ℕ) → slice_get g.nodes p ≡ Some (form.Around kind.Try q) → TryFits g (node_sets g sets) p q
   try_fits p q e =
-      let part = (are_parts g grammar p (form.Try q) e).0 in
+      let part = (are_parts g grammar p (form.Around kind.Try q) e).0 in
       let there = found g.nodes q part.inside in
       elim (lexeme_decided g q there.0 there.1) [ inl is ↦ lexeme_fits p q e is | inr not ↦ absurd (faultless p _ (try_around_more e not)) ]
 
@@ -104,31 +95,31 @@ module _ (g : Grammar) (sets : Sets) (are : AreSets g sets) (grammar : IsGrammar
             falls = rule_falls g sets are none_on_cycle p r named e at;
           }
 
+  leaf_fits : (p : ℕ) (l : Leaf ℕ) → slice_get g.nodes p ≡ Some (form.Leaf l) → LeafFits g (node_sets g sets) p l
+  leaf_fits p (leaf.Satisfy class) e = satisfy_meets g grammar sets are p class e
+  leaf_fits p (leaf.String s) e = string_fits g grammar sets are p s e
+  leaf_fits p (leaf.Word w) e = word_meets g grammar sets are p w e
+  leaf_fits p (leaf.NotFollowedBy class) e = (are.nullable p).1 (null.at_node e null.not_followed_by)
+  leaf_fits p leaf.EndOfText e = (are.nullable p).1 (null.at_node e null.end_of_text)
+  leaf_fits p (leaf.Declare class) e = bare p (form.Leaf (leaf.Declare class)) e
+
+  around_part : (p q : ℕ) (k : Around) → slice_get g.nodes p ≡ Some (form.Around k q) → (IsKeyTry g (form.Around k q) → ⊥) → PartFits (node_sets g sets) p q
+  around_part p q k e no_key =
+      part_fits g sets are none_on_cycle p q (form.Around k q) e (are_parts g grammar p (form.Around k q) e).0 no_key reached.around (λ n. null.around n) (λ s h. follow.only e follow.around h)
+
+  around_fits : (p q : ℕ) (k : Around) → slice_get g.nodes p ≡ Some (form.Around k q) → AroundFits g (node_sets g sets) p k q
+  around_fits p q kind.Try e = try_fits p q e
+  around_fits p q k e = around_part p q k e (λ h. elim h [ ])
+
   fits : (p : ℕ) (n : Node) → slice_get g.nodes p ≡ Some n → Fits g (node_sets g sets) p n
-  fits p (form.Satisfy class) e = satisfy_meets g grammar sets are p class e
-  fits p (form.String s) e = string_fits g grammar sets are p s e
+  fits p (form.Leaf l) e = leaf_fits p l e
   fits p (form.Seq parts) e = seq_fits g sets are none_on_cycle grammar p parts e
   fits p (form.Choice parts) e = choice_fits g sets are none_on_cycle grammar faultless p parts e
   fits p (form.Many q) e = many_fits g sets are none_on_cycle grammar faultless p q e
-  fits p (form.ChainLeft used q r) e = left_fits g sets are none_on_cycle grammar faultless p used q r e
-  fits p (form.ChainRight used q r) e = right_fits g sets are none_on_cycle grammar faultless p used q r e
-  fits p (form.Try q) e = try_fits p q e
-  fits p (form.NotFollowedBy class) e = (are.nullable p).1 (null.at_node e null.not_followed_by)
-  fits p form.EndOfText e = (are.nullable p).1 (null.at_node e null.end_of_text)
-  fits p (form.Word w) e = word_meets g grammar sets are p w e
+  fits p (form.Chain side used q r) e = links_fit g sets are none_on_cycle grammar faultless p side used q r e
   fits p (form.Rule r) e = rule_fits p r e
   fits p (form.Expression builders q) e = bare p (form.Expression builders q) e
-  fits p (form.Declare class) e = bare p (form.Declare class) e
-  fits p (form.Text q) e =
-      part_fits g sets are none_on_cycle p q (form.Text q) e (are_parts g grammar p (form.Text q) e).0 no_key_text reached.text (λ n. null.text n) (λ s h. follow.only e follow.text h)
-  fits p (form.Skip q) e =
-      part_fits g sets are none_on_cycle p q (form.Skip q) e (are_parts g grammar p (form.Skip q) e).0 no_key_skip reached.skip (λ n. null.skip n) (λ s h. follow.only e follow.skip h)
-  fits p (form.Build used symbol q) e =
-      part_fits g sets are none_on_cycle p q (form.Build used symbol q) e (are_parts g grammar p (form.Build used symbol q) e).0 no_key_build reached.build (λ n. null.build n)
-      (λ s h. follow.only e follow.build h)
-  fits p (form.Label q message) e =
-      part_fits g sets are none_on_cycle p q (form.Label q message) e (are_parts g grammar p (form.Label q message) e).0 no_key_label reached.label (λ n. null.label n)
-      (λ s h. follow.only e follow.label h)
+  fits p (form.Around k q) e = around_fits p q k e
 
   -- the end of the text follows the start rule
   end_follows : (start : declared.Rule) → slice_get g.rules g.start ≡ Some start → Contains ((node_sets g sets).follow start.body) End

@@ -4,8 +4,9 @@ use Rattle.std.specs.List.{Contains, AllByRecursion}
 use Rattle.std.proofs.lemmas.Bool.{cases_order}
 use Rattle.std.proofs.lemmas.Option.{slice_get_within, slice_get-get_or}
 use Rattle.pg_grammar.specs.Grammar.{Grammar, IsGrammar}
-use Rattle.pg_grammar.specs.declared.form.Node.{Node}
-use Rattle.pg_grammar.specs.declared.form.Node.TheVariants as form
+use Rattle.pg_grammar.specs.Forms.{Node}
+use Rattle.pg_grammar.specs.declared.form.Form.TheVariants as form
+use Rattle.pg_grammar.specs.declared.side.Side.{Side}
 use Rattle.pg_grammar.specs.declared.used.BuilderUse.{BuilderUse}
 use Rattle.pg_sets.specs.Follow.{IsFollow, IsChain}
 use Rattle.pg_sets.specs.Follow as follow
@@ -54,17 +55,11 @@ record IsLinked (g : Grammar) (q r : ℕ) (n : Node) : Type 0 where
   reached : (x : ℕ) → ReachedIn g (q ∷ r ∷ q ∷ []) x → ReachedPart g n x
   empty : Nullable g q → NullableForm g n
 
-no_key_left : {g : Grammar} {used : BuilderUse} {q r : ℕ} → IsKeyTry g (form.ChainLeft used q r) → ⊥
-no_key_left h = elim h [ ]
+no_key_chain : {g : Grammar} {side : Side} {used : BuilderUse} {q r : ℕ} → IsKeyTry g (form.Chain side used q r) → ⊥
+no_key_chain h = elim h [ ]
 
-no_key_right : {g : Grammar} {used : BuilderUse} {q r : ℕ} → IsKeyTry g (form.ChainRight used q r) → ⊥
-no_key_right h = elim h [ ]
-
-linked_left : {g : Grammar} (used : BuilderUse) (q r : ℕ) → IsLinked g q r (form.ChainLeft used q r)
-linked_left used q r = record { chain = follow.left; bare = no_key_left; reached = λ x is. reached.chain_left is; empty = λ n. null.chain_left n }
-
-linked_right : {g : Grammar} (used : BuilderUse) (q r : ℕ) → IsLinked g q r (form.ChainRight used q r)
-linked_right used q r = record { chain = follow.right; bare = no_key_right; reached = λ x is. reached.chain_right is; empty = λ n. null.chain_right n }
+linked : {g : Grammar} (side : Side) (used : BuilderUse) (q r : ℕ) → IsLinked g q r (form.Chain side used q r)
+linked side used q r = record { chain = follow.chain; bare = no_key_chain; reached = λ x is. reached.chain is; empty = λ n. null.chain n }
 
 module _ (g : Grammar) (sets : Sets) (are : AreSets g sets) (acyclic : (r : ℕ) → Chain g r r → ⊥) (grammar : IsGrammar g) (faultless : IsFaultless g) where
   -- ---- choices
@@ -158,8 +153,5 @@ module _ (g : Grammar) (sets : Sets) (are : AreSets g sets) (acyclic : (r : ℕ)
         falls = parts_fall g sets are acyclic ((node_sets g sets).level p) (q ∷ r ∷ q ∷ []) (λ x is. in_falls g sets are acyclic p x n e (reached_is (IsPart g p) parts is) (linked.reached x is));
       }
 
-  pub left_fits : (p : ℕ) (used : BuilderUse) (q r : ℕ) → slice_get g.nodes p ≡ Some (form.ChainLeft used q r) → ChainFits (node_sets g sets) p q r
-  left_fits p used q r e = let parts = are_parts g grammar p (form.ChainLeft used q r) e in chain_fits p q r (form.ChainLeft used q r) e (linked_left used q r) parts.0 parts.1.0
-
-  pub right_fits : (p : ℕ) (used : BuilderUse) (q r : ℕ) → slice_get g.nodes p ≡ Some (form.ChainRight used q r) → ChainFits (node_sets g sets) p q r
-  right_fits p used q r e = let parts = are_parts g grammar p (form.ChainRight used q r) e in chain_fits p q r (form.ChainRight used q r) e (linked_right used q r) parts.0 parts.1.0
+  pub links_fit : (p : ℕ) (side : Side) (used : BuilderUse) (q r : ℕ) → slice_get g.nodes p ≡ Some (form.Chain side used q r) → ChainFits (node_sets g sets) p q r
+  links_fit p side used q r e = let parts = are_parts g grammar p (form.Chain side used q r) e in chain_fits p q r (form.Chain side used q r) e (linked side used q r) parts.0 parts.1.0

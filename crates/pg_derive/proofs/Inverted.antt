@@ -3,9 +3,11 @@ use Rattle.std.proofs.Common.{◌≡◌, ◌+◌, ◌<◌, ◌≤◌, ℕ, List,
 use Rattle.pg_tree.specs.Trees.{Tree}
 use Rattle.pg_grammar.specs.Grammar.{Grammar}
 use Rattle.pg_grammar.specs.declared.class.ClassPart.{ClassPart}
-use Rattle.pg_grammar.specs.declared.form.Node.{Node}
-use Rattle.pg_grammar.specs.declared.form.Node.TheVariants as form
+use Rattle.pg_grammar.specs.Forms.{Node}
+use Rattle.pg_grammar.specs.declared.form.Form.TheVariants as form
+use Rattle.pg_grammar.specs.declared.form.Leaf.TheVariants as leaf
 use Rattle.pg_grammar.specs.declared.trail.TrailItem.{TrailItem}
+use Rattle.pg_language.specs.Derives as derives
 use Rattle.pg_language.specs.Derives.{Spot, behind, leaf_of, Link, Derives, at_node, DerivesForm, string, not_followed_by, seq, DerivesParts, no_part, first_part, DerivesRounds, no_round, first_round, DerivesLinks, no_link, first_link}
 use Rattle.pg_language.specs.Runs.{HasAt, StandsAt}
 use Rattle.pg_table.specs.Tables.{ComesFrom}
@@ -28,8 +30,8 @@ pub record SpansString (text s : List ℕ) (a b : Spot) (v : List Tree) (t : Lis
   pub trail : t ≡ []
 
 pub spans_string : {g : Grammar} {text s : List ℕ} {a b : Spot} {v : List Tree} {t : List TrailItem} →
-    DerivesForm g text (form.String s) a b v t → SpansString text s a b v t
-spans_string (string h) = record { stands = h; end = refl; forest = refl; trail = refl }
+    DerivesForm g text (form.Leaf (leaf.String s)) a b v t → SpansString text s a b v t
+spans_string (derives.leaf (string h)) = record { stands = h; end = refl; forest = refl; trail = refl }
 
 pub record SpansNothing (g : Grammar) (text : List ℕ) (class : List ClassPart) (a b : Spot) (v : List Tree) (t : List TrailItem) : Type 0 where
   pub bare : HasAt g text class a.place → ⊥
@@ -38,8 +40,8 @@ pub record SpansNothing (g : Grammar) (text : List ℕ) (class : List ClassPart)
   pub trail : t ≡ []
 
 pub spans_nothing : {g : Grammar} {text : List ℕ} {class : List ClassPart} {a b : Spot} {v : List Tree} {t : List TrailItem} →
-    DerivesForm g text (form.NotFollowedBy class) a b v t → SpansNothing g text class a b v t
-spans_nothing (not_followed_by h) = record { bare = h; end = refl; forest = refl; trail = refl }
+    DerivesForm g text (form.Leaf (leaf.NotFollowedBy class)) a b v t → SpansNothing g text class a b v t
+spans_nothing (derives.leaf (not_followed_by h)) = record { bare = h; end = refl; forest = refl; trail = refl }
 
 pub record SpansKey (g : Grammar) (text s : List ℕ) (class : List ClassPart) (a b : Spot) (v : List Tree) (t : List TrailItem) : Type 0 where
   pub stands : StandsAt text a.place s
@@ -49,7 +51,7 @@ pub record SpansKey (g : Grammar) (text s : List ℕ) (class : List ClassPart) (
   pub trail : t ≡ []
 
 pub spans_key : {g : Grammar} {text s : List ℕ} {class : List ClassPart} {x y : ℕ} {a b : Spot} {v : List Tree} {t : List TrailItem} →
-    DerivesForm g text (form.Seq (x ∷ y ∷ [])) a b v t → slice_get g.nodes x ≡ Some (form.String s) → slice_get g.nodes y ≡ Some (form.NotFollowedBy class) →
+    DerivesForm g text (form.Seq (x ∷ y ∷ [])) a b v t → slice_get g.nodes x ≡ Some (form.Leaf (leaf.String s)) → slice_get g.nodes y ≡ Some (form.Leaf (leaf.NotFollowedBy class)) →
     SpansKey g text s class a b v t
 spans_key {g = g} {text = text} {class = class} (seq (first_part d (first_part {b = end} e no_part))) h k =
     let first = spans_string (form_at d h) in

@@ -1,5 +1,5 @@
 -- The error of an answer stands no earlier than where the node began, and neither does its end.
-use Rattle.std.proofs.Common.{◌==◌, ◌≤◌, ℕ, suc, List, [], ◌∷◌, Bool, true, false, if◌then◌else◌, length, Option, Some, None, slice_get, arith, le_refl, le_trans}
+use Rattle.std.proofs.Common.{◌≡◌, ◌==◌, ◌≤◌, ℕ, suc, subst, List, [], ◌∷◌, Bool, true, false, if◌then◌else◌, length, Option, Some, None, slice_get, arith, le_refl, le_trans}
 use Rattle.std.specs.Prelude.{nat_lt, ◌&&◌, not}
 use Rattle.std.specs.List.{list_any}
 use Rattle.std.specs.Str.{bytes_eq}
@@ -8,17 +8,22 @@ use Rattle.pg_tree.specs.declared.shape.Shape.{Shape}
 use Rattle.pg_grammar.specs.ClassItems.{has_character}
 use Rattle.pg_grammar.specs.Grammar.{Grammar}
 use Rattle.pg_grammar.specs.declared.class.ClassPart.{ClassPart}
-use Rattle.pg_grammar.specs.declared.form.Node.{Node}
+use Rattle.pg_grammar.specs.Forms.{Node}
+use Rattle.pg_grammar.specs.declared.form.Leaf.{Leaf}
+use Rattle.pg_grammar.specs.declared.form.Leaf.TheVariants as leaf
+use Rattle.pg_grammar.specs.declared.form.Around.{Around}
+use Rattle.pg_grammar.specs.declared.form.Around.TheVariants as kind
 use Rattle.pg_grammar.specs.declared.trail.TrailItem.{TrailItem}
 use Rattle.pg_grammar.specs.declared.word_item.WordItem.{WordItem}
 use Rattle.pg_language.specs.Derives.{Spot}
 use Rattle.pg_language.specs.Runs.{run_at}
-use Rattle.pg_language.specs.Answers.{Given, Answers, entered, AnswersForm, satisfy, string, word, not_followed_by, end_of_text, nothing, seq, choice, many, chain_left, chain_right, try, label, rule, text as as_text, skip, build, AnswersParts, part, AfterPart, part_last, part_failed, part_stuck, part_ok, AnswersAlternatives, no_alternative, alternative, AfterAlternative, alternative_consumed, alternative_stands, alternative_waits, alternative_commits, alternative_failed, alternative_stuck, AnswersRounds, round, AfterRound, round_ended, round_failed, round_empty, round_stuck, round_ok, AnswersChain, chain, AfterFirst, first_failed, first_stuck, first_ok, AnswersLinks, link, AfterSeparator, separator_failed, separator_stuck, separator_ok, AfterOperand, operand_failed, operand_stuck, operand_ok}
+use Rattle.pg_language.specs.Answers as answers
+use Rattle.pg_language.specs.Answers.{Given, Answers, entered, AnswersForm, nothing, seq, choice, many, rule, AnswersParts, part, AfterPart, part_last, part_failed, part_stuck, part_ok, AnswersAlternatives, no_alternative, alternative, AfterAlternative, alternative_consumed, alternative_stands, alternative_waits, alternative_commits, alternative_failed, alternative_stuck, AnswersRounds, round, AfterRound, round_ended, round_failed, round_empty, round_stuck, round_ok, AnswersChain, first_operand, AfterFirst, first_failed, first_stuck, first_ok, AnswersLinks, link, AfterSeparator, separator_failed, separator_stuck, separator_ok, AfterOperand, operand_failed, operand_stuck, operand_ok}
 use Rattle.pg_language.specs.Errors.{Error, with_position, without_position, merge, relabel, nothing_said}
-use Rattle.pg_language.specs.Leaves.{taken, satisfy_next, word_read, word_next, not_followed_next, string_outcome, matched, end_outcome}
+use Rattle.pg_language.specs.Leaves.{taken, satisfy_next, word_read, word_next, not_followed_next, string_outcome, matched, end_outcome, word_outcome, some_word_outcome, leaf_outcome}
 use Rattle.pg_language.specs.Outcomes.{Outcome, ok, failed, empty_round}
-use Rattle.pg_language.specs.Reactions.{error_behind, ok_kind, error_kind, then_rest, then_round, noted, after_failure, unless_consumed, tried, with_label, with_forest, unless_begun}
-use Rattle.pg_language.specs.declared.fold.Fold.{Fold}
+use Rattle.pg_language.specs.Reactions.{error_behind, ok_kind, error_kind, then_rest, then_round, noted, after_failure, unless_consumed, said_by, surrounded, as_finished, unless_begun}
+use Rattle.pg_grammar.specs.declared.side.Side.{Side}
 use Rattle.pg_text.specs.Position.{start}
 use Rattle.pg_message.specs.Errors.{renamed}
 use Rattle.pg_message.specs.Messages.{Text, is_empty, with_messages}
@@ -99,20 +104,19 @@ later_unless i b v t e (failed true f) k l h = h
 later_unless i b v t e (failed false f) k l h = (k, later_merged i e f l h)
 later_unless i b v t e empty_round k l h = tt
 
-later_tried : (i : ℕ) (o : Outcome) → Later i o → Later i (tried o)
-later_tried i (ok c b v t e) h = h
-later_tried i (failed c e) h = h
-later_tried i empty_round h = tt
+later_said : (i : ℕ) (k : Around) (answer : AnswerKind) (e : Error) → i ≤ e.place → i ≤ (said_by k answer e).place
+later_said i (kind.Label message) answer e l = later_relabelled i answer _ e l
+later_said i _ answer e l = l
 
-later_label : (i : ℕ) (message : List ℕ) (o : Outcome) → Later i o → Later i (with_label message o)
-later_label i message (ok c b v t e) h = (h.0, later_relabelled i (ok_kind c) _ e h.1)
-later_label i message (failed c e) h = later_relabelled i (error_kind c) _ e h
-later_label i message empty_round h = tt
+later_surrounded : (i : ℕ) (k : Around) (text : List ℕ) (a : Spot) (o : Outcome) → Later i o → Later i (surrounded k text a o)
+later_surrounded i k text a (ok c b v t e) h = (h.0, later_said i k (ok_kind c) e h.1)
+later_surrounded i k text a (failed c e) h = later_said i k (error_kind c) e h
+later_surrounded i k text a empty_round h = tt
 
-later_forest : (i : ℕ) (made : Spot → List Tree → List Tree) (o : Outcome) → Later i o → Later i (with_forest made o)
-later_forest i made (ok c b v t e) h = h
-later_forest i made (failed c e) h = h
-later_forest i made empty_round h = tt
+later_finished : (i : ℕ) (side : Side) (shape : Shape) (x s : List Tree) (o : Outcome) → Later i o → Later i (as_finished side shape x s o)
+later_finished i side shape x s (ok c b v t e) h = h
+later_finished i side shape x s (failed c e) h = h
+later_finished i side shape x s empty_round h = tt
 
 later_begun : (c : Bool) (a : Spot) (x : List Tree) (e : Error) → a.place ≤ e.place → Later a.place (unless_begun c a x e)
 later_begun true a x e l = l
@@ -144,6 +148,21 @@ later_string text s a = later_if a.place (matched text s a.place == length s) _ 
 later_end : (text : List ℕ) (a : Spot) → Later a.place (end_outcome text a)
 later_end text a = later_if a.place (a.place == length text) _ _ (le_refl _, le_refl _) (le_refl _)
 
+later_this : (i : ℕ) (x o : Outcome) → Some x ≡ Some o → Later i x → Later i o
+later_this i x o e h = let same : x ≡ o = cc in subst (Later i) same h
+
+later_some_word : (g : Grammar) (text : List ℕ) (a : Spot) (item : Option WordItem) (o : Outcome) → some_word_outcome g text a item ≡ Some o → Later a.place o
+later_some_word g text a None o e = absurd cc
+later_some_word g text a (Some item) o e = later_this a.place (word_outcome g text item a) o e (later_word g text item a (slice_get text a.place))
+
+later_leaf : (g : Grammar) (text : List ℕ) (l : Leaf ℕ) (a : Spot) (o : Outcome) → leaf_outcome g text l a ≡ Some o → Later a.place o
+later_leaf g text (leaf.Satisfy class) a o e = later_this a.place _ o e (later_satisfy g class a (slice_get text a.place))
+later_leaf g text (leaf.String s) a o e = later_this a.place _ o e (later_string text s a)
+later_leaf g text (leaf.Word w) a o e = later_some_word g text a (slice_get g.words w) o e
+later_leaf g text (leaf.NotFollowedBy class) a o e = later_this a.place _ o e (later_not_followed g class a (slice_get text a.place))
+later_leaf g text leaf.EndOfText a o e = later_this a.place _ o e (later_end text a)
+later_leaf g text (leaf.Declare class) a o e = absurd cc
+
 -- ---- the relation
 
 module _ (G : Given) where
@@ -152,23 +171,14 @@ module _ (G : Given) where
     later (entered e d) = later_form d
 
     later_form : {f : Node} {a : Spot} {o : Outcome} {m : ℕ} → AnswersForm G f a o m → Later a.place o
-    later_form (satisfy {class = class} {a = a}) = later_satisfy G.grammar class a (slice_get G.text a.place)
-    later_form (string {s = s} {a = a}) = later_string G.text s a
-    later_form (word {item = item} {a = a} x) = later_word G.grammar G.text item a (slice_get G.text a.place)
-    later_form (not_followed_by {class = class} {a = a}) = later_not_followed G.grammar class a (slice_get G.text a.place)
-    later_form (end_of_text {a = a}) = later_end G.text a
+    later_form (answers.leaf {l = l} {a = a} {o = o} e) = later_leaf G.grammar G.text l a o e
     later_form nothing = (le_refl _, le_refl _)
     later_form (seq d) = later_parts d
     later_form (choice d) = later_alternatives d
     later_form (many {a = a} {o = o} d) = later_noted a.place _ o (later_rounds d)
-    later_form (chain_left {a = a} {o = o} d) = later_noted a.place _ o (later_chain d)
-    later_form (chain_right {a = a} {o = o} d) = later_noted a.place _ o (later_chain d)
-    later_form (try {a = a} {o = o} d) = later_tried a.place o (later d)
-    later_form (label {message = message} {a = a} {o = o} d) = later_label a.place message o (later d)
+    later_form (answers.chain {a = a} {o = o} d) = later_noted a.place _ o (later_chain d)
     later_form (rule x d) = later d
-    later_form (as_text {a = a} {o = o} d) = later_forest a.place _ o (later d)
-    later_form (skip {a = a} {o = o} d) = later_forest a.place _ o (later d)
-    later_form (build {a = a} {o = o} d) = later_forest a.place _ o (later d)
+    later_form (answers.around {k = k} {a = a} {o = o} d) = later_surrounded a.place k G.text a o (later d)
 
     later_parts : {p : ℕ} {ps : List ℕ} {a : Spot} {o : Outcome} {m : ℕ} → AnswersParts G p ps a o m → Later a.place o
     later_parts (part {a = a} d r) = later_after_part r a.place (later d)
@@ -201,26 +211,26 @@ module _ (G : Given) where
     later_after_round round_stuck h = tt
     later_after_round (round_ok {a = a} {b = b} {v = v} {t = t} {o = o} d) h = later_round a.place v t o (later_from a.place b.place o h.0 (later_rounds d))
 
-    later_chain : {fold : Fold} {shape : Shape} {p s k : ℕ} {a : Spot} {o : Outcome} {m : ℕ} → AnswersChain G fold shape p s k a o m → Later a.place o
-    later_chain (chain {a = a} d r) = later_after_first r a.place (later d)
+    later_chain : {side : Side} {shape : Shape} {p s k : ℕ} {a : Spot} {o : Outcome} {m : ℕ} → AnswersChain G side shape p s k a o m → Later a.place o
+    later_chain (first_operand {a = a} d r) = later_after_first r a.place (later d)
 
-    later_after_first : {fold : Fold} {shape : Shape} {p s k : ℕ} {x o : Outcome} {m : ℕ} → AfterFirst G fold shape p s k x o m → (i : ℕ) → Later i x → Later i o
+    later_after_first : {side : Side} {shape : Shape} {p s k : ℕ} {x o : Outcome} {m : ℕ} → AfterFirst G side shape p s k x o m → (i : ℕ) → Later i x → Later i o
     later_after_first first_failed i h = h
     later_after_first first_stuck i h = tt
     later_after_first (first_ok {c = c} {b = b} {t = t} {e = e} {o = o} d) i h = later_rest i c [] t e o h.1 (later_from i b.place o h.0 (later_links d))
 
-    later_links : {fold : Fold} {shape : Shape} {p s : ℕ} {left : List Tree} {k : ℕ} {a : Spot} {o : Outcome} {m : ℕ} → AnswersLinks G fold shape p s left k a o m → Later a.place o
+    later_links : {side : Side} {shape : Shape} {p s : ℕ} {left : List Tree} {k : ℕ} {a : Spot} {o : Outcome} {m : ℕ} → AnswersLinks G side shape p s left k a o m → Later a.place o
     later_links (link d r) = later_after_separator r (later d)
 
-    later_after_separator : {fold : Fold} {shape : Shape} {p s : ℕ} {left : List Tree} {k : ℕ} {a : Spot} {x o : Outcome} {m : ℕ} →
-        AfterSeparator G fold shape p s left k a x o m → Later a.place x → Later a.place o
+    later_after_separator : {side : Side} {shape : Shape} {p s : ℕ} {left : List Tree} {k : ℕ} {a : Spot} {x o : Outcome} {m : ℕ} →
+        AfterSeparator G side shape p s left k a x o m → Later a.place x → Later a.place o
     later_after_separator (separator_failed {left = left} {a = a} {c = c} {e = e}) h = later_begun c a left e h
     later_after_separator separator_stuck h = tt
     later_after_separator (separator_ok {a = a} {b = b} {x = x} d r) h = later_after_operand r h.1 (later_from a.place b.place x h.0 (later d))
 
-    later_after_operand : {fold : Fold} {shape : Shape} {p s : ℕ} {left : List Tree} {k : ℕ} {a : Spot} {c : Bool} {v : List Tree} {t : List TrailItem} {e : Error} {x o : Outcome} {m : ℕ} →
-        AfterOperand G fold shape p s left k a c v t e x o m → a.place ≤ e.place → Later a.place x → Later a.place o
+    later_after_operand : {side : Side} {shape : Shape} {p s : ℕ} {left : List Tree} {k : ℕ} {a : Spot} {c : Bool} {v : List Tree} {t : List TrailItem} {e : Error} {x o : Outcome} {m : ℕ} →
+        AfterOperand G side shape p s left k a c v t e x o m → a.place ≤ e.place → Later a.place x → Later a.place o
     later_after_operand (operand_failed {left = left} {a = a} {d = d} {e = e} {f = f}) l h = later_begun _ a left _ (later_behind a.place d e f l h)
     later_after_operand operand_stuck l h = tt
-    later_after_operand (operand_ok {left = left} {v = v} {a = a} {b = b} {c = c} {d = d} {t = t} {u = u} {e = e} {f = f} {o = o} x y) l h =
-        later_rest a.place c [] t e _ l (later_rest a.place d [] u f _ h.1 (later_forest a.place _ o (later_from a.place b.place o h.0 (later_links y))))
+    later_after_operand (operand_ok {side = side} {shape = shape} {left = left} {v = v} {a = a} {b = b} {c = c} {d = d} {t = t} {u = u} {e = e} {f = f} {o = o} x y) l h =
+        later_rest a.place c [] t e _ l (later_rest a.place d [] u f _ h.1 (later_finished a.place side shape left v o (later_from a.place b.place o h.0 (later_links y))))

@@ -11,8 +11,10 @@ use Rattle.pg_class.specs.Ranges.{Range, has}
 use Rattle.pg_grammar.specs.ClassItems.{has_character}
 use Rattle.pg_grammar.specs.Grammar.{Grammar, IsGrammar}
 use Rattle.pg_grammar.specs.declared.class.ClassPart.{ClassPart}
-use Rattle.pg_grammar.specs.declared.form.Node.{Node}
-use Rattle.pg_grammar.specs.declared.form.Node.TheVariants as form
+use Rattle.pg_grammar.specs.Forms.{Node}
+use Rattle.pg_grammar.specs.declared.form.Form.TheVariants as form
+use Rattle.pg_grammar.specs.declared.form.Leaf.TheVariants as leaf
+use Rattle.pg_grammar.specs.declared.form.Around.TheVariants as around
 use Rattle.pg_grammar.specs.declared.word_item.WordItem.{WordItem}
 use Rattle.pg_start.specs.Fronts.{run, is_reserved}
 use Rattle.pg_start.specs.Starts.{MatchesAt}
@@ -58,7 +60,7 @@ same_reserved : {g : Grammar} {heads rest : List Range} {texts reserved : List (
 same_reserved (own.as_item reads first) text = reads.texts text
 same_reserved (own.as_written none) text = refl
 
-no_string_is_seq : {text parts : List ℕ} → form.String text ≡ form.Seq parts → ⊥
+no_string_is_seq : {text parts : List ℕ} → ◌≡◌ {A = Node} (form.Leaf (leaf.String text)) (form.Seq parts) → ⊥
 no_string_is_seq e = absurd cc
 
 module _ (g : Grammar) (grammar : IsGrammar g) (sets : Sets) (are : AreSets g sets) where
@@ -67,31 +69,31 @@ module _ (g : Grammar) (grammar : IsGrammar g) (sets : Sets) (are : AreSets g se
   matched p n e s is text place there = record { start = s; among = first_in g sets are p (slice_get_within g.nodes p n e) s (of.own e is); there = there }
 
   -- a character of a class
-  pub satisfy_meets : (p : ℕ) (class : List ClassPart) → slice_get g.nodes p ≡ Some (form.Satisfy class) → Meets ((node_sets g sets).first p) (λ text place. HasAt g text class place)
-  satisfy_meets p class e text scalars place h = let own_start = are.start_sets.plain p (form.Satisfy class) e plain.satisfy in go own_start.0 own_start.1
+  pub satisfy_meets : (p : ℕ) (class : List ClassPart) → slice_get g.nodes p ≡ Some (form.Leaf (leaf.Satisfy class)) → Meets ((node_sets g sets).first p) (λ text place. HasAt g text class place)
+  satisfy_meets p class e text scalars place h = let own_start = are.start_sets.plain p (form.Leaf (leaf.Satisfy class)) e plain.satisfy in go own_start.0 own_start.1
     where
-      go : (s : StartKind) → OwnStart g (form.Satisfy class) s → SomeMatches text ((node_sets g sets).first p) place
+      go : (s : StartKind) → OwnStart g (form.Leaf (leaf.Satisfy class)) s → SomeMatches text ((node_sets g sets).first p) place
       go s (own.satisfy {class = ranges} is) =
-          matched p (form.Satisfy class) e (Class ranges) (own.satisfy is) text place
+          matched p (form.Leaf (leaf.Satisfy class)) e (Class ranges) (own.satisfy is) text place
           (record { character = h.character; there = h.there; member = is.members h.character (scalar_at text place h.character scalars h.there) ∙ h.member })
 
   -- a string
-  pub string_fits : (p : ℕ) (s : List ℕ) → slice_get g.nodes p ≡ Some (form.String s) → StringFits (node_sets g sets) p s
+  pub string_fits : (p : ℕ) (s : List ℕ) → slice_get g.nodes p ≡ Some (form.Leaf (leaf.String s)) → StringFits (node_sets g sets) p s
   string_fits p s e = record { spelled = spelled g p s grammar e; first = λ text scalars place h. go s e text place h }
     where
-      go : (s : List ℕ) → slice_get g.nodes p ≡ Some (form.String s) → (text : List ℕ) (place : ℕ) → BeginsAt text place s → SomeMatches text ((node_sets g sets).first p) place
+      go : (s : List ℕ) → slice_get g.nodes p ≡ Some (form.Leaf (leaf.String s)) → (text : List ℕ) (place : ℕ) → BeginsAt text place s → SomeMatches text ((node_sets g sets).first p) place
       go [] e text place h = let none = spelled g p [] grammar e in absurd (omega arith)
       go (c ∷ cs) e text place h =
           let first = h.first in
           let same : c ≡ h.character = cc in
-          matched p (form.String (c ∷ cs)) e (Class ((c, c) ∷ [])) own.string text place
+          matched p (form.Leaf (leaf.String (c ∷ cs))) e (Class ((c, c) ∷ [])) own.string text place
           (record { character = c; there = h.there ∙ ap Some (sym same); member = has-first (c, c) [] c (omega arith) (omega arith) })
 
   -- a word
-  pub word_meets : (p w : ℕ) → slice_get g.nodes p ≡ Some (form.Word w) → Meets ((node_sets g sets).first p) (IsSomeWordAt g w)
-  word_meets p w e text scalars place h = let own_start = are.start_sets.plain p (form.Word w) e (plain.word h.named) in go own_start.0 own_start.1
+  pub word_meets : (p w : ℕ) → slice_get g.nodes p ≡ Some (form.Leaf (leaf.Word w)) → Meets ((node_sets g sets).first p) (IsSomeWordAt g w)
+  word_meets p w e text scalars place h = let own_start = are.start_sets.plain p (form.Leaf (leaf.Word w)) e (plain.word h.named) in go own_start.0 own_start.1
     where
-      go : (s : StartKind) → OwnStart g (form.Word w) s → SomeMatches text ((node_sets g sets).first p) place
+      go : (s : StartKind) → OwnStart g (form.Leaf (leaf.Word w)) s → SomeMatches text ((node_sets g sets).first p) place
       go s (own.word {item = also} {heads = heads} {rest = rest} {reserved = reserved} at begins goes is) =
           let one : also ≡ h.item = same_Some also h.item (sym at ∙ h.named) in
           let there = h.there in
@@ -102,7 +104,7 @@ module _ (g : Grammar) (grammar : IsGrammar g) (sets : Sets) (are : AreSets g se
           let whole : there.head ∷ run rest (drop (suc place) text) ≡ h.word =
           ap (λ t. there.head ∷ t) (runs ∙ ap (λ (i : WordItem). run_at g text i.rest (suc place)) one) ∙ sym there.whole in
           let free : is_reserved also.reserved h.word ≡ false = ap (λ (i : WordItem). is_reserved i.reserved h.word) one ∙ there.free in
-          matched p (form.Word w) e (Word heads rest reserved) (own.word at begins goes is) text place (record {
+          matched p (form.Leaf (leaf.Word w)) e (Word heads rest reserved) (own.word at begins goes is) text place (record {
             head = there.head;
             there = there.there;
             member = begins.members there.head scalar ∙ member;
@@ -111,17 +113,17 @@ module _ (g : Grammar) (grammar : IsGrammar g) (sets : Sets) (are : AreSets g se
 
   -- ---- tries that give keys
 
-  pub string_try : (p q : ℕ) (s : List ℕ) → slice_get g.nodes p ≡ Some (form.Try q) → slice_get g.nodes q ≡ Some (form.String s) →
+  pub string_try : (p q : ℕ) (s : List ℕ) → slice_get g.nodes p ≡ Some (form.Around around.Try q) → slice_get g.nodes q ≡ Some (form.Leaf (leaf.String s)) →
       (node_sets g sets).level q < (node_sets g sets).level p → TryFits g (node_sets g sets) p q
   string_try p q s e f falls = of_string f (spelled g q s grammar f) falls meets
     where
       meets : Meets ((node_sets g sets).first p) (λ text place. StandsAt text place s)
-      meets text scalars place h = matched p (form.Try q) e (Key s []) (own.key f) text place (record { spelled = spelled g q s grammar f; there = h; ends = λ c at. refl })
+      meets text scalars place h = matched p (form.Around around.Try q) e (Key s []) (own.key f) text place (record { spelled = spelled g q s grammar f; there = h; ends = λ c at. refl })
 
-  key_meets : (p q : ℕ) (s : List ℕ) (excluded : List ClassPart) (class : List Range) → slice_get g.nodes p ≡ Some (form.Try q) → IsKeyed g q s excluded → IsClassOf g excluded class →
+  key_meets : (p q : ℕ) (s : List ℕ) (excluded : List ClassPart) (class : List Range) → slice_get g.nodes p ≡ Some (form.Around around.Try q) → IsKeyed g q s excluded → IsClassOf g excluded class →
       0 < length s → Meets ((node_sets g sets).first p) (λ text place. StandsAt text place s × (HasAt g text excluded (place + length s) → ⊥))
   key_meets p q s excluded class e keyed is long text scalars place h =
-      matched p (form.Try q) e (Key s class) (own.key_that_ends keyed is) text place (record { spelled = long; there = h.0; ends = ends })
+      matched p (form.Around around.Try q) e (Key s class) (own.key_that_ends keyed is) text place (record { spelled = long; there = h.0; ends = ends })
     where
       ends : (c : ℕ) → slice_get text (place + length s) ≡ Some c → has class c ≡ false
       ends c at =
@@ -130,12 +132,12 @@ module _ (g : Grammar) (grammar : IsGrammar g) (sets : Sets) (are : AreSets g se
             | inr not ↦ is.members c (scalar_at text (place + length s) c scalars at) ∙ not
           ]
 
-  pub key_try : (p q : ℕ) (s : List ℕ) (excluded : List ClassPart) → slice_get g.nodes p ≡ Some (form.Try q) → IsKeyed g q s excluded →
+  pub key_try : (p q : ℕ) (s : List ℕ) (excluded : List ClassPart) → slice_get g.nodes p ≡ Some (form.Around around.Try q) → IsKeyed g q s excluded →
       (node_sets g sets).level q < (node_sets g sets).level p → TryFits g (node_sets g sets) p q
-  key_try p q s excluded e keyed falls = let own_start = are.start_sets.plain p (form.Try q) e (plain.key (own.keyed keyed)) in go own_start.0 own_start.1
+  key_try p q s excluded e keyed falls = let own_start = are.start_sets.plain p (form.Around around.Try q) e (plain.key (own.keyed keyed)) in go own_start.0 own_start.1
     where
-      go : (start : StartKind) → OwnStart g (form.Try q) start → TryFits g (node_sets g sets) p q
-      go start (own.key {characters = text} at) = absurd (no_string_is_seq (same_Some (form.String text) (form.Seq (keyed.first ∷ keyed.second ∷ [])) (sym at ∙ keyed.both)))
+      go : (start : StartKind) → OwnStart g (form.Around around.Try q) start → TryFits g (node_sets g sets) p q
+      go start (own.key {characters = text} at) = absurd (no_string_is_seq (same_Some (form.Leaf (leaf.String text)) (form.Seq (keyed.first ∷ keyed.second ∷ [])) (sym at ∙ keyed.both)))
       go start (own.key_that_ends {characters = key} {excluded = class} {class = ranges} is members) =
           let long = spelled g is.first key grammar is.string in
           of_key is.both is.string is.ends long falls (key_meets p q key class ranges e is members long)

@@ -5,8 +5,8 @@ use Rattle.std.proofs.lemmas.Bool.{true≢false}
 use Rattle.std.proofs.lemmas.Nat.{mul-le}
 use Rattle.std.proofs.lemmas.Option.{slice_get_within}
 use Rattle.pg_grammar.specs.Grammar.{Grammar}
-use Rattle.pg_grammar.specs.declared.form.Node.{Node}
-use Rattle.pg_grammar.specs.declared.form.Node.TheVariants as form
+use Rattle.pg_grammar.specs.Forms.{Node}
+use Rattle.pg_grammar.specs.declared.form.Form.TheVariants as form
 use Rattle.pg_grammar.specs.declared.grammar.Rule as declared
 use Rattle.pg_sets.proofs.Heading.{part_shown, part_noted}
 use Rattle.pg_sets.proofs.Lists.{has_first, has_cases, has_behind}
@@ -44,24 +44,14 @@ only_one : (part q : ℕ) → has (part ∷ []) q ≡ true → part ≡ q
 only_one part q h = elim (has_cases [] part q h) [ inl e ↦ e | inr none ↦ absurd (true≢false (sym none)) ]
 
 used_is : (n : Node) (r : ℕ) → has (used_rules n) r ≡ true → n ≡ form.Rule r
-used_is (form.Satisfy class) r h = absurd (true≢false (sym h))
-used_is (form.String s) r h = absurd (true≢false (sym h))
+used_is (form.Leaf leaf) r h = absurd (true≢false (sym h))
 used_is (form.Seq parts) r h = absurd (true≢false (sym h))
 used_is (form.Choice parts) r h = absurd (true≢false (sym h))
 used_is (form.Many part) r h = absurd (true≢false (sym h))
-used_is (form.ChainLeft used operand separator) r h = absurd (true≢false (sym h))
-used_is (form.ChainRight used operand separator) r h = absurd (true≢false (sym h))
-used_is (form.Try part) r h = absurd (true≢false (sym h))
-used_is (form.NotFollowedBy class) r h = absurd (true≢false (sym h))
-used_is form.EndOfText r h = absurd (true≢false (sym h))
-used_is (form.Word word) r h = absurd (true≢false (sym h))
+used_is (form.Chain side used operand separator) r h = absurd (true≢false (sym h))
+used_is (form.Around around part) r h = absurd (true≢false (sym h))
 used_is (form.Rule rule) r h = ap form.Rule (only_one rule r h)
 used_is (form.Expression builders term) r h = absurd (true≢false (sym h))
-used_is (form.Declare class) r h = absurd (true≢false (sym h))
-used_is (form.Text part) r h = absurd (true≢false (sym h))
-used_is (form.Skip part) r h = absurd (true≢false (sym h))
-used_is (form.Build used symbol part) r h = absurd (true≢false (sym h))
-used_is (form.Label part message) r h = absurd (true≢false (sym h))
 
 module _ (g : Grammar) (sets : Sets) (are : AreSets g sets) (acyclic : (r : ℕ) → Chain g r r → ⊥) where
   -- ---- more steps

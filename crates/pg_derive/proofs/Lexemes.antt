@@ -1,11 +1,13 @@
 -- What `try` answers around a string, and around a string that some characters may not follow.
-use Rattle.std.proofs.Common.{◌≡◌, ◌==◌, ◌+◌, ◌⊎◌, inl, inr, ℕ, zero, List, [], ◌∷◌, Bool, true, false, refl, subst, length, Some, slice_get, nat_lt}
+use Rattle.std.proofs.Common.{◌≡◌, ◌==◌, ◌+◌, ◌⊎◌, inl, inr, ℕ, zero, List, [], ◌∷◌, Bool, true, false, refl, ap, subst, length, Some, slice_get, nat_lt}
 use Rattle.pg_grammar.specs.Grammar.{Grammar}
 use Rattle.pg_grammar.specs.declared.class.ClassPart.{ClassPart}
-use Rattle.pg_grammar.specs.declared.form.Node.TheVariants as form
+use Rattle.pg_grammar.specs.declared.form.Form.TheVariants as form
+use Rattle.pg_grammar.specs.declared.form.Leaf.TheVariants as leaf
 use Rattle.pg_language.specs.Derives.{Spot, behind, DerivesForm}
 use Rattle.pg_language.specs.Runs.{HasAt, StandsAt}
-use Rattle.pg_language.specs.Answers.{Given, Answers, entered, AnswersForm, string, not_followed_by, seq, part, part_last, part_failed, part_ok}
+use Rattle.pg_language.specs.Answers as answers
+use Rattle.pg_language.specs.Answers.{Given, Answers, entered, AnswersForm, seq, part, part_last, part_failed, part_ok}
 use Rattle.pg_language.specs.Errors.{Error, quote, seen_at, stopped_before}
 use Rattle.pg_language.specs.Leaves.{taken, matched, string_outcome, not_followed_outcome}
 use Rattle.pg_language.specs.Outcomes.{Outcome, failed}
@@ -30,7 +32,7 @@ string_decided g text s a = go (matched text s a.place == length s) refl
     go : (b : Bool) → (matched text s a.place == length s) ≡ b → (StandsAt text a.place s × (string_outcome text s a ≡ taken a s)) ⊎ Fails (string_outcome text s a)
     go true h =
         let is : string_outcome text s a ≡ taken a s = if_true (matched text s a.place == length s) _ _ h in
-        inl ((spans_string (subst (WhereOk (DerivesForm g text (form.String s) a)) is (string_derived g text s a))).stands, is)
+        inl ((spans_string (subst (WhereOk (DerivesForm g text (form.Leaf (leaf.String s)) a)) is (string_derived g text s a))).stands, is)
     go false h = inr (record { consumed = nat_lt 0 (matched text s a.place); error = e; is = if_false (matched text s a.place == length s) _ _ h })
 
 -- a node that fails, for some number of nodes entered
@@ -40,21 +42,21 @@ pub record NodeFails (G : Given) (q : ℕ) (a : Spot) : Type 0 where
   pub count : ℕ
   pub answers : Answers G q a (failed consumed error) count
 
-pub string_node_fails : (G : Given) (q : ℕ) (s : List ℕ) (a : Spot) → slice_get G.grammar.nodes q ≡ Some (form.String s) →
+pub string_node_fails : (G : Given) (q : ℕ) (s : List ℕ) (a : Spot) → slice_get G.grammar.nodes q ≡ Some (form.Leaf (leaf.String s)) →
     (StandsAt G.text a.place s → ⊥) → NodeFails G q a
 string_node_fails G q s a e bare = go (string_decided G.grammar G.text s a)
   where
     go : (StandsAt G.text a.place s × (string_outcome G.text s a ≡ taken a s)) ⊎ Fails (string_outcome G.text s a) → NodeFails G q a
     go (inl h) = absurd (bare h.0)
-    go (inr h) = record { consumed = h.consumed; error = h.error; count = _; answers = entered e (subst (λ o. AnswersForm G (form.String s) a o zero) h.is string) }
+    go (inr h) = record { consumed = h.consumed; error = h.error; count = _; answers = entered e (answers.leaf (ap Some h.is)) }
 
 module _ (G : Given) (q x y : ℕ) (s : List ℕ) (class : List ClassPart) (a : Spot) (e : slice_get G.grammar.nodes q ≡ Some (form.Seq (x ∷ y ∷ [])))
-    (first : slice_get G.grammar.nodes x ≡ Some (form.String s)) (second : slice_get G.grammar.nodes y ≡ Some (form.NotFollowedBy class)) where
+    (first : slice_get G.grammar.nodes x ≡ Some (form.Leaf (leaf.String s))) (second : slice_get G.grammar.nodes y ≡ Some (form.Leaf (leaf.NotFollowedBy class))) where
   string_at : (o : Outcome) → string_outcome G.text s a ≡ o → Answers G x a o 1
-  string_at o is = entered first (subst (λ o. AnswersForm G (form.String s) a o zero) is string)
+  string_at o is = entered first (answers.leaf (ap Some is))
 
   bare_at : (o : Outcome) → not_followed_outcome G.grammar G.text class (behind a (length s)) ≡ o → Answers G y (behind a (length s)) o 1
-  bare_at o is = entered second (subst (λ o. AnswersForm G (form.NotFollowedBy class) (behind a (length s)) o zero) is not_followed_by)
+  bare_at o is = entered second (answers.leaf (ap Some is))
 
   -- the string doesn't stand there, or a character of the class follows it
   pub key_node_fails : (StandsAt G.text a.place s × (HasAt G.grammar G.text class (a.place + length s) → ⊥) → ⊥) → NodeFails G q a
@@ -70,7 +72,7 @@ module _ (G : Given) (q x y : ℕ) (s : List ℕ) (class : List ClassPart) (a : 
 
       alone : StandsAt G.text a.place s → StaysOk (behind a (length s)) (not_followed_outcome G.grammar G.text class (behind a (length s))) → NodeFails G q a
       alone h f =
-          let derived = subst (WhereOk (DerivesForm G.grammar G.text (form.NotFollowedBy class) (behind a (length s)))) f.is (not_followed_derived G.grammar G.text class (behind a (length s))) in
+          let derived = subst (WhereOk (DerivesForm G.grammar G.text (form.Leaf (leaf.NotFollowedBy class)) (behind a (length s)))) f.is (not_followed_derived G.grammar G.text class (behind a (length s))) in
           absurd (bare (h, (spans_nothing derived).bare))
 
       either : StandsAt G.text a.place s → string_outcome G.text s a ≡ taken a s →

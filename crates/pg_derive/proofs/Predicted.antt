@@ -1,7 +1,9 @@
 -- The laws of predictive grammars.
 use Rattle.std.proofs.Common.{◌≡◌, ◌<◌, ◌⊎◌, inl, inr, ℕ, zero, suc, List, [], ◌∷◌, Bool, true, false, subst, length, Some, slice_get, arith}
 use Rattle.pg_tree.specs.Trees.{Tree}
-use Rattle.pg_grammar.specs.declared.form.Node.TheVariants as form
+use Rattle.pg_grammar.specs.declared.form.Form.TheVariants as form
+use Rattle.pg_grammar.specs.declared.form.Leaf.TheVariants as leaf
+use Rattle.pg_grammar.specs.declared.side.Side.TheVariants as side
 use Rattle.pg_grammar.specs.declared.trail.TrailItem.{TrailItem}
 use Rattle.pg_language.specs.Derives.{Spot}
 use Rattle.pg_language.specs.Answers.{Given, Answers}
@@ -31,8 +33,8 @@ unique G sets h p a b c forest others trail items from d m e n =
     let second = answered G sets h p a c others items from e n in
     ok_ends (same first.answers second.answers).outcome
 
-pub spelled : (G : Given) (sets : NodeSets) → Predicts G sets → (p : ℕ) (s : List ℕ) → slice_get G.grammar.nodes p ≡ Some (form.String s) → 0 < length s
-spelled G sets h p s e = let f : StringFits sets p s = h.predictive.nodes p (form.String s) e in f.spelled
+pub spelled : (G : Given) (sets : NodeSets) → Predicts G sets → (p : ℕ) (s : List ℕ) → slice_get G.grammar.nodes p ≡ Some (form.Leaf (leaf.String s)) → 0 < length s
+spelled G sets h p s e = let f : StringFits sets p s = h.predictive.nodes p (form.Leaf (leaf.String s)) e in f.spelled
 
 pub exist : AnswersExist
 exist G sets h p there a from within = go (settle G h.text (is_whole G.grammar h.grammar) sets h.predictive.nodes (spelled G sets h) p there a (within, from))
@@ -70,9 +72,9 @@ rounds_consume G sets h p q x a b forest trail d =
 pub links_consume : LinksConsume
 links_consume G sets h p q r used x a b c forest others trail items d e = go (fits x)
   where
-    fits : (slice_get G.grammar.nodes p ≡ Some (form.ChainLeft used q r)) ⊎ (slice_get G.grammar.nodes p ≡ Some (form.ChainRight used q r)) → ChainFits sets p q r
-    fits (inl x) = h.predictive.nodes p (form.ChainLeft used q r) x
-    fits (inr x) = h.predictive.nodes p (form.ChainRight used q r) x
+    fits : (slice_get G.grammar.nodes p ≡ Some (form.Chain side.Left used q r)) ⊎ (slice_get G.grammar.nodes p ≡ Some (form.Chain side.Right used q r)) → ChainFits sets p q r
+    fits (inl x) = h.predictive.nodes p (form.Chain side.Left used q r) x
+    fits (inr x) = h.predictive.nodes p (form.Chain side.Right used q r) x
 
     go : ChainFits sets p q r → a.place < c.place
     go f =

@@ -3,8 +3,9 @@ use Rattle.std.proofs.Common.{◌≡◌, inl, inr, ℕ, zero, suc, List, [], ◌
 use Rattle.std.specs.Prelude.{codes}
 use Rattle.std.specs.List.{Contains}
 use Rattle.pg_grammar.specs.Grammar.{Grammar}
-use Rattle.pg_grammar.specs.declared.form.Node.{Node}
-use Rattle.pg_grammar.specs.declared.form.Node.TheVariants as form
+use Rattle.pg_grammar.specs.Forms.{Node}
+use Rattle.pg_grammar.specs.declared.form.Form.TheVariants as form
+use Rattle.pg_grammar.specs.declared.form.Leaf.TheVariants as leaf
 use Rattle.pg_grammar.specs.declared.grammar.Rule as declared
 use Rattle.pg_start.specs.Apart.{Apart}
 use Rattle.pg_start.specs.declared.kind.StartKind.{StartKind}
@@ -13,7 +14,7 @@ use Rattle.pg_derive.specs.ClosedSets.{NodeSets, BeginsParts}
 use Rattle.pg_derive.specs.Predictive.{BeginsAt, StringFits, PartFits, ComesBefore, SeqFits, RuleFits, Fits, IsPredictive}
 
 abbrev nodes : List Node
-nodes = form.Choice (1 ∷ 4 ∷ []) ∷ form.Seq (2 ∷ 3 ∷ []) ∷ form.String (codes "x") ∷ form.Rule 0 ∷ form.Seq [] ∷ []
+nodes = form.Choice (1 ∷ 4 ∷ []) ∷ form.Seq (2 ∷ 3 ∷ []) ∷ form.Leaf (leaf.String (codes "x")) ∷ form.Rule 0 ∷ (form.Seq []) ∷ []
 
 abbrev a : declared.Rule
 a = record { name = codes "a"; body = 0 }
@@ -117,9 +118,9 @@ nothing_fits = record { empty = λ h. refl; first = λ s h. absurd h; follow = t
 fits_at : (p : ℕ) (n : Node) → slice_get nodes p ≡ Some n → Fits g sets p n
 fits_at zero n e = let same : form.Choice (1 ∷ 4 ∷ []) ≡ n = cc in subst (Fits g sets 0) same choice_fits
 fits_at (suc zero) n e = let same : form.Seq (2 ∷ 3 ∷ []) ≡ n = cc in subst (Fits g sets 1) same seq_fits
-fits_at (suc (suc zero)) n e = let same : form.String (codes "x") ≡ n = cc in subst (Fits g sets 2) same string_fits
+fits_at (suc (suc zero)) n e = let same : form.Leaf (leaf.String (codes "x")) ≡ n = cc in subst (Fits g sets 2) same string_fits
 fits_at (suc (suc (suc zero))) n e = let same : form.Rule 0 ≡ n = cc in subst (Fits g sets 3) same rule_fits
-fits_at (suc (suc (suc (suc zero)))) n e = let same : form.Seq [] ≡ n = cc in subst (Fits g sets 4) same nothing_fits
+fits_at (suc (suc (suc (suc zero)))) n e = let same : (form.Seq []) ≡ n = cc in subst (Fits g sets 4) same nothing_fits
 fits_at (suc (suc (suc (suc (suc k))))) n e = absurd (cc)
 
 is_predictive : IsPredictive g sets

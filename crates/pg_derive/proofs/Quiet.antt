@@ -1,13 +1,16 @@
 -- Where no first start of a node matches, the node consumes nothing under a table of the grammar: it fails, or it is nullable
 -- and stays where it is.
-use Rattle.std.proofs.Common.{◌≡◌, ◌<◌, ◌≤◌, ◌⊎◌, inl, inr, ℕ, zero, suc, List, [], ◌∷◌, true, false, refl, subst, length, Some, slice_get, arith, le_refl}
+use Rattle.std.proofs.Common.{◌≡◌, ◌<◌, ◌≤◌, ◌⊎◌, inl, inr, ℕ, zero, suc, List, [], ◌∷◌, true, false, refl, ap, subst, length, Some, slice_get, arith, le_refl}
 use Rattle.std.specs.List.{Contains, AllByRecursion}
 use Rattle.std.specs.Str.{all_scalars}
 use Rattle.pg_tree.specs.Trees.{Tree}
-use Rattle.pg_grammar.specs.Forms.{parts_of}
+use Rattle.pg_grammar.specs.Forms.{Node, parts_of}
 use Rattle.pg_grammar.specs.Grammar.{Grammar}
-use Rattle.pg_grammar.specs.declared.form.Node.{Node}
-use Rattle.pg_grammar.specs.declared.form.Node.TheVariants as form
+use Rattle.pg_grammar.specs.declared.form.Form.TheVariants as form
+use Rattle.pg_grammar.specs.declared.form.Leaf.{Leaf}
+use Rattle.pg_grammar.specs.declared.form.Leaf.TheVariants as leaf
+use Rattle.pg_grammar.specs.declared.form.Around.{Around}
+use Rattle.pg_grammar.specs.declared.form.Around.TheVariants as kind
 use Rattle.pg_grammar.specs.declared.grammar.Rule as declared
 use Rattle.pg_grammar.specs.declared.trail.TrailItem.{TrailItem}
 use Rattle.pg_grammar.specs.declared.trail.TrailItem.TheVariants.{Alt, Rounds}
@@ -16,17 +19,19 @@ use Rattle.pg_start.specs.Starts.{MatchesAt}
 use Rattle.pg_start.specs.declared.kind.StartKind.{StartKind}
 use Rattle.pg_language.specs.Derives.{Spot}
 use Rattle.pg_table.specs.Tables.{ComesFrom}
-use Rattle.pg_language.specs.Answers.{Given, Answers, entered, AnswersForm, satisfy, string, word, not_followed_by, end_of_text, nothing, seq, choice, many, chain_left, chain_right, try, label, rule, text as as_text, skip, build, AnswersParts, part, part_last, part_failed, part_ok, AnswersAlternatives, no_alternative, alternative, alternative_stands, alternative_waits, alternative_failed, round, round_ended, AnswersChain, chain, first_failed, first_ok, link, separator_failed, separator_ok, operand_failed}
+use Rattle.pg_language.specs.Answers as answers
+use Rattle.pg_language.specs.Answers.{Given, Answers, entered, AnswersForm, nothing, seq, choice, many, rule, AnswersParts, part, part_last, part_failed, part_ok, AnswersAlternatives, no_alternative, alternative, alternative_stands, alternative_waits, alternative_failed, round, round_ended, AnswersChain, first_operand, first_failed, first_ok, link, separator_failed, separator_ok, operand_failed}
 use Rattle.pg_language.specs.Errors.{Error}
+use Rattle.pg_language.specs.Leaves.{some_word_outcome}
+use Rattle.pg_language.specs.Reactions.{error_kind, counted_by, said_by}
 use Rattle.pg_language.specs.Outcomes.{Outcome, ok, failed}
-use Rattle.pg_language.specs.declared.fold.Fold.{Fold}
-use Rattle.pg_language.specs.declared.fold.Fold.TheVariants.{FromLeft, FromRight}
+use Rattle.pg_grammar.specs.declared.side.Side.{Side}
 use Rattle.pg_grammar.specs.declared.used.BuilderUse.{BuilderUse}
 use Rattle.pg_language.specs.declared.reading.Reading.{Reading}
 use Rattle.pg_language.specs.declared.reading.Reading.TheVariants.{Library, Report}
 use Rattle.pg_tree.specs.declared.shape.Shape.{Shape}
 use Rattle.pg_derive.specs.ClosedSets.{NodeSets, SomeMatches, AllNullable, BeginsParts, PartsFall}
-use Rattle.pg_derive.specs.Predictive.{PartFits, TryFits, of_part, of_string, of_key, AlternativesFit, ChainFits, Fits}
+use Rattle.pg_derive.specs.Predictive.{PartFits, TryFits, of_part, of_string, of_key, AlternativesFit, ChainFits, LeafFits, AroundFits, Fits}
 use Rattle.pg_derive.proofs.LeavesAnswered.{FailsEmpty, StaysOk, satisfy_fails, string_fails, word_fails, not_followed_decided, end_decided}
 use Rattle.pg_derive.proofs.Lexemes.{NodeFails, string_node_fails, key_node_fails}
 
@@ -34,7 +39,7 @@ use Rattle.pg_derive.proofs.Lexemes.{NodeFails, string_node_fails, key_node_fail
 pub record IsWhole (g : Grammar) : Type 0 where
   pub parts : (p : ℕ) (n : Node) → slice_get g.nodes p ≡ Some n → AllByRecursion (λ q. q < length g.nodes) (parts_of n)
   pub rules : (p r : ℕ) → slice_get g.nodes p ≡ Some (form.Rule r) → (named : declared.Rule) × (slice_get g.rules r ≡ Some named) × (named.body < length g.nodes)
-  pub words : (p w : ℕ) → slice_get g.nodes p ≡ Some (form.Word w) → (item : WordItem) × (slice_get g.words w ≡ Some item)
+  pub words : (p w : ℕ) → slice_get g.nodes p ≡ Some (form.Leaf (leaf.Word w)) → (item : WordItem) × (slice_get g.words w ≡ Some item)
 
 pub data Quietly (Run : Outcome → ℕ → Type 0) (Empty : Type 0) (a : Spot) : Type 0 where
   refuses : (e : Error) (m : ℕ) → Run (failed false e) m → Quietly Run Empty a
@@ -65,6 +70,11 @@ decided Run E a o m run x (inr f) = stayed Run E a o m run x f
 falls_further : (sets : NodeSets) (m n : ℕ) (ps : List ℕ) → m ≤ n → PartsFall sets m ps → PartsFall sets n ps
 falls_further sets m n [] l f = tt
 falls_further sets m n (q ∷ qs) l f = let first = f.0 in (omega arith, λ x. falls_further sets m n qs l (f.1 x))
+
+-- where a part consumed nothing, no form around it counts as if it had
+not_counted : (k : Around) → counted_by k false ≡ false
+not_counted kind.Try = refl
+not_counted _ = refl
 
 module _ (G : Given) (scalars : all_scalars G.text ≡ true) (whole : IsWhole G.grammar) (sets : NodeSets) where
   abbrev pub QuietNode : ℕ → Spot → Type 0
@@ -123,12 +133,12 @@ module _ (G : Given) (scalars : all_scalars G.text ≡ true) (whole : IsWhole G.
       go (skips x v t e m run) rest Report r = waiting (f.0.empty x) v t e m run r rest
 
   -- a chain, by what its first operand does, and then its separator, and then its operand again
-  quiet_chain : (n : ℕ) (a : Spot) → Lower n a → (fold : Fold) (shape : Shape) (p q r : ℕ) → ChainFits sets p q r → sets.level p < suc n → q < length G.grammar.nodes → r < length G.grammar.nodes →
-      NoStart G.text (Contains (sets.first p)) a.place → Quietly (AnswersChain G fold shape q r zero a) (sets.nullable p ≡ true) a
-  quiet_chain n a lower fold shape p q r f l is_q is_r bare = go (quiet_operand (let falls = f.falls.0 in omega arith))
+  quiet_chain : (n : ℕ) (a : Spot) → Lower n a → (side : Side) (shape : Shape) (p q r : ℕ) → ChainFits sets p q r → sets.level p < suc n → q < length G.grammar.nodes → r < length G.grammar.nodes →
+      NoStart G.text (Contains (sets.first p)) a.place → Quietly (AnswersChain G side shape q r zero a) (sets.nullable p ≡ true) a
+  quiet_chain n a lower side shape p q r f l is_q is_r bare = go (quiet_operand (let falls = f.falls.0 in omega arith))
     where
       Result : Type 0
-      Result = Quietly (AnswersChain G fold shape q r zero a) (sets.nullable p ≡ true) a
+      Result = Quietly (AnswersChain G side shape q r zero a) (sets.nullable p ≡ true) a
 
       quiet_operand : sets.level q < n → QuietNode q a
       quiet_operand below = lower q below is_q (λ s b. bare s (f.first s b))
@@ -136,59 +146,65 @@ module _ (G : Given) (scalars : all_scalars G.text ≡ true) (whole : IsWhole G.
       again : (en : sets.nullable q ≡ true) (er : sets.nullable r ≡ true) (v w : List Tree) (t u : List TrailItem) (e g : Error) (m i : ℕ) →
           Answers G q a (ok false a v t e) m → Answers G r a (ok false a w u g) i → QuietNode q a → Result
       again en er v w t u e g m i run separator (refuses h j operand) =
-          skips (f.empty en) _ _ _ _ (chain run (first_ok (link separator (separator_ok operand operand_failed))))
+          skips (f.empty en) _ _ _ _ (first_operand run (first_ok (link separator (separator_ok operand operand_failed))))
       again en er v w t u e g m i run separator (skips x y z h j operand) = absurd (f.full (er, (en, tt)))
 
       linked : sets.nullable q ≡ true → (v : List Tree) (t : List TrailItem) (e : Error) (m : ℕ) → Answers G q a (ok false a v t e) m → QuietNode r a → Result
-      linked en v t e m run (refuses g i separator) = skips (f.empty en) _ _ _ _ (chain run (first_ok (link separator separator_failed)))
+      linked en v t e m run (refuses g i separator) = skips (f.empty en) _ _ _ _ (first_operand run (first_ok (link separator separator_failed)))
       linked en v t e m run (skips er w u g i separator) =
           again en er v w t u e g m i run separator (quiet_operand (let falls = f.falls.0 in omega arith))
 
       go : QuietNode q a → Result
-      go (refuses e m run) = refuses e _ (chain run first_failed)
+      go (refuses e m run) = refuses e _ (first_operand run first_failed)
       go (skips en v t e m run) =
           linked en v t e m run (lower r (let falls = (f.falls.1 en).0 in omega arith) is_r (λ s b. bare s (f.next en s (inl b))))
 
-  quiet_chain_left : (a : Spot) (p q r : ℕ) (used : BuilderUse) → Quietly (AnswersChain G FromLeft used.shape q r zero a) (sets.nullable p ≡ true) a → QuietForm (form.ChainLeft used q r) p a
-  quiet_chain_left a p q r used (refuses e m run) = refuses e _ (chain_left run)
-  quiet_chain_left a p q r used (skips x v t e m run) = skips x v (Rounds zero ∷ t) e _ (chain_left run)
+  quiet_links : (a : Spot) (p q r : ℕ) (side : Side) (used : BuilderUse) → Quietly (AnswersChain G side used.shape q r zero a) (sets.nullable p ≡ true) a → QuietForm (form.Chain side used q r) p a
+  quiet_links a p q r side used (refuses e m run) = refuses e _ (answers.chain run)
+  quiet_links a p q r side used (skips x v t e m run) = skips x v (Rounds zero ∷ t) e _ (answers.chain run)
 
-  quiet_chain_right : (a : Spot) (p q r : ℕ) (used : BuilderUse) → Quietly (AnswersChain G FromRight used.shape q r zero a) (sets.nullable p ≡ true) a → QuietForm (form.ChainRight used q r) p a
-  quiet_chain_right a p q r used (refuses e m run) = refuses e _ (chain_right run)
-  quiet_chain_right a p q r used (skips x v t e m run) = skips x v (Rounds zero ∷ t) e _ (chain_right run)
-
-  by_failing : (a : Spot) (p q : ℕ) → NodeFails G q a → QuietForm (form.Try q) p a
-  by_failing a p q h = refuses h.error _ (try h.answers)
+  by_failing : (a : Spot) (p q : ℕ) → NodeFails G q a → QuietForm (form.Around kind.Try q) p a
+  by_failing a p q h = refuses h.error _ (answers.around h.answers)
 
   module _ (n : ℕ) (a : Spot) (from : ComesFrom G.grammar a.table) (lower : Lower n a) (p : ℕ) (l : sets.level p < suc n) (bare : NoStart G.text (Contains (sets.first p)) a.place) where
     quiet_part : (q : ℕ) → PartFits sets p q → q < length G.grammar.nodes → QuietNode q a
     quiet_part q f there = lower q (let falls = f.falls in omega arith) there (λ s b. bare s (f.first s b))
 
-    quiet_try : (q : ℕ) → TryFits G.grammar sets p q → q < length G.grammar.nodes → QuietForm (form.Try q) p a
-    quiet_try q (of_part f) there = go (quiet_part q f there)
-      where
-        go : QuietNode q a → QuietForm (form.Try q) p a
-        go (refuses e m run) = refuses e _ (try run)
-        go (skips x v t e m run) = skips (f.empty x) v t e _ (try run)
+    -- a form that makes something of a part that fits
+    of_quiet : (k : Around) (q : ℕ) → PartFits sets p q → QuietNode q a → QuietForm (form.Around k q) p a
+    of_quiet k q f (refuses e m run) =
+        let said : Error = said_by k (error_kind false) e in refuses said m (subst (λ c. AnswersForm G (form.Around k q) a (failed c said) m) (not_counted k) (answers.around run))
+    of_quiet k q f (skips x v t e m run) = skips (f.empty x) _ t _ _ (answers.around run)
+
+    quiet_try : (q : ℕ) → TryFits G.grammar sets p q → q < length G.grammar.nodes → QuietForm (form.Around kind.Try q) p a
+    quiet_try q (of_part f) there = of_quiet kind.Try q f (quiet_part q f there)
     quiet_try q (of_string {s = s} e spelled falls f) there =
         by_failing a p q (string_node_fails G q s a e (λ h. unmatched G.text (sets.first p) a.place bare (f G.text scalars a.place h)))
     quiet_try q (of_key {x = x} {y = y} {s = s} {class = class} e first second spelled falls f) there =
         by_failing a p q (key_node_fails G q x y s class a e first second (λ h. unmatched G.text (sets.first p) a.place bare (f G.text scalars a.place h)))
 
-    quiet_form : (f : Node) → slice_get G.grammar.nodes p ≡ Some f → Fits G.grammar sets p f → QuietForm f p a
-    quiet_form (form.Satisfy class) e f =
-        refused (AnswersForm G (form.Satisfy class) a) _ a _ _ satisfy
+    quiet_around : (k : Around) (q : ℕ) → AroundFits G.grammar sets p k q → q < length G.grammar.nodes → QuietForm (form.Around k q) p a
+    quiet_around kind.Try q f there = quiet_try q f there
+    quiet_around k q f there = of_quiet k q f (quiet_part q f there)
+
+    quiet_leaf : (l : Leaf ℕ) → slice_get G.grammar.nodes p ≡ Some (form.Leaf l) → LeafFits G.grammar sets p l → QuietForm (form.Leaf l) p a
+    quiet_leaf (leaf.Satisfy class) e f =
+        refused (AnswersForm G (form.Leaf (leaf.Satisfy class)) a) _ a _ _ (answers.leaf refl)
         (satisfy_fails G.grammar G.text class a (λ h. unmatched G.text (sets.first p) a.place bare (f G.text scalars a.place h)))
-    quiet_form (form.String s) e f =
-        refused (AnswersForm G (form.String s) a) _ a _ _ string
+    quiet_leaf (leaf.String s) e f =
+        refused (AnswersForm G (form.Leaf (leaf.String s)) a) _ a _ _ (answers.leaf refl)
         (string_fails G.text s a f.spelled (λ h. unmatched G.text (sets.first p) a.place bare (f.first G.text scalars a.place h)))
-    quiet_form (form.Word w) e f =
+    quiet_leaf (leaf.Word w) e f =
         let item = whole.words p w e in
-        refused (AnswersForm G (form.Word w) a) _ a _ _ (word item.1)
+        refused (AnswersForm G (form.Leaf (leaf.Word w)) a) _ a _ _ (answers.leaf (ap (some_word_outcome G.grammar G.text a) item.1))
         (word_fails G.grammar G.text item.0 a (λ s h. unmatched G.text (sets.first p) a.place bare (f G.text scalars a.place (record { item = item.0; named = item.1; word = s; there = h }))))
-    quiet_form (form.NotFollowedBy class) e f =
-        decided (AnswersForm G (form.NotFollowedBy class) a) _ a _ _ not_followed_by f (not_followed_decided G.grammar G.text class a)
-    quiet_form form.EndOfText e f = decided (AnswersForm G form.EndOfText a) _ a _ _ end_of_text f (end_decided G.text a)
+    quiet_leaf (leaf.NotFollowedBy class) e f =
+        decided (AnswersForm G (form.Leaf (leaf.NotFollowedBy class)) a) _ a _ _ (answers.leaf refl) f (not_followed_decided G.grammar G.text class a)
+    quiet_leaf leaf.EndOfText e f = decided (AnswersForm G (form.Leaf leaf.EndOfText) a) _ a _ _ (answers.leaf refl) f (end_decided G.text a)
+    quiet_leaf (leaf.Declare class) e f = absurd f
+
+    quiet_form : (f : Node) → slice_get G.grammar.nodes p ≡ Some f → Fits G.grammar sets p f → QuietForm f p a
+    quiet_form (form.Leaf l) e f = quiet_leaf l e f
     quiet_form (form.Seq []) e f = skips (f.empty tt) [] [] _ _ nothing
     quiet_form (form.Seq (q ∷ qs)) e f = go (quiet_parts n a lower q qs (falls_further sets (sets.level p) n (q ∷ qs) (omega arith) f.falls) (whole.parts p _ e) (λ s b. bare s (f.first s b)))
       where
@@ -205,11 +221,8 @@ module _ (G : Given) (scalars : all_scalars G.text ≡ true) (whole : IsWhole G.
         go : QuietNode q a → QuietForm (form.Many q) p a
         go (refuses e m run) = skips f.empty [] (Rounds zero ∷ []) e _ (many (round run round_ended))
         go (skips x v t e m run) = let full = f.full in absurd (cc)
-    quiet_form (form.ChainLeft used q r) e f =
-        let there = whole.parts p _ e in quiet_chain_left a p q r used (quiet_chain n a lower FromLeft used.shape p q r f l there.0 there.1.0 bare)
-    quiet_form (form.ChainRight used q r) e f =
-        let there = whole.parts p _ e in quiet_chain_right a p q r used (quiet_chain n a lower FromRight used.shape p q r f l there.0 there.1.0 bare)
-    quiet_form (form.Try q) e f = quiet_try q f (whole.parts p _ e).0
+    quiet_form (form.Chain side used q r) e f =
+        let there = whole.parts p _ e in quiet_links a p q r side used (quiet_chain n a lower side used.shape p q r f l there.0 there.1.0 bare)
     quiet_form (form.Rule r) e f =
         let named = whole.rules p r e in
         go named.0 named.1 (quiet_part named.0.body (f.body named.0 named.1) named.2)
@@ -218,27 +231,7 @@ module _ (G : Given) (scalars : all_scalars G.text ≡ true) (whole : IsWhole G.
         go named e (refuses x m run) = refuses x _ (rule e run)
         go named e (skips y v t x m run) = skips ((f.body named e).empty y) v t x _ (rule e run)
     quiet_form (form.Expression builders q) e f = absurd f
-    quiet_form (form.Declare class) e f = absurd f
-    quiet_form (form.Text q) e f = go (quiet_part q f (whole.parts p _ e).0)
-      where
-        go : QuietNode q a → QuietForm (form.Text q) p a
-        go (refuses e m run) = refuses e _ (as_text run)
-        go (skips x v t e m run) = skips (f.empty x) _ t e _ (as_text run)
-    quiet_form (form.Skip q) e f = go (quiet_part q f (whole.parts p _ e).0)
-      where
-        go : QuietNode q a → QuietForm (form.Skip q) p a
-        go (refuses e m run) = refuses e _ (skip run)
-        go (skips x v t e m run) = skips (f.empty x) _ t e _ (skip run)
-    quiet_form (form.Build used symbol q) e f = go (quiet_part q f (whole.parts p _ e).0)
-      where
-        go : QuietNode q a → QuietForm (form.Build used symbol q) p a
-        go (refuses e m run) = refuses e _ (build run)
-        go (skips x v t e m run) = skips (f.empty x) _ t e _ (build run)
-    quiet_form (form.Label q message) e f = go (quiet_part q f (whole.parts p _ e).0)
-      where
-        go : QuietNode q a → QuietForm (form.Label q message) p a
-        go (refuses e m run) = refuses _ _ (label run)
-        go (skips x v t e m run) = skips (f.empty x) v t _ _ (label run)
+    quiet_form (form.Around k q) e f = quiet_around k q f (whole.parts p _ e).0
 
   module _ (good : (p : ℕ) (n : Node) → slice_get G.grammar.nodes p ≡ Some n → Fits G.grammar sets p n) where
     quiet_at : (n : ℕ) (a : Spot) → ComesFrom G.grammar a.table → Lower n a → (p : ℕ) → sets.level p < suc n → NoStart G.text (Contains (sets.first p)) a.place →

@@ -6,20 +6,22 @@ use Rattle.std.specs.Str.{all_scalars}
 use Rattle.pg_text.specs.Position.{start}
 use Rattle.pg_tree.specs.Trees.{Tree}
 use Rattle.pg_tree.specs.declared.shape.Shape.{Shape}
-use Rattle.pg_grammar.specs.declared.form.Node.{Node}
-use Rattle.pg_grammar.specs.declared.form.Node.TheVariants as form
+use Rattle.pg_grammar.specs.Forms.{Node}
+use Rattle.pg_grammar.specs.declared.form.Form.TheVariants as form
+use Rattle.pg_grammar.specs.declared.form.Leaf.TheVariants as leaf
 use Rattle.pg_grammar.specs.declared.trail.TrailItem.{TrailItem}
 use Rattle.pg_grammar.specs.declared.trail.TrailItem.TheVariants.{Alt}
 use Rattle.pg_message.proofs.Nothing.{merged-nothing}
 use Rattle.pg_language.specs.Derives.{Spot}
 use Rattle.pg_table.specs.Tables.{ComesFrom}
-use Rattle.pg_language.specs.Answers.{Given, Answers, entered, AnswersForm, satisfy, string, word, not_followed_by, end_of_text, nothing, seq, choice, many, chain_left, chain_right, try, label, rule, text as as_text, skip, build, AnswersParts, part, AfterPart, part_last, part_failed, part_stuck, part_ok, AnswersAlternatives, no_alternative, alternative, AfterAlternative, alternative_consumed, alternative_stands, alternative_waits, alternative_commits, alternative_failed, alternative_stuck, AnswersRounds, round, AfterRound, round_ended, round_failed, round_empty, round_stuck, round_ok, AnswersChain, chain, AfterFirst, first_failed, first_stuck, first_ok, AnswersLinks, link, AfterSeparator, separator_failed, separator_stuck, separator_ok, AfterOperand, operand_failed, operand_stuck, operand_ok}
+use Rattle.pg_language.specs.Answers as answers
+use Rattle.pg_language.specs.Answers.{Given, Answers, entered, AnswersForm, nothing, seq, choice, many, rule, AnswersParts, part, AfterPart, part_last, part_failed, part_stuck, part_ok, AnswersAlternatives, no_alternative, alternative, AfterAlternative, alternative_consumed, alternative_stands, alternative_waits, alternative_commits, alternative_failed, alternative_stuck, AnswersRounds, round, AfterRound, round_ended, round_failed, round_empty, round_stuck, round_ok, AnswersChain, first_operand, AfterFirst, first_failed, first_stuck, first_ok, AnswersLinks, link, AfterSeparator, separator_failed, separator_stuck, separator_ok, AfterOperand, operand_failed, operand_stuck, operand_ok}
 use Rattle.pg_derive.specs.ClosedSets.{NodeSets}
 use Rattle.pg_language.specs.Errors.{Error, with_position, without_position, merge, nothing_said}
 use Rattle.pg_language.specs.Outcomes.{Outcome, ok}
 use Rattle.pg_derive.specs.Predictive.{AlternativesFit, Fits}
 use Rattle.pg_derive.specs.PredictiveLaws.{as_read, ReadingsAgree}
-use Rattle.pg_language.specs.declared.fold.Fold.{Fold}
+use Rattle.pg_grammar.specs.declared.side.Side.{Side}
 use Rattle.pg_language.specs.declared.reading.Reading.{Reading}
 use Rattle.pg_language.specs.declared.reading.Reading.TheVariants.{Library, Report}
 use Rattle.pg_derive.proofs.Begins.{still, moves, BeginsNode}
@@ -40,7 +42,7 @@ nothing_added e i l = ap without_position (merged-nothing (with_position start e
 
 module _ (G : Given) (scalars : all_scalars G.text ≡ true) (whole : IsWhole G.grammar) (sets : NodeSets)
     (good : (p : ℕ) (n : Node) → slice_get G.grammar.nodes p ≡ Some n → Fits G.grammar sets p n)
-    (spells : (p : ℕ) (s : List ℕ) → slice_get G.grammar.nodes p ≡ Some (form.String s) → 0 < length s) where
+    (spells : (p : ℕ) (s : List ℕ) → slice_get G.grammar.nodes p ≡ Some (form.Leaf (leaf.String s)) → 0 < length s) where
   abbrev L : Given
   L = as_read Library G
 
@@ -60,23 +62,14 @@ module _ (G : Given) (scalars : all_scalars G.text ≡ true) (whole : IsWhole G.
     report (entered {p = p} {n = n} e d) = entered e (report_form d p (good p n e))
 
     report_form : {n : Node} {a : Spot} {o : Outcome} {m : ℕ} → AnswersForm L n a o m → (p : ℕ) → Fits G.grammar sets p n → AnswersForm R n a o m
-    report_form satisfy p f = satisfy
-    report_form string p f = string
-    report_form (word e) p f = word e
-    report_form not_followed_by p f = not_followed_by
-    report_form end_of_text p f = end_of_text
+    report_form (answers.leaf e) p f = answers.leaf e
     report_form nothing p f = nothing
     report_form (seq d) p f = seq (report_parts d)
     report_form (choice d) p f = choice (report_alternatives d p f)
     report_form (many d) p f = many (report_rounds d)
-    report_form (chain_left d) p f = chain_left (report_chain d)
-    report_form (chain_right d) p f = chain_right (report_chain d)
-    report_form (try d) p f = try (report d)
-    report_form (label d) p f = label (report d)
+    report_form (answers.chain d) p f = answers.chain (report_chain d)
     report_form (rule e d) p f = rule e (report d)
-    report_form (as_text d) p f = as_text (report d)
-    report_form (skip d) p f = skip (report d)
-    report_form (build d) p f = build (report d)
+    report_form (answers.around d) p f = answers.around (report d)
 
     report_parts : {p : ℕ} {ps : List ℕ} {a : Spot} {o : Outcome} {m : ℕ} → AnswersParts L p ps a o m → AnswersParts R p ps a o m
     report_parts (part d r) = part (report d) (report_after_part r)
@@ -113,26 +106,26 @@ module _ (G : Given) (scalars : all_scalars G.text ≡ true) (whole : IsWhole G.
     report_after_round round_stuck = round_stuck
     report_after_round (round_ok d) = round_ok (report_rounds d)
 
-    report_chain : {fold : Fold} {shape : Shape} {p s k : ℕ} {a : Spot} {o : Outcome} {m : ℕ} → AnswersChain L fold shape p s k a o m → AnswersChain R fold shape p s k a o m
-    report_chain (chain d r) = chain (report d) (report_after_first r)
+    report_chain : {side : Side} {shape : Shape} {p s k : ℕ} {a : Spot} {o : Outcome} {m : ℕ} → AnswersChain L side shape p s k a o m → AnswersChain R side shape p s k a o m
+    report_chain (first_operand d r) = first_operand (report d) (report_after_first r)
 
-    report_after_first : {fold : Fold} {shape : Shape} {p s k : ℕ} {x o : Outcome} {m : ℕ} → AfterFirst L fold shape p s k x o m → AfterFirst R fold shape p s k x o m
+    report_after_first : {side : Side} {shape : Shape} {p s k : ℕ} {x o : Outcome} {m : ℕ} → AfterFirst L side shape p s k x o m → AfterFirst R side shape p s k x o m
     report_after_first first_failed = first_failed
     report_after_first first_stuck = first_stuck
     report_after_first (first_ok d) = first_ok (report_links d)
 
-    report_links : {fold : Fold} {shape : Shape} {p s : ℕ} {left : List Tree} {k : ℕ} {a : Spot} {o : Outcome} {m : ℕ} → AnswersLinks L fold shape p s left k a o m →
-        AnswersLinks R fold shape p s left k a o m
+    report_links : {side : Side} {shape : Shape} {p s : ℕ} {left : List Tree} {k : ℕ} {a : Spot} {o : Outcome} {m : ℕ} → AnswersLinks L side shape p s left k a o m →
+        AnswersLinks R side shape p s left k a o m
     report_links (link d r) = link (report d) (report_after_separator r)
 
-    report_after_separator : {fold : Fold} {shape : Shape} {p s : ℕ} {left : List Tree} {k : ℕ} {a : Spot} {x o : Outcome} {m : ℕ} → AfterSeparator L fold shape p s left k a x o m →
-        AfterSeparator R fold shape p s left k a x o m
+    report_after_separator : {side : Side} {shape : Shape} {p s : ℕ} {left : List Tree} {k : ℕ} {a : Spot} {x o : Outcome} {m : ℕ} → AfterSeparator L side shape p s left k a x o m →
+        AfterSeparator R side shape p s left k a x o m
     report_after_separator separator_failed = separator_failed
     report_after_separator separator_stuck = separator_stuck
     report_after_separator (separator_ok d r) = separator_ok (report d) (report_after_operand r)
 
-    report_after_operand : {fold : Fold} {shape : Shape} {p s : ℕ} {left : List Tree} {k : ℕ} {a : Spot} {c : Bool} {v : List Tree} {t : List TrailItem} {e : Error} {x o : Outcome} {m : ℕ} →
-        AfterOperand L fold shape p s left k a c v t e x o m → AfterOperand R fold shape p s left k a c v t e x o m
+    report_after_operand : {side : Side} {shape : Shape} {p s : ℕ} {left : List Tree} {k : ℕ} {a : Spot} {c : Bool} {v : List Tree} {t : List TrailItem} {e : Error} {x o : Outcome} {m : ℕ} →
+        AfterOperand L side shape p s left k a c v t e x o m → AfterOperand R side shape p s left k a c v t e x o m
     report_after_operand operand_failed = operand_failed
     report_after_operand operand_stuck = operand_stuck
     report_after_operand (operand_ok x d) = operand_ok x (report_links d)

@@ -4,7 +4,8 @@ use Rattle.std.specs.List.{AllByRecursion}
 use Rattle.pg_grammar.proofs.Numbers.{parts_are_behind, bodies_are_nodes}
 use Rattle.pg_grammar.specs.Forms.{parts_of, NamesRule, NamesWord}
 use Rattle.pg_grammar.specs.Grammar.{Grammar, IsGrammar}
-use Rattle.pg_grammar.specs.declared.form.Node.TheVariants as form
+use Rattle.pg_grammar.specs.declared.form.Form.TheVariants as form
+use Rattle.pg_grammar.specs.declared.form.Leaf.TheVariants as leaf
 use Rattle.pg_grammar.specs.declared.grammar.Rule as declared
 use Rattle.pg_derive.proofs.Quiet.{IsWhole, found}
 
@@ -23,7 +24,7 @@ is_whole g h = record {
   rules = λ p r e.
       let named = found g.rules r (all_at (NamesRule (length g.rules)) g.nodes h.named p (form.Rule r) e) in
       (named.0, named.1, all_at (λ (rule : declared.Rule). rule.body < length g.nodes) g.rules (bodies_are_nodes g.rules g.nodes h.bodies) r named.0 named.1);
-  words = λ p w e. found g.words w (all_at (NamesWord (length g.words)) g.nodes h.words_named p (form.Word w) e);
+  words = λ p w e. found g.words w (all_at (NamesWord (length g.words)) g.nodes h.words_named p (form.Leaf (leaf.Word w)) e);
 }
 
 pub start_found : (g : Grammar) → IsGrammar g → (named : declared.Rule) × (slice_get g.rules g.start ≡ Some named) × (named.body < length g.nodes)

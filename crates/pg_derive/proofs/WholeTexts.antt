@@ -1,10 +1,12 @@
 -- What runs of the start rule with the end of the text behind it say of a whole text.
 use Rattle.std.proofs.Common.{◌≡◌, ◌<◌, ◌⊎◌, inl, inr, ℕ, suc, List, [], ◌++◌, Bool, true, false, ◌||◌, refl, sym, ap, subst, length, Some, slice_get, arith, append-nil}
 use Rattle.pg_tree.specs.Trees.{Tree}
-use Rattle.pg_grammar.specs.declared.form.Node.TheVariants as form
+use Rattle.pg_grammar.specs.declared.form.Form.TheVariants as form
+use Rattle.pg_grammar.specs.declared.form.Leaf.TheVariants as leaf
 use Rattle.pg_grammar.specs.declared.grammar.Rule as declared
 use Rattle.pg_grammar.specs.declared.trail.TrailItem.{TrailItem}
 use Rattle.pg_start.specs.declared.kind.StartKind.TheVariants.{End}
+use Rattle.pg_language.specs.Derives as derives
 use Rattle.pg_language.specs.Derives.{Spot, Derives, DerivesText, DerivesForm, end_of_text}
 use Rattle.pg_table.specs.Tables.{Table}
 use Rattle.pg_language.specs.Answers.{Given, Answers}
@@ -31,9 +33,9 @@ abbrev Spans : Given → Table → Spot → List Tree → List TrailItem → Typ
 Spans G table b v t = (b.place ≡ length G.text) × DerivesText G.grammar G.text table b.table v t
 
 with_end : (G : Given) (table : Table) (start : declared.Rule) → slice_get G.grammar.rules G.grammar.start ≡ Some start → (b : Spot) (v : List Tree) (t : List TrailItem) →
-    Derives G.grammar G.text start.body (beginning table) b v t → (z : Spot) (w : List Tree) (u : List TrailItem) → DerivesForm G.grammar G.text form.EndOfText b z w u →
+    Derives G.grammar G.text start.body (beginning table) b v t → (z : Spot) (w : List Tree) (u : List TrailItem) → DerivesForm G.grammar G.text (form.Leaf leaf.EndOfText) b z w u →
     Spans G table z (v ++ w) (t ++ u)
-with_end G table start x b v t d z w u (end_of_text h) =
+with_end G table start x b v t d z w u (derives.leaf (end_of_text h)) =
     let there : record { place = length G.text; table = b.table } ≡ b = ap (λ i. record { place = i; table = b.table }) (sym h) in
     let body = subst (λ (c : Spot). Derives G.grammar G.text start.body (beginning table) c v t) (sym there) d in
     let forest = subst (λ f. Derives G.grammar G.text start.body (beginning table) (record { place = length G.text; table = b.table }) f t) (sym (append-nil v)) body in
@@ -43,7 +45,7 @@ with_end G table start x b v t d z w u (end_of_text h) =
 at_end_derived : (G : Given) (table : Table) (start : declared.Rule) → slice_get G.grammar.rules G.grammar.start ≡ Some start → (o : Outcome) →
     WhereOk (Derives G.grammar G.text start.body (beginning table)) o → WhereOk (Spans G table) (at_end G.text o)
 at_end_derived G table start x (ok c b v t e) d =
-    ok_rest (DerivesForm G.grammar G.text form.EndOfText b) (Spans G table) c v t e _ (λ z w u h. with_end G table start x b v t d z w u h) (end_derived G.grammar G.text b)
+    ok_rest (DerivesForm G.grammar G.text (form.Leaf leaf.EndOfText) b) (Spans G table) c v t e _ (λ z w u h. with_end G table start x b v t d z w u h) (end_derived G.grammar G.text b)
 at_end_derived G table start x (failed c e) d = tt
 at_end_derived G table start x empty_round d = tt
 

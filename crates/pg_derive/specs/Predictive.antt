@@ -5,8 +5,12 @@ use Rattle.std.specs.List.{Contains}
 use Rattle.std.specs.Str.{all_scalars}
 use Rattle.pg_grammar.specs.Grammar.{Grammar}
 use Rattle.pg_grammar.specs.declared.class.ClassPart.{ClassPart}
-use Rattle.pg_grammar.specs.declared.form.Node.{Node}
-use Rattle.pg_grammar.specs.declared.form.Node.TheVariants as form
+use Rattle.pg_grammar.specs.Forms.{Node}
+use Rattle.pg_grammar.specs.declared.form.Form.TheVariants as form
+use Rattle.pg_grammar.specs.declared.form.Leaf.{Leaf}
+use Rattle.pg_grammar.specs.declared.form.Leaf.TheVariants as leaf
+use Rattle.pg_grammar.specs.declared.form.Around.{Around}
+use Rattle.pg_grammar.specs.declared.form.Around.TheVariants as kind
 use Rattle.pg_grammar.specs.declared.grammar.Rule as declared
 use Rattle.pg_grammar.specs.declared.word_item.WordItem.{WordItem}
 use Rattle.pg_start.specs.Apart.{Apart}
@@ -51,11 +55,11 @@ pub record PartFits (sets : NodeSets) (p q : ℕ) : Type 0 where
 -- at, and not its first character alone; or it is any other part
 pub data TryFits (g : Grammar) (sets : NodeSets) (p q : ℕ) : Type 0 where
   of_part : PartFits sets p q → TryFits g sets p q
-  of_string : {s : List ℕ} → slice_get g.nodes q ≡ Some (form.String s) → 0 < length s → sets.level q < sets.level p →
+  of_string : {s : List ℕ} → slice_get g.nodes q ≡ Some (form.Leaf (leaf.String s)) → 0 < length s → sets.level q < sets.level p →
       Meets (sets.first p) (λ text place. StandsAt text place s) → TryFits g sets p q
   of_key : {x y : ℕ} {s : List ℕ} {class : List ClassPart} →
-      slice_get g.nodes q ≡ Some (form.Seq (x ∷ y ∷ [])) → slice_get g.nodes x ≡ Some (form.String s) →
-      slice_get g.nodes y ≡ Some (form.NotFollowedBy class) → 0 < length s → sets.level q < sets.level p →
+      slice_get g.nodes q ≡ Some (form.Seq (x ∷ y ∷ [])) → slice_get g.nodes x ≡ Some (form.Leaf (leaf.String s)) →
+      slice_get g.nodes y ≡ Some (form.Leaf (leaf.NotFollowedBy class)) → 0 < length s → sets.level q < sets.level p →
       Meets (sets.first p) (λ text place. StandsAt text place s × (HasAt g text class (place + length s) → ⊥)) → TryFits g sets p q
 
 pub record RuleFits (g : Grammar) (sets : NodeSets) (p r : ℕ) : Type 0 where
@@ -109,26 +113,33 @@ pub record ChainFits (sets : NodeSets) (p q r : ℕ) : Type 0 where
 
 -- ---- nodes
 
--- by what stands at the node; grammars with expressions or declarations aren't judged yet
+-- by the leaf; grammars with declarations aren't judged yet
+abbrev pub LeafFits : Grammar → NodeSets → ℕ → Leaf ℕ → Type 0
+LeafFits g sets p (leaf.Satisfy class) = Meets (sets.first p) (λ text place. HasAt g text class place)
+LeafFits g sets p (leaf.String s) = StringFits sets p s
+LeafFits g sets p (leaf.Word w) = Meets (sets.first p) (IsSomeWordAt g w)
+LeafFits g sets p (leaf.NotFollowedBy class) = sets.nullable p ≡ true
+LeafFits g sets p leaf.EndOfText = sets.nullable p ≡ true
+LeafFits g sets p (leaf.Declare class) = ⊥
+
+-- by what stands around a part q
+abbrev pub AroundFits : Grammar → NodeSets → ℕ → Around → ℕ → Type 0
+AroundFits g sets p kind.Try q = TryFits g sets p q
+AroundFits g sets p kind.Text q = PartFits sets p q
+AroundFits g sets p kind.Skip q = PartFits sets p q
+AroundFits g sets p (kind.Build used symbol) q = PartFits sets p q
+AroundFits g sets p (kind.Label message) q = PartFits sets p q
+
+-- by what stands at the node; grammars with expressions aren't judged yet
 abbrev pub Fits : Grammar → NodeSets → ℕ → Node → Type 0
-Fits g sets p (form.Satisfy class) = Meets (sets.first p) (λ text place. HasAt g text class place)
-Fits g sets p (form.String s) = StringFits sets p s
+Fits g sets p (form.Leaf l) = LeafFits g sets p l
 Fits g sets p (form.Seq parts) = SeqFits sets p parts
 Fits g sets p (form.Choice parts) = AlternativesFit sets p parts
 Fits g sets p (form.Many q) = ManyFits sets p q
-Fits g sets p (form.ChainLeft used q r) = ChainFits sets p q r
-Fits g sets p (form.ChainRight used q r) = ChainFits sets p q r
-Fits g sets p (form.Try q) = TryFits g sets p q
-Fits g sets p (form.NotFollowedBy class) = sets.nullable p ≡ true
-Fits g sets p form.EndOfText = sets.nullable p ≡ true
-Fits g sets p (form.Word w) = Meets (sets.first p) (IsSomeWordAt g w)
+Fits g sets p (form.Chain side used q r) = ChainFits sets p q r
 Fits g sets p (form.Rule r) = RuleFits g sets p r
 Fits g sets p (form.Expression builders q) = ⊥
-Fits g sets p (form.Declare class) = ⊥
-Fits g sets p (form.Text q) = PartFits sets p q
-Fits g sets p (form.Skip q) = PartFits sets p q
-Fits g sets p (form.Build used symbol q) = PartFits sets p q
-Fits g sets p (form.Label q message) = PartFits sets p q
+Fits g sets p (form.Around k q) = AroundFits g sets p k q
 
 -- each node fits; the end of the text follows the start rule
 pub record IsPredictive (g : Grammar) (sets : NodeSets) : Type 0 where

@@ -3,7 +3,8 @@ use Rattle.std.specs.Prelude.{◌≡◌, ◌<◌, ◌≤◌, ◌⊎◌, ℕ, Lis
 use Rattle.std.specs.Str.{all_scalars}
 use Rattle.pg_tree.specs.Trees.{Tree}
 use Rattle.pg_grammar.specs.Grammar.{IsGrammar}
-use Rattle.pg_grammar.specs.declared.form.Node.TheVariants as form
+use Rattle.pg_grammar.specs.declared.form.Form.TheVariants as form
+use Rattle.pg_grammar.specs.declared.side.Side.TheVariants as side
 use Rattle.pg_grammar.specs.declared.trail.TrailItem.{TrailItem}
 use Rattle.pg_grammar.specs.declared.used.BuilderUse.{BuilderUse}
 use Rattle.pg_language.specs.Derives.{Spot, Derives}
@@ -65,7 +66,7 @@ RoundsConsume = (G : Given) (sets : NodeSets) → Predicts G sets → (p q : ℕ
 -- so does each separator of a chain with the operand behind it
 abbrev pub LinksConsume : Type 0
 LinksConsume = (G : Given) (sets : NodeSets) → Predicts G sets → (p q r : ℕ) (used : BuilderUse) →
-    ((slice_get G.grammar.nodes p ≡ Some (form.ChainLeft used q r)) ⊎ (slice_get G.grammar.nodes p ≡ Some (form.ChainRight used q r))) →
+    ((slice_get G.grammar.nodes p ≡ Some (form.Chain side.Left used q r)) ⊎ (slice_get G.grammar.nodes p ≡ Some (form.Chain side.Right used q r))) →
     (a b c : Spot) (forest others : List Tree) (trail items : List TrailItem) →
     Derives G.grammar G.text r a b forest trail → Derives G.grammar G.text q b c others items → a.place < c.place
 

@@ -3,7 +3,9 @@
 ghost use Rattle.std.specs.Prelude.{◌<◌, ◌≤◌, length, IfOk};
 
 use super::*;
-use pg_grammar::{BaseForm, ClassExpression, ClassPart, Decl, Grammar, Maker, NodeId, Role, Texts};
+use pg_grammar::{
+    ClassExpression, ClassPart, Decl, Form, Grammar, Leaf, Maker, NodeId, Role, Texts,
+};
 use pg_table::Table;
 use pg_text::Characters;
 use std::alloc::{AllocError, Global};
@@ -37,7 +39,10 @@ fn table_of(alloc: Global, declared: &[Declared]) -> Result<Table, Fail> {
         let precedence = if *precedence < 10 { *precedence } else { 0 };
         maker.initial(Decl::new(*role, precedence, spelled(alloc, *c)?))?;
     }
-    maker.rule(spelled(alloc, 's')?, vec![in alloc; BaseForm::EndOfText]?)?;
+    maker.rule(
+        spelled(alloc, 's')?,
+        vec![in alloc; Form::Leaf(Leaf::EndOfText)]?,
+    )?;
     maker.start(spelled(alloc, 's')?)?;
     let grammar: Grammar = maker.finish()?;
     Ok(Table::of(alloc, &grammar)?)

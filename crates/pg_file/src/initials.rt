@@ -5,7 +5,7 @@
 
 use crate::error::ReadError;
 use pg_grammar::{
-    BaseForm, ClassExpression, ClassPart, Grammar, Maker, MakerFault, OPERATOR_LIMIT,
+    ClassExpression, ClassPart, Form, Grammar, Leaf, Maker, MakerFault, OPERATOR_LIMIT,
 };
 use pg_items::Item;
 use pg_making::{declaration, texts};
@@ -104,7 +104,7 @@ fn hand_in_initial(
 
 /// Hands in a rule, and a start that names it.
 fn hand_in_rule(alloc: Global, maker: &mut Maker) -> Result<(), ReadError> {
-    let body = vec![in alloc; BaseForm::EndOfText]?;
+    let body = vec![in alloc; Form::Leaf(Leaf::EndOfText)]?;
     maker.rule(some_name(alloc)?, body).map_err(unread)?;
     maker.start(some_name(alloc)?).map_err(unread)
 }

@@ -8,9 +8,9 @@ use Rattle.pg_pred.specs.Offer.{Offer}
 use Rattle.pg_grammar.specs.Classes.{memberships, is_member, one_holds, first_negated, answer_at, lacks_item}
 use Rattle.pg_grammar.specs.ClassItems.{answers_behind, item_answers, item_class, NameEarlier}
 use Rattle.pg_grammar.specs.Names.{Name}
-use Rattle.pg_grammar.specs.Contents.{class_in, node_class}
+use Rattle.pg_grammar.specs.Contents.{class_parts}
 use Rattle.pg_grammar.specs.Fits.{ClassFits, WordFits, OperatorsFit, NodeFits, Fits, IsClassIn, in_item, in_head, in_rest, in_operators, in_gap, in_node}
-use Rattle.pg_grammar.specs.Forms.{form_of, has_unknown_class}
+use Rattle.pg_grammar.specs.Forms.{Node, form_of, has_unknown_class}
 use Rattle.pg_grammar.specs.Grammar.{Grammar, IsGrammar, rule_names, word_names}
 use Rattle.pg_grammar.specs.WordItems.{word_lacks_item}
 use Rattle.pg_grammar.specs.OperatorsItems.{AreOperators}
@@ -18,8 +18,8 @@ use Rattle.pg_grammar.specs.Membership.{Knows}
 use Rattle.pg_grammar.specs.declared.class.ClassPart.{ClassPart}
 use Rattle.pg_grammar.specs.declared.class.ClassPart.TheVariants.{Literal, Range, Union, Complement, Class, Predicate}
 use Rattle.pg_grammar.specs.declared.class_item.ClassItem.{ClassItem}
-use Rattle.pg_grammar.specs.declared.form.Node.{Node}
-use Rattle.pg_grammar.specs.declared.form.Node.TheVariants as node
+use Rattle.pg_grammar.specs.declared.form.Form.TheVariants as form
+use Rattle.pg_grammar.specs.declared.form.Leaf.TheVariants as leaf
 use Rattle.pg_grammar.proofs.Each.{all-get, none-get, none-at, or_first, or_second}
 
 -- ---- answers in a list
@@ -228,25 +228,9 @@ knows-none items c (suc n) (suc k) has e = absurd (no_answer n k has e)
 -- ---- expressions of a grammar
 
 -- the class expression of a node stands in its base form
-class_in-form_of : (rules words : List Name) (n : Node) → class_in (form_of rules words n) ≡ node_class n
-class_in-form_of rules words (node.Satisfy class) = refl
-class_in-form_of rules words (node.String text) = refl
-class_in-form_of rules words (node.Seq parts) = refl
-class_in-form_of rules words (node.Choice parts) = refl
-class_in-form_of rules words (node.Many part) = refl
-class_in-form_of rules words (node.ChainLeft used operand separator) = refl
-class_in-form_of rules words (node.ChainRight used operand separator) = refl
-class_in-form_of rules words (node.Try part) = refl
-class_in-form_of rules words (node.NotFollowedBy class) = refl
-class_in-form_of rules words node.EndOfText = refl
-class_in-form_of rules words (node.Word word) = refl
-class_in-form_of rules words (node.Rule rule) = refl
-class_in-form_of rules words (node.Expression builders term) = refl
-class_in-form_of rules words (node.Declare class) = refl
-class_in-form_of rules words (node.Text part) = refl
-class_in-form_of rules words (node.Skip part) = refl
-class_in-form_of rules words (node.Build used symbol part) = refl
-class_in-form_of rules words (node.Label part message) = refl
+class_parts-form_of : (rules words : List Name) (n : Node) → class_parts (form_of rules words n) ≡ class_parts n
+class_parts-form_of rules words (form.Leaf (leaf.Word word)) = refl
+class_parts-form_of rules words _ = refl
 
 -- an expression of a grammar names only its class items
 pub lacks_none : (g : Grammar) {class : List ClassPart} → IsGrammar g → IsClassIn g class → list_any (lacks_item (length g.classes)) class ≡ false
@@ -264,7 +248,7 @@ lacks_none g grammar (in_gap {item} e) =
     or_second (list_any (lacks_item (length g.classes)) item.class) _ (subst (AreOperators (length g.classes)) e grammar.operators).known
 lacks_none g grammar (in_node p {node = n} e) =
     let known = none-get (has_unknown_class (length g.classes)) (form_of (rule_names g) (word_names g)) g.nodes p n grammar.classes_named e in
-    rw (class_in-form_of (rule_names g) (word_names g) n) at known
+    rw (class_parts-form_of (rule_names g) (word_names g) n) at known
 
 -- what an expression of a grammar names is offered
 pub class_is_offered : (offer : Offer) (g : Grammar) {class : List ClassPart} → Fits offer g → IsClassIn g class → ClassFits offer class

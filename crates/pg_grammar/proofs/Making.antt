@@ -7,10 +7,10 @@ use Rattle.std.specs.Option.{is_some, option_map_or}
 use Rattle.std.specs.List.{AllByRecursion, list_any}
 use Rattle.pg_grammar.specs.Preorder.{roots}
 use Rattle.pg_grammar.specs.Names.{Name, has_name, place_of_name, number_of, name_at, AreDistinct}
-use Rattle.pg_grammar.specs.Forms.{part_count, has_bad_literal, has_unknown_class, has_unknown_name, lacks_alternative}
+use Rattle.pg_grammar.specs.Forms.{BaseForm, part_count, has_bad_literal, has_unknown_class, has_unknown_name, lacks_alternative}
 use Rattle.pg_grammar.specs.Classes.{lacks_item, descends}
 use Rattle.pg_grammar.specs.ClassItems.{item_name, has_item, NameEarlier}
-use Rattle.pg_grammar.specs.Contents.{class_in}
+use Rattle.pg_grammar.specs.Contents.{class_parts}
 use Rattle.pg_grammar.specs.WordItems.{word_name, has_word, word_lacks_item, word_has_bad_literal, AreWords}
 use Rattle.pg_grammar.specs.Operators.{Operator, IsOperator}
 use Rattle.pg_grammar.specs.OperatorsItems.{operators_lack_item, operators_have_bad_literal, operators_have_long_text, lacks_operators, AreOperators}
@@ -20,7 +20,6 @@ use Rattle.pg_grammar.specs.Numbering.{nodes_from}
 use Rattle.pg_grammar.specs.declared.class.ClassPart.{ClassPart}
 use Rattle.pg_grammar.specs.declared.class.ClassPart.TheVariants.{Literal, Range, Union, Complement, Class, Predicate}
 use Rattle.pg_grammar.specs.declared.class_item.ClassItem.{ClassItem}
-use Rattle.pg_grammar.specs.declared.form.BaseForm.{BaseForm}
 use Rattle.pg_grammar.specs.declared.grammar.Rule.{Rule}
 use Rattle.pg_grammar.specs.declared.operators_item.OperatorsItem.{OperatorsItem}
 use Rattle.pg_grammar.specs.declared.word_item.WordItem.{WordItem}
@@ -126,7 +125,7 @@ any-weaker p q w (x ∷ xs) h =
 
 -- a form that names items among so many names items among one more
 has_unknown_class_less : (count : ℕ) (form : BaseForm) → has_unknown_class count form ≡ false → has_unknown_class (suc count) form ≡ false
-has_unknown_class_less count form h = any-weaker (lacks_item count) (lacks_item (suc count)) (lacks_item_less count) (class_in form) h
+has_unknown_class_less count form h = any-weaker (lacks_item count) (lacks_item (suc count)) (lacks_item_less count) (class_parts form) h
 
 -- a pair of expressions that name items among so many names items among one more
 lacks_item_less-pair : (count : ℕ) (class other : List ClassPart) → (list_any (lacks_item count) class || list_any (lacks_item count) other) ≡ false

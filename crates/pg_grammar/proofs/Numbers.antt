@@ -3,14 +3,13 @@ use Rattle.std.proofs.Common.{◌≡◌, ℕ, zero, suc, ◌+◌, ◌<◌, Bool,
 use Rattle.std.specs.List.{AllByRecursion, list_any}
 use Rattle.pg_grammar.specs.Preorder.{SpellForms, roots}
 use Rattle.pg_grammar.specs.Names.{Name, has_name}
-use Rattle.pg_grammar.specs.Forms.{part_count, parts_of, node_part_count, form_of, has_unknown_name, InPreorder, NamesRule, NamesWord}
+use Rattle.pg_grammar.specs.Forms.{BaseForm, Node, part_count, parts_of, node_part_count, form_of, has_unknown_name, InPreorder, NamesRule, NamesWord}
 use Rattle.pg_grammar.specs.Follows.{PartsFollow, BodiesAreNodes}
 use Rattle.pg_grammar.specs.Grammar.{rule_body}
 use Rattle.pg_grammar.specs.declared.grammar.Rule.{Rule}
 use Rattle.pg_grammar.specs.Numbering.{first_part, second_part, node_of, nodes_from}
-use Rattle.pg_grammar.specs.declared.form.BaseForm.{BaseForm}
-use Rattle.pg_grammar.specs.declared.form.BaseForm.TheVariants as base
-use Rattle.pg_grammar.specs.declared.form.Node.{Node}
+use Rattle.pg_grammar.specs.declared.form.Form.TheVariants as form
+use Rattle.pg_grammar.specs.declared.form.Leaf.TheVariants as leaf
 use Rattle.pg_grammar.proofs.Each.{all-take, all-weaker, all-map}
 use Rattle.pg_grammar.proofs.Lookup.{number_is_found}
 use Rattle.pg_grammar.proofs.Preorder.{length-parts, roots_within}
@@ -20,24 +19,9 @@ use Rattle.pg_grammar.proofs.Preorder.{length-parts, roots_within}
 -- a node has as many parts as its form counts
 node_count : (rules words : List Name) (form : BaseForm) (parts : List ℕ) → length parts ≡ part_count form
     → node_part_count (node_of rules words form parts) ≡ part_count form
-node_count rules words (base.Satisfy class) parts h = refl
-node_count rules words (base.String text) parts h = refl
-node_count rules words (base.Seq n) parts h = h
-node_count rules words (base.Choice n) parts h = h
-node_count rules words base.Many parts h = refl
-node_count rules words (base.ChainLeft used) parts h = refl
-node_count rules words (base.ChainRight used) parts h = refl
-node_count rules words base.Try parts h = refl
-node_count rules words (base.NotFollowedBy class) parts h = refl
-node_count rules words base.EndOfText parts h = refl
-node_count rules words (base.Word name) parts h = refl
-node_count rules words (base.Rule name) parts h = refl
-node_count rules words (base.Expression builders) parts h = refl
-node_count rules words (base.Declare class) parts h = refl
-node_count rules words base.Text parts h = refl
-node_count rules words base.Skip parts h = refl
-node_count rules words (base.Build used symbol) parts h = refl
-node_count rules words (base.Label message) parts h = refl
+node_count rules words (form.Seq n) parts h = h
+node_count rules words (form.Choice n) parts h = h
+node_count rules words _ parts h = refl
 
 -- one part is the first
 first_alone : (behind : List ℕ) → length (take 1 behind) ≡ 1 → first_part (take 1 behind) ∷ [] ≡ take 1 behind
@@ -53,24 +37,12 @@ two_alone (part ∷ other ∷ behind) h = refl
 -- the parts of a node are the next of those behind it
 node_parts : (rules words : List Name) (form : BaseForm) (behind : List ℕ) → length (take (part_count form) behind) ≡ part_count form
     → let n = node_of rules words form (take (part_count form) behind) in parts_of n ≡ take (node_part_count n) behind
-node_parts rules words (base.Satisfy class) behind h = refl
-node_parts rules words (base.String text) behind h = refl
-node_parts rules words (base.Seq n) behind h = ap (λ k. take k behind) (sym h)
-node_parts rules words (base.Choice n) behind h = ap (λ k. take k behind) (sym h)
-node_parts rules words base.Many behind h = first_alone behind h
-node_parts rules words (base.ChainLeft used) behind h = two_alone behind h
-node_parts rules words (base.ChainRight used) behind h = two_alone behind h
-node_parts rules words base.Try behind h = first_alone behind h
-node_parts rules words (base.NotFollowedBy class) behind h = refl
-node_parts rules words base.EndOfText behind h = refl
-node_parts rules words (base.Word name) behind h = refl
-node_parts rules words (base.Rule name) behind h = refl
-node_parts rules words (base.Expression builders) behind h = first_alone behind h
-node_parts rules words (base.Declare class) behind h = refl
-node_parts rules words base.Text behind h = first_alone behind h
-node_parts rules words base.Skip behind h = first_alone behind h
-node_parts rules words (base.Build used symbol) behind h = first_alone behind h
-node_parts rules words (base.Label message) behind h = first_alone behind h
+node_parts rules words (form.Leaf leaf) behind h = refl
+node_parts rules words (form.Seq n) behind h = ap (λ k. take k behind) (sym h)
+node_parts rules words (form.Choice n) behind h = ap (λ k. take k behind) (sym h)
+node_parts rules words (form.Chain side used operand separator) behind h = two_alone behind h
+node_parts rules words (form.Rule name) behind h = refl
+node_parts rules words _ behind h = first_alone behind h
 
 -- not false is true
 not-not : (b : Bool) → not b ≡ false → b ≡ true
@@ -80,68 +52,24 @@ not-not false h = absurd cc
 -- the base form of the node of a form is that form
 node_form : (rules words : List Name) (form : BaseForm) (parts : List ℕ) → length parts ≡ part_count form → has_unknown_name rules words form ≡ false
     → form_of rules words (node_of rules words form parts) ≡ form
-node_form rules words (base.Satisfy class) parts h k = refl
-node_form rules words (base.String text) parts h k = refl
-node_form rules words (base.Seq n) parts h k = ap base.Seq h
-node_form rules words (base.Choice n) parts h k = ap base.Choice h
-node_form rules words base.Many parts h k = refl
-node_form rules words (base.ChainLeft used) parts h k = refl
-node_form rules words (base.ChainRight used) parts h k = refl
-node_form rules words base.Try parts h k = refl
-node_form rules words (base.NotFollowedBy class) parts h k = refl
-node_form rules words base.EndOfText parts h k = refl
-node_form rules words (base.Word name) parts h k = ap base.Word (number_is_found words name (not-not (has_name words name) k)).named
-node_form rules words (base.Rule name) parts h k = ap base.Rule (number_is_found rules name (not-not (has_name rules name) k)).named
-node_form rules words (base.Expression builders) parts h k = refl
-node_form rules words (base.Declare class) parts h k = refl
-node_form rules words base.Text parts h k = refl
-node_form rules words base.Skip parts h k = refl
-node_form rules words (base.Build used symbol) parts h k = refl
-node_form rules words (base.Label message) parts h k = refl
+node_form rules words (form.Seq n) parts h k = ap form.Seq h
+node_form rules words (form.Choice n) parts h k = ap form.Choice h
+node_form rules words (form.Leaf (leaf.Word name)) parts h k =
+    ap (λ w. form.Leaf (leaf.Word w)) (number_is_found words name (not-not (has_name words name) k)).named
+node_form rules words (form.Rule name) parts h k = ap form.Rule (number_is_found rules name (not-not (has_name rules name) k)).named
+node_form rules words _ parts h k = refl
 
 -- the rule that the node of a form names is there
 node_named : (rules words : List Name) (form : BaseForm) (parts : List ℕ) → has_unknown_name rules words form ≡ false
     → NamesRule (length rules) (node_of rules words form parts)
-node_named rules words (base.Satisfy class) parts k = tt
-node_named rules words (base.String text) parts k = tt
-node_named rules words (base.Seq n) parts k = tt
-node_named rules words (base.Choice n) parts k = tt
-node_named rules words base.Many parts k = tt
-node_named rules words (base.ChainLeft used) parts k = tt
-node_named rules words (base.ChainRight used) parts k = tt
-node_named rules words base.Try parts k = tt
-node_named rules words (base.NotFollowedBy class) parts k = tt
-node_named rules words base.EndOfText parts k = tt
-node_named rules words (base.Word name) parts k = tt
-node_named rules words (base.Rule name) parts k = (number_is_found rules name (not-not (has_name rules name) k)).below
-node_named rules words (base.Expression builders) parts k = tt
-node_named rules words (base.Declare class) parts k = tt
-node_named rules words base.Text parts k = tt
-node_named rules words base.Skip parts k = tt
-node_named rules words (base.Build used symbol) parts k = tt
-node_named rules words (base.Label message) parts k = tt
+node_named rules words (form.Rule name) parts k = (number_is_found rules name (not-not (has_name rules name) k)).below
+node_named rules words _ parts k = tt
 
 -- the word item that the node of a form names is there
 node_word_named : (rules words : List Name) (form : BaseForm) (parts : List ℕ) → has_unknown_name rules words form ≡ false
     → NamesWord (length words) (node_of rules words form parts)
-node_word_named rules words (base.Satisfy class) parts k = tt
-node_word_named rules words (base.String text) parts k = tt
-node_word_named rules words (base.Seq n) parts k = tt
-node_word_named rules words (base.Choice n) parts k = tt
-node_word_named rules words base.Many parts k = tt
-node_word_named rules words (base.ChainLeft used) parts k = tt
-node_word_named rules words (base.ChainRight used) parts k = tt
-node_word_named rules words base.Try parts k = tt
-node_word_named rules words (base.NotFollowedBy class) parts k = tt
-node_word_named rules words base.EndOfText parts k = tt
-node_word_named rules words (base.Word name) parts k = (number_is_found words name (not-not (has_name words name) k)).below
-node_word_named rules words (base.Rule name) parts k = tt
-node_word_named rules words (base.Expression builders) parts k = tt
-node_word_named rules words (base.Declare class) parts k = tt
-node_word_named rules words base.Text parts k = tt
-node_word_named rules words base.Skip parts k = tt
-node_word_named rules words (base.Build used symbol) parts k = tt
-node_word_named rules words (base.Label message) parts k = tt
+node_word_named rules words (form.Leaf (leaf.Word name)) parts k = (number_is_found words name (not-not (has_name words name) k)).below
+node_word_named rules words _ parts k = tt
 
 -- ---- all nodes
 

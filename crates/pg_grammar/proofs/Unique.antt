@@ -6,13 +6,13 @@ use Rattle.std.specs.Str.{bytes_eq}
 use Rattle.std.specs.List.{AllByRecursion}
 use Rattle.pg_grammar.specs.Preorder.{roots}
 use Rattle.pg_grammar.specs.Names.{Name, has_name, number_of, name_at, AreDistinct}
-use Rattle.pg_grammar.specs.Forms.{part_count, parts_of, node_part_count, form_of, InPreorder, NamesRule, NamesWord}
+use Rattle.pg_grammar.specs.Forms.{Node, part_count, parts_of, node_part_count, form_of, InPreorder, NamesRule, NamesWord}
 use Rattle.pg_grammar.specs.Grammar.{Grammar, IsGrammar, rule_name, rule_body, rule_names, word_names}
 use Rattle.pg_grammar.specs.Made.{Made, Says, made_words}
 use Rattle.pg_grammar.specs.Numbering.{node_of, nodes_from}
 use Rattle.pg_grammar.specs.WordItems.{word_name}
-use Rattle.pg_grammar.specs.declared.form.Node.{Node}
-use Rattle.pg_grammar.specs.declared.form.Node.TheVariants as node
+use Rattle.pg_grammar.specs.declared.form.Form.TheVariants as form
+use Rattle.pg_grammar.specs.declared.form.Leaf.TheVariants as leaf
 use Rattle.pg_grammar.specs.declared.grammar.Rule.{Rule}
 use Rattle.pg_grammar.proofs.Lookup.{number_is_found}
 
@@ -66,24 +66,8 @@ number_of-name_at names r d below =
 
 -- a form has as many parts as its node
 part_count-form_of : (rules words : List Name) (n : Node) → part_count (form_of rules words n) ≡ node_part_count n
-part_count-form_of rules words (node.Satisfy class) = refl
-part_count-form_of rules words (node.String text) = refl
-part_count-form_of rules words (node.Seq parts) = refl
-part_count-form_of rules words (node.Choice parts) = refl
-part_count-form_of rules words (node.Many part) = refl
-part_count-form_of rules words (node.ChainLeft used operand separator) = refl
-part_count-form_of rules words (node.ChainRight used operand separator) = refl
-part_count-form_of rules words (node.Try part) = refl
-part_count-form_of rules words (node.NotFollowedBy class) = refl
-part_count-form_of rules words node.EndOfText = refl
-part_count-form_of rules words (node.Word word) = refl
-part_count-form_of rules words (node.Rule rule) = refl
-part_count-form_of rules words (node.Expression builders term) = refl
-part_count-form_of rules words (node.Declare class) = refl
-part_count-form_of rules words (node.Text part) = refl
-part_count-form_of rules words (node.Skip part) = refl
-part_count-form_of rules words (node.Build used symbol part) = refl
-part_count-form_of rules words (node.Label part message) = refl
+part_count-form_of rules words (form.Seq parts) = refl
+part_count-form_of rules words _ = refl
 
 -- the forms have as many parts as their nodes
 part_counts : (rules words : List Name) (nodes : List Node) → map part_count (map (form_of rules words) nodes) ≡ map node_part_count nodes
@@ -93,24 +77,9 @@ part_counts rules words (n ∷ nodes) = cc (part_count-form_of rules words n, pa
 -- a node is the one of its form and its parts
 node_of-form_of : (rules words : List Name) (n : Node) → AreDistinct rules → AreDistinct words → NamesRule (length rules) n → NamesWord (length words) n
     → node_of rules words (form_of rules words n) (parts_of n) ≡ n
-node_of-form_of rules words (node.Satisfy class) d e named word_named = refl
-node_of-form_of rules words (node.String text) d e named word_named = refl
-node_of-form_of rules words (node.Seq parts) d e named word_named = refl
-node_of-form_of rules words (node.Choice parts) d e named word_named = refl
-node_of-form_of rules words (node.Many part) d e named word_named = refl
-node_of-form_of rules words (node.ChainLeft used operand separator) d e named word_named = refl
-node_of-form_of rules words (node.ChainRight used operand separator) d e named word_named = refl
-node_of-form_of rules words (node.Try part) d e named word_named = refl
-node_of-form_of rules words (node.NotFollowedBy class) d e named word_named = refl
-node_of-form_of rules words node.EndOfText d e named word_named = refl
-node_of-form_of rules words (node.Word word) d e named word_named = ap node.Word (number_of-name_at words word e word_named)
-node_of-form_of rules words (node.Rule rule) d e named word_named = ap node.Rule (number_of-name_at rules rule d named)
-node_of-form_of rules words (node.Expression builders term) d e named word_named = refl
-node_of-form_of rules words (node.Declare class) d e named word_named = refl
-node_of-form_of rules words (node.Text part) d e named word_named = refl
-node_of-form_of rules words (node.Skip part) d e named word_named = refl
-node_of-form_of rules words (node.Build used symbol part) d e named word_named = refl
-node_of-form_of rules words (node.Label part message) d e named word_named = refl
+node_of-form_of rules words (form.Leaf (leaf.Word word)) d e named word_named = ap (λ k. form.Leaf (leaf.Word k)) (number_of-name_at words word e word_named)
+node_of-form_of rules words (form.Rule rule) d e named word_named = ap form.Rule (number_of-name_at rules rule d named)
+node_of-form_of rules words _ d e named word_named = refl
 
 -- nodes in preorder are those of their forms
 nodes_from-forms : (rules words : List Name) (i : ℕ) (nodes : List Node) → AreDistinct rules → AreDistinct words

@@ -2,13 +2,13 @@
 use Rattle.std.specs.Prelude.{◌≡◌, ℕ, List, Option, Some, None, slice_get}
 use Rattle.std.specs.List.{AllByRecursion}
 use Rattle.pg_pred.specs.Offer.{Offer, predicate_class, builder_shape}
+use Rattle.pg_grammar.specs.Forms.{Node}
 use Rattle.pg_grammar.specs.ClassItems.{item_class}
-use Rattle.pg_grammar.specs.Contents.{node_class, node_builders}
+use Rattle.pg_grammar.specs.Contents.{class_parts, builders_in}
 use Rattle.pg_grammar.specs.Grammar.{Grammar}
 use Rattle.pg_grammar.specs.declared.class.ClassPart.{ClassPart}
 use Rattle.pg_grammar.specs.declared.class.ClassPart.TheVariants as part
 use Rattle.pg_grammar.specs.declared.class_item.ClassItem.{ClassItem}
-use Rattle.pg_grammar.specs.declared.form.Node.{Node}
 use Rattle.pg_grammar.specs.declared.operators_item.OperatorsItem.{OperatorsItem}
 use Rattle.pg_grammar.specs.declared.used.BuilderUse.{BuilderUse}
 use Rattle.pg_grammar.specs.declared.word_item.WordItem.{WordItem}
@@ -36,7 +36,7 @@ BuildersFit offer builders = AllByRecursion (BuilderFits offer) builders
 
 -- the predicates and the builders that a node names are offered, with the same classes and shapes
 abbrev pub NodeFits : Offer → Node → Type 0
-NodeFits offer node = ClassFits offer (node_class node) × BuildersFit offer (node_builders node)
+NodeFits offer node = ClassFits offer (class_parts node) × BuildersFit offer (builders_in node)
 
 -- each predicate that a class item names is offered, with the same class
 abbrev pub ItemsFit : Offer → List ClassItem → Type 0
@@ -73,4 +73,4 @@ pub data IsClassIn (g : Grammar) : List ClassPart → Type 0 where
   in_rest : (k : ℕ) {item : WordItem} → slice_get g.words k ≡ Some item → IsClassIn g item.rest
   in_operators : {item : OperatorsItem} → g.operators ≡ Some item → IsClassIn g item.class
   in_gap : {item : OperatorsItem} → g.operators ≡ Some item → IsClassIn g item.gap
-  in_node : (p : ℕ) {node : Node} → slice_get g.nodes p ≡ Some node → IsClassIn g (node_class node)
+  in_node : (p : ℕ) {node : Node} → slice_get g.nodes p ≡ Some node → IsClassIn g (class_parts node)

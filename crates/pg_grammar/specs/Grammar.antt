@@ -3,14 +3,12 @@ use Rattle.std.specs.Prelude.{◌≡◌, ◌<◌, ◌≤◌, ℕ, false, List, l
 use Rattle.std.specs.List.{AllByRecursion, list_any}
 use Rattle.pg_grammar.specs.Preorder.{roots}
 use Rattle.pg_grammar.specs.Names.{Name, AreDistinct}
-use Rattle.pg_grammar.specs.Forms.{node_part_count, form_of, has_bad_literal, has_unknown_class, lacks_alternative, InPreorder, NamesRule, NamesWord}
+use Rattle.pg_grammar.specs.Forms.{BaseForm, Node, node_part_count, form_of, has_bad_literal, has_unknown_class, lacks_alternative, InPreorder, NamesRule, NamesWord}
 use Rattle.pg_grammar.specs.ClassItems.{AreClasses}
 use Rattle.pg_grammar.specs.WordItems.{word_name, AreWords}
 use Rattle.pg_grammar.specs.Operators.{Operator, IsOperator}
 use Rattle.pg_grammar.specs.OperatorsItems.{lacks_operators, AreOperators}
 use Rattle.pg_grammar.specs.declared.class_item.ClassItem.{ClassItem}
-use Rattle.pg_grammar.specs.declared.form.BaseForm.{BaseForm}
-use Rattle.pg_grammar.specs.declared.form.Node.{Node}
 use Rattle.pg_grammar.specs.declared.grammar.Rule.{Rule}
 use Rattle.pg_grammar.specs.declared.operators_item.OperatorsItem.{OperatorsItem}
 use Rattle.pg_grammar.specs.declared.word_item.WordItem.{WordItem}

@@ -4,7 +4,7 @@ use Rattle.std.specs.List.{list_any, AllByRecursion}
 use Rattle.std.specs.Option.{is_some, option_map_or}
 use Rattle.pg_grammar.specs.Preorder.{SpellForms}
 use Rattle.pg_grammar.specs.Names.{Name, name_at, has_name, AreDistinct}
-use Rattle.pg_grammar.specs.Forms.{part_count, lacks_alternative, has_bad_literal, has_long_text, has_unknown_name, has_unknown_class}
+use Rattle.pg_grammar.specs.Forms.{BaseForm, part_count, lacks_alternative, has_bad_literal, has_long_text, has_unknown_name, has_unknown_class}
 use Rattle.pg_grammar.specs.Classes.{lacks_item, descends, is_long}
 use Rattle.pg_grammar.specs.ClassItems.{AreClasses, has_item}
 use Rattle.pg_grammar.specs.WordItems.{word_name, has_word, word_lacks_item, word_has_bad_literal, word_has_long_text, AreWords}
@@ -14,7 +14,6 @@ use Rattle.pg_grammar.specs.OperatorsItems.{operators_lack_item, operators_have_
 use Rattle.pg_grammar.specs.Grammar.{Grammar, IsGrammar, rule_names, forms_of}
 use Rattle.pg_grammar.specs.declared.class.ClassPart.{ClassPart}
 use Rattle.pg_grammar.specs.declared.class_item.ClassItem.{ClassItem}
-use Rattle.pg_grammar.specs.declared.form.BaseForm.{BaseForm}
 use Rattle.pg_grammar.specs.declared.operators_item.OperatorsItem.{OperatorsItem}
 use Rattle.pg_grammar.specs.declared.word_item.WordItem.{WordItem}
 use Rattle.pg_grammar.specs.declared.fault.MakerFault.{MakerFault}

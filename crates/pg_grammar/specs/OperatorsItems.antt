@@ -4,9 +4,8 @@ use Rattle.std.specs.List.{list_any}
 use Rattle.std.specs.Option.{is_none}
 use Rattle.pg_grammar.specs.Literals.{is_empty_literal, is_long_literal}
 use Rattle.pg_grammar.specs.Classes.{descends, is_long, lacks_item}
-use Rattle.pg_grammar.specs.Forms.{uses_operators}
+use Rattle.pg_grammar.specs.Forms.{BaseForm, uses_operators}
 use Rattle.pg_grammar.specs.Operators.{Operator}
-use Rattle.pg_grammar.specs.declared.form.BaseForm.{BaseForm}
 use Rattle.pg_grammar.specs.declared.operators_item.OperatorsItem.{OperatorsItem}
 
 -- whether it names a class item that isn't among so many

@@ -5,12 +5,12 @@
 
 ghost use Rattle.std.specs.Prelude.{◌≡◌, ◌↔◌, Some, IsTrue, option_copied};
 ghost use Rattle.pg_pred.specs.Offer.{offer_of, predicate_class};
-ghost use Rattle.pg_grammar.specs.Contents.{node_class, node_builders, all_builders};
+ghost use Rattle.pg_grammar.specs.Contents.{class_parts, builders_in, all_builders};
 ghost use Rattle.pg_grammar.specs.Fits.{PartFits, ClassFits, BuilderFits, BuildersFit, ItemsFit, WordFits, WordsFit, OperatorsFit, NodeFits, NodesFit, Fits};
 
 use crate::class::{ClassExpression, ClassPart};
 use crate::class_item::ClassItem;
-use crate::form::Node;
+use crate::form::{Around, Form, Node};
 use crate::grammar::Grammar;
 use crate::operators_item::OperatorsItem;
 use crate::used::{BuilderUse, OperatorBuilders, PredicateUse};
@@ -92,7 +92,7 @@ fn node_fits(registry: &Registry, node: &Node) -> bool
 
 /// Whether the registry has each predicate that a node names.
 fn node_class_fits(registry: &Registry, node: &Node) -> bool
-    ensures { IsTrue result ↔ ClassFits (offer_of registry.now) (node_class node.now) }
+    ensures { IsTrue result ↔ ClassFits (offer_of registry.now) (class_parts node.now) }
 {
     match node.class() {
         Some(class) => class_fits(registry, class),
@@ -102,27 +102,19 @@ fn node_class_fits(registry: &Registry, node: &Node) -> bool
 
 /// Whether the registry has each builder that a node names.
 fn node_builders_fit(registry: &Registry, node: &Node) -> bool
-    ensures { IsTrue result ↔ BuildersFit (offer_of registry.now) (node_builders node.now) }
+    ensures { IsTrue result ↔ BuildersFit (offer_of registry.now) (builders_in node.now) }
 {
     match node {
-        Node::ChainLeft(used, _, _) => has_builder(registry, used),
-        Node::ChainRight(used, _, _) => has_builder(registry, used),
-        Node::Build(used, _, _) => has_builder(registry, used),
-        Node::Expression(builders, _) => has_builders(registry, builders),
-        Node::Satisfy(_)
-        | Node::String(_)
-        | Node::Seq(_)
-        | Node::Choice(_)
-        | Node::Many(_)
-        | Node::Try(_)
-        | Node::NotFollowedBy(_)
-        | Node::EndOfText
-        | Node::Word(_)
-        | Node::Rule(_)
-        | Node::Declare(_)
-        | Node::Text(_)
-        | Node::Skip(_)
-        | Node::Label(_, _) => true,
+        Form::Chain(_, used, _, _) | Form::Around(Around::Build(used, _), _) => has_builder(
+            registry, used,
+        ),
+        Form::Expression(builders, _) => has_builders(registry, builders),
+        Form::Leaf(_)
+        | Form::Seq(_)
+        | Form::Choice(_)
+        | Form::Many(_)
+        | Form::Rule(_)
+        | Form::Around(Around::Try | Around::Text | Around::Skip | Around::Label(_), _) => true,
     }
 }
 

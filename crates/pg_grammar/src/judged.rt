@@ -3,14 +3,15 @@
 //! Each judgement is over what stands in the form: its class expression, its builders, its literal and its name. A maker
 //! relies on them for F4, F7 and F8.
 
-ghost use Rattle.std.specs.Prelude.{◌≡◌, length, map};
+ghost use Rattle.std.specs.Prelude.{◌≡◌, not, length, map};
+ghost use Rattle.pg_grammar.specs.Names.{has_name};
 ghost use Rattle.std.specs.List.{list_any};
 ghost use Rattle.pg_grammar.specs.Classes.{descends, is_long, lacks_item};
-ghost use Rattle.pg_grammar.specs.Contents.{class_in, builders_in, literal_in, name_in, all_builders};
+ghost use Rattle.pg_grammar.specs.Contents.{class_parts, builders_in, literal_in, name_in, all_builders};
 ghost use Rattle.pg_grammar.specs.Forms.{has_bad_literal, has_long_name, has_long_text, has_unknown_name, has_unknown_class, is_empty_string, uses_operators};
 ghost use Rattle.pg_grammar.specs.WordItems.{word_name};
 
-use crate::form::BaseForm;
+use crate::form::{Around, BaseForm, Form, Leaf};
 use crate::limits::{LITERAL_LIMIT, NAME_LIMIT, characters_in};
 use crate::names::{has_name, has_word};
 use crate::used::{BuilderUse, OperatorBuilders};
@@ -26,7 +27,7 @@ fn has_bad_literal(form: &BaseForm) -> bool
 
 /// Whether a range descends.
 fn has_descending_range(form: &BaseForm) -> bool
-    ensures { result ≡ list_any descends (class_in form.now) }
+    ensures { result ≡ list_any descends (class_parts form.now) }
 {
     match form.class() {
         Some(class) => class.has_descending_range(),
@@ -39,24 +40,15 @@ fn is_empty_string(form: &BaseForm) -> bool
     ensures { result ≡ is_empty_string form.now }
 {
     match form {
-        BaseForm::String(text) => text.is_empty(),
-        BaseForm::Satisfy(_)
-        | BaseForm::Seq(_)
-        | BaseForm::Choice(_)
-        | BaseForm::Many
-        | BaseForm::ChainLeft(_)
-        | BaseForm::ChainRight(_)
-        | BaseForm::Try
-        | BaseForm::NotFollowedBy(_)
-        | BaseForm::EndOfText
-        | BaseForm::Word(_)
-        | BaseForm::Rule(_)
-        | BaseForm::Expression(_)
-        | BaseForm::Declare(_)
-        | BaseForm::Text
-        | BaseForm::Skip
-        | BaseForm::Build(_, _)
-        | BaseForm::Label(_) => false,
+        Form::Leaf(Leaf::String(text)) => text.is_empty(),
+        Form::Leaf(_)
+        | Form::Seq(_)
+        | Form::Choice(_)
+        | Form::Many(_)
+        | Form::Chain(_, _, _, _)
+        | Form::Rule(_)
+        | Form::Expression(_, _)
+        | Form::Around(_, _) => false,
     }
 }
 
@@ -72,7 +64,7 @@ fn has_long_text(form: &BaseForm) -> bool
 
 /// Whether a literal of its class expression has more than 1,024 characters, or the name of a predicate more than 64.
 fn has_long_class(form: &BaseForm) -> bool
-    ensures { result ≡ list_any is_long (class_in form.now) }
+    ensures { result ≡ list_any is_long (class_parts form.now) }
 {
     match form.class() {
         Some(class) => class.has_long_text(),
@@ -85,24 +77,14 @@ fn has_long_builder(form: &BaseForm) -> bool
     ensures { result ≡ list_any has_long_name (builders_in form.now) }
 {
     match form {
-        BaseForm::ChainLeft(used) => has_long_name(used),
-        BaseForm::ChainRight(used) => has_long_name(used),
-        BaseForm::Build(used, _) => has_long_name(used),
-        BaseForm::Expression(builders) => have_long_name(builders),
-        BaseForm::Satisfy(_)
-        | BaseForm::String(_)
-        | BaseForm::Seq(_)
-        | BaseForm::Choice(_)
-        | BaseForm::Many
-        | BaseForm::Try
-        | BaseForm::NotFollowedBy(_)
-        | BaseForm::EndOfText
-        | BaseForm::Word(_)
-        | BaseForm::Rule(_)
-        | BaseForm::Declare(_)
-        | BaseForm::Text
-        | BaseForm::Skip
-        | BaseForm::Label(_) => false,
+        Form::Chain(_, used, _, _) | Form::Around(Around::Build(used, _), _) => has_long_name(used),
+        Form::Expression(builders, _) => have_long_name(builders),
+        Form::Leaf(_)
+        | Form::Seq(_)
+        | Form::Choice(_)
+        | Form::Many(_)
+        | Form::Rule(_)
+        | Form::Around(Around::Try | Around::Text | Around::Skip | Around::Label(_), _) => false,
     }
 }
 
@@ -127,24 +109,16 @@ fn literal_length(form: &BaseForm) -> usize
     ensures { result ≡ length (literal_in form.now) }
 {
     match form {
-        BaseForm::String(text) => text.len(),
-        BaseForm::Build(_, symbol) => characters_in(symbol.as_str()),
-        BaseForm::Label(message) => message.len(),
-        BaseForm::Satisfy(_)
-        | BaseForm::Seq(_)
-        | BaseForm::Choice(_)
-        | BaseForm::Many
-        | BaseForm::ChainLeft(_)
-        | BaseForm::ChainRight(_)
-        | BaseForm::Try
-        | BaseForm::NotFollowedBy(_)
-        | BaseForm::EndOfText
-        | BaseForm::Word(_)
-        | BaseForm::Rule(_)
-        | BaseForm::Expression(_)
-        | BaseForm::Declare(_)
-        | BaseForm::Text
-        | BaseForm::Skip => 0,
+        Form::Leaf(Leaf::String(text)) | Form::Around(Around::Label(text), _) => text.len(),
+        Form::Around(Around::Build(_, symbol), _) => characters_in(symbol.as_str()),
+        Form::Leaf(_)
+        | Form::Seq(_)
+        | Form::Choice(_)
+        | Form::Many(_)
+        | Form::Chain(_, _, _, _)
+        | Form::Rule(_)
+        | Form::Expression(_, _)
+        | Form::Around(Around::Try | Around::Text | Around::Skip, _) => 0,
     }
 }
 
@@ -153,24 +127,14 @@ fn name_length(form: &BaseForm) -> usize
     ensures { result ≡ length (name_in form.now) }
 {
     match form {
-        BaseForm::Word(name) => name.len(),
-        BaseForm::Rule(name) => name.len(),
-        BaseForm::Satisfy(_)
-        | BaseForm::String(_)
-        | BaseForm::Seq(_)
-        | BaseForm::Choice(_)
-        | BaseForm::Many
-        | BaseForm::ChainLeft(_)
-        | BaseForm::ChainRight(_)
-        | BaseForm::Try
-        | BaseForm::NotFollowedBy(_)
-        | BaseForm::EndOfText
-        | BaseForm::Expression(_)
-        | BaseForm::Declare(_)
-        | BaseForm::Text
-        | BaseForm::Skip
-        | BaseForm::Build(_, _)
-        | BaseForm::Label(_) => 0,
+        Form::Leaf(Leaf::Word(name)) | Form::Rule(name) => name.len(),
+        Form::Leaf(_)
+        | Form::Seq(_)
+        | Form::Choice(_)
+        | Form::Many(_)
+        | Form::Chain(_, _, _, _)
+        | Form::Expression(_, _)
+        | Form::Around(_, _) => 0,
     }
 }
 
@@ -179,25 +143,23 @@ fn has_unknown_name(rules: &[Characters], words: &[WordItem], form: &BaseForm) -
     ensures { result ≡ has_unknown_name rules.now (map word_name words.now) form.now }
 {
     match form {
-        BaseForm::Word(name) => !has_word(words, name.as_slice()),
-        BaseForm::Rule(name) => !has_name(rules, name.as_slice()),
-        BaseForm::Satisfy(_)
-        | BaseForm::String(_)
-        | BaseForm::Seq(_)
-        | BaseForm::Choice(_)
-        | BaseForm::Many
-        | BaseForm::ChainLeft(_)
-        | BaseForm::ChainRight(_)
-        | BaseForm::Try
-        | BaseForm::NotFollowedBy(_)
-        | BaseForm::EndOfText
-        | BaseForm::Expression(_)
-        | BaseForm::Declare(_)
-        | BaseForm::Text
-        | BaseForm::Skip
-        | BaseForm::Build(_, _)
-        | BaseForm::Label(_) => false,
+        Form::Leaf(Leaf::Word(name)) => lacks_word(words, name),
+        Form::Rule(name) => !has_name(rules, name.as_slice()),
+        Form::Leaf(_)
+        | Form::Seq(_)
+        | Form::Choice(_)
+        | Form::Many(_)
+        | Form::Chain(_, _, _, _)
+        | Form::Expression(_, _)
+        | Form::Around(_, _) => false,
     }
+}
+
+/// Whether no word item has this name.
+fn lacks_word(words: &[WordItem], name: &Characters) -> bool
+    ensures { result ≡ not (has_name (map word_name words.now) name.now) }
+{
+    !has_word(words, name.as_slice())
 }
 
 /// Whether a class item is named that isn't among so many.
@@ -215,23 +177,14 @@ fn uses_operators(form: &BaseForm) -> bool
     ensures { result ≡ uses_operators form.now }
 {
     match form {
-        BaseForm::Expression(_) | BaseForm::Declare(_) => true,
-        BaseForm::Satisfy(_)
-        | BaseForm::String(_)
-        | BaseForm::Seq(_)
-        | BaseForm::Choice(_)
-        | BaseForm::Many
-        | BaseForm::ChainLeft(_)
-        | BaseForm::ChainRight(_)
-        | BaseForm::Try
-        | BaseForm::NotFollowedBy(_)
-        | BaseForm::EndOfText
-        | BaseForm::Word(_)
-        | BaseForm::Rule(_)
-        | BaseForm::Text
-        | BaseForm::Skip
-        | BaseForm::Build(_, _)
-        | BaseForm::Label(_) => false,
+        Form::Leaf(Leaf::Declare(_)) | Form::Expression(_, _) => true,
+        Form::Leaf(_)
+        | Form::Seq(_)
+        | Form::Choice(_)
+        | Form::Many(_)
+        | Form::Chain(_, _, _, _)
+        | Form::Rule(_)
+        | Form::Around(_, _) => false,
     }
 }
 

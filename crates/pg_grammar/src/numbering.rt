@@ -5,13 +5,13 @@
 
 ghost use Rattle.std.specs.Prelude.{◌≡◌, take, drop, map, length, IfOk, OnOk};
 ghost use Rattle.pg_grammar.specs.Preorder.{roots};
-ghost use Rattle.pg_grammar.specs.Forms.{part_count};
+ghost use Rattle.pg_grammar.specs.Forms.{part_count, leaf_with};
 ghost use Rattle.pg_grammar.specs.Numbering.{first_part, second_part, node_of, nodes_from};
 ghost use Rattle.pg_grammar.specs.Names.{number_of};
 ghost use Rattle.pg_grammar.specs.Grammar.{rule_name, rule_body};
 ghost use Rattle.pg_grammar.specs.WordItems.{word_name};
 
-use crate::form::{BaseForm, Node, copied};
+use crate::form::{BaseForm, Form, Leaf, Node, copied};
 use crate::grammar::Rule;
 use crate::names::{place_of_name, place_of_word};
 use crate::number::{NodeId, RuleId, WordId};
@@ -55,35 +55,37 @@ fn node_of(
     ensures rest { OnOk result (roots.new.items ≡ drop (part_count form.now) roots.old.items) }
 {
     Ok(match form {
-        BaseForm::Satisfy(class) => Node::Satisfy(class.share()?),
-        BaseForm::String(text) => Node::String(copied(alloc, text)?),
-        BaseForm::Seq(count) => Node::Seq(taken(alloc, roots, *count)?),
-        BaseForm::Choice(count) => Node::Choice(taken(alloc, roots, *count)?),
-        BaseForm::Many => Node::Many(first_taken(roots)),
-        BaseForm::ChainLeft(used) => {
+        Form::Leaf(leaf) => Form::Leaf(numbered(alloc, words, leaf)?),
+        Form::Seq(count) => Form::Seq(taken(alloc, roots, *count)?),
+        Form::Choice(count) => Form::Choice(taken(alloc, roots, *count)?),
+        Form::Many(_) => Form::Many(first_taken(roots)),
+        Form::Chain(side, used, _, _) => {
             let (operand, separator) = two_taken(roots);
-            Node::ChainLeft(used.copy(alloc)?, operand, separator)
+            Form::Chain(*side, used.copy(alloc)?, operand, separator)
         }
-        BaseForm::ChainRight(used) => {
-            let (operand, separator) = two_taken(roots);
-            Node::ChainRight(used.copy(alloc)?, operand, separator)
+        Form::Rule(name) => Form::Rule(number_of_rule(names, name)),
+        Form::Expression(builders, _) => {
+            Form::Expression(builders.copy(alloc)?, first_taken(roots))
         }
-        BaseForm::Try => Node::Try(first_taken(roots)),
-        BaseForm::NotFollowedBy(class) => Node::NotFollowedBy(class.share()?),
-        BaseForm::EndOfText => Node::EndOfText,
-        BaseForm::Word(name) => Node::Word(number_of_word(words, name)),
-        BaseForm::Rule(name) => Node::Rule(number_of_rule(names, name)),
-        BaseForm::Expression(builders) => {
-            Node::Expression(builders.copy(alloc)?, first_taken(roots))
-        }
-        BaseForm::Declare(class) => Node::Declare(class.share()?),
-        BaseForm::Text => Node::Text(first_taken(roots)),
-        BaseForm::Skip => Node::Skip(first_taken(roots)),
-        BaseForm::Build(used, symbol) => {
-            let (used, symbol) = (used.copy(alloc)?, symbol.copy(alloc)?);
-            Node::Build(used, symbol, first_taken(roots))
-        }
-        BaseForm::Label(message) => Node::Label(first_taken(roots), copied(alloc, message)?),
+        Form::Around(around, _) => Form::Around(around.copy(alloc)?, first_taken(roots)),
+    })
+}
+
+/// The leaf with the number of the word item that it names.
+fn numbered(
+    alloc: Global,
+    words: &[WordItem],
+    leaf: &Leaf<Characters>,
+) -> Result<Leaf<WordId>, AllocError>
+    ensures { IfOk result (λ numbered. numbered ≡ leaf_with (number_of (map word_name words.now)) leaf.now) }
+{
+    Ok(match leaf {
+        Leaf::Satisfy(class) => Leaf::Satisfy(class.share()?),
+        Leaf::String(text) => Leaf::String(copied(alloc, text)?),
+        Leaf::Word(name) => Leaf::Word(number_of_word(words, name)),
+        Leaf::NotFollowedBy(class) => Leaf::NotFollowedBy(class.share()?),
+        Leaf::EndOfText => Leaf::EndOfText,
+        Leaf::Declare(class) => Leaf::Declare(class.share()?),
     })
 }
 

@@ -1,11 +1,14 @@
 -- What is so of an outcome where it is ok, and how that passes on.
 use Rattle.std.proofs.Common.{◌≡◌, ℕ, refl, if◌then◌else◌, List, ◌++◌, ◌∷◌, Bool, true, false}
 use Rattle.pg_tree.specs.Trees.{Tree}
-use Rattle.pg_language.specs.Derives.{Spot}
+use Rattle.pg_tree.specs.declared.shape.Shape.{Shape}
+use Rattle.pg_grammar.specs.declared.form.Around.{Around}
+use Rattle.pg_grammar.specs.declared.side.Side.{Side}
+use Rattle.pg_language.specs.Derives.{Spot, finished, made_by}
 use Rattle.pg_grammar.specs.declared.trail.TrailItem.{TrailItem}
 use Rattle.pg_language.specs.Errors.{Error}
 use Rattle.pg_language.specs.Outcomes.{Outcome, ok, failed, empty_round}
-use Rattle.pg_language.specs.Reactions.{then_rest, then_round, noted, after_failure, unless_consumed, tried, with_label, with_forest}
+use Rattle.pg_language.specs.Reactions.{then_rest, then_round, noted, after_failure, unless_consumed, surrounded, as_finished}
 
 -- a fact of a spot, a forest and a trail
 abbrev pub Fact : Type 1
@@ -58,18 +61,14 @@ ok_unless D b v t e (failed true f) g h = tt
 ok_unless D b v t e (failed false f) g h = g
 ok_unless D b v t e empty_round g h = tt
 
-pub ok_tried : (D : Fact) (o : Outcome) → WhereOk D o → WhereOk D (tried o)
-ok_tried D (ok c b v t e) h = h
-ok_tried D (failed c e) h = tt
-ok_tried D empty_round h = tt
+pub ok_surrounded : (D E : Fact) (k : Around) (text : List ℕ) (a : Spot) (o : Outcome) →
+    ((b : Spot) (v : List Tree) (t : List TrailItem) → D b v t → E b (made_by k text a.place b.place v) t) → WhereOk D o → WhereOk E (surrounded k text a o)
+ok_surrounded D E k text a (ok c b v t e) f h = f b v t h
+ok_surrounded D E k text a (failed c e) f h = tt
+ok_surrounded D E k text a empty_round f h = tt
 
-pub ok_label : (D : Fact) (message : List ℕ) (o : Outcome) → WhereOk D o → WhereOk D (with_label message o)
-ok_label D message (ok c b v t e) h = h
-ok_label D message (failed c e) h = tt
-ok_label D message empty_round h = tt
-
-pub ok_forest : (D E : Fact) (made : Spot → List Tree → List Tree) (o : Outcome) →
-    ((b : Spot) (v : List Tree) (t : List TrailItem) → D b v t → E b (made b v) t) → WhereOk D o → WhereOk E (with_forest made o)
-ok_forest D E made (ok c b v t e) f h = f b v t h
-ok_forest D E made (failed c e) f h = tt
-ok_forest D E made empty_round f h = tt
+pub ok_finished : (D E : Fact) (side : Side) (shape : Shape) (x s : List Tree) (o : Outcome) →
+    ((b : Spot) (z : List Tree) (t : List TrailItem) → D b z t → E b (finished side shape x s z) t) → WhereOk D o → WhereOk E (as_finished side shape x s o)
+ok_finished D E side shape x s (ok c b z t e) f h = f b z t h
+ok_finished D E side shape x s (failed c e) f h = tt
+ok_finished D E side shape x s empty_round f h = tt

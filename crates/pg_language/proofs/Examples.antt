@@ -10,8 +10,11 @@ use Rattle.pg_grammar.specs.Operators.{Operator}
 use Rattle.pg_grammar.specs.declared.class.ClassPart.{ClassPart}
 use Rattle.pg_grammar.specs.declared.class.ClassPart.TheVariants.{Literal, Range}
 use Rattle.pg_grammar.specs.declared.decl.Role.TheVariants.{InfixLeft, InfixRight, InfixNone, Prefix, Postfix}
-use Rattle.pg_grammar.specs.declared.form.Node.{Node}
-use Rattle.pg_grammar.specs.declared.form.Node.TheVariants as form
+use Rattle.pg_grammar.specs.Forms.{Node}
+use Rattle.pg_grammar.specs.declared.form.Form.TheVariants as form
+use Rattle.pg_grammar.specs.declared.form.Leaf.TheVariants as leaf
+use Rattle.pg_grammar.specs.declared.form.Around.TheVariants as kind
+use Rattle.pg_grammar.specs.declared.side.Side.TheVariants as side
 use Rattle.pg_grammar.specs.declared.operators_item.OperatorsItem.{OperatorsItem}
 use Rattle.pg_grammar.specs.declared.used.BuilderUse.{BuilderUse}
 use Rattle.pg_grammar.specs.declared.used.OperatorBuilders.{OperatorBuilders}
@@ -26,7 +29,8 @@ use Rattle.pg_table.specs.declared.fault.AdmitFault.{AdmitFault}
 use Rattle.pg_language.specs.Runs.{StandsAt, IsWordAt, IsOperatorAt, IsDeclarationAt, keyword, goes_on, past_run, run_at}
 use Rattle.pg_grammar.specs.ClassItems.{has_character}
 use Rattle.pg_grammar.specs.declared.decl.Role.{Role}
-use Rattle.pg_language.specs.Derives.{Spot, behind as further, leaf_of, declaration_tree, Derives, DerivesForm, at_node, satisfy, string, word, not_followed_by, end_of_text, seq, choice, many, chain_left, chain_right, try, label, rule, text, skip, build, expression, declare, no_part, first_part, no_round, first_round, no_link, first_link, a_term, a_prefix, a_postfix, an_infix}
+use Rattle.pg_language.specs.Derives as derives
+use Rattle.pg_language.specs.Derives.{Spot, behind as further, leaf_of, declaration_tree, Derives, DerivesForm, at_node, satisfy, string, word, not_followed_by, end_of_text, declare, seq, choice, many, rule, expression, no_part, first_part, no_round, first_round, no_link, first_link, a_term, a_prefix, a_postfix, an_infix}
 
 -- ---- a grammar
 
@@ -54,10 +58,10 @@ names = record { name = codes "name"; head = letters; rest = letters; reserved =
 
 abbrev nodes : List Node
 nodes =
-    form.Expression builders 1 ∷ form.Satisfy digits ∷ form.Declare letters ∷ form.ChainLeft pairs 1 4 ∷ form.String (codes ",") ∷
-    form.Choice (6 ∷ 10 ∷ []) ∷ form.Seq (1 ∷ 7 ∷ []) ∷ form.Many 8 ∷ form.Seq (9 ∷ 1 ∷ []) ∷ form.Skip 4 ∷ form.Seq [] ∷
-    form.ChainRight pairs 1 4 ∷ form.Seq (13 ∷ 14 ∷ 15 ∷ []) ∷ form.Word 0 ∷ form.NotFollowedBy letters ∷ form.EndOfText ∷
-    form.Try 17 ∷ form.Label 18 (codes "digit") ∷ form.Rule 0 ∷ form.Build symbols (codes "n") 20 ∷ form.Text 1 ∷ []
+    form.Expression builders 1 ∷ form.Leaf (leaf.Satisfy digits) ∷ form.Leaf (leaf.Declare letters) ∷ form.Chain side.Left pairs 1 4 ∷ form.Leaf (leaf.String (codes ",")) ∷
+    form.Choice (6 ∷ 10 ∷ []) ∷ form.Seq (1 ∷ 7 ∷ []) ∷ form.Many 8 ∷ form.Seq (9 ∷ 1 ∷ []) ∷ form.Around kind.Skip 4 ∷ form.Seq [] ∷
+    form.Chain side.Right pairs 1 4 ∷ form.Seq (13 ∷ 14 ∷ 15 ∷ []) ∷ form.Leaf (leaf.Word 0) ∷ form.Leaf (leaf.NotFollowedBy letters) ∷ form.Leaf leaf.EndOfText ∷
+    form.Around kind.Try 17 ∷ form.Around (kind.Label (codes "digit")) 18 ∷ form.Rule 0 ∷ form.Around (kind.Build symbols (codes "n")) 20 ∷ form.Around kind.Text 1 ∷ []
 
 abbrev g : Grammar
 g = record { classes = []; words = names ∷ []; operators = Some item; initials = []; nodes = nodes; rules = (record { name = codes "main"; body = 19 }) ∷ []; start = 0 }
@@ -86,7 +90,7 @@ not_108 n differs e = let same = subst (λ n. (108 == n) ≡ false) (sym e) diff
 
 -- a digit
 one : (s : List ℕ) (a : Spot) (c : ℕ) → slice_get s a.place ≡ Some c → has_character [] digits c ≡ true → Derives g s 1 a (further a 1) (leaf_of (c ∷ []) ∷ []) []
-one s a c there member = at_node refl (satisfy (record { character = c; there = there; member = member }))
+one s a c there member = at_node refl (derives.leaf (satisfy (record { character = c; there = there; member = member })))
 
 -- ---- expressions
 
@@ -147,7 +151,7 @@ blank c e = subst (λ c. goes_on g letters c ≡ false) (some_same 32 c e) refl
 
 -- the declared operator goes to the end of the table
 declared_operator : Derives g (codes "infixl 6 +1") 2 (spot 0 (times ∷ [])) (spot 10 (times ∷ plus ∷ [])) (declaration_tree plus ∷ []) []
-declared_operator = at_node refl (declare refl (record {
+declared_operator = at_node refl (derives.leaf (declare refl (record {
   begins = refl;
   ends = blank;
   digit_place = 7;
@@ -159,7 +163,7 @@ declared_operator = at_node refl (declare refl (record {
   symbol = refl;
   spelled = omega arith;
   last_gap = refl;
-}) refl)
+}) refl))
 
 abbrev twice : List ℕ
 twice = codes "infixl 6 +"
@@ -200,10 +204,10 @@ declares_plus d j is = by_role d.role refl
 -- so a text that declares it again has no derivation
 declared_twice : (b : Spot) (forest : List Tree) (trail : List TrailItem) → Derives g twice 2 (spot 0 (plus ∷ [])) b forest trail → ⊥
 declared_twice b forest trail (at_node {n = n} e d) =
-    let same : n ≡ form.Declare letters = cc in refused b forest trail (subst (λ n. DerivesForm g twice n (spot 0 (plus ∷ [])) b forest trail) same d)
+    let same : n ≡ form.Leaf (leaf.Declare letters) = cc in refused b forest trail (subst (λ n. DerivesForm g twice n (spot 0 (plus ∷ [])) b forest trail) same d)
   where
-    refused : (b : Spot) (forest : List Tree) (trail : List TrailItem) → DerivesForm g twice (form.Declare letters) (spot 0 (plus ∷ [])) b forest trail → ⊥
-    refused b forest trail (declare {item = other} {d = d} {j = j} e is admits) =
+    refused : (b : Spot) (forest : List Tree) (trail : List TrailItem) → DerivesForm g twice (form.Leaf (leaf.Declare letters)) (spot 0 (plus ∷ [])) b forest trail → ⊥
+    refused b forest trail (derives.leaf (declare {item = other} {d = d} {j = j} e is admits)) =
         let same : other ≡ item = cc in
         let plus_again = declares_plus d j (subst (λ item. IsDeclarationAt g twice item letters d 0 j) same is) in
         taken d plus_again.0 plus_again.1 admits
@@ -212,7 +216,7 @@ declared_twice b forest trail (at_node {n = n} e d) =
 
 -- a comma
 comma : (s : List ℕ) (a : Spot) → StandsAt s a.place (codes ",") → Derives g s 4 a (further a 1) (leaf_of (codes ",") ∷ []) []
-comma s a stands = at_node refl (string stands)
+comma s a stands = at_node refl (derives.leaf (string stands))
 
 abbrev pair_of : List Tree → Tree
 pair_of kids = node (codes "pair") (kids_of kids)
@@ -220,19 +224,19 @@ pair_of kids = node (codes "pair") (kids_of kids)
 -- a chain of three operands, folded to the left and to the right
 left_chain : Derives g (codes "1,2,3") 3 (spot 0 []) (spot 5 [])
     (pair_of (pair_of (leaf_of (codes "1") ∷ leaf_of (codes ",") ∷ leaf_of (codes "2") ∷ []) ∷ leaf_of (codes ",") ∷ leaf_of (codes "3") ∷ []) ∷ []) (Rounds 2 ∷ [])
-left_chain = at_node refl (chain_left (one _ _ 49 refl refl)
+left_chain = at_node refl (derives.chain (one _ _ 49 refl refl)
     (first_link (comma _ _ refl) (one _ _ 50 refl refl) (first_link (comma _ _ refl) (one _ _ 51 refl refl) no_link)))
 
 right_chain : Derives g (codes "1,2,3") 11 (spot 0 []) (spot 5 [])
     (pair_of (leaf_of (codes "1") ∷ leaf_of (codes ",") ∷ pair_of (leaf_of (codes "2") ∷ leaf_of (codes ",") ∷ leaf_of (codes "3") ∷ []) ∷ []) ∷ []) (Rounds 2 ∷ [])
-right_chain = at_node refl (chain_right (one _ _ 49 refl refl)
+right_chain = at_node refl (derives.chain (one _ _ 49 refl refl)
     (first_link (comma _ _ refl) (one _ _ 50 refl refl) (first_link (comma _ _ refl) (one _ _ 51 refl refl) no_link)))
 
 -- two elements with a separator between them, which is left out
 two_elements : Derives g (codes "1,2") 5 (spot 0 []) (spot 3 []) (leaf_of (codes "1") ∷ leaf_of (codes "2") ∷ []) (Alt 1 ∷ Rounds 1 ∷ [])
 two_elements = at_node refl (choice {k = 0} refl (at_node refl (seq (first_part (one _ _ 49 refl refl) (first_part
     (at_node refl (many (first_round
-    (at_node refl (seq (first_part (at_node refl (skip (comma _ _ refl))) (first_part (one _ _ 50 refl refl) no_part)))) no_round)))
+    (at_node refl (seq (first_part (at_node refl (derives.around (comma _ _ refl))) (first_part (one _ _ 50 refl refl) no_part)))) no_round)))
     no_part)))))
 
 no_element : Derives g (codes "") 5 (spot 0 []) (spot 0 []) [] (Alt 2 ∷ [])
@@ -242,9 +246,9 @@ no_element = at_node refl (choice {k = 1} refl (at_node refl (seq no_part)))
 
 whole_word : Derives g (codes "lets") 12 (spot 0 []) (spot 4 []) (leaf_of (codes "lets") ∷ []) []
 whole_word = at_node refl (seq
-    (first_part (at_node refl (word refl (record { head = 108; there = refl; member = refl; whole = refl; free = refl })))
-    (first_part (at_node refl (not_followed_by (λ has. let none = has.there in absurd cc)))
-    (first_part (at_node refl (end_of_text refl)) no_part))))
+    (first_part (at_node refl (derives.leaf (word refl (record { head = 108; there = refl; member = refl; whole = refl; free = refl }))))
+    (first_part (at_node refl (derives.leaf (not_followed_by (λ has. let none = has.there in absurd cc))))
+    (first_part (at_node refl (derives.leaf (end_of_text refl))) no_part))))
 
 -- a reserved word isn't one
 reserved_word : (s : List ℕ) → IsWordAt g (codes "let") names 0 s → ⊥
@@ -258,4 +262,4 @@ reserved_word s is =
 
 -- each of them passes place, table and trail on; the text's leaf and the symbol's node change the forest
 one_digit : Derives g (codes "7") 16 (spot 0 []) (spot 1 []) (node (codes "n") (kids_of (leaf_of (codes "7") ∷ [])) ∷ []) []
-one_digit = at_node refl (try (at_node refl (label (at_node refl (rule refl (at_node refl (build (at_node refl (text (one _ _ 55 refl refl))))))))))
+one_digit = at_node refl (derives.around (at_node refl (derives.around (at_node refl (rule refl (at_node refl (derives.around (at_node refl (derives.around (one _ _ 55 refl refl))))))))))

@@ -1,5 +1,5 @@
 -- An ok answer tells whether it consumed.
-use Rattle.std.proofs.Common.{◌≡◌, ◌==◌, ◌+◌, ◌<◌, ◌≤◌, ℕ, suc, List, [], ◌∷◌, Bool, true, false, ◌||◌, if◌then◌else◌, sym, ◌∙◌, ap, length, Option, Some, None, slice_get, arith, le_refl, le_trans}
+use Rattle.std.proofs.Common.{◌≡◌, ◌==◌, ◌+◌, ◌<◌, ◌≤◌, ℕ, suc, List, [], ◌∷◌, Bool, true, false, ◌||◌, if◌then◌else◌, refl, sym, ◌∙◌, ap, subst, length, Option, Some, None, slice_get, arith, le_refl, le_trans}
 use Rattle.std.specs.Prelude.{nat_lt}
 use Rattle.std.specs.List.{list_any}
 use Rattle.std.specs.Str.{bytes_eq}
@@ -8,18 +8,22 @@ use Rattle.pg_tree.specs.declared.shape.Shape.{Shape}
 use Rattle.pg_grammar.specs.ClassItems.{has_character}
 use Rattle.pg_grammar.specs.Grammar.{Grammar}
 use Rattle.pg_grammar.specs.declared.class.ClassPart.{ClassPart}
-use Rattle.pg_grammar.specs.declared.form.Node.{Node}
-use Rattle.pg_grammar.specs.declared.form.Node.TheVariants as form
+use Rattle.pg_grammar.specs.Forms.{Node}
+use Rattle.pg_grammar.specs.declared.form.Form.TheVariants as form
+use Rattle.pg_grammar.specs.declared.form.Leaf.TheVariants as leaf
 use Rattle.pg_grammar.specs.declared.trail.TrailItem.{TrailItem}
 use Rattle.pg_grammar.specs.declared.word_item.WordItem.{WordItem}
 use Rattle.pg_language.specs.Derives.{Spot}
 use Rattle.pg_language.specs.Runs.{run_at}
-use Rattle.pg_language.specs.Answers.{Given, Answers, entered, AnswersForm, satisfy, string, word, not_followed_by, end_of_text, nothing, seq, choice, many, chain_left, chain_right, try, label, rule, text as as_text, skip, build, AnswersParts, part, AfterPart, part_last, part_failed, part_stuck, part_ok, AnswersAlternatives, no_alternative, alternative, AfterAlternative, alternative_consumed, alternative_stands, alternative_waits, alternative_commits, alternative_failed, alternative_stuck, AnswersRounds, round, AfterRound, round_ended, round_failed, round_empty, round_stuck, round_ok, AnswersChain, chain, AfterFirst, first_failed, first_stuck, first_ok, AnswersLinks, link, AfterSeparator, separator_failed, separator_stuck, separator_ok, AfterOperand, operand_failed, operand_stuck, operand_ok}
+use Rattle.pg_language.specs.Answers as answers
+use Rattle.pg_language.specs.Answers.{Given, Answers, entered, AnswersForm, nothing, seq, choice, many, rule, AnswersParts, part, AfterPart, part_last, part_failed, part_stuck, part_ok, AnswersAlternatives, no_alternative, alternative, AfterAlternative, alternative_consumed, alternative_stands, alternative_waits, alternative_commits, alternative_failed, alternative_stuck, AnswersRounds, round, AfterRound, round_ended, round_failed, round_empty, round_stuck, round_ok, AnswersChain, first_operand, AfterFirst, first_failed, first_stuck, first_ok, AnswersLinks, link, AfterSeparator, separator_failed, separator_stuck, separator_ok, AfterOperand, operand_failed, operand_stuck, operand_ok}
 use Rattle.pg_language.specs.Errors.{Error}
-use Rattle.pg_language.specs.Leaves.{taken, satisfy_next, word_read, word_next, not_followed_next, string_outcome, matched, end_outcome}
+use Rattle.pg_language.specs.Leaves.{taken, satisfy_next, word_read, word_next, not_followed_next, string_outcome, matched, end_outcome, word_outcome, some_word_outcome, leaf_outcome}
 use Rattle.pg_language.specs.Outcomes.{Outcome, ok, failed, empty_round}
-use Rattle.pg_language.specs.Reactions.{then_rest, then_round, noted, after_failure, unless_consumed, tried, with_label, with_forest, unless_begun}
-use Rattle.pg_language.specs.declared.fold.Fold.{Fold}
+use Rattle.pg_language.specs.Reactions.{then_rest, then_round, noted, after_failure, unless_consumed, surrounded, as_finished, unless_begun}
+use Rattle.pg_grammar.specs.declared.side.Side.{Side}
+use Rattle.pg_grammar.specs.declared.form.Around.{Around}
+use Rattle.pg_grammar.specs.declared.form.Leaf.{Leaf}
 use Rattle.pg_language.proofs.Flags.{moved, stayed, both_moved}
 
 -- where the outcome is ok, its end isn't before its first place, and it says whether it lies behind it
@@ -67,20 +71,15 @@ tells_unless a b v t e (failed true f) g h = tt
 tells_unless a b v t e (failed false f) g h = g
 tells_unless a b v t e empty_round g h = tt
 
-tells_tried : (a : Spot) (o : Outcome) → Tells a o → Tells a (tried o)
-tells_tried a (ok c b v t e) h = h
-tells_tried a (failed c e) h = tt
-tells_tried a empty_round h = tt
+tells_surrounded : (a : Spot) (k : Around) (text : List ℕ) (o : Outcome) → Tells a o → Tells a (surrounded k text a o)
+tells_surrounded a k text (ok c b v t e) h = h
+tells_surrounded a k text (failed c e) h = tt
+tells_surrounded a k text empty_round h = tt
 
-tells_label : (a : Spot) (message : List ℕ) (o : Outcome) → Tells a o → Tells a (with_label message o)
-tells_label a message (ok c b v t e) h = h
-tells_label a message (failed c e) h = tt
-tells_label a message empty_round h = tt
-
-tells_forest : (a : Spot) (made : Spot → List Tree → List Tree) (o : Outcome) → Tells a o → Tells a (with_forest made o)
-tells_forest a made (ok c b v t e) h = h
-tells_forest a made (failed c e) h = tt
-tells_forest a made empty_round h = tt
+tells_finished : (a : Spot) (side : Side) (shape : Shape) (x s : List Tree) (o : Outcome) → Tells a o → Tells a (as_finished side shape x s o)
+tells_finished a side shape x s (ok c b v t e) h = h
+tells_finished a side shape x s (failed c e) h = tt
+tells_finished a side shape x s empty_round h = tt
 
 tells_begun : (c : Bool) (a : Spot) (x : List Tree) (e : Error) → Tells a (unless_begun c a x e)
 tells_begun true a x e = tt
@@ -109,31 +108,38 @@ tells_string text s a l = tells_if a (matched text s a.place == length s) _ _ (t
 tells_end : (text : List ℕ) (a : Spot) → Tells a (end_outcome text a)
 tells_end text a = tells_if a (a.place == length text) _ _ (tells_stayed a) tt
 
+tells_this : (a : Spot) (x o : Outcome) → Some x ≡ Some o → Tells a x → Tells a o
+tells_this a x o e h = let same : x ≡ o = cc in subst (Tells a) same h
+
+tells_some_word : (g : Grammar) (text : List ℕ) (a : Spot) (item : Option WordItem) (o : Outcome) → some_word_outcome g text a item ≡ Some o → Tells a o
+tells_some_word g text a None o e = absurd (cc)
+tells_some_word g text a (Some item) o e = tells_this a (word_outcome g text item a) o e (tells_word g text item a (slice_get text a.place))
+
+-- any leaf, whose string has a character
+tells_leaf : (g : Grammar) (text : List ℕ) (l : Leaf ℕ) (a : Spot) (o : Outcome) → ((s : List ℕ) → l ≡ leaf.String s → 0 < length s) → leaf_outcome g text l a ≡ Some o → Tells a o
+tells_leaf g text (leaf.Satisfy class) a o spelled e = tells_this a _ o e (tells_satisfy g class a (slice_get text a.place))
+tells_leaf g text (leaf.String s) a o spelled e = tells_this a _ o e (tells_string text s a (spelled s refl))
+tells_leaf g text (leaf.Word w) a o spelled e = tells_some_word g text a (slice_get g.words w) o e
+tells_leaf g text (leaf.NotFollowedBy class) a o spelled e = tells_this a _ o e (tells_not_followed g class a (slice_get text a.place))
+tells_leaf g text leaf.EndOfText a o spelled e = tells_this a _ o e (tells_end text a)
+tells_leaf g text (leaf.Declare class) a o spelled e = absurd (cc)
+
 -- ---- the relation
 
-module _ (G : Given) (spelled : (p : ℕ) (s : List ℕ) → slice_get G.grammar.nodes p ≡ Some (form.String s) → 0 < length s) where
+module _ (G : Given) (spelled : (p : ℕ) (s : List ℕ) → slice_get G.grammar.nodes p ≡ Some (form.Leaf (leaf.String s)) → 0 < length s) where
   mutual
     pub tells : {p : ℕ} {a : Spot} {o : Outcome} {m : ℕ} → Answers G p a o m → Tells a o
     tells (entered {p = p} e d) = tells_form d p e
 
     tells_form : {f : Node} {a : Spot} {o : Outcome} {m : ℕ} → AnswersForm G f a o m → (p : ℕ) → slice_get G.grammar.nodes p ≡ Some f → Tells a o
-    tells_form (satisfy {class = class} {a = a}) p e = tells_satisfy G.grammar class a (slice_get G.text a.place)
-    tells_form (string {s = s} {a = a}) p e = tells_string G.text s a (spelled p s e)
-    tells_form (word {item = item} {a = a} x) p e = tells_word G.grammar G.text item a (slice_get G.text a.place)
-    tells_form (not_followed_by {class = class} {a = a}) p e = tells_not_followed G.grammar class a (slice_get G.text a.place)
-    tells_form (end_of_text {a = a}) p e = tells_end G.text a
+    tells_form (answers.leaf {l = l} {a = a} {o = o} x) p e = tells_leaf G.grammar G.text l a o (λ s h. spelled p s (e ∙ ap (λ l. Some (form.Leaf l)) h)) x
     tells_form (nothing {a = a}) p e = tells_stayed a
     tells_form (seq d) p e = tells_parts d
     tells_form (choice d) p e = tells_alternatives d
     tells_form (many {a = a} {o = o} d) p e = tells_noted a _ o (tells_rounds d)
-    tells_form (chain_left {a = a} {o = o} d) p e = tells_noted a _ o (tells_chain d)
-    tells_form (chain_right {a = a} {o = o} d) p e = tells_noted a _ o (tells_chain d)
-    tells_form (try {a = a} {o = o} d) p e = tells_tried a o (tells d)
-    tells_form (label {message = message} {a = a} {o = o} d) p e = tells_label a message o (tells d)
+    tells_form (answers.chain {a = a} {o = o} d) p e = tells_noted a _ o (tells_chain d)
     tells_form (rule x d) p e = tells d
-    tells_form (as_text {a = a} {o = o} d) p e = tells_forest a _ o (tells d)
-    tells_form (skip {a = a} {o = o} d) p e = tells_forest a _ o (tells d)
-    tells_form (build {a = a} {o = o} d) p e = tells_forest a _ o (tells d)
+    tells_form (answers.around {k = k} {a = a} {o = o} d) p e = tells_surrounded a k G.text o (tells d)
 
     tells_parts : {p : ℕ} {ps : List ℕ} {a : Spot} {o : Outcome} {m : ℕ} → AnswersParts G p ps a o m → Tells a o
     tells_parts (part {a = a} d r) = tells_after_part r a (tells d)
@@ -166,26 +172,26 @@ module _ (G : Given) (spelled : (p : ℕ) (s : List ℕ) → slice_get G.grammar
     tells_after_round round_stuck h = tt
     tells_after_round (round_ok {a = a} {b = b} {v = v} {t = t} {o = o} d) h = tells_round a b v t o h.0 h.1 (tells_rounds d)
 
-    tells_chain : {fold : Fold} {shape : Shape} {p s k : ℕ} {a : Spot} {o : Outcome} {m : ℕ} → AnswersChain G fold shape p s k a o m → Tells a o
-    tells_chain (chain {a = a} d r) = tells_after_first r a (tells d)
+    tells_chain : {side : Side} {shape : Shape} {p s k : ℕ} {a : Spot} {o : Outcome} {m : ℕ} → AnswersChain G side shape p s k a o m → Tells a o
+    tells_chain (first_operand {a = a} d r) = tells_after_first r a (tells d)
 
-    tells_after_first : {fold : Fold} {shape : Shape} {p s k : ℕ} {x o : Outcome} {m : ℕ} → AfterFirst G fold shape p s k x o m → (a : Spot) → Tells a x → Tells a o
+    tells_after_first : {side : Side} {shape : Shape} {p s k : ℕ} {x o : Outcome} {m : ℕ} → AfterFirst G side shape p s k x o m → (a : Spot) → Tells a x → Tells a o
     tells_after_first first_failed a h = tt
     tells_after_first first_stuck a h = tt
     tells_after_first (first_ok {c = c} {b = b} {t = t} {e = e} {o = o} d) a h = tells_rest a b c [] t e o h.0 h.1 (tells_links d)
 
-    tells_links : {fold : Fold} {shape : Shape} {p s : ℕ} {left : List Tree} {k : ℕ} {a : Spot} {o : Outcome} {m : ℕ} → AnswersLinks G fold shape p s left k a o m → Tells a o
+    tells_links : {side : Side} {shape : Shape} {p s : ℕ} {left : List Tree} {k : ℕ} {a : Spot} {o : Outcome} {m : ℕ} → AnswersLinks G side shape p s left k a o m → Tells a o
     tells_links (link d r) = tells_after_separator r (tells d)
 
-    tells_after_separator : {fold : Fold} {shape : Shape} {p s : ℕ} {left : List Tree} {k : ℕ} {a : Spot} {x o : Outcome} {m : ℕ} →
-        AfterSeparator G fold shape p s left k a x o m → Tells a x → Tells a o
+    tells_after_separator : {side : Side} {shape : Shape} {p s : ℕ} {left : List Tree} {k : ℕ} {a : Spot} {x o : Outcome} {m : ℕ} →
+        AfterSeparator G side shape p s left k a x o m → Tells a x → Tells a o
     tells_after_separator (separator_failed {left = left} {a = a} {c = c} {e = e}) h = tells_begun c a left e
     tells_after_separator separator_stuck h = tt
     tells_after_separator (separator_ok {b = b} d r) h = tells_after_operand r b h.0 h.1 (tells d)
 
-    tells_after_operand : {fold : Fold} {shape : Shape} {p s : ℕ} {left : List Tree} {k : ℕ} {a : Spot} {c : Bool} {v : List Tree} {t : List TrailItem} {e : Error} {x o : Outcome} {m : ℕ} →
-        AfterOperand G fold shape p s left k a c v t e x o m → (b : Spot) → c ≡ nat_lt a.place b.place → a.place ≤ b.place → Tells b x → Tells a o
+    tells_after_operand : {side : Side} {shape : Shape} {p s : ℕ} {left : List Tree} {k : ℕ} {a : Spot} {c : Bool} {v : List Tree} {t : List TrailItem} {e : Error} {x o : Outcome} {m : ℕ} →
+        AfterOperand G side shape p s left k a c v t e x o m → (b : Spot) → c ≡ nat_lt a.place b.place → a.place ≤ b.place → Tells b x → Tells a o
     tells_after_operand (operand_failed {left = left} {a = a}) b h l g = tells_begun _ a left _
     tells_after_operand operand_stuck b h l g = tt
-    tells_after_operand (operand_ok {fold = fold} {shape = shape} {left = left} {v = v} {a = a} {b = z} {c = c} {d = d} {t = t} {u = u} {e = e} {f = f} {o = o} x y) b h l g =
-        tells_rest a b c [] t e _ h l (tells_rest b z d [] u f _ g.0 g.1 (tells_forest z _ o (tells_links y)))
+    tells_after_operand (operand_ok {side = side} {shape = shape} {left = left} {v = v} {a = a} {b = z} {c = c} {d = d} {t = t} {u = u} {e = e} {f = f} {o = o} x y) b h l g =
+        tells_rest a b c [] t e _ h l (tells_rest b z d [] u f _ g.0 g.1 (tells_finished z side shape left v o (tells_links y)))

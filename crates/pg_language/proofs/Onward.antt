@@ -7,7 +7,7 @@ use Rattle.pg_grammar.specs.ClassItems.{has_character}
 use Rattle.pg_grammar.specs.Grammar.{Grammar}
 use Rattle.pg_grammar.specs.Operators.{Operator}
 use Rattle.pg_grammar.specs.declared.class.ClassPart.{ClassPart}
-use Rattle.pg_grammar.specs.declared.form.Node.{Node}
+use Rattle.pg_grammar.specs.Forms.{Node}
 use Rattle.pg_grammar.specs.declared.operators_item.OperatorsItem.{OperatorsItem}
 use Rattle.pg_grammar.specs.declared.used.OperatorBuilders.{OperatorBuilders}
 use Rattle.pg_grammar.specs.declared.word_item.WordItem.{WordItem}
@@ -15,7 +15,9 @@ use Rattle.pg_table.specs.Tables.{Admits, with_operator, whole, added_unless}
 use Rattle.pg_table.specs.Fitting.{Expression}
 use Rattle.pg_grammar.specs.declared.trail.TrailItem.{TrailItem}
 use Rattle.pg_language.specs.Runs.{run_at, past_run, HasAt, StandsAt, IsWordAt, IsOperatorAt, IsDeclarationAt}
-use Rattle.pg_language.specs.Derives.{Spot, at, behind, Link, Derives, DerivesForm, DerivesParts, DerivesRounds, DerivesLinks, DerivesExpression, at_node, satisfy, string, word, not_followed_by, end_of_text, seq, choice, many, chain_left, chain_right, try, label, rule, text, skip, build, expression, declare, no_part, first_part, no_round, first_round, no_link, first_link, a_term, a_prefix, a_postfix, an_infix}
+use Rattle.pg_grammar.specs.declared.form.Leaf.{Leaf}
+use Rattle.pg_language.specs.Derives as derives
+use Rattle.pg_language.specs.Derives.{Spot, at, behind, Link, Derives, DerivesForm, DerivesParts, DerivesRounds, DerivesLinks, DerivesExpression, Reads, at_node, satisfy, string, word, not_followed_by, end_of_text, declare, seq, choice, many, rule, expression, no_part, first_part, no_round, first_round, no_link, first_link, a_term, a_prefix, a_postfix, an_infix}
 use Rattle.pg_language.specs.Onward.{LeadsOn}
 use Rattle.pg_table.proofs.Added.{added_behind, added_at_end, all_proper}
 
@@ -122,6 +124,14 @@ declaration_on g s item class d a j is admits =
       still = λ e. absurd (omega arith);
     }
 
+leaf_on : {g : Grammar} {s : List ℕ} {l : Leaf ℕ} {a b : Spot} {forest : List Tree} → Reads g s l a b forest → LeadsOn s a b
+leaf_on {g} {s} (satisfy {class} {a} has) = character_on g s class a has
+leaf_on {s = s} (string {characters} {a} stands) = string_on s characters a stands
+leaf_on {g} {s} (word {item = item} {s = w} {a = a} e is) = word_on g s item a w is
+leaf_on {s = s} (not_followed_by {a = a} lacks) = stays s a
+leaf_on {s = s} (end_of_text {a = a} e) = stays s a
+leaf_on {g} {s} (declare {class} {item} {d} {j} {a} e is admits) = declaration_on g s item class d a j is admits
+
 -- ---- derivations
 
 mutual
@@ -129,24 +139,14 @@ mutual
   leads_on (at_node e d) = form_on d
 
   form_on : {g : Grammar} {s : List ℕ} {n : Node} {a b : Spot} {forest : List Tree} {trail : List TrailItem} → DerivesForm g s n a b forest trail → LeadsOn s a b
-  form_on {g} {s} (satisfy {class} {a} has) = character_on g s class a has
-  form_on {s = s} (string {characters} {a} stands) = string_on s characters a stands
-  form_on {g} {s} (word {item = item} {s = w} {a = a} e is) = word_on g s item a w is
-  form_on {s = s} (not_followed_by {a = a} lacks) = stays s a
-  form_on {s = s} (end_of_text {a = a} e) = stays s a
+  form_on (derives.leaf h) = leaf_on h
   form_on (seq d) = parts_on d
   form_on (choice e d) = leads_on d
   form_on (many d) = rounds_on d
-  form_on {s = s} (chain_left {a = a} {b = b} {c = c} d ds) = joins s a b c (leads_on d) (links_on ds)
-  form_on {s = s} (chain_right {a = a} {b = b} {c = c} d ds) = joins s a b c (leads_on d) (links_on ds)
-  form_on (try d) = leads_on d
-  form_on (label d) = leads_on d
+  form_on {s = s} (derives.chain {a = a} {b = b} {c = c} d ds) = joins s a b c (leads_on d) (links_on ds)
   form_on (rule e d) = leads_on d
-  form_on (text d) = leads_on d
-  form_on (skip d) = leads_on d
-  form_on (build d) = leads_on d
+  form_on (derives.around d) = leads_on d
   form_on (expression e fits d) = expression_on d
-  form_on {g} {s} (declare {class} {item} {d} {j} {a} e is admits) = declaration_on g s item class d a j is admits
 
   parts_on : {g : Grammar} {s : List ℕ} {parts : List ℕ} {a b : Spot} {forest : List Tree} {trail : List TrailItem} → DerivesParts g s parts a b forest trail → LeadsOn s a b
   parts_on {s = s} (no_part {a = a}) = stays s a

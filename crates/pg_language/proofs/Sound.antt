@@ -3,22 +3,22 @@ use Rattle.std.proofs.Common.{◌≡◌, ◌+◌, ℕ, zero, suc, List, [], ◌�
 use Rattle.std.specs.Prelude.{Some, slice_get}
 use Rattle.pg_tree.specs.Trees.{Tree}
 use Rattle.pg_tree.specs.declared.shape.Shape.{Shape}
-use Rattle.pg_grammar.specs.declared.form.Node.{Node}
-use Rattle.pg_grammar.specs.declared.form.Node.TheVariants as form
+use Rattle.pg_grammar.specs.Forms.{Node}
+use Rattle.pg_grammar.specs.declared.form.Form.TheVariants as form
 use Rattle.pg_grammar.specs.declared.used.BuilderUse.{BuilderUse}
 use Rattle.pg_language.specs.Derives as derives
-use Rattle.pg_language.specs.Derives.{Spot, leaf_of, span, Derives, DerivesForm, DerivesParts, DerivesRounds, DerivesLinks}
+use Rattle.pg_language.specs.Derives.{Spot, carried, finished, Derives, DerivesForm, DerivesParts, DerivesRounds, DerivesLinks}
 use Rattle.pg_grammar.specs.declared.trail.TrailItem.{TrailItem}
 use Rattle.pg_grammar.specs.declared.trail.TrailItem.TheVariants.{Alt, Rounds}
-use Rattle.pg_language.specs.Answers.{Given, Answers, entered, AnswersForm, satisfy, string, word, not_followed_by, end_of_text, nothing, seq, choice, many, chain_left, chain_right, try, label, rule, text, skip, build, AnswersParts, part, AfterPart, part_last, part_failed, part_stuck, part_ok, AnswersAlternatives, no_alternative, alternative, AfterAlternative, alternative_consumed, alternative_stands, alternative_waits, alternative_commits, alternative_failed, alternative_stuck, AnswersRounds, round, AfterRound, round_ended, round_failed, round_empty, round_stuck, round_ok, AnswersChain, chain, AfterFirst, first_failed, first_stuck, first_ok, AnswersLinks, link, AfterSeparator, separator_failed, separator_stuck, separator_ok, AfterOperand, operand_failed, operand_stuck, operand_ok}
+use Rattle.pg_language.specs.Answers as answers
+use Rattle.pg_language.specs.Answers.{Given, Answers, entered, AnswersForm, nothing, seq, choice, many, rule, AnswersParts, part, AfterPart, part_last, part_failed, part_stuck, part_ok, AnswersAlternatives, no_alternative, alternative, AfterAlternative, alternative_consumed, alternative_stands, alternative_waits, alternative_commits, alternative_failed, alternative_stuck, AnswersRounds, round, AfterRound, round_ended, round_failed, round_empty, round_stuck, round_ok, AnswersChain, first_operand, AfterFirst, first_failed, first_stuck, first_ok, AnswersLinks, link, AfterSeparator, separator_failed, separator_stuck, separator_ok, AfterOperand, operand_failed, operand_stuck, operand_ok}
 use Rattle.pg_language.specs.Errors.{Error}
-use Rattle.pg_language.specs.declared.fold.Fold.{Fold}
-use Rattle.pg_language.specs.declared.fold.Fold.TheVariants.{FromLeft, FromRight}
+use Rattle.pg_grammar.specs.declared.side.Side.{Side}
 use Rattle.pg_language.specs.Outcomes.{Outcome}
-use Rattle.pg_language.specs.Reactions.{then_rest, carried, finished, as_finished}
-use Rattle.pg_language.proofs.Derived.{WhereOk, ok_map, ok_rest, ok_round, ok_noted, ok_failure, ok_unless, ok_tried, ok_label, ok_forest}
-use Rattle.pg_language.proofs.LeavesDerived.{satisfy_derived, string_derived, word_derived, not_followed_derived, end_derived}
-use Rattle.pg_language.proofs.ChainsDerived.{DerivesBehind, DerivesChain, none_behind, folded_more}
+use Rattle.pg_language.specs.Reactions.{then_rest, as_finished}
+use Rattle.pg_language.proofs.Derived.{WhereOk, ok_map, ok_rest, ok_round, ok_noted, ok_failure, ok_unless, ok_surrounded, ok_finished}
+use Rattle.pg_language.proofs.LeavesDerived.{leaf_derived}
+use Rattle.pg_language.proofs.ChainsDerived.{DerivesBehind, DerivesChain, none_behind}
 
 -- one of these alternatives, the first of which has this number
 record DerivesOne (G : Given) (k : ℕ) (ps : List ℕ) (a b : Spot) (v : List Tree) (t : List TrailItem) : Type 0 where
@@ -48,53 +48,37 @@ last_part G p a b v t d =
     (subst (λ t. DerivesParts G.grammar G.text (p ∷ []) a b (v ++ []) t) (append-nil t) (derives.first_part d derives.no_part))
 
 -- a link more
-more_behind : (G : Given) (fold : Fold) (shape : Shape) (p s k : ℕ) (left v w : List Tree) (t u : List TrailItem) (a b c d : Spot) (z : List Tree) (items : List TrailItem) →
-    Derives G.grammar G.text s a b v t → Derives G.grammar G.text p b c w u → DerivesBehind G fold shape p s (carried fold shape left v w) k c d z items →
-    DerivesBehind G fold shape p s left (suc k) a d (finished fold shape left v z) (t ++ (u ++ items))
-more_behind G fold shape p s k left v w t u a b c d z items separator operand h = record {
+more_behind : (G : Given) (side : Side) (shape : Shape) (p s k : ℕ) (left v w : List Tree) (t u : List TrailItem) (a b c d : Spot) (z : List Tree) (items : List TrailItem) →
+    Derives G.grammar G.text s a b v t → Derives G.grammar G.text p b c w u → DerivesBehind G side shape p s (carried side shape left v w) k c d z items →
+    DerivesBehind G side shape p s left (suc k) a d (finished side shape left v z) (t ++ (u ++ items))
+more_behind G side shape p s k left v w t u a b c d z items separator operand h = record {
   links = (v, w) ∷ h.links;
   derived = subst (λ n. DerivesLinks G.grammar G.text p s (suc k) a d ((v, w) ∷ h.links) n) (append_assoc t u items) (derives.first_link separator operand h.derived);
-  forest = ap (finished fold shape left v) h.forest ∙ sym (folded_more fold shape left v w h.links);
+  forest = ap (finished side shape left v) h.forest;
 }
 
-left_chain : (G : Given) (used : BuilderUse) (p s k : ℕ) (a b : Spot) (v : List Tree) (t : List TrailItem) → DerivesChain G FromLeft used.shape p s k a b v t →
-    DerivesForm G.grammar G.text (form.ChainLeft used p s) a b v (Rounds k ∷ t)
-left_chain G used p s k a b v t h =
-    subst (λ v. DerivesForm G.grammar G.text (form.ChainLeft used p s) a b v (Rounds k ∷ t)) (sym h.behind.forest)
-    (subst (λ t. DerivesForm G.grammar G.text (form.ChainLeft used p s) a b (derives.folded_left used.shape h.first h.behind.links) (Rounds k ∷ t)) (sym h.noted)
-    (derives.chain_left h.operand h.behind.derived))
-
-right_chain : (G : Given) (used : BuilderUse) (p s k : ℕ) (a b : Spot) (v : List Tree) (t : List TrailItem) → DerivesChain G FromRight used.shape p s k a b v t →
-    DerivesForm G.grammar G.text (form.ChainRight used p s) a b v (Rounds k ∷ t)
-right_chain G used p s k a b v t h =
-    subst (λ v. DerivesForm G.grammar G.text (form.ChainRight used p s) a b v (Rounds k ∷ t)) (sym h.behind.forest)
-    (subst (λ t. DerivesForm G.grammar G.text (form.ChainRight used p s) a b (derives.folded_right used.shape h.first h.behind.links) (Rounds k ∷ t)) (sym h.noted)
-    (derives.chain_right h.operand h.behind.derived))
+-- a chain
+whole_chain : (G : Given) (side : Side) (used : BuilderUse) (p s k : ℕ) (a b : Spot) (v : List Tree) (t : List TrailItem) → DerivesChain G side used.shape p s k a b v t →
+    DerivesForm G.grammar G.text (form.Chain side used p s) a b v (Rounds k ∷ t)
+whole_chain G side used p s k a b v t h =
+    subst (λ v. DerivesForm G.grammar G.text (form.Chain side used p s) a b v (Rounds k ∷ t)) (sym h.behind.forest)
+    (subst (λ t. DerivesForm G.grammar G.text (form.Chain side used p s) a b (derives.folded side used.shape h.first h.behind.links) (Rounds k ∷ t)) (sym h.noted)
+    (derives.chain h.operand h.behind.derived))
 
 mutual
   pub sound : {G : Given} {p : ℕ} {a : Spot} {o : Outcome} {m : ℕ} → Answers G p a o m → WhereOk (Derives G.grammar G.text p a) o
   sound (entered {o = o} e d) = ok_map _ _ o (λ b v t h. derives.at_node e h) (sound_form d)
 
   sound_form : {G : Given} {f : Node} {a : Spot} {o : Outcome} {m : ℕ} → AnswersForm G f a o m → WhereOk (DerivesForm G.grammar G.text f a) o
-  sound_form {G = G} (satisfy {class = class} {a = a}) = satisfy_derived G.grammar G.text class a
-  sound_form {G = G} (string {s = s} {a = a}) = string_derived G.grammar G.text s a
-  sound_form {G = G} (word {w = w} {item = item} {a = a} e) = word_derived G.grammar G.text w item a e
-  sound_form {G = G} (not_followed_by {class = class} {a = a}) = not_followed_derived G.grammar G.text class a
-  sound_form {G = G} (end_of_text {a = a}) = end_derived G.grammar G.text a
+  sound_form {G = G} (answers.leaf {l = l} {a = a} {o = o} e) = leaf_derived G.grammar G.text l a o e
   sound_form nothing = derives.seq derives.no_part
   sound_form (seq {o = o} d) = ok_map _ _ o (λ b v t h. derives.seq h) (sound_parts d)
   sound_form {G = G} (choice {ps = ps} {a = a} {o = o} d) = ok_map _ _ o (one_derived G ps a) (sound_alternatives d)
   sound_form (many {k = k} {o = o} d) = ok_noted _ _ (Rounds k) o (λ b v t h. derives.many h) (sound_rounds d)
-  sound_form {G = G} (chain_left {used = used} {p = p} {s = s} {k = k} {a = a} {o = o} d) =
-      ok_noted _ _ (Rounds k) o (left_chain G used p s k a) (sound_chain d)
-  sound_form {G = G} (chain_right {used = used} {p = p} {s = s} {k = k} {a = a} {o = o} d) =
-      ok_noted _ _ (Rounds k) o (right_chain G used p s k a) (sound_chain d)
-  sound_form (try {o = o} d) = ok_tried _ o (ok_map _ _ o (λ b v t h. derives.try h) (sound d))
-  sound_form (label {message = message} {o = o} d) = ok_label _ message o (ok_map _ _ o (λ b v t h. derives.label h) (sound d))
+  sound_form {G = G} (answers.chain {side = side} {used = used} {p = p} {s = s} {k = k} {a = a} {o = o} d) =
+      ok_noted _ _ (Rounds k) o (whole_chain G side used p s k a) (sound_chain d)
   sound_form (rule {o = o} e d) = ok_map _ _ o (λ b v t h. derives.rule e h) (sound d)
-  sound_form (text {o = o} d) = ok_forest _ _ _ o (λ b v t h. derives.text h) (sound d)
-  sound_form (skip {o = o} d) = ok_forest _ _ _ o (λ b v t h. derives.skip h) (sound d)
-  sound_form (build {o = o} d) = ok_forest _ _ _ o (λ b v t h. derives.build h) (sound d)
+  sound_form {G = G} (answers.around {k = k} {a = a} {o = o} d) = ok_surrounded _ _ k G.text a o (λ b v t h. derives.around h) (sound d)
 
   sound_parts : {G : Given} {p : ℕ} {ps : List ℕ} {a : Spot} {o : Outcome} {m : ℕ} → AnswersParts G p ps a o m → WhereOk (DerivesParts G.grammar G.text (p ∷ ps) a) o
   sound_parts (part {p = p} {a = a} d r) = sound_after_part r p a (sound d)
@@ -132,34 +116,34 @@ mutual
   sound_after_round round_stuck h = tt
   sound_after_round (round_ok {v = v} {t = t} {o = o} d) h = ok_round _ _ v t o (λ b w u g. derives.first_round h g) (sound_rounds d)
 
-  sound_chain : {G : Given} {fold : Fold} {shape : Shape} {p s k : ℕ} {a : Spot} {o : Outcome} {m : ℕ} → AnswersChain G fold shape p s k a o m →
-      WhereOk (DerivesChain G fold shape p s k a) o
-  sound_chain (chain {a = a} d r) = sound_after_first r a (sound d)
+  sound_chain : {G : Given} {side : Side} {shape : Shape} {p s k : ℕ} {a : Spot} {o : Outcome} {m : ℕ} → AnswersChain G side shape p s k a o m →
+      WhereOk (DerivesChain G side shape p s k a) o
+  sound_chain (first_operand {a = a} d r) = sound_after_first r a (sound d)
 
-  sound_after_first : {G : Given} {fold : Fold} {shape : Shape} {p s k : ℕ} {x o : Outcome} {m : ℕ} → AfterFirst G fold shape p s k x o m → (a : Spot) →
-      WhereOk (Derives G.grammar G.text p a) x → WhereOk (DerivesChain G fold shape p s k a) o
+  sound_after_first : {G : Given} {side : Side} {shape : Shape} {p s k : ℕ} {x o : Outcome} {m : ℕ} → AfterFirst G side shape p s k x o m → (a : Spot) →
+      WhereOk (Derives G.grammar G.text p a) x → WhereOk (DerivesChain G side shape p s k a) o
   sound_after_first first_failed a h = tt
   sound_after_first first_stuck a h = tt
-  sound_after_first {G = G} {fold = fold} {shape = shape} (first_ok {p = p} {s = s} {k = k} {c = c} {b = b} {v = v} {t = t} {e = e} {o = o} d) a h =
+  sound_after_first {G = G} {side = side} {shape = shape} (first_ok {p = p} {s = s} {k = k} {c = c} {b = b} {v = v} {t = t} {e = e} {o = o} d) a h =
       ok_rest _ _ c [] t e o (λ b w u g. record { middle = _; first = v; trail = t; items = u; operand = h; behind = g; noted = refl }) (sound_links d)
 
-  sound_links : {G : Given} {fold : Fold} {shape : Shape} {p s : ℕ} {left : List Tree} {k : ℕ} {a : Spot} {o : Outcome} {m : ℕ} →
-      AnswersLinks G fold shape p s left k a o m → WhereOk (DerivesBehind G fold shape p s left k a) o
+  sound_links : {G : Given} {side : Side} {shape : Shape} {p s : ℕ} {left : List Tree} {k : ℕ} {a : Spot} {o : Outcome} {m : ℕ} →
+      AnswersLinks G side shape p s left k a o m → WhereOk (DerivesBehind G side shape p s left k a) o
   sound_links (link d r) = sound_after_separator r (sound d)
 
-  sound_after_separator : {G : Given} {fold : Fold} {shape : Shape} {p s : ℕ} {left : List Tree} {k : ℕ} {a : Spot} {x o : Outcome} {m : ℕ} →
-      AfterSeparator G fold shape p s left k a x o m → WhereOk (Derives G.grammar G.text s a) x → WhereOk (DerivesBehind G fold shape p s left k a) o
-  sound_after_separator {G = G} (separator_failed {fold = fold} {shape = shape} {p = p} {s = s} {left = left} {a = a} {c = c} {e = e}) h =
-      none_behind G fold shape p s left a c e
+  sound_after_separator : {G : Given} {side : Side} {shape : Shape} {p s : ℕ} {left : List Tree} {k : ℕ} {a : Spot} {x o : Outcome} {m : ℕ} →
+      AfterSeparator G side shape p s left k a x o m → WhereOk (Derives G.grammar G.text s a) x → WhereOk (DerivesBehind G side shape p s left k a) o
+  sound_after_separator {G = G} (separator_failed {side = side} {shape = shape} {p = p} {s = s} {left = left} {a = a} {c = c} {e = e}) h =
+      none_behind G side shape p s left a c e
   sound_after_separator separator_stuck h = tt
   sound_after_separator (separator_ok {b = b} d r) h = sound_after_operand r b h (sound d)
 
-  sound_after_operand : {G : Given} {fold : Fold} {shape : Shape} {p s : ℕ} {left : List Tree} {k : ℕ} {a : Spot} {c : Bool} {v : List Tree} {t : List TrailItem} {e : Error} {x o : Outcome} {m : ℕ} →
-      AfterOperand G fold shape p s left k a c v t e x o m → (b : Spot) → Derives G.grammar G.text s a b v t →
-      WhereOk (Derives G.grammar G.text p b) x → WhereOk (DerivesBehind G fold shape p s left k a) o
-  sound_after_operand {G = G} {fold = fold} {shape = shape} (operand_failed {p = p} {s = s} {left = left} {a = a}) b g h = none_behind G fold shape p s left a _ _
+  sound_after_operand : {G : Given} {side : Side} {shape : Shape} {p s : ℕ} {left : List Tree} {k : ℕ} {a : Spot} {c : Bool} {v : List Tree} {t : List TrailItem} {e : Error} {x o : Outcome} {m : ℕ} →
+      AfterOperand G side shape p s left k a c v t e x o m → (b : Spot) → Derives G.grammar G.text s a b v t →
+      WhereOk (Derives G.grammar G.text p b) x → WhereOk (DerivesBehind G side shape p s left k a) o
+  sound_after_operand {G = G} {side = side} {shape = shape} (operand_failed {p = p} {s = s} {left = left} {a = a}) b g h = none_behind G side shape p s left a _ _
   sound_after_operand operand_stuck b g h = tt
-  sound_after_operand {G = G} {fold = fold} {shape = shape} (operand_ok {p = p} {s = s} {k = k} {left = left} {v = v} {w = w} {a = a} {b = b} {c = c} {d = d} {t = t} {u = u} {e = e} {f = f} {o = o} x y) middle g h =
-      ok_rest _ _ c [] t e (then_rest d [] u f (as_finished fold shape left v o)) (λ end z items n. n)
-      (ok_rest _ _ d [] u f (as_finished fold shape left v o) (λ end z items n. n)
-      (ok_forest _ _ _ o (λ end z items n. more_behind G fold shape p s k left v w t u a middle b end z items g h n) (sound_links y)))
+  sound_after_operand {G = G} {side = side} {shape = shape} (operand_ok {p = p} {s = s} {k = k} {left = left} {v = v} {w = w} {a = a} {b = b} {c = c} {d = d} {t = t} {u = u} {e = e} {f = f} {o = o} x y) middle g h =
+      ok_rest _ _ c [] t e (then_rest d [] u f (as_finished side shape left v o)) (λ end z items n. n)
+      (ok_rest _ _ d [] u f (as_finished side shape left v o) (λ end z items n. n)
+      (ok_finished _ _ side shape left v o (λ end z items n. more_behind G side shape p s k left v w t u a middle b end z items g h n) (sound_links y)))

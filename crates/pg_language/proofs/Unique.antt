@@ -3,16 +3,17 @@
 use Rattle.std.proofs.Common.{◌≡◌, ℕ, suc, List, [], ◌∷◌, Bool, refl, sym, ap, subst}
 use Rattle.pg_tree.specs.Trees.{Tree}
 use Rattle.pg_tree.specs.declared.shape.Shape.{Shape}
-use Rattle.pg_grammar.specs.declared.form.Node.{Node}
+use Rattle.pg_grammar.specs.Forms.{Node}
 use Rattle.pg_grammar.specs.declared.grammar.Rule as declared
 use Rattle.pg_language.specs.Derives.{Spot}
 use Rattle.pg_grammar.specs.declared.trail.TrailItem.{TrailItem}
 use Rattle.pg_grammar.specs.declared.trail.TrailItem.TheVariants.{Alt}
-use Rattle.pg_language.specs.Answers.{Given, Answers, entered, AnswersForm, satisfy, string, word, not_followed_by, end_of_text, nothing, seq, choice, many, chain_left, chain_right, try, label, rule, text, skip, build, AnswersParts, part, AfterPart, part_last, part_failed, part_stuck, part_ok, AnswersAlternatives, no_alternative, alternative, AfterAlternative, alternative_consumed, alternative_stands, alternative_waits, alternative_commits, alternative_failed, alternative_stuck, AnswersRounds, round, AfterRound, round_ended, round_failed, round_empty, round_stuck, round_ok, AnswersChain, chain, AfterFirst, first_failed, first_stuck, first_ok, AnswersLinks, link, AfterSeparator, separator_failed, separator_stuck, separator_ok, AfterOperand, operand_failed, operand_stuck, operand_ok}
+use Rattle.pg_language.specs.Answers as answers
+use Rattle.pg_language.specs.Answers.{Given, Answers, entered, AnswersForm, nothing, seq, choice, many, rule, AnswersParts, part, AfterPart, part_last, part_failed, part_stuck, part_ok, AnswersAlternatives, no_alternative, alternative, AfterAlternative, alternative_consumed, alternative_stands, alternative_waits, alternative_commits, alternative_failed, alternative_stuck, AnswersRounds, round, AfterRound, round_ended, round_failed, round_empty, round_stuck, round_ok, AnswersChain, first_operand, AfterFirst, first_failed, first_stuck, first_ok, AnswersLinks, link, AfterSeparator, separator_failed, separator_stuck, separator_ok, AfterOperand, operand_failed, operand_stuck, operand_ok}
 use Rattle.pg_language.specs.Errors.{Error}
-use Rattle.pg_language.specs.declared.fold.Fold.{Fold}
+use Rattle.pg_grammar.specs.declared.side.Side.{Side}
 use Rattle.pg_language.specs.Outcomes.{Outcome}
-use Rattle.pg_language.specs.Reactions.{then_rest, then_round, after_failure, unless_consumed, tried, with_label, as_text, skipped, as_tree, as_finished}
+use Rattle.pg_language.specs.Reactions.{then_rest, then_round, after_failure, unless_consumed, surrounded, as_finished}
 
 -- the same outcome with the same number of nodes
 pub record Same (o q : Outcome) (m n : ℕ) : Type 0 where
@@ -33,26 +34,17 @@ mutual
       record { outcome = s.outcome; count = ap suc s.count }
 
   same_form : {G : Given} {f : Node} {a : Spot} {o q : Outcome} {m n : ℕ} → AnswersForm G f a o m → AnswersForm G f a q n → Same o q m n
-  same_form satisfy satisfy = record { outcome = refl; count = refl }
-  same_form string string = record { outcome = refl; count = refl }
-  same_form (word e) (word h) = record { outcome = cc; count = refl }
-  same_form not_followed_by not_followed_by = record { outcome = refl; count = refl }
-  same_form end_of_text end_of_text = record { outcome = refl; count = refl }
+  same_form (answers.leaf e) (answers.leaf h) = record { outcome = cc; count = refl }
   same_form nothing nothing = record { outcome = refl; count = refl }
   same_form (seq d) (seq r) = same_parts d r
   same_form (choice d) (choice r) = same_alternatives d r
   same_form (many d) (many r) = let s = same_rounds d r in record { outcome = cc; count = s.count }
-  same_form (chain_left d) (chain_left r) = let s = same_chain d r in record { outcome = cc; count = s.count }
-  same_form (chain_right d) (chain_right r) = let s = same_chain d r in record { outcome = cc; count = s.count }
-  same_form (try d) (try r) = let s = same d r in record { outcome = ap tried s.outcome; count = s.count }
-  same_form (label {message = message} d) (label r) = let s = same d r in record { outcome = ap (with_label message) s.outcome; count = s.count }
+  same_form (answers.chain d) (answers.chain r) = let s = same_chain d r in record { outcome = cc; count = s.count }
   same_form {G = G} (rule {named = named} {a = a} e d) (rule {m = n} {named = other} {o = q} h r) =
       let one : other ≡ named = cc in
       same d (subst (λ (named : declared.Rule). Answers G named.body a q n) one r)
-  same_form {G = G} (text {a = a} d) (text r) = let s = same d r in record { outcome = ap (as_text G.text a) s.outcome; count = s.count }
-  same_form (skip d) (skip r) = let s = same d r in record { outcome = ap skipped s.outcome; count = s.count }
-  same_form (build {used = used} {symbol = symbol} d) (build r) =
-      let s = same d r in record { outcome = ap (as_tree used.shape symbol) s.outcome; count = s.count }
+  same_form {G = G} (answers.around {k = k} {a = a} d) (answers.around r) =
+      let s = same d r in record { outcome = ap (surrounded k G.text a) s.outcome; count = s.count }
 
   same_parts : {G : Given} {p : ℕ} {ps : List ℕ} {a : Spot} {o q : Outcome} {m n : ℕ} → AnswersParts G p ps a o m → AnswersParts G p ps a q n → Same o q m n
   same_parts {G = G} (part {ps = ps} d r) (part {n = n} {o = q} e t) =
@@ -102,45 +94,45 @@ mutual
   same_after_round (round_ok {v = v} {t = t} d) (round_ok r) =
       let s = same_rounds d r in record { rounds = ap suc s.rounds; outcome = ap (then_round v t) s.outcome; count = s.count }
 
-  same_chain : {G : Given} {fold : Fold} {shape : Shape} {p s k l : ℕ} {a : Spot} {o q : Outcome} {m n : ℕ} →
-      AnswersChain G fold shape p s k a o m → AnswersChain G fold shape p s l a q n → Alike k l o q m n
-  same_chain {G = G} (chain {fold = fold} {shape = shape} {p = p} {s = s} d r) (chain {k = l} {n = n} {o = q} e t) =
+  same_chain : {G : Given} {side : Side} {shape : Shape} {p s k l : ℕ} {a : Spot} {o q : Outcome} {m n : ℕ} →
+      AnswersChain G side shape p s k a o m → AnswersChain G side shape p s l a q n → Alike k l o q m n
+  same_chain {G = G} (first_operand {side = side} {shape = shape} {p = p} {s = s} d r) (first_operand {k = l} {n = n} {o = q} e t) =
       let u = same d e in
-      let z = same_after_first r (subst (λ x. AfterFirst G fold shape p s l x q n) (sym u.outcome) t) in
+      let z = same_after_first r (subst (λ x. AfterFirst G side shape p s l x q n) (sym u.outcome) t) in
       record { rounds = z.rounds; outcome = z.outcome; count = cc }
 
-  same_after_first : {G : Given} {fold : Fold} {shape : Shape} {p s k l : ℕ} {x o q : Outcome} {m n : ℕ} →
-      AfterFirst G fold shape p s k x o m → AfterFirst G fold shape p s l x q n → Alike k l o q m n
+  same_after_first : {G : Given} {side : Side} {shape : Shape} {p s k l : ℕ} {x o q : Outcome} {m n : ℕ} →
+      AfterFirst G side shape p s k x o m → AfterFirst G side shape p s l x q n → Alike k l o q m n
   same_after_first first_failed first_failed = record { rounds = refl; outcome = refl; count = refl }
   same_after_first first_stuck first_stuck = record { rounds = refl; outcome = refl; count = refl }
   same_after_first (first_ok {c = c} {t = t} {e = e} d) (first_ok r) =
       let s = same_links d r in record { rounds = s.rounds; outcome = ap (then_rest c [] t e) s.outcome; count = s.count }
 
-  same_links : {G : Given} {fold : Fold} {shape : Shape} {p s : ℕ} {left : List Tree} {k l : ℕ} {a : Spot} {o q : Outcome} {m n : ℕ} →
-      AnswersLinks G fold shape p s left k a o m → AnswersLinks G fold shape p s left l a q n → Alike k l o q m n
-  same_links {G = G} (link {fold = fold} {shape = shape} {p = p} {s = s} {left = left} {a = a} d r) (link {k = l} {n = n} {o = q} e t) =
+  same_links : {G : Given} {side : Side} {shape : Shape} {p s : ℕ} {left : List Tree} {k l : ℕ} {a : Spot} {o q : Outcome} {m n : ℕ} →
+      AnswersLinks G side shape p s left k a o m → AnswersLinks G side shape p s left l a q n → Alike k l o q m n
+  same_links {G = G} (link {side = side} {shape = shape} {p = p} {s = s} {left = left} {a = a} d r) (link {k = l} {n = n} {o = q} e t) =
       let u = same d e in
-      let z = same_after_separator r (subst (λ x. AfterSeparator G fold shape p s left l a x q n) (sym u.outcome) t) in
+      let z = same_after_separator r (subst (λ x. AfterSeparator G side shape p s left l a x q n) (sym u.outcome) t) in
       record { rounds = z.rounds; outcome = z.outcome; count = cc }
 
-  same_after_separator : {G : Given} {fold : Fold} {shape : Shape} {p s : ℕ} {left : List Tree} {k l : ℕ} {a : Spot} {x o q : Outcome} {m n : ℕ} →
-      AfterSeparator G fold shape p s left k a x o m → AfterSeparator G fold shape p s left l a x q n → Alike k l o q m n
+  same_after_separator : {G : Given} {side : Side} {shape : Shape} {p s : ℕ} {left : List Tree} {k l : ℕ} {a : Spot} {x o q : Outcome} {m n : ℕ} →
+      AfterSeparator G side shape p s left k a x o m → AfterSeparator G side shape p s left l a x q n → Alike k l o q m n
   same_after_separator separator_failed separator_failed = record { rounds = refl; outcome = refl; count = refl }
   same_after_separator separator_stuck separator_stuck = record { rounds = refl; outcome = refl; count = refl }
-  same_after_separator {G = G} (separator_ok {fold = fold} {shape = shape} {p = p} {s = s} {left = left} {v = v} {a = a} {c = c} {t = t} {e = e} d r)
+  same_after_separator {G = G} (separator_ok {side = side} {shape = shape} {p = p} {s = s} {left = left} {v = v} {a = a} {c = c} {t = t} {e = e} d r)
       (separator_ok {k = l} {n = n} {o = q} f u) =
       let w = same d f in
-      let z = same_after_operand r (subst (λ x. AfterOperand G fold shape p s left l a c v t e x q n) (sym w.outcome) u) in
+      let z = same_after_operand r (subst (λ x. AfterOperand G side shape p s left l a c v t e x q n) (sym w.outcome) u) in
       record { rounds = z.rounds; outcome = z.outcome; count = cc }
 
-  same_after_operand : {G : Given} {fold : Fold} {shape : Shape} {p s : ℕ} {left : List Tree} {k l : ℕ} {a : Spot} {c : Bool} {v : List Tree} {t : List TrailItem} {e : Error} {x o q : Outcome} {m n : ℕ} →
-      AfterOperand G fold shape p s left k a c v t e x o m → AfterOperand G fold shape p s left l a c v t e x q n → Alike k l o q m n
+  same_after_operand : {G : Given} {side : Side} {shape : Shape} {p s : ℕ} {left : List Tree} {k l : ℕ} {a : Spot} {c : Bool} {v : List Tree} {t : List TrailItem} {e : Error} {x o q : Outcome} {m n : ℕ} →
+      AfterOperand G side shape p s left k a c v t e x o m → AfterOperand G side shape p s left l a c v t e x q n → Alike k l o q m n
   same_after_operand operand_failed operand_failed = record { rounds = refl; outcome = refl; count = refl }
   same_after_operand operand_stuck operand_stuck = record { rounds = refl; outcome = refl; count = refl }
-  same_after_operand {fold = fold} {shape = shape} (operand_ok {left = left} {v = v} {c = c} {d = d} {t = t} {u = u} {e = e} {f = f} h x) (operand_ok g y) =
+  same_after_operand {side = side} {shape = shape} (operand_ok {left = left} {v = v} {c = c} {d = d} {t = t} {u = u} {e = e} {f = f} h x) (operand_ok g y) =
       let s = same_links x y in
       record {
         rounds = ap suc s.rounds;
-        outcome = ap (λ o. then_rest c [] t e (then_rest d [] u f (as_finished fold shape left v o))) s.outcome;
+        outcome = ap (λ o. then_rest c [] t e (then_rest d [] u f (as_finished side shape left v o))) s.outcome;
         count = s.count;
       }

@@ -3,22 +3,21 @@ use Rattle.std.specs.Prelude.{◌≡◌, ◌+◌, ℕ, zero, suc, List, [], ◌�
 use Rattle.pg_tree.specs.Trees.{Tree}
 use Rattle.pg_tree.specs.declared.shape.Shape.{Shape}
 use Rattle.pg_grammar.specs.Grammar.{Grammar}
-use Rattle.pg_grammar.specs.declared.class.ClassPart.{ClassPart}
-use Rattle.pg_grammar.specs.declared.form.Node.{Node}
-use Rattle.pg_grammar.specs.declared.form.Node.TheVariants as form
+use Rattle.pg_grammar.specs.Forms.{Node}
+use Rattle.pg_grammar.specs.declared.form.Form.TheVariants as form
+use Rattle.pg_grammar.specs.declared.form.Leaf.{Leaf}
+use Rattle.pg_grammar.specs.declared.form.Around.{Around}
+use Rattle.pg_grammar.specs.declared.side.Side.{Side}
 use Rattle.pg_grammar.specs.declared.grammar.Rule as declared
 use Rattle.pg_grammar.specs.declared.used.BuilderUse.{BuilderUse}
-use Rattle.pg_grammar.specs.declared.word_item.WordItem.{WordItem}
-use Rattle.pg_language.specs.Derives.{Spot}
+use Rattle.pg_language.specs.Derives.{Spot, carried}
 use Rattle.pg_table.specs.Tables.{Table}
 use Rattle.pg_grammar.specs.declared.trail.TrailItem.{TrailItem}
 use Rattle.pg_grammar.specs.declared.trail.TrailItem.TheVariants.{Alt, Rounds}
 use Rattle.pg_language.specs.Errors.{Error, nothing_said}
-use Rattle.pg_language.specs.Leaves.{satisfy_outcome, string_outcome, word_outcome, not_followed_outcome, end_outcome}
-use Rattle.pg_language.specs.declared.fold.Fold.{Fold}
-use Rattle.pg_language.specs.declared.fold.Fold.TheVariants.{FromLeft, FromRight}
+use Rattle.pg_language.specs.Leaves.{leaf_outcome}
 use Rattle.pg_language.specs.Outcomes.{Outcome, ok, failed, empty_round}
-use Rattle.pg_language.specs.Reactions.{then_rest, then_round, noted, after_failure, unless_consumed, tried, with_label, as_text, skipped, as_tree, carried, as_finished, unless_begun, error_behind}
+use Rattle.pg_language.specs.Reactions.{then_rest, then_round, noted, after_failure, unless_consumed, surrounded, as_finished, unless_begun, error_behind}
 use Rattle.pg_language.specs.declared.reading.Reading.{Reading}
 use Rattle.pg_language.specs.declared.reading.Reading.TheVariants.{Library, Report}
 
@@ -42,31 +41,17 @@ mutual
 
   -- the same, of what stands at a node, with the node itself not counted
   pub data AnswersForm (G : Given) : Node → Spot → Outcome → ℕ → Type 0 where
-    satisfy : {class : List ClassPart} {a : Spot} → AnswersForm G (form.Satisfy class) a (satisfy_outcome G.grammar G.text class a) zero
-    string : {s : List ℕ} {a : Spot} → AnswersForm G (form.String s) a (string_outcome G.text s a) zero
-    word : {w : ℕ} {item : WordItem} {a : Spot} → slice_get G.grammar.words w ≡ Some item →
-        AnswersForm G (form.Word w) a (word_outcome G.grammar G.text item a) zero
-    not_followed_by : {class : List ClassPart} {a : Spot} →
-        AnswersForm G (form.NotFollowedBy class) a (not_followed_outcome G.grammar G.text class a) zero
-    end_of_text : {a : Spot} → AnswersForm G form.EndOfText a (end_outcome G.text a) zero
+    leaf : {l : Leaf ℕ} {a : Spot} {o : Outcome} → leaf_outcome G.grammar G.text l a ≡ Some o → AnswersForm G (form.Leaf l) a o zero
     -- without parts: ok and empty
     nothing : {a : Spot} → AnswersForm G (form.Seq []) a (ok false a [] [] (nothing_said a.place)) zero
     seq : {p m : ℕ} {ps : List ℕ} {a : Spot} {o : Outcome} → AnswersParts G p ps a o m → AnswersForm G (form.Seq (p ∷ ps)) a o m
     choice : {ps : List ℕ} {m : ℕ} {a : Spot} {o : Outcome} → AnswersAlternatives G (suc zero) ps a o m → AnswersForm G (form.Choice ps) a o m
     many : {p k m : ℕ} {a : Spot} {o : Outcome} → AnswersRounds G p k a o m → AnswersForm G (form.Many p) a (noted (Rounds k) o) m
-    chain_left : {used : BuilderUse} {p s k m : ℕ} {a : Spot} {o : Outcome} → AnswersChain G FromLeft used.shape p s k a o m →
-        AnswersForm G (form.ChainLeft used p s) a (noted (Rounds k) o) m
-    chain_right : {used : BuilderUse} {p s k m : ℕ} {a : Spot} {o : Outcome} → AnswersChain G FromRight used.shape p s k a o m →
-        AnswersForm G (form.ChainRight used p s) a (noted (Rounds k) o) m
-    try : {p m : ℕ} {a : Spot} {o : Outcome} → Answers G p a o m → AnswersForm G (form.Try p) a (tried o) m
-    label : {p m : ℕ} {message : List ℕ} {a : Spot} {o : Outcome} → Answers G p a o m →
-        AnswersForm G (form.Label p message) a (with_label message o) m
+    chain : {side : Side} {used : BuilderUse} {p s k m : ℕ} {a : Spot} {o : Outcome} → AnswersChain G side used.shape p s k a o m →
+        AnswersForm G (form.Chain side used p s) a (noted (Rounds k) o) m
     rule : {r m : ℕ} {named : declared.Rule} {a : Spot} {o : Outcome} → slice_get G.grammar.rules r ≡ Some named →
         Answers G named.body a o m → AnswersForm G (form.Rule r) a o m
-    text : {p m : ℕ} {a : Spot} {o : Outcome} → Answers G p a o m → AnswersForm G (form.Text p) a (as_text G.text a o) m
-    skip : {p m : ℕ} {a : Spot} {o : Outcome} → Answers G p a o m → AnswersForm G (form.Skip p) a (skipped o) m
-    build : {used : BuilderUse} {symbol : List ℕ} {p m : ℕ} {a : Spot} {o : Outcome} → Answers G p a o m →
-        AnswersForm G (form.Build used symbol p) a (as_tree used.shape symbol o) m
+    around : {k : Around} {p m : ℕ} {a : Spot} {o : Outcome} → Answers G p a o m → AnswersForm G (form.Around k p) a (surrounded k G.text a o) m
 
   -- ---- sequences: a part, and those behind it
   pub data AnswersParts (G : Given) : ℕ → List ℕ → Spot → Outcome → ℕ → Type 0 where
@@ -113,41 +98,41 @@ mutual
         AfterRound G p (suc k) a (ok true b v t e) (then_round v t o) m
 
   -- ---- chains: an operand p, and then links, so many of which are ok
-  pub data AnswersChain (G : Given) : Fold → Shape → ℕ → ℕ → ℕ → Spot → Outcome → ℕ → Type 0 where
-    chain : {fold : Fold} {shape : Shape} {p s k m n : ℕ} {a : Spot} {x o : Outcome} → Answers G p a x m →
-        AfterFirst G fold shape p s k x o n → AnswersChain G fold shape p s k a o (m + n)
+  pub data AnswersChain (G : Given) : Side → Shape → ℕ → ℕ → ℕ → Spot → Outcome → ℕ → Type 0 where
+    first_operand : {side : Side} {shape : Shape} {p s k m n : ℕ} {a : Spot} {x o : Outcome} → Answers G p a x m →
+        AfterFirst G side shape p s k x o n → AnswersChain G side shape p s k a o (m + n)
 
   -- what becomes of the first operand's outcome
-  pub data AfterFirst (G : Given) : Fold → Shape → ℕ → ℕ → ℕ → Outcome → Outcome → ℕ → Type 0 where
-    first_failed : {fold : Fold} {shape : Shape} {p s : ℕ} {c : Bool} {e : Error} → AfterFirst G fold shape p s zero (failed c e) (failed c e) zero
-    first_stuck : {fold : Fold} {shape : Shape} {p s : ℕ} → AfterFirst G fold shape p s zero empty_round empty_round zero
-    first_ok : {fold : Fold} {shape : Shape} {p s k m : ℕ} {c : Bool} {b : Spot} {v : List Tree} {t : List TrailItem} {e : Error} {o : Outcome} →
-        AnswersLinks G fold shape p s v k b o m → AfterFirst G fold shape p s k (ok c b v t e) (then_rest c [] t e o) m
+  pub data AfterFirst (G : Given) : Side → Shape → ℕ → ℕ → ℕ → Outcome → Outcome → ℕ → Type 0 where
+    first_failed : {side : Side} {shape : Shape} {p s : ℕ} {c : Bool} {e : Error} → AfterFirst G side shape p s zero (failed c e) (failed c e) zero
+    first_stuck : {side : Side} {shape : Shape} {p s : ℕ} → AfterFirst G side shape p s zero empty_round empty_round zero
+    first_ok : {side : Side} {shape : Shape} {p s k m : ℕ} {c : Bool} {b : Spot} {v : List Tree} {t : List TrailItem} {e : Error} {o : Outcome} →
+        AnswersLinks G side shape p s v k b o m → AfterFirst G side shape p s k (ok c b v t e) (then_rest c [] t e o) m
 
   -- separators s, each with an operand p behind it, behind this forest of the chain
-  pub data AnswersLinks (G : Given) : Fold → Shape → ℕ → ℕ → List Tree → ℕ → Spot → Outcome → ℕ → Type 0 where
-    link : {fold : Fold} {shape : Shape} {p s k m n : ℕ} {left : List Tree} {a : Spot} {x o : Outcome} → Answers G s a x m →
-        AfterSeparator G fold shape p s left k a x o n → AnswersLinks G fold shape p s left k a o (m + n)
+  pub data AnswersLinks (G : Given) : Side → Shape → ℕ → ℕ → List Tree → ℕ → Spot → Outcome → ℕ → Type 0 where
+    link : {side : Side} {shape : Shape} {p s k m n : ℕ} {left : List Tree} {a : Spot} {x o : Outcome} → Answers G s a x m →
+        AfterSeparator G side shape p s left k a x o n → AnswersLinks G side shape p s left k a o (m + n)
 
   -- what becomes of a separator's outcome
-  pub data AfterSeparator (G : Given) : Fold → Shape → ℕ → ℕ → List Tree → ℕ → Spot → Outcome → Outcome → ℕ → Type 0 where
-    separator_failed : {fold : Fold} {shape : Shape} {p s : ℕ} {left : List Tree} {a : Spot} {c : Bool} {e : Error} →
-        AfterSeparator G fold shape p s left zero a (failed c e) (unless_begun c a left e) zero
-    separator_stuck : {fold : Fold} {shape : Shape} {p s : ℕ} {left : List Tree} {a : Spot} →
-        AfterSeparator G fold shape p s left zero a empty_round empty_round zero
-    separator_ok : {fold : Fold} {shape : Shape} {p s k m n : ℕ} {left v : List Tree} {a b : Spot} {c : Bool} {t : List TrailItem} {e : Error} {x o : Outcome} →
-        Answers G p b x m → AfterOperand G fold shape p s left k a c v t e x o n → AfterSeparator G fold shape p s left k a (ok c b v t e) o (m + n)
+  pub data AfterSeparator (G : Given) : Side → Shape → ℕ → ℕ → List Tree → ℕ → Spot → Outcome → Outcome → ℕ → Type 0 where
+    separator_failed : {side : Side} {shape : Shape} {p s : ℕ} {left : List Tree} {a : Spot} {c : Bool} {e : Error} →
+        AfterSeparator G side shape p s left zero a (failed c e) (unless_begun c a left e) zero
+    separator_stuck : {side : Side} {shape : Shape} {p s : ℕ} {left : List Tree} {a : Spot} →
+        AfterSeparator G side shape p s left zero a empty_round empty_round zero
+    separator_ok : {side : Side} {shape : Shape} {p s k m n : ℕ} {left v : List Tree} {a b : Spot} {c : Bool} {t : List TrailItem} {e : Error} {x o : Outcome} →
+        Answers G p b x m → AfterOperand G side shape p s left k a c v t e x o n → AfterSeparator G side shape p s left k a (ok c b v t e) o (m + n)
 
   -- what becomes of an operand's outcome, behind a separator that was ok: a link that consumes nothing has no outcome
-  pub data AfterOperand (G : Given) : Fold → Shape → ℕ → ℕ → List Tree → ℕ → Spot → Bool → List Tree → List TrailItem → Error → Outcome → Outcome → ℕ → Type 0 where
-    operand_failed : {fold : Fold} {shape : Shape} {p s : ℕ} {left v : List Tree} {a : Spot} {c d : Bool} {t : List TrailItem} {e f : Error} →
-        AfterOperand G fold shape p s left zero a c v t e (failed d f) (unless_begun (c || d) a left (error_behind d e f)) zero
-    operand_stuck : {fold : Fold} {shape : Shape} {p s : ℕ} {left v : List Tree} {a : Spot} {c : Bool} {t : List TrailItem} {e : Error} →
-        AfterOperand G fold shape p s left zero a c v t e empty_round empty_round zero
-    operand_ok : {fold : Fold} {shape : Shape} {p s k m : ℕ} {left v w : List Tree} {a b : Spot} {c d : Bool} {t u : List TrailItem} {e f : Error} {o : Outcome} →
-        (c || d) ≡ true → AnswersLinks G fold shape p s (carried fold shape left v w) k b o m →
-        AfterOperand G fold shape p s left (suc k) a c v t e (ok d b w u f)
-        (then_rest c [] t e (then_rest d [] u f (as_finished fold shape left v o))) m
+  pub data AfterOperand (G : Given) : Side → Shape → ℕ → ℕ → List Tree → ℕ → Spot → Bool → List Tree → List TrailItem → Error → Outcome → Outcome → ℕ → Type 0 where
+    operand_failed : {side : Side} {shape : Shape} {p s : ℕ} {left v : List Tree} {a : Spot} {c d : Bool} {t : List TrailItem} {e f : Error} →
+        AfterOperand G side shape p s left zero a c v t e (failed d f) (unless_begun (c || d) a left (error_behind d e f)) zero
+    operand_stuck : {side : Side} {shape : Shape} {p s : ℕ} {left v : List Tree} {a : Spot} {c : Bool} {t : List TrailItem} {e : Error} →
+        AfterOperand G side shape p s left zero a c v t e empty_round empty_round zero
+    operand_ok : {side : Side} {shape : Shape} {p s k m : ℕ} {left v w : List Tree} {a b : Spot} {c d : Bool} {t u : List TrailItem} {e f : Error} {o : Outcome} →
+        (c || d) ≡ true → AnswersLinks G side shape p s (carried side shape left v w) k b o m →
+        AfterOperand G side shape p s left (suc k) a c v t e (ok d b w u f)
+        (then_rest c [] t e (then_rest d [] u f (as_finished side shape left v o))) m
 
 -- the start rule, run at the start of the text under a table, has this outcome
 pub record AnswersStart (G : Given) (table : Table) (o : Outcome) (m : ℕ) : Type 0 where

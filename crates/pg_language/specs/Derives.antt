@@ -1,7 +1,8 @@
 -- What the nodes of a grammar derive, in no order of trying.
 use Rattle.std.specs.Prelude.{◌≡◌, ◌+◌, ◌-◌, ℕ, zero, suc, List, [], ◌∷◌, ◌++◌, Some, length, slice_get, take, drop, codes}
 use Rattle.std.specs.Str.{encode_utf8_all}
-use Rattle.pg_tree.specs.Trees.{Tree, leaf, node, kids_of}
+use Rattle.pg_tree.specs.Trees.{Tree, node, kids_of}
+use Rattle.pg_tree.specs.Trees as trees
 use Rattle.pg_tree.specs.Built.{built}
 use Rattle.pg_tree.specs.declared.shape.Shape.{Shape}
 use Rattle.pg_grammar.specs.Grammar.{Grammar}
@@ -9,8 +10,14 @@ use Rattle.pg_grammar.specs.Operators.{Operator}
 use Rattle.pg_grammar.specs.declared.class.ClassPart.{ClassPart}
 use Rattle.pg_grammar.specs.declared.used.BuilderUse.{BuilderUse}
 use Rattle.pg_grammar.specs.declared.used.OperatorBuilders.{OperatorBuilders}
-use Rattle.pg_grammar.specs.declared.form.Node.{Node}
-use Rattle.pg_grammar.specs.declared.form.Node.TheVariants as form
+use Rattle.pg_grammar.specs.Forms.{Node}
+use Rattle.pg_grammar.specs.declared.form.Form.TheVariants as form
+use Rattle.pg_grammar.specs.declared.form.Leaf.TheVariants as read
+use Rattle.pg_grammar.specs.declared.form.Leaf.{Leaf}
+use Rattle.pg_grammar.specs.declared.form.Around.{Around}
+use Rattle.pg_grammar.specs.declared.form.Around.TheVariants as kind
+use Rattle.pg_grammar.specs.declared.side.Side.{Side}
+use Rattle.pg_grammar.specs.declared.side.Side.TheVariants.{Left, Right}
 use Rattle.pg_grammar.specs.declared.grammar.Rule as declared
 use Rattle.pg_grammar.specs.declared.operators_item.OperatorsItem.{OperatorsItem}
 use Rattle.pg_grammar.specs.declared.word_item.WordItem.{WordItem}
@@ -38,7 +45,7 @@ behind spot n = at spot (spot.place + n)
 
 -- the leaf of these characters
 abbrev pub leaf_of : List ℕ → Tree
-leaf_of characters = leaf (encode_utf8_all characters)
+leaf_of characters = trees.leaf (encode_utf8_all characters)
 
 -- the characters between two places
 abbrev pub span : List ℕ → ℕ → ℕ → List ℕ
@@ -52,19 +59,54 @@ declaration_tree d = node (codes "declare") (kids_of (leaf_of (keyword d.role) �
 abbrev pub Link : Type 0
 Link = List Tree × List Tree
 
--- the forest of a chain from its first operand's: each round makes one tree of what is there, the separator and the operand
-abbrev pub folded_left : Shape → List Tree → List Link → List Tree
-folded_left shape first [] = first
-folded_left shape first (link ∷ links) = folded_left shape (built shape [] (first ++ link.0 ++ link.1) ∷ []) links
+-- the forest on the left of the next round, after a forest, a separator and an operand: from the left they make one tree
+abbrev pub carried : Side → Shape → List Tree → List Tree → List Tree → List Tree
+carried Left shape x s y = built shape [] (x ++ s ++ y) ∷ []
+carried Right shape x s y = y
 
--- the same from the right: each round makes one tree of the operand before it, the separator, and all that follows
-abbrev pub folded_right : Shape → List Tree → List Link → List Tree
-folded_right shape first [] = first
-folded_right shape first (link ∷ links) = built shape [] (first ++ link.0 ++ folded_right shape link.1 links) ∷ []
+-- the forest of the chain after a forest and a separator, where what follows has this forest: from the right they make one tree
+abbrev pub finished : Side → Shape → List Tree → List Tree → List Tree → List Tree
+finished Left shape x s z = z
+finished Right shape x s z = built shape [] (x ++ s ++ z) ∷ []
+
+-- the forest of a chain from its first operand's and its rounds
+abbrev pub folded : Side → Shape → List Tree → List Link → List Tree
+folded side shape x [] = x
+folded side shape x (link ∷ links) = finished side shape x link.0 (folded side shape (carried side shape x link.0 link.1) links)
 
 -- the forest of an operator with its operands
 abbrev pub applied : BuilderUse → Operator → List Tree → List Tree
 applied used o operands = built used.shape (encode_utf8_all o.symbol) operands ∷ []
+
+-- the forest of a form around a part, from the text, the places before and after the part, and the part's forest
+abbrev pub made_by : Around → List ℕ → ℕ → ℕ → List Tree → List Tree
+made_by kind.Try text from to forest = forest
+made_by kind.Text text from to forest = leaf_of (span text from to) ∷ []
+made_by kind.Skip text from to forest = []
+made_by (kind.Build used symbol) text from to forest = built used.shape symbol forest ∷ []
+made_by (kind.Label message) text from to forest = forest
+
+-- ---- leaves
+
+-- the leaf spans the text from one spot to the other, with this forest
+pub data Reads (g : Grammar) (text : List ℕ) : Leaf ℕ → Spot → Spot → List Tree → Type 0 where
+  -- one character of the class
+  satisfy : {class : List ClassPart} {a : Spot} (has : HasAt g text class a.place) →
+      Reads g text (read.Satisfy class) a (behind a 1) (leaf_of (has.character ∷ []) ∷ [])
+  -- the characters
+  string : {characters : List ℕ} {a : Spot} → StandsAt text a.place characters →
+      Reads g text (read.String characters) a (behind a (length characters)) (leaf_of characters ∷ [])
+  -- a word of the item
+  word : {w : ℕ} {item : WordItem} {s : List ℕ} {a : Spot} → slice_get g.words w ≡ Some item → IsWordAt g text item a.place s →
+      Reads g text (read.Word w) a (behind a (length s)) (leaf_of s ∷ [])
+  -- no character of the class comes next
+  not_followed_by : {class : List ClassPart} {a : Spot} → (HasAt g text class a.place → ⊥) → Reads g text (read.NotFollowedBy class) a a []
+  -- the end of the text
+  end_of_text : {a : Spot} → a.place ≡ length text → Reads g text read.EndOfText a a []
+  -- a declaration that the table admits
+  declare : {class : List ClassPart} {item : OperatorsItem} {d : Operator} {j : ℕ} {a : Spot} →
+      g.operators ≡ Some item → IsDeclarationAt g text item class d a.place j → Admits a.table d →
+      Reads g text (read.Declare class) a (record { place = j; table = with_operator a.table d }) (declaration_tree d ∷ [])
 
 -- ---- derivations
 
@@ -76,19 +118,8 @@ mutual
 
   -- the same, of what stands at a node
   pub data DerivesForm (g : Grammar) (text : List ℕ) : Node → Spot → Spot → List Tree → List TrailItem → Type 0 where
-    -- one character of the class
-    satisfy : {class : List ClassPart} {a : Spot} (has : HasAt g text class a.place) →
-        DerivesForm g text (form.Satisfy class) a (behind a 1) (leaf_of (has.character ∷ []) ∷ []) []
-    -- the characters
-    string : {characters : List ℕ} {a : Spot} → StandsAt text a.place characters →
-        DerivesForm g text (form.String characters) a (behind a (length characters)) (leaf_of characters ∷ []) []
-    -- a word of the item
-    word : {w : ℕ} {item : WordItem} {s : List ℕ} {a : Spot} → slice_get g.words w ≡ Some item → IsWordAt g text item a.place s →
-        DerivesForm g text (form.Word w) a (behind a (length s)) (leaf_of s ∷ []) []
-    -- no character of the class comes next
-    not_followed_by : {class : List ClassPart} {a : Spot} → (HasAt g text class a.place → ⊥) → DerivesForm g text (form.NotFollowedBy class) a a [] []
-    -- the end of the text
-    end_of_text : {a : Spot} → a.place ≡ length text → DerivesForm g text form.EndOfText a a [] []
+    -- what the leaf reads
+    leaf : {l : Leaf ℕ} {a b : Spot} {forest : List Tree} → Reads g text l a b forest → DerivesForm g text (form.Leaf l) a b forest []
     -- the parts
     seq : {parts : List ℕ} {a b : Spot} {forest : List Tree} {trail : List TrailItem} → DerivesParts g text parts a b forest trail →
         DerivesForm g text (form.Seq parts) a b forest trail
@@ -99,37 +130,19 @@ mutual
     many : {p n : ℕ} {a b : Spot} {forest : List Tree} {trail : List TrailItem} → DerivesRounds g text p n a b forest trail →
         DerivesForm g text (form.Many p) a b forest (Rounds n ∷ trail)
     -- an operand, and then some separators and operands
-    chain_left : {used : BuilderUse} {p s n : ℕ} {a b c : Spot} {first : List Tree} {links : List Link} {trail items : List TrailItem} →
+    chain : {side : Side} {used : BuilderUse} {p s n : ℕ} {a b c : Spot} {first : List Tree} {links : List Link} {trail items : List TrailItem} →
         Derives g text p a b first trail → DerivesLinks g text p s n b c links items →
-        DerivesForm g text (form.ChainLeft used p s) a c (folded_left used.shape first links) (Rounds n ∷ (trail ++ items))
-    chain_right : {used : BuilderUse} {p s n : ℕ} {a b c : Spot} {first : List Tree} {links : List Link} {trail items : List TrailItem} →
-        Derives g text p a b first trail → DerivesLinks g text p s n b c links items →
-        DerivesForm g text (form.ChainRight used p s) a c (folded_right used.shape first links) (Rounds n ∷ (trail ++ items))
-    -- the part
-    try : {p : ℕ} {a b : Spot} {forest : List Tree} {trail : List TrailItem} → Derives g text p a b forest trail →
-        DerivesForm g text (form.Try p) a b forest trail
-    label : {p : ℕ} {message : List ℕ} {a b : Spot} {forest : List Tree} {trail : List TrailItem} → Derives g text p a b forest trail →
-        DerivesForm g text (form.Label p message) a b forest trail
+        DerivesForm g text (form.Chain side used p s) a c (folded side used.shape first links) (Rounds n ∷ (trail ++ items))
     -- the rule's body
     rule : {r : ℕ} {named : declared.Rule} {a b : Spot} {forest : List Tree} {trail : List TrailItem} → slice_get g.rules r ≡ Some named →
         Derives g text named.body a b forest trail → DerivesForm g text (form.Rule r) a b forest trail
-    -- the part, with a leaf of the text that it spans
-    text : {p : ℕ} {a b : Spot} {forest : List Tree} {trail : List TrailItem} → Derives g text p a b forest trail →
-        DerivesForm g text (form.Text p) a b (leaf_of (span text a.place b.place) ∷ []) trail
-    -- the part, without its forest
-    skip : {p : ℕ} {a b : Spot} {forest : List Tree} {trail : List TrailItem} → Derives g text p a b forest trail →
-        DerivesForm g text (form.Skip p) a b [] trail
-    -- the part, with the tree that the builder's shape makes of its forest
-    build : {used : BuilderUse} {symbol : List ℕ} {p : ℕ} {a b : Spot} {forest : List Tree} {trail : List TrailItem} → Derives g text p a b forest trail →
-        DerivesForm g text (form.Build used symbol p) a b (built used.shape symbol forest ∷ []) trail
     -- a tree that fits the table in force, whose operators and terms are read from left to right
     expression : {builders : OperatorBuilders} {item : OperatorsItem} {p : ℕ} {x : Expression} {a b : Spot} {forest : List Tree} {trail : List TrailItem} →
         g.operators ≡ Some item → Fits a.table.operators x → DerivesExpression g text item builders p x a b forest trail →
         DerivesForm g text (form.Expression builders p) a b forest (Ops (operators_read x) ∷ trail)
-    -- a declaration that the table admits
-    declare : {class : List ClassPart} {item : OperatorsItem} {d : Operator} {j : ℕ} {a : Spot} →
-        g.operators ≡ Some item → IsDeclarationAt g text item class d a.place j → Admits a.table d →
-        DerivesForm g text (form.Declare class) a (record { place = j; table = with_operator a.table d }) (declaration_tree d ∷ []) []
+    -- the part, with what is made of its forest
+    around : {k : Around} {p : ℕ} {a b : Spot} {forest : List Tree} {trail : List TrailItem} → Derives g text p a b forest trail →
+        DerivesForm g text (form.Around k p) a b (made_by k text a.place b.place forest) trail
 
   -- the parts span adjoining stretches, the table passes from each to the next, and the forests are joined
   pub data DerivesParts (g : Grammar) (text : List ℕ) : List ℕ → Spot → Spot → List Tree → List TrailItem → Type 0 where

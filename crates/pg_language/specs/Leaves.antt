@@ -6,6 +6,8 @@ use Rattle.pg_grammar.specs.ClassItems.{has_character}
 use Rattle.pg_grammar.specs.Grammar.{Grammar}
 use Rattle.pg_grammar.specs.declared.class.ClassPart.{ClassPart}
 use Rattle.pg_grammar.specs.declared.word_item.WordItem.{WordItem}
+use Rattle.pg_grammar.specs.declared.form.Leaf.{Leaf}
+use Rattle.pg_grammar.specs.declared.form.Leaf.TheVariants as leaf
 use Rattle.pg_language.specs.Derives.{Spot, behind, leaf_of}
 use Rattle.pg_language.specs.Runs.{run_at}
 use Rattle.pg_language.specs.Errors.{quote, seen_at, nothing_said, stopped_by, stopped_before, refused, refused_before}
@@ -69,3 +71,19 @@ abbrev pub end_outcome : List ℕ → Spot → Outcome
 end_outcome text a = if a.place == length text
     then ok false a [] [] (stopped_before (codes "end of input") [] a.place)
     else failed false (refused_before (codes "end of input") (seen_at text a.place) a.place)
+
+-- ---- by the leaf
+
+-- a word of the item, if it is there
+abbrev pub some_word_outcome : Grammar → List ℕ → Spot → Option WordItem → Option Outcome
+some_word_outcome g text a None = None
+some_word_outcome g text a (Some item) = Some (word_outcome g text item a)
+
+-- what a leaf answers; declarations have no answer yet
+abbrev pub leaf_outcome : Grammar → List ℕ → Leaf ℕ → Spot → Option Outcome
+leaf_outcome g text (leaf.Satisfy class) a = Some (satisfy_outcome g text class a)
+leaf_outcome g text (leaf.String s) a = Some (string_outcome text s a)
+leaf_outcome g text (leaf.Word w) a = some_word_outcome g text a (slice_get g.words w)
+leaf_outcome g text (leaf.NotFollowedBy class) a = Some (not_followed_outcome g text class a)
+leaf_outcome g text leaf.EndOfText a = Some (end_outcome text a)
+leaf_outcome g text (leaf.Declare class) a = None

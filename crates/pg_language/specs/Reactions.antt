@@ -3,14 +3,14 @@ use Rattle.std.specs.Prelude.{ℕ, List, [], ◌∷◌, ◌++◌, Bool, true, fa
 use Rattle.std.specs.Str.{encode_utf8_all}
 use Rattle.pg_message.specs.declared.answer.AnswerKind.{AnswerKind}
 use Rattle.pg_message.specs.declared.answer.AnswerKind.TheVariants.{ConsumedOk, ConsumedError, EmptyOk, EmptyError}
-use Rattle.pg_tree.specs.Built.{built}
 use Rattle.pg_tree.specs.Trees.{Tree}
 use Rattle.pg_tree.specs.declared.shape.Shape.{Shape}
-use Rattle.pg_language.specs.Derives.{Spot, leaf_of, span}
+use Rattle.pg_language.specs.Derives.{Spot, finished, made_by}
+use Rattle.pg_grammar.specs.declared.form.Around.{Around}
+use Rattle.pg_grammar.specs.declared.form.Around.TheVariants as kind
+use Rattle.pg_grammar.specs.declared.side.Side.{Side}
 use Rattle.pg_grammar.specs.declared.trail.TrailItem.{TrailItem}
 use Rattle.pg_language.specs.Errors.{Error, merge, relabel, nothing_said}
-use Rattle.pg_language.specs.declared.fold.Fold.{Fold}
-use Rattle.pg_language.specs.declared.fold.Fold.TheVariants.{FromLeft, FromRight}
 use Rattle.pg_language.specs.Outcomes.{Outcome, ok, failed, empty_round}
 
 -- the error behind one of before: alone where something was consumed since, else merged with it
@@ -56,12 +56,6 @@ unless_consumed b v t e empty_round = empty_round
 
 -- ---- forms around one part
 
--- a failure counts as if nothing had been consumed
-abbrev pub tried : Outcome → Outcome
-tried (ok c b v t e) = ok c b v t e
-tried (failed c e) = failed false e
-tried empty_round = empty_round
-
 abbrev pub ok_kind : Bool → AnswerKind
 ok_kind true = ConsumedOk
 ok_kind false = EmptyOk
@@ -70,45 +64,35 @@ abbrev pub error_kind : Bool → AnswerKind
 error_kind true = ConsumedError
 error_kind false = EmptyError
 
--- the message, a list of characters, is what was expected where nothing was consumed
-abbrev pub with_label : List ℕ → Outcome → Outcome
-with_label message (ok c b v t e) = ok c b v t (relabel (ok_kind c) (encode_utf8_all message) e)
-with_label message (failed c e) = failed c (relabel (error_kind c) (encode_utf8_all message) e)
-with_label message empty_round = empty_round
+-- whether the form's failure counts as consumed, where the part's does so or not
+abbrev pub counted_by : Around → Bool → Bool
+counted_by kind.Try c = false
+counted_by kind.Text c = c
+counted_by kind.Skip c = c
+counted_by (kind.Build used symbol) c = c
+counted_by (kind.Label message) c = c
 
--- the forest is made anew of itself and of the spot where it ends
-abbrev pub with_forest : (Spot → List Tree → List Tree) → Outcome → Outcome
-with_forest made (ok c b v t e) = ok c b (made b v) t e
-with_forest made (failed c e) = failed c e
-with_forest made empty_round = empty_round
+-- the form's error, from how the part answered and the part's error
+abbrev pub said_by : Around → AnswerKind → Error → Error
+said_by kind.Try answer e = e
+said_by kind.Text answer e = e
+said_by kind.Skip answer e = e
+said_by (kind.Build used symbol) answer e = e
+said_by (kind.Label message) answer e = relabel answer (encode_utf8_all message) e
 
--- a leaf of the text from a spot on
-abbrev pub as_text : List ℕ → Spot → Outcome → Outcome
-as_text text a = with_forest (λ b v. leaf_of (span text a.place b.place) ∷ [])
-
--- no trees
-abbrev pub skipped : Outcome → Outcome
-skipped = with_forest (λ b v. [])
-
--- one tree
-abbrev pub as_tree : Shape → List ℕ → Outcome → Outcome
-as_tree shape symbol = with_forest (λ b v. built shape symbol v ∷ [])
+-- what a form around a part answers at a spot of the text, where the part answers so
+abbrev pub surrounded : Around → List ℕ → Spot → Outcome → Outcome
+surrounded k text a (ok c b v t e) = ok c b (made_by k text a.place b.place v) t (said_by k (ok_kind c) e)
+surrounded k text a (failed c e) = failed (counted_by k c) (said_by k (error_kind c) e)
+surrounded k text a empty_round = empty_round
 
 -- ---- chains
 
--- the forest on the left of the next round, behind a forest, a separator and an operand
-abbrev pub carried : Fold → Shape → List Tree → List Tree → List Tree → List Tree
-carried FromLeft shape x s y = built shape [] (x ++ s ++ y) ∷ []
-carried FromRight shape x s y = y
-
--- the forest of the chain behind a forest and a separator, where what follows has this forest
-abbrev pub finished : Fold → Shape → List Tree → List Tree → List Tree → List Tree
-finished FromLeft shape x s z = z
-finished FromRight shape x s z = built shape [] (x ++ s ++ z) ∷ []
-
--- the same of an outcome
-abbrev pub as_finished : Fold → Shape → List Tree → List Tree → Outcome → Outcome
-as_finished fold shape x s = with_forest (λ b z. finished fold shape x s z)
+-- the outcome, with its forest put after a forest and a separator
+abbrev pub as_finished : Side → Shape → List Tree → List Tree → Outcome → Outcome
+as_finished side shape x s (ok c b z t e) = ok c b (finished side shape x s z) t e
+as_finished side shape x s (failed c e) = failed c e
+as_finished side shape x s empty_round = empty_round
 
 -- a round failed: the chain ends before it with its forest, or fails where the round had consumed
 abbrev pub unless_begun : Bool → Spot → List Tree → Error → Outcome

@@ -8,10 +8,8 @@
 //! about it. Nothing here knows of sets, checks or machines.
 #![tactic(auto)]
 
-mod fold;
 mod laws;
 mod reading;
 
-pub use fold::Fold;
 pub use laws::{derivations_lead_on, tables_come_from_grammar};
 pub use reading::Reading;

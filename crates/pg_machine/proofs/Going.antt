@@ -4,11 +4,10 @@ use Rattle.std.specs.Prelude.{Option, Some, None, slice_get, option_map, if◌th
 use Rattle.pg_tree.specs.Trees.{Tree}
 use Rattle.pg_pred.specs.Offer.{Offer}
 use Rattle.pg_grammar.specs.Fits.{Fits}
-use Rattle.pg_grammar.specs.Forms.{parts_of, node_part_count, InPreorder}
+use Rattle.pg_grammar.specs.Forms.{Node, parts_of, node_part_count, InPreorder}
 use Rattle.pg_grammar.specs.Grammar.{rule_body}
 use Rattle.pg_grammar.specs.Preorder.{roots}
-use Rattle.pg_grammar.specs.declared.form.Node.{Node}
-use Rattle.pg_grammar.specs.declared.form.Node.TheVariants as form
+use Rattle.pg_grammar.specs.declared.form.Form.TheVariants as form
 use Rattle.pg_grammar.specs.declared.grammar.Rule as declared
 use Rattle.pg_grammar.specs.declared.trail.TrailItem.{TrailItem}
 use Rattle.pg_table.specs.Tables.{Table, ComesFrom}

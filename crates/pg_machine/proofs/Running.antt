@@ -17,7 +17,7 @@ use Rattle.pg_language.proofs.Sound.{sound}
 use Rattle.pg_turns.specs.Frames.{Frame}
 use Rattle.pg_turns.specs.Messages.{Said, error_of}
 use Rattle.pg_machine.specs.Outcomes.{outcome_of, IsDerived, IsOutcome, answer_on, IsStuck, IsUnanswered, Ends}
-use Rattle.pg_turns.specs.Shows.{no_frames, stands_parts, stands_choice, stands_rounds, stands_first, stands_separator, stands_operand, stands_try, stands_label, stands_rule, stands_text, stands_skip, stands_build, Shows, shows_at, shows_fine, shows_failed, shows_stuck, shows_endless}
+use Rattle.pg_turns.specs.Shows.{no_frames, stands_parts, Shows, shows_at, shows_fine, shows_failed, shows_stuck, shows_endless}
 use Rattle.pg_turns.specs.Tape.{spot_at, OnFrame, Tape, tape_at, tape_turn, tape_is_last}
 use Rattle.pg_turns.specs.Ready.{IsTapeReady}
 use Rattle.pg_turns.specs.Turns.{State, at_node, with_outcome, endless, turn, is_last}
@@ -102,29 +102,9 @@ answer_shown {o = o} (shows_failed {c = c} w u no_frames s d) e =
     let g : outcome.failed c _ ≡ o = cc in
     ap (λ (o : Outcome). with_outcome o []) g
 answer_shown (shows_fine (stands_parts h k) s d) e = absurd (no_answer e)
-answer_shown (shows_fine (stands_choice h k) s d) e = absurd (no_answer e)
-answer_shown (shows_fine (stands_rounds item h l) s d) e = absurd (no_answer e)
-answer_shown (shows_fine (stands_first item h) s d) e = absurd (no_answer e)
-answer_shown (shows_fine (stands_separator h k) s d) e = absurd (no_answer e)
-answer_shown (shows_fine (stands_operand h k m l) s d) e = absurd (no_answer e)
-answer_shown (shows_fine (stands_try h) s d) e = absurd (no_answer e)
-answer_shown (shows_fine (stands_label h) s d) e = absurd (no_answer e)
-answer_shown (shows_fine (stands_rule h) s d) e = absurd (no_answer e)
-answer_shown (shows_fine (stands_text h) s d) e = absurd (no_answer e)
-answer_shown (shows_fine (stands_skip h) s d) e = absurd (no_answer e)
-answer_shown (shows_fine (stands_build h) s d) e = absurd (no_answer e)
+answer_shown (shows_fine _ s d) e = absurd (no_answer e)
 answer_shown (shows_failed w u (stands_parts h k) s d) e = absurd (no_answer e)
-answer_shown (shows_failed w u (stands_choice h k) s d) e = absurd (no_answer e)
-answer_shown (shows_failed w u (stands_rounds item h l) s d) e = absurd (no_answer e)
-answer_shown (shows_failed w u (stands_first item h) s d) e = absurd (no_answer e)
-answer_shown (shows_failed w u (stands_separator h k) s d) e = absurd (no_answer e)
-answer_shown (shows_failed w u (stands_operand h k m l) s d) e = absurd (no_answer e)
-answer_shown (shows_failed w u (stands_try h) s d) e = absurd (no_answer e)
-answer_shown (shows_failed w u (stands_label h) s d) e = absurd (no_answer e)
-answer_shown (shows_failed w u (stands_rule h) s d) e = absurd (no_answer e)
-answer_shown (shows_failed w u (stands_text h) s d) e = absurd (no_answer e)
-answer_shown (shows_failed w u (stands_skip h) s d) e = absurd (no_answer e)
-answer_shown (shows_failed w u (stands_build h) s d) e = absurd (no_answer e)
+answer_shown (shows_failed w u _ s d) e = absurd (no_answer e)
 answer_shown shows_stuck e = absurd (no_answer e)
 answer_shown shows_endless e = absurd (no_answer e)
 
@@ -146,29 +126,9 @@ endless_shown (shows_at h) e l = cc
 endless_shown (shows_fine no_frames s d) e l = absurd e
 endless_shown (shows_failed w u no_frames s d) e l = absurd e
 endless_shown (shows_fine (stands_parts h k) s d) e l = cc
-endless_shown (shows_fine (stands_choice h k) s d) e l = cc
-endless_shown (shows_fine (stands_rounds item h b) s d) e l = cc
-endless_shown (shows_fine (stands_first item h) s d) e l = cc
-endless_shown (shows_fine (stands_separator h k) s d) e l = cc
-endless_shown (shows_fine (stands_operand h k m b) s d) e l = cc
-endless_shown (shows_fine (stands_try h) s d) e l = cc
-endless_shown (shows_fine (stands_label h) s d) e l = cc
-endless_shown (shows_fine (stands_rule h) s d) e l = cc
-endless_shown (shows_fine (stands_text h) s d) e l = cc
-endless_shown (shows_fine (stands_skip h) s d) e l = cc
-endless_shown (shows_fine (stands_build h) s d) e l = cc
+endless_shown (shows_fine _ s d) e l = cc
 endless_shown (shows_failed w u (stands_parts h k) s d) e l = cc
-endless_shown (shows_failed w u (stands_choice h k) s d) e l = cc
-endless_shown (shows_failed w u (stands_rounds item h b) s d) e l = cc
-endless_shown (shows_failed w u (stands_first item h) s d) e l = cc
-endless_shown (shows_failed w u (stands_separator h k) s d) e l = cc
-endless_shown (shows_failed w u (stands_operand h k m b) s d) e l = cc
-endless_shown (shows_failed w u (stands_try h) s d) e l = cc
-endless_shown (shows_failed w u (stands_label h) s d) e l = cc
-endless_shown (shows_failed w u (stands_rule h) s d) e l = cc
-endless_shown (shows_failed w u (stands_text h) s d) e l = cc
-endless_shown (shows_failed w u (stands_skip h) s d) e l = cc
-endless_shown (shows_failed w u (stands_build h) s d) e l = cc
+endless_shown (shows_failed w u _ s d) e l = cc
 endless_shown shows_stuck e l = absurd e
 endless_shown shows_endless e l = refl
 

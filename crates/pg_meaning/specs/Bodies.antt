@@ -6,7 +6,9 @@ use Rattle.pg_pred.specs.Offer.{Offer}
 use Rattle.pg_grammar.specs.Names.{Name}
 use Rattle.pg_grammar.specs.declared.class.ClassPart.{ClassPart}
 use Rattle.pg_grammar.specs.declared.class.ClassPart.TheVariants as class
-use Rattle.pg_grammar.specs.declared.form.BaseForm.TheVariants as base
+use Rattle.pg_grammar.specs.declared.form.Form.TheVariants as form
+use Rattle.pg_grammar.specs.declared.form.Leaf.TheVariants as leaf
+use Rattle.pg_grammar.specs.declared.form.Around.TheVariants as around
 use Rattle.pg_meaning.specs.declared.body.PlacedBase.{PlacedBase}
 use Rattle.pg_items.specs.declared.written.WrittenPart.{WrittenPart}
 use Rattle.pg_items.specs.declared.written.WrittenPart.TheVariants as part
@@ -38,19 +40,19 @@ body_at (suc k) (body ∷ bodies) = body_at k bodies
 -- the body of a form with these parts
 abbrev pub body_of_form : Offer → List Name → WrittenForm → List Body → Body
 body_of_form offer classes (written.OfClass form parts) bodies = class_of form (parts_meant offer classes parts) ∷ []
-body_of_form offer classes (written.String s) bodies = base.String s ∷ []
+body_of_form offer classes (written.String s) bodies = form.Leaf (leaf.String s) ∷ []
 body_of_form offer classes (written.Seq n) bodies = seq_of bodies
 body_of_form offer classes (written.OfSome form n) bodies = some_of form bodies
 body_of_form offer classes (written.OfOne form) bodies = one_of form (body_at 0 bodies)
 body_of_form offer classes (written.OfTwo form) bodies = two_of form (body_at 0 bodies) (body_at 1 bodies)
 body_of_form offer classes written.Between bodies = between_of (body_at 0 bodies) (body_at 1 bodies) (body_at 2 bodies)
 body_of_form offer classes (written.Chain form builder) bodies = chain_of form (builder_named offer builder) ∷ (body_at 0 bodies ++ body_at 1 bodies)
-body_of_form offer classes (written.Expression infixes prefixes postfixes) bodies = base.Expression (builders_named offer infixes prefixes postfixes) ∷ body_at 0 bodies
-body_of_form offer classes (written.Build builder symbol) bodies = base.Build (builder_named offer builder) (encode_utf8_all symbol) ∷ body_at 0 bodies
-body_of_form offer classes (written.Label message) bodies = base.Label message ∷ body_at 0 bodies
-body_of_form offer classes written.EndOfText bodies = base.EndOfText ∷ []
-body_of_form offer classes (written.Word s) bodies = base.Word s ∷ []
-body_of_form offer classes (written.Rule s) bodies = base.Rule s ∷ []
+body_of_form offer classes (written.Expression infixes prefixes postfixes) bodies = form.Expression (builders_named offer infixes prefixes postfixes) (record {}) ∷ body_at 0 bodies
+body_of_form offer classes (written.Build builder symbol) bodies = form.Around (around.Build (builder_named offer builder) (encode_utf8_all symbol)) (record {}) ∷ body_at 0 bodies
+body_of_form offer classes (written.Label message) bodies = form.Around (around.Label message) (record {}) ∷ body_at 0 bodies
+body_of_form offer classes written.EndOfText bodies = form.Leaf leaf.EndOfText ∷ []
+body_of_form offer classes (written.Word s) bodies = form.Leaf (leaf.Word s) ∷ []
+body_of_form offer classes (written.Rule s) bodies = form.Rule s ∷ []
 
 -- the bodies that forms stand for, from left to right
 abbrev pub bodies : Offer → List Name → List WrittenForm → List Body

@@ -6,8 +6,12 @@ use Rattle.pg_pred.specs.Offer.{Offer}
 use Rattle.pg_grammar.specs.Names as names
 use Rattle.pg_grammar.specs.declared.class.ClassPart.{ClassPart}
 use Rattle.pg_grammar.specs.declared.class.ClassPart.TheVariants as part
-use Rattle.pg_grammar.specs.declared.form.BaseForm.{BaseForm}
-use Rattle.pg_grammar.specs.declared.form.BaseForm.TheVariants as base
+use Rattle.pg_grammar.specs.Forms.{BaseForm}
+use Rattle.pg_grammar.specs.declared.form.Form.TheVariants as form
+use Rattle.pg_grammar.specs.declared.form.Leaf.TheVariants as leaf
+use Rattle.pg_grammar.specs.declared.form.Around.TheVariants as around
+use Rattle.pg_grammar.specs.declared.side.Side.{Side}
+use Rattle.pg_grammar.specs.declared.side.Side.TheVariants as side
 use Rattle.pg_grammar.specs.declared.used.BuilderUse.{BuilderUse}
 use Rattle.pg_grammar.specs.declared.used.OperatorBuilders.{OperatorBuilders}
 use Rattle.pg_items.specs.declared.words.ClassForm.{ClassForm}
@@ -58,17 +62,17 @@ abbrev mutual
 
 -- the bodies, one after another
 abbrev pub seq_of : List Body → Body
-seq_of bodies = base.Seq (length bodies) ∷ joined bodies
+seq_of bodies = form.Seq (length bodies) ∷ joined bodies
 
 -- one of the bodies
 abbrev pub choice_of : List Body → Body
-choice_of bodies = base.Choice (length bodies) ∷ joined bodies
+choice_of bodies = form.Choice (length bodies) ∷ joined bodies
 
 -- one body, or several one after another, all or nothing
 abbrev pub try_of : List Body → Body
-try_of [] = base.Try ∷ seq_of []
-try_of (body ∷ []) = base.Try ∷ body
-try_of (body ∷ other ∷ bodies) = base.Try ∷ seq_of (body ∷ other ∷ bodies)
+try_of [] = form.Around around.Try (record {}) ∷ seq_of []
+try_of (body ∷ []) = form.Around around.Try (record {}) ∷ body
+try_of (body ∷ other ∷ bodies) = form.Around around.Try (record {}) ∷ seq_of (body ∷ other ∷ bodies)
 
 abbrev pub some_of : SomeForm → List Body → Body
 some_of some_form.Choice bodies = choice_of bodies
@@ -76,11 +80,11 @@ some_of some_form.Try bodies = try_of bodies
 
 -- a body without its trees
 abbrev pub skipped : Body → Body
-skipped body = base.Skip ∷ body
+skipped body = form.Around around.Skip (record {}) ∷ body
 
 -- a body as often as it succeeds
 abbrev pub repeated : Body → Body
-repeated body = base.Many ∷ body
+repeated body = form.Many (record {}) ∷ body
 
 -- a body or nothing
 abbrev pub optional : Body → Body
@@ -94,7 +98,7 @@ abbrev pub one_of : OneForm → Body → Body
 one_of one_form.Many body = repeated body
 one_of one_form.Many1 body = seq_of (body ∷ repeated body ∷ [])
 one_of one_form.Option body = optional body
-one_of one_form.Text body = base.Text ∷ body
+one_of one_form.Text body = form.Around around.Text (record {}) ∷ body
 one_of one_form.Skip body = skipped body
 
 abbrev pub two_of : TwoForm → Body → Body → Body
@@ -106,14 +110,19 @@ two_of two_form.EndBy body separator = repeated (seq_of (body ∷ skipped separa
 abbrev pub between_of : Body → Body → Body → Body
 between_of before behind inner = seq_of (skipped before ∷ inner ∷ skipped behind ∷ [])
 
+-- the form of a class expression
 abbrev pub class_of : ClassForm → List ClassPart → BaseForm
-class_of class_form.Satisfy class = base.Satisfy class
-class_of class_form.NotFollowedBy class = base.NotFollowedBy class
-class_of class_form.Declare class = base.Declare class
+class_of class_form.Satisfy class = form.Leaf (leaf.Satisfy class)
+class_of class_form.NotFollowedBy class = form.Leaf (leaf.NotFollowedBy class)
+class_of class_form.Declare class = form.Leaf (leaf.Declare class)
+
+-- the side from which a chain is folded
+abbrev pub side_of : ChainForm → Side
+side_of chain_form.Left = side.Left
+side_of chain_form.Right = side.Right
 
 abbrev pub chain_of : ChainForm → BuilderUse → BaseForm
-chain_of chain_form.Left used = base.ChainLeft used
-chain_of chain_form.Right used = base.ChainRight used
+chain_of chain used = form.Chain (side_of chain) used (record {}) (record {})
 
 -- the builders of an expression
 abbrev pub builders_named : Offer → (infixes prefixes postfixes : names.Name) → OperatorBuilders
@@ -128,20 +137,20 @@ builders_named offer infixes prefixes postfixes = record {
 abbrev mutual
   pub meant : Offer → List names.Name → Value → Body
   meant offer classes (Of_class form c) = class_of form (class_meant offer classes c) ∷ []
-  meant offer classes (String s) = base.String s ∷ []
+  meant offer classes (String s) = form.Leaf (leaf.String s) ∷ []
   meant offer classes (Seq vs) = seq_of (all_meant offer classes vs)
   meant offer classes (Of_some form v vs) = some_of form (meant offer classes v ∷ all_meant offer classes vs)
   meant offer classes (Of_one form v) = one_of form (meant offer classes v)
   meant offer classes (Of_two form v separator) = two_of form (meant offer classes v) (meant offer classes separator)
   meant offer classes (Between before behind inner) = between_of (meant offer classes before) (meant offer classes behind) (meant offer classes inner)
   meant offer classes (Chain form builder operand separator) = chain_of form (builder_named offer builder) ∷ (meant offer classes operand ++ meant offer classes separator)
-  meant offer classes (Expression infixes prefixes postfixes term) = base.Expression (builders_named offer infixes prefixes postfixes) ∷ meant offer classes term
-  meant offer classes (Build builder v) = base.Build (builder_named offer builder) [] ∷ meant offer classes v
-  meant offer classes (Build_symbol builder symbol v) = base.Build (builder_named offer builder) (encode_utf8_all symbol) ∷ meant offer classes v
-  meant offer classes (Label v message) = base.Label message ∷ meant offer classes v
-  meant offer classes End_of_text = base.EndOfText ∷ []
-  meant offer classes (Word s) = base.Word s ∷ []
-  meant offer classes (Rule s) = base.Rule s ∷ []
+  meant offer classes (Expression infixes prefixes postfixes term) = form.Expression (builders_named offer infixes prefixes postfixes) (record {}) ∷ meant offer classes term
+  meant offer classes (Build builder v) = form.Around (around.Build (builder_named offer builder) []) (record {}) ∷ meant offer classes v
+  meant offer classes (Build_symbol builder symbol v) = form.Around (around.Build (builder_named offer builder) (encode_utf8_all symbol)) (record {}) ∷ meant offer classes v
+  meant offer classes (Label v message) = form.Around (around.Label message) (record {}) ∷ meant offer classes v
+  meant offer classes End_of_text = form.Leaf leaf.EndOfText ∷ []
+  meant offer classes (Word s) = form.Leaf (leaf.Word s) ∷ []
+  meant offer classes (Rule s) = form.Rule s ∷ []
 
   -- the bodies of values
   pub all_meant : Offer → List names.Name → Values → List Body

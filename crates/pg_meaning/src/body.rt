@@ -8,7 +8,7 @@ ghost use Rattle.std.specs.Global.{Vec};
 ghost use Rattle.pg_meaning.specs.Bodies.{bases_of, all_bases_of};
 ghost use Rattle.pg_meaning.specs.Meaning as meaning;
 
-use pg_grammar::BaseForm;
+use pg_grammar::{Around, BaseForm, Form, NextForm};
 use pg_items::{OneForm, SomeForm, TwoForm};
 use std::alloc::{AllocError, Global};
 
@@ -74,7 +74,7 @@ pub fn seq_of(
 ) -> Result<Vec<PlacedBase>, AllocError>
     ensures { IfOk result (λ body. bases_of body.items ≡ meaning.seq_of (all_bases_of bodies.items)) }
 {
-    let form = BaseForm::Seq(bodies.len());
+    let form = Form::Seq(bodies.len());
     in_front(form, place, joined(alloc, bodies)?)
 }
 
@@ -86,7 +86,7 @@ fn choice_of(
 ) -> Result<Vec<PlacedBase>, AllocError>
     ensures { IfOk result (λ body. bases_of body.items ≡ meaning.choice_of (all_bases_of bodies.items)) }
 {
-    let form = BaseForm::Choice(bodies.len());
+    let form = Form::Choice(bodies.len());
     in_front(form, place, joined(alloc, bodies)?)
 }
 
@@ -103,7 +103,7 @@ fn try_of(
     } else {
         seq_of(alloc, place, bodies)?
     };
-    in_front(BaseForm::Try, place, body)
+    in_front(Form::Around(Around::Try, NextForm), place, body)
 }
 
 /// What a form of several bodies stands for.
@@ -125,14 +125,14 @@ pub fn some_of(
 fn skipped(place: usize, body: Vec<PlacedBase>) -> Result<Vec<PlacedBase>, AllocError>
     ensures { IfOk result (λ whole. bases_of whole.items ≡ meaning.skipped (bases_of body.items)) }
 {
-    in_front(BaseForm::Skip, place, body)
+    in_front(Form::Around(Around::Skip, NextForm), place, body)
 }
 
 /// A body as often as it succeeds.
 fn repeated(place: usize, body: Vec<PlacedBase>) -> Result<Vec<PlacedBase>, AllocError>
     ensures { IfOk result (λ whole. bases_of whole.items ≡ meaning.repeated (bases_of body.items)) }
 {
-    in_front(BaseForm::Many, place, body)
+    in_front(Form::Many(NextForm), place, body)
 }
 
 /// A body or nothing.
@@ -181,7 +181,7 @@ pub fn one_of(
             seq_of(alloc, place, bodies)
         }
         OneForm::Option => optional(alloc, place, body),
-        OneForm::Text => in_front(BaseForm::Text, place, body),
+        OneForm::Text => in_front(Form::Around(Around::Text, NextForm), place, body),
         OneForm::Skip => skipped(place, body),
     }
 }

@@ -10,7 +10,9 @@ ghost use Rattle.std.specs.List.{AllByRecursion};
 ghost use Rattle.std.specs.Str.{encode_utf8_all};
 ghost use Rattle.pg_pred.specs.Offer.{offer_of};
 ghost use Rattle.pg_items.specs.Entries.{forms_of};
-ghost use Rattle.pg_grammar.specs.declared.form.BaseForm.TheVariants as base;
+ghost use Rattle.pg_grammar.specs.declared.form.Form.TheVariants as form;
+ghost use Rattle.pg_grammar.specs.declared.form.Leaf.TheVariants as leaf;
+ghost use Rattle.pg_grammar.specs.declared.form.Around.TheVariants as around;
 ghost use Rattle.pg_meaning.specs.Names.{builder_named, BuilderIsKnown, ClassIsKnown, FormIsKnown};
 ghost use Rattle.pg_meaning.specs.Meaning as meaning;
 ghost use Rattle.pg_items.specs.Sizes.{part_count};
@@ -19,7 +21,7 @@ ghost use Rattle.pg_meaning.specs.Bodies.{bases_of, all_bases_of, body_at, body_
 use crate::body::{PlacedBase, between_of, in_front, one_of, seq_of, single, some_of, two_of};
 use crate::error::Unmade;
 use crate::lookup::{builder_named, builders_named, class_meant, label};
-use pg_grammar::{BaseForm, BuilderUse, ClassExpression};
+use pg_grammar::{Around, BaseForm, BuilderUse, ClassExpression, Form, Leaf, NextForm, Side};
 use pg_items::{
     ChainForm, ClassForm, OneForm, PlacedForm, SomeForm, TwoForm, WrittenClass, WrittenForm,
 };
@@ -196,9 +198,9 @@ fn class_of(form: ClassForm, class: ClassExpression) -> BaseForm
     ensures { result ≡ meaning.class_of form class }
 {
     match form {
-        ClassForm::Satisfy => BaseForm::Satisfy(class),
-        ClassForm::NotFollowedBy => BaseForm::NotFollowedBy(class),
-        ClassForm::Declare => BaseForm::Declare(class),
+        ClassForm::Satisfy => Form::Leaf(Leaf::Satisfy(class)),
+        ClassForm::NotFollowedBy => Form::Leaf(Leaf::NotFollowedBy(class)),
+        ClassForm::Declare => Form::Leaf(Leaf::Declare(class)),
     }
 }
 
@@ -207,8 +209,8 @@ fn chain_of(form: ChainForm, used: BuilderUse) -> BaseForm
     ensures { result ≡ meaning.chain_of form used }
 {
     match form {
-        ChainForm::Left => BaseForm::ChainLeft(used),
-        ChainForm::Right => BaseForm::ChainRight(used),
+        ChainForm::Left => Form::Chain(Side::Left, used, NextForm, NextForm),
+        ChainForm::Right => Form::Chain(Side::Right, used, NextForm, NextForm),
     }
 }
 
@@ -257,7 +259,7 @@ fn expression_body(
     place: usize,
     waiting: &mut VecDeque<Vec<PlacedBase>>,
 ) -> Result<Vec<PlacedBase>, Unmade>
-    ensures meant { IfOk result (λ body. bases_of body.items ≡ base.Expression (meaning.builders_named (offer_of registry.now) infixes.now prefixes.now postfixes.now) ∷ body_at 0 (all_bases_of waiting.old.items)) }
+    ensures meant { IfOk result (λ body. bases_of body.items ≡ form.Expression (meaning.builders_named (offer_of registry.now) infixes.now prefixes.now postfixes.now) (record {}) ∷ body_at 0 (all_bases_of waiting.old.items)) }
     ensures rest { OnOk result (waiting.new.items ≡ drop 1 waiting.old.items) }
     ensures known { OnOk result (BuilderIsKnown (offer_of registry.now) infixes.now × BuilderIsKnown (offer_of registry.now) prefixes.now × BuilderIsKnown (offer_of registry.now) postfixes.now) }
     ensures refused { IsErrOf result Unmade.Refused → (BuilderIsKnown (offer_of registry.now) infixes.now × BuilderIsKnown (offer_of registry.now) prefixes.now × BuilderIsKnown (offer_of registry.now) postfixes.now) → ⊥ }
@@ -268,7 +270,7 @@ fn expression_body(
         postfixes.as_slice(),
     );
     let builders = builders_named(alloc, registry, infixes, prefixes, postfixes)?;
-    Ok(around(alloc, BaseForm::Expression(builders), place, waiting)?)
+    Ok(around(alloc, Form::Expression(builders, NextForm), place, waiting)?)
 }
 
 /// A tree of the first body that waits. Refused where no builder has the name.
@@ -280,49 +282,52 @@ fn build_body(
     place: usize,
     waiting: &mut VecDeque<Vec<PlacedBase>>,
 ) -> Result<Vec<PlacedBase>, Unmade>
-    ensures meant { IfOk result (λ body. bases_of body.items ≡ base.Build (builder_named (offer_of registry.now) builder.now) (encode_utf8_all symbol.now) ∷ body_at 0 (all_bases_of waiting.old.items)) }
+    ensures meant { IfOk result (λ body. bases_of body.items ≡ form.Around (around.Build (builder_named (offer_of registry.now) builder.now) (encode_utf8_all symbol.now)) (record {}) ∷ body_at 0 (all_bases_of waiting.old.items)) }
     ensures rest { OnOk result (waiting.new.items ≡ drop 1 waiting.old.items) }
     ensures known { OnOk result (BuilderIsKnown (offer_of registry.now) builder.now) }
     ensures refused { IsErrOf result Unmade.Refused → BuilderIsKnown (offer_of registry.now) builder.now → ⊥ }
 {
     let used = builder_named(alloc, registry, builder.as_slice())?;
-    let form = BaseForm::Build(used, label(alloc, symbol.as_slice())?);
+    let form = Form::Around(
+        Around::Build(used, label(alloc, symbol.as_slice())?),
+        NextForm,
+    );
     Ok(around(alloc, form, place, waiting)?)
 }
 
 /// The body of characters.
 fn string_body(alloc: Global, text: &Characters, place: usize) -> Result<Vec<PlacedBase>, Unmade>
-    ensures body { IfOk result (λ body. bases_of body.items ≡ base.String text.now ∷ []) }
+    ensures body { IfOk result (λ body. bases_of body.items ≡ form.Leaf (leaf.String text.now) ∷ []) }
     ensures memory { IsErrOf result Unmade.Refused → ⊥ }
 {
-    let form = BaseForm::String(copied(alloc, text.as_slice())?);
+    let form = Form::Leaf(Leaf::String(copied(alloc, text.as_slice())?));
     Ok(single(alloc, form, place)?)
 }
 
 /// The body of a word.
 fn word_body(alloc: Global, text: &Characters, place: usize) -> Result<Vec<PlacedBase>, Unmade>
-    ensures body { IfOk result (λ body. bases_of body.items ≡ base.Word text.now ∷ []) }
+    ensures body { IfOk result (λ body. bases_of body.items ≡ form.Leaf (leaf.Word text.now) ∷ []) }
     ensures memory { IsErrOf result Unmade.Refused → ⊥ }
 {
-    let form = BaseForm::Word(copied(alloc, text.as_slice())?);
+    let form = Form::Leaf(Leaf::Word(copied(alloc, text.as_slice())?));
     Ok(single(alloc, form, place)?)
 }
 
 /// The body of a rule's name.
 fn rule_body(alloc: Global, text: &Characters, place: usize) -> Result<Vec<PlacedBase>, Unmade>
-    ensures body { IfOk result (λ body. bases_of body.items ≡ base.Rule text.now ∷ []) }
+    ensures body { IfOk result (λ body. bases_of body.items ≡ form.Rule text.now ∷ []) }
     ensures memory { IsErrOf result Unmade.Refused → ⊥ }
 {
-    let form = BaseForm::Rule(copied(alloc, text.as_slice())?);
+    let form = Form::Rule(copied(alloc, text.as_slice())?);
     Ok(single(alloc, form, place)?)
 }
 
 /// The body of the end of the text.
 fn end_body(alloc: Global, place: usize) -> Result<Vec<PlacedBase>, Unmade>
-    ensures body { IfOk result (λ body. bases_of body.items ≡ base.EndOfText ∷ []) }
+    ensures body { IfOk result (λ body. bases_of body.items ≡ form.Leaf leaf.EndOfText ∷ []) }
     ensures memory { IsErrOf result Unmade.Refused → ⊥ }
 {
-    Ok(single(alloc, BaseForm::EndOfText, place)?)
+    Ok(single(alloc, Form::Leaf(Leaf::EndOfText), place)?)
 }
 
 /// The first body that waits, with a message.
@@ -332,11 +337,11 @@ fn label_body(
     place: usize,
     waiting: &mut VecDeque<Vec<PlacedBase>>,
 ) -> Result<Vec<PlacedBase>, Unmade>
-    ensures body { IfOk result (λ body. bases_of body.items ≡ base.Label message.now ∷ body_at 0 (all_bases_of waiting.old.items)) }
+    ensures body { IfOk result (λ body. bases_of body.items ≡ form.Around (around.Label message.now) (record {}) ∷ body_at 0 (all_bases_of waiting.old.items)) }
     ensures rest { OnOk result (waiting.new.items ≡ drop 1 waiting.old.items) }
     ensures memory { IsErrOf result Unmade.Refused → ⊥ }
 {
-    let form = BaseForm::Label(copied(alloc, message.as_slice())?);
+    let form = Form::Around(Around::Label(copied(alloc, message.as_slice())?), NextForm);
     Ok(around(alloc, form, place, waiting)?)
 }
 

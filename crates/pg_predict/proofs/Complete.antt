@@ -6,8 +6,9 @@ use Rattle.std.proofs.Math.Numerals.{add-one}
 use Rattle.std.proofs.lemmas.Bool.{and_from}
 use Rattle.std.proofs.lemmas.Option.{slice_get_within, get_or_from_slice_get}
 use Rattle.pg_grammar.specs.Grammar.{Grammar, IsGrammar}
-use Rattle.pg_grammar.specs.declared.form.Node.{Node}
-use Rattle.pg_grammar.specs.declared.form.Node.TheVariants as form
+use Rattle.pg_grammar.specs.Forms.{Node}
+use Rattle.pg_grammar.specs.declared.form.Form.TheVariants as form
+use Rattle.pg_grammar.specs.declared.form.Around.TheVariants as around
 use Rattle.pg_grammar.proofs.Numbers.{bodies_are_nodes}
 use Rattle.pg_sets.specs.Follow.{IsChain}
 use Rattle.pg_sets.specs.Follow as chain
@@ -102,16 +103,13 @@ module _ (g : Grammar) (facts : Facts) (are : AreFacts g facts) (grammar : IsGra
   -- the form of a chain
   at_chain : (p operand separator : ℕ) (n : Node) (b : Breach) → slice_get g.nodes p ≡ Some n → IsChain operand separator n → In (noted_chain facts p operand separator) b
       → In (noted_node g facts p) b
-  at_chain p operand separator n b at chain.left is = at_form p n b at is
-  at_chain p operand separator n b at chain.right is = at_form p n b at is
+  at_chain p operand separator n b at chain.chain is = at_form p n b at is
 
   operand_below : (p operand separator : ℕ) (n : Node) → slice_get g.nodes p ≡ Some n → IsChain operand separator n → operand < length g.nodes
-  operand_below p operand separator n at chain.left = parts_below g p n 0 operand grammar at refl
-  operand_below p operand separator n at chain.right = parts_below g p n 0 operand grammar at refl
+  operand_below p operand separator n at chain.chain = parts_below g p n 0 operand grammar at refl
 
   separator_below : (p operand separator : ℕ) (n : Node) → slice_get g.nodes p ≡ Some n → IsChain operand separator n → separator < length g.nodes
-  separator_below p operand separator n at chain.left = parts_below g p n 1 separator grammar at refl
-  separator_below p operand separator n at chain.right = parts_below g p n 1 separator grammar at refl
+  separator_below p operand separator n at chain.chain = parts_below g p n 1 separator grammar at refl
 
   -- ---- choices
 
@@ -276,6 +274,6 @@ module _ (g : Grammar) (facts : Facts) (are : AreFacts g facts) (grammar : IsGra
       record {
         kind = kind.TryAroundMore;
         same = refl;
-        noted_there = at_form p (form.Try q) b at (noted_has (not (is_lexeme g q)) p kind.TryAroundMore (not_lexeme q none));
-        below = slice_get_within g.nodes p (form.Try q) at;
+        noted_there = at_form p (form.Around around.Try q) b at (noted_has (not (is_lexeme g q)) p kind.TryAroundMore (not_lexeme q none));
+        below = slice_get_within g.nodes p (form.Around around.Try q) at;
       }

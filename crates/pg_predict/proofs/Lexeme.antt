@@ -5,25 +5,26 @@ use Rattle.std.specs.Option.{option_map_or}
 use Rattle.std.proofs.lemmas.Bool.{true≢false, and_parts, and_from}
 use Rattle.pg_grammar.specs.Grammar.{Grammar}
 use Rattle.pg_grammar.specs.declared.class.ClassPart.{ClassPart}
-use Rattle.pg_grammar.specs.declared.form.Node.{Node}
-use Rattle.pg_grammar.specs.declared.form.Node.TheVariants as form
+use Rattle.pg_grammar.specs.Forms.{Node}
+use Rattle.pg_grammar.specs.declared.form.Form.TheVariants as form
+use Rattle.pg_grammar.specs.declared.form.Leaf.TheVariants as leaf
 use Rattle.pg_predict.specs.Conditions.{IsLexeme}
 use Rattle.pg_predict.specs.Conditions as lexeme
 use Rattle.pg_predict.specs.Lexemes.{is_string, is_not_followed_by, node_passes, are_keyed, form_is_lexeme, is_lexeme}
 
-string_there : (g : Grammar) (p : ℕ) → node_passes g is_string p ≡ true → (text : List ℕ) × (slice_get g.nodes p ≡ Some (form.String text))
+string_there : (g : Grammar) (p : ℕ) → node_passes g is_string p ≡ true → (text : List ℕ) × (slice_get g.nodes p ≡ Some (form.Leaf (leaf.String text)))
 string_there g p h = go (slice_get g.nodes p) refl h
   where
-    go : (o : Option Node) → slice_get g.nodes p ≡ o → option_map_or is_string o false ≡ true → (text : List ℕ) × (slice_get g.nodes p ≡ Some (form.String text))
-    go (Some (form.String text)) e h = (text, e)
+    go : (o : Option Node) → slice_get g.nodes p ≡ o → option_map_or is_string o false ≡ true → (text : List ℕ) × (slice_get g.nodes p ≡ Some (form.Leaf (leaf.String text)))
+    go (Some (form.Leaf (leaf.String text))) e h = (text, e)
     go (Some n) e h = absurd (true≢false (sym h))
     go None e h = absurd (true≢false (sym h))
 
-end_there : (g : Grammar) (p : ℕ) → node_passes g is_not_followed_by p ≡ true → (class : List ClassPart) × (slice_get g.nodes p ≡ Some (form.NotFollowedBy class))
+end_there : (g : Grammar) (p : ℕ) → node_passes g is_not_followed_by p ≡ true → (class : List ClassPart) × (slice_get g.nodes p ≡ Some (form.Leaf (leaf.NotFollowedBy class)))
 end_there g p h = go (slice_get g.nodes p) refl h
   where
-    go : (o : Option Node) → slice_get g.nodes p ≡ o → option_map_or is_not_followed_by o false ≡ true → (class : List ClassPart) × (slice_get g.nodes p ≡ Some (form.NotFollowedBy class))
-    go (Some (form.NotFollowedBy class)) e h = (class, e)
+    go : (o : Option Node) → slice_get g.nodes p ≡ o → option_map_or is_not_followed_by o false ≡ true → (class : List ClassPart) × (slice_get g.nodes p ≡ Some (form.Leaf (leaf.NotFollowedBy class)))
+    go (Some (form.Leaf (leaf.NotFollowedBy class))) e h = (class, e)
     go (Some n) e h = absurd (true≢false (sym h))
     go None e h = absurd (true≢false (sym h))
 
@@ -41,9 +42,9 @@ lexeme_there : (g : Grammar) (p : ℕ) → is_lexeme g p ≡ true → IsLexeme g
 lexeme_there g p h = go (slice_get g.nodes p) refl h
   where
     go : (o : Option Node) → slice_get g.nodes p ≡ o → option_map_or (form_is_lexeme g) o false ≡ true → IsLexeme g p
-    go (Some (form.String text)) e h = lexeme.string e
-    go (Some (form.Satisfy class)) e h = lexeme.satisfy e
-    go (Some (form.Word word)) e h = lexeme.word e
+    go (Some (form.Leaf (leaf.String text))) e h = lexeme.string e
+    go (Some (form.Leaf (leaf.Satisfy class))) e h = lexeme.satisfy e
+    go (Some (form.Leaf (leaf.Word word))) e h = lexeme.word e
     go (Some (form.Seq parts)) e h = keyed_there g p parts e h
     go (Some n) e h = absurd (true≢false (sym h))
     go None e h = absurd (true≢false (sym h))

@@ -5,10 +5,10 @@ use Rattle.std.specs.Option.{option_map_or}
 use Rattle.std.proofs.Math.Numerals.{add-one}
 use Rattle.std.proofs.lemmas.Bool.{true≢false, and_parts}
 use Rattle.std.proofs.lemmas.Option.{slice_get-get_or, slice_get_within}
-use Rattle.pg_grammar.specs.Forms.{parts_of}
+use Rattle.pg_grammar.specs.Forms.{Node, parts_of}
 use Rattle.pg_grammar.specs.Grammar.{Grammar, IsGrammar}
-use Rattle.pg_grammar.specs.declared.form.Node.{Node}
-use Rattle.pg_grammar.specs.declared.form.Node.TheVariants as form
+use Rattle.pg_grammar.specs.declared.form.Form.TheVariants as form
+use Rattle.pg_grammar.specs.declared.form.Around.TheVariants as around
 use Rattle.pg_grammar.proofs.Numbers.{parts_are_behind}
 use Rattle.pg_sets.specs.Follow.{IsChain}
 use Rattle.pg_sets.specs.Follow as chain
@@ -193,7 +193,7 @@ module _ (g : Grammar) (facts : Facts) (are : AreFacts g facts) (grammar : IsGra
             inr (wrong_where p 6 (kind.RoundMeetsFollow found.meeting) b found.same refl (violates.link_meets_follow at is_chain first))
       ]
 
-  pub try_wrong : (p q : ℕ) (b : Breach) → slice_get g.nodes p ≡ Some (form.Try q) → In (noted_try g p q) b → IsWrong g facts.sets.starts p 10 b
+  pub try_wrong : (p q : ℕ) (b : Breach) → slice_get g.nodes p ≡ Some (form.Around around.Try q) → In (noted_try g p q) b → IsWrong g facts.sets.starts p 10 b
   try_wrong p q b at is =
       let test = in_noted (not (is_lexeme g q)) p kind.TryAroundMore b is in
       wrong_where p 10 kind.TryAroundMore b test.1 refl (violates.try_around_more at (λ lexeme. not_both (is_lexeme g q) ((lexeme_is g q).1 lexeme) test.0))
@@ -225,15 +225,11 @@ module _ (g : Grammar) (facts : Facts) (are : AreFacts g facts) (grammar : IsGra
             ]
       ]
   form_wrong p (form.Many part) b at is = either_above 1 p 2 6 b (omega arith) (omega arith) (many_wrong p part b at is)
-  form_wrong p (form.ChainLeft used operand separator) b at is =
-      let parts = form.ChainLeft used operand separator in
+  form_wrong p (form.Chain side used operand separator) b at is =
+      let parts = form.Chain side used operand separator in
       either_above 1 p 2 6 b (omega arith) (omega arith)
-      (chain_wrong p operand separator parts b at chain.left (parts_below g p parts 0 operand grammar at refl) (parts_below g p parts 1 separator grammar at refl) is)
-  form_wrong p (form.ChainRight used operand separator) b at is =
-      let parts = form.ChainRight used operand separator in
-      either_above 1 p 2 6 b (omega arith) (omega arith)
-      (chain_wrong p operand separator parts b at chain.right (parts_below g p parts 0 operand grammar at refl) (parts_below g p parts 1 separator grammar at refl) is)
-  form_wrong p (form.Try part) b at is = record { number = 10; above = omega arith; wrong = try_wrong p part b at is }
+      (chain_wrong p operand separator parts b at chain.chain (parts_below g p parts 0 operand grammar at refl) (parts_below g p parts 1 separator grammar at refl) is)
+  form_wrong p (form.Around around.Try part) b at is = record { number = 10; above = omega arith; wrong = try_wrong p part b at is }
   form_wrong p n b at is = absurd is
 
   pub recursion_wrong : (p : ℕ) (b : Breach) → In (noted (is_marked facts.recursive p) p kind.LeftRecursion) b → IsWrong g facts.sets.starts p 1 b

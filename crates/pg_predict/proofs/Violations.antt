@@ -9,8 +9,9 @@ use Rattle.std.specs.List.{All, Contains}
 use Rattle.std.specs.Option.{option_map_or}
 use lib.ListN.{get_or}
 use Rattle.pg_grammar.specs.Grammar.{Grammar, IsGrammar}
-use Rattle.pg_grammar.specs.declared.form.Node.{Node}
-use Rattle.pg_grammar.specs.declared.form.Node.TheVariants as form
+use Rattle.pg_grammar.specs.Forms.{Node}
+use Rattle.pg_grammar.specs.declared.form.Form.TheVariants as form
+use Rattle.pg_grammar.specs.declared.form.Around.TheVariants as around
 use Rattle.pg_sets.specs.Marks.{is_marked}
 use Rattle.pg_sets.specs.declared.listed.ListedStart.{ListedStart}
 use Rattle.pg_predict.specs.Breaches.{condition_of, violation_of}
@@ -124,11 +125,9 @@ module _ (g : Grammar) (facts : Facts) (are : AreFacts g facts) (grammar : IsGra
   form_ascends : (p : ℕ) (n : Node) → slice_get g.nodes p ≡ Some n → Ascends facts.sets.starts (noted_form g facts p n)
   form_ascends p (form.Choice parts) at = choice_ascends p parts at
   form_ascends p (form.Many part) at = round_ascends p (is_marked facts.sets.nullable part) (follow_meeting facts part p)
-  form_ascends p (form.ChainLeft used operand separator) at =
+  form_ascends p (form.Chain side used operand separator) at =
       round_ascends p (is_marked facts.sets.nullable separator && is_marked facts.sets.nullable operand) (link_meeting facts operand separator p)
-  form_ascends p (form.ChainRight used operand separator) at =
-      round_ascends p (is_marked facts.sets.nullable separator && is_marked facts.sets.nullable operand) (link_meeting facts operand separator p)
-  form_ascends p (form.Try part) at = ascends_noted facts.sets.starts (not (is_lexeme g part)) p kind.TryAroundMore
+  form_ascends p (form.Around around.Try part) at = ascends_noted facts.sets.starts (not (is_lexeme g part)) p kind.TryAroundMore
   form_ascends p n at = tt
 
   standing_ascends : (p : ℕ) → Ascends facts.sets.starts (option_map_or (noted_form g facts p) (slice_get g.nodes p) [])

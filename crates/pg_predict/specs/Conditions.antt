@@ -3,8 +3,10 @@ use Rattle.std.specs.Prelude.{◌≡◌, ◌<◌, ℕ, suc, List, [], ◌∷◌,
 use Rattle.std.specs.declared.cmp.Ordering.TheVariants.{Less}
 use Rattle.pg_grammar.specs.Grammar.{Grammar}
 use Rattle.pg_grammar.specs.declared.class.ClassPart.{ClassPart}
-use Rattle.pg_grammar.specs.declared.form.Node.{Node}
-use Rattle.pg_grammar.specs.declared.form.Node.TheVariants as form
+use Rattle.pg_grammar.specs.Forms.{Node}
+use Rattle.pg_grammar.specs.declared.form.Form.TheVariants as form
+use Rattle.pg_grammar.specs.declared.form.Leaf.TheVariants as leaf
+use Rattle.pg_grammar.specs.declared.form.Around.TheVariants as around
 use Rattle.pg_grammar.specs.declared.grammar.Rule as declared
 use Rattle.pg_start.specs.Apart.{Apart}
 use Rattle.pg_start.specs.declared.kind.StartKind.{StartKind}
@@ -62,10 +64,10 @@ BeginsLink g operand separator start = IsFirstOf g start (separator ∷ operand 
 -- the node is a lexeme, which is all that a try may go back from: a string, a string with a class that doesn't follow it, a
 -- character of a class, or a word
 pub data IsLexeme (g : Grammar) (p : ℕ) : Type 0 where
-  string : {text : List ℕ} → slice_get g.nodes p ≡ Some (form.String text) → IsLexeme g p
+  string : {text : List ℕ} → slice_get g.nodes p ≡ Some (form.Leaf (leaf.String text)) → IsLexeme g p
   keyed : {text : List ℕ} {excluded : List ClassPart} → IsKeyed g p text excluded → IsLexeme g p
-  satisfy : {class : List ClassPart} → slice_get g.nodes p ≡ Some (form.Satisfy class) → IsLexeme g p
-  word : {w : ℕ} → slice_get g.nodes p ≡ Some (form.Word w) → IsLexeme g p
+  satisfy : {class : List ClassPart} → slice_get g.nodes p ≡ Some (form.Leaf (leaf.Satisfy class)) → IsLexeme g p
+  word : {w : ℕ} → slice_get g.nodes p ≡ Some (form.Leaf (leaf.Word w)) → IsLexeme g p
 
 -- the last of these alternatives can be empty
 pub record EndsNullable (g : Grammar) (parts : List ℕ) : Type 0 where
@@ -99,7 +101,7 @@ pub data Violates (g : Grammar) : ℕ → Condition → Type 0 where
   link_meets_follow : {p operand separator : ℕ} {n : Node} {s t : ListedStart} → slice_get g.nodes p ≡ Some n → IsChain operand separator n
       → AreFirstToMeet g (BeginsLink g operand separator) (Follows g p) s t → Violates g p (RoundMeetsFollow s t)
   -- a try stands around more than a lexeme
-  try_around_more : {p q : ℕ} → slice_get g.nodes p ≡ Some (form.Try q) → (IsLexeme g q → ⊥) → Violates g p TryAroundMore
+  try_around_more : {p q : ℕ} → slice_get g.nodes p ≡ Some (form.Around around.Try q) → (IsLexeme g q → ⊥) → Violates g p TryAroundMore
 
 -- nothing is wrong at any node: the grammar is predictive
 abbrev pub IsFaultless : Grammar → Type 0

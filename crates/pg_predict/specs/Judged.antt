@@ -2,8 +2,10 @@
 use Rattle.std.specs.Prelude.{◌+◌, ◌-◌, ℕ, zero, suc, Bool, true, false, not, ◌&&◌, nat_lt, if◌then◌else◌, List, [], ◌∷◌, ◌++◌, length, Option, Some, None, slice_get, slice_index_or}
 use Rattle.std.specs.Option.{option_map_or}
 use Rattle.pg_grammar.specs.Grammar.{Grammar}
-use Rattle.pg_grammar.specs.declared.form.Node.{Node}
-use Rattle.pg_grammar.specs.declared.form.Node.TheVariants as form
+use Rattle.pg_grammar.specs.Forms.{Node}
+use Rattle.pg_grammar.specs.declared.form.Form.TheVariants as form
+use Rattle.pg_grammar.specs.declared.form.Around.{Around}
+use Rattle.pg_grammar.specs.declared.form.Around.TheVariants as around
 use Rattle.pg_numbers.specs.Numbers.{set_at}
 use Rattle.pg_sets.specs.Marks.{is_marked}
 use Rattle.pg_sets.specs.Sets.{Sets}
@@ -101,27 +103,25 @@ noted_chain facts p operand separator =
 abbrev pub noted_try : Grammar → ℕ → ℕ → List Breach
 noted_try g p q = noted (not (is_lexeme g q)) p kind.TryAroundMore
 
+-- of what stands around a part
+abbrev pub noted_around : Grammar → ℕ → Around → ℕ → List Breach
+noted_around g p around.Try q = noted_try g p q
+noted_around g p around.Text q = []
+noted_around g p around.Skip q = []
+noted_around g p (around.Build used symbol) q = []
+noted_around g p (around.Label message) q = []
+
 -- ---- all forms
 
 abbrev pub noted_form : Grammar → Facts → ℕ → Node → List Breach
-noted_form g facts p (form.Satisfy class) = []
-noted_form g facts p (form.String text) = []
+noted_form g facts p (form.Leaf leaf) = []
 noted_form g facts p (form.Seq parts) = []
 noted_form g facts p (form.Choice parts) = noted_choice facts p parts
 noted_form g facts p (form.Many part) = noted_many facts p part
-noted_form g facts p (form.ChainLeft used operand separator) = noted_chain facts p operand separator
-noted_form g facts p (form.ChainRight used operand separator) = noted_chain facts p operand separator
-noted_form g facts p (form.Try part) = noted_try g p part
-noted_form g facts p (form.NotFollowedBy class) = []
-noted_form g facts p form.EndOfText = []
-noted_form g facts p (form.Word word) = []
+noted_form g facts p (form.Chain side used operand separator) = noted_chain facts p operand separator
 noted_form g facts p (form.Rule rule) = []
 noted_form g facts p (form.Expression builders term) = []
-noted_form g facts p (form.Declare class) = []
-noted_form g facts p (form.Text part) = []
-noted_form g facts p (form.Skip part) = []
-noted_form g facts p (form.Build used symbol part) = []
-noted_form g facts p (form.Label part message) = []
+noted_form g facts p (form.Around around part) = noted_around g p around part
 
 -- what is noted at a node: first whether it is the body of a rule that heads itself
 abbrev pub noted_node : Grammar → Facts → ℕ → List Breach

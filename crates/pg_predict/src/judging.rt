@@ -1,7 +1,7 @@
 //! Judging a grammar: each node in its order, by the conditions on its form.
 ghost use Rattle.std.specs.Prelude.{◌≡◌, ◌<◌, ◌++◌, Some, slice_get, length, IfOk, OnOk};
 ghost use Rattle.pg_grammar.specs.Grammar.{IsGrammar};
-ghost use Rattle.pg_predict.specs.Judged.{noted_form, noted_try, noted_node, noted_grammar};
+ghost use Rattle.pg_predict.specs.Judged.{noted_form, noted_around, noted_try, noted_node, noted_grammar};
 ghost use Rattle.pg_predict.specs.Shown.{AreFacts};
 
 use crate::breach::{Breach, BreachKind};
@@ -10,7 +10,7 @@ use crate::judge::Judge;
 use crate::noting::note_where;
 use crate::repetitions::{judge_chain, judge_many};
 use crate::tries::is_lexeme;
-use pg_grammar::{Grammar, Node, NodeId};
+use pg_grammar::{Around, Form, Grammar, Node, NodeId};
 use std::alloc::{AllocError, Global};
 
 /// All that is wrong with a grammar, by the order of nodes. The only error is that memory ran out.
@@ -66,25 +66,30 @@ fn judge_form(
     ensures { OnOk result (breaches.new.items ≡ breaches.old.items ++ noted_form grammar.now judge.now node form.now) }
 {
     match form {
-        Node::Choice(parts) => judge_choice(alloc, judge, node, parts.as_slice(), breaches),
-        Node::Many(part) => judge_many(judge, node, *part, breaches),
-        Node::ChainLeft(_, operand, separator) | Node::ChainRight(_, operand, separator) => {
+        Form::Choice(parts) => judge_choice(alloc, judge, node, parts.as_slice(), breaches),
+        Form::Many(part) => judge_many(judge, node, *part, breaches),
+        Form::Chain(_, _, operand, separator) => {
             judge_chain(judge, node, *operand, *separator, breaches)
         }
-        Node::Try(part) => judge_try(grammar, node, *part, breaches),
-        // C7 to C9 judge these two; whoever checks a grammar owes that it has none of them yet.
-        Node::Expression(_, _) | Node::Declare(_) => Ok(()),
-        Node::Satisfy(_)
-        | Node::String(_)
-        | Node::Seq(_)
-        | Node::NotFollowedBy(_)
-        | Node::EndOfText
-        | Node::Word(_)
-        | Node::Rule(_)
-        | Node::Text(_)
-        | Node::Skip(_)
-        | Node::Build(_, _, _)
-        | Node::Label(_, _) => Ok(()),
+        // C7 to C9 judge expressions and declarations; whoever checks a grammar owes that it has none of them yet.
+        Form::Leaf(_) | Form::Seq(_) | Form::Rule(_) | Form::Expression(_, _) => Ok(()),
+        Form::Around(around, part) => judge_around(grammar, node, around, *part, breaches),
+    }
+}
+
+/// Judges what stands around a part. The only error is that memory ran out.
+fn judge_around(
+    grammar: &Grammar,
+    node: NodeId,
+    around: &Around,
+    part: NodeId,
+    breaches: &mut Vec<Breach>,
+) -> Result<(), AllocError>
+    ensures { OnOk result (breaches.new.items ≡ breaches.old.items ++ noted_around grammar.now node around.now part) }
+{
+    match around {
+        Around::Try => judge_try(grammar, node, part, breaches),
+        Around::Text | Around::Skip | Around::Build(_, _) | Around::Label(_) => Ok(()),
     }
 }
 

@@ -3,7 +3,7 @@
 ghost use Rattle.std.specs.Prelude.{◌↔◌, IsTrue};
 ghost use Rattle.pg_predict.specs.Operators.{HasNoOperators, IsWithoutOperators};
 
-use pg_grammar::{Grammar, Node, NodeId};
+use pg_grammar::{Form, Grammar, Leaf, Node, NodeId};
 
 /// Whether no node of a grammar reads or declares operators.
 pub fn has_no_operators(grammar: &Grammar) -> bool
@@ -20,5 +20,5 @@ pub fn has_no_operators(grammar: &Grammar) -> bool
 fn is_without_operators(node: &Node) -> bool
     ensures { IsTrue result ↔ IsWithoutOperators node.now }
 {
-    !matches!(node, Node::Expression(_, _) | Node::Declare(_))
+    !matches!(node, Form::Expression(_, _) | Form::Leaf(Leaf::Declare(_)))
 }

@@ -3,34 +3,36 @@
 //! A try may stand around a lexeme alone: a string, a string with a class that doesn't follow it, a character of a class, or
 //! a word.
 ghost use Rattle.std.specs.Prelude.{◌≡◌};
-ghost use Rattle.pg_predict.specs.Lexemes.{is_string, is_not_followed_by, node_passes, are_keyed, is_lexeme};
+ghost use Rattle.pg_predict.specs.Lexemes.{is_string, is_not_followed_by, node_passes, are_keyed, leaf_is_lexeme, is_lexeme};
 
-use pg_grammar::{Grammar, Node, NodeId};
+use pg_grammar::{Form, Grammar, Leaf, NodeId, WordId};
 
 /// Whether a lexeme stands at a node.
 pub(crate) fn is_lexeme(grammar: &Grammar, node: NodeId) -> bool
     ensures { result ≡ is_lexeme grammar.now node }
 {
     match grammar.nodes().get(node.index()) {
-        Some(Node::String(_) | Node::Satisfy(_) | Node::Word(_)) => true,
-        Some(Node::Seq(parts)) => are_keyed(grammar, parts.as_slice()),
+        Some(Form::Leaf(leaf)) => is_lexeme_leaf(leaf),
+        Some(Form::Seq(parts)) => are_keyed(grammar, parts.as_slice()),
         Some(
-            Node::Choice(_)
-            | Node::Many(_)
-            | Node::ChainLeft(_, _, _)
-            | Node::ChainRight(_, _, _)
-            | Node::Try(_)
-            | Node::NotFollowedBy(_)
-            | Node::EndOfText
-            | Node::Rule(_)
-            | Node::Expression(_, _)
-            | Node::Declare(_)
-            | Node::Text(_)
-            | Node::Skip(_)
-            | Node::Build(_, _, _)
-            | Node::Label(_, _),
+            Form::Choice(_)
+            | Form::Many(_)
+            | Form::Chain(_, _, _, _)
+            | Form::Rule(_)
+            | Form::Expression(_, _)
+            | Form::Around(_, _),
         )
         | None => false,
+    }
+}
+
+/// Whether a leaf is a lexeme by itself.
+fn is_lexeme_leaf(leaf: &Leaf<WordId>) -> bool
+    ensures { result ≡ leaf_is_lexeme leaf.now }
+{
+    match leaf {
+        Leaf::Satisfy(_) | Leaf::String(_) | Leaf::Word(_) => true,
+        Leaf::NotFollowedBy(_) | Leaf::EndOfText | Leaf::Declare(_) => false,
     }
 }
 
@@ -48,7 +50,10 @@ fn are_keyed(grammar: &Grammar, parts: &[NodeId]) -> bool
 fn is_string(grammar: &Grammar, node: NodeId) -> bool
     ensures { result ≡ node_passes grammar.now is_string node }
 {
-    matches!(grammar.nodes().get(node.index()), Some(Node::String(_)))
+    matches!(
+        grammar.nodes().get(node.index()),
+        Some(Form::Leaf(Leaf::String(_)))
+    )
 }
 
 /// Whether a class that doesn't follow stands at a node.
@@ -57,6 +62,6 @@ fn is_not_followed_by(grammar: &Grammar, node: NodeId) -> bool
 {
     matches!(
         grammar.nodes().get(node.index()),
-        Some(Node::NotFollowedBy(_))
+        Some(Form::Leaf(Leaf::NotFollowedBy(_)))
     )
 }

@@ -8,18 +8,24 @@ use Rattle.pg_grammar.specs.Names.{name_at}
 use Rattle.pg_grammar.specs.Classes.{member_count}
 use Rattle.pg_grammar.specs.ClassItems.{item_name}
 use Rattle.pg_grammar.specs.Operators as operators
-use Rattle.pg_grammar.specs.Forms.{part_count}
+use Rattle.pg_grammar.specs.Forms.{BaseForm, part_count}
 use Rattle.pg_grammar.specs.Grammar.{Grammar, rule_names, forms_of}
 use Rattle.pg_grammar.specs.declared.class.ClassPart.{ClassPart}
 use Rattle.pg_grammar.specs.declared.class.ClassPart.TheVariants as part
 use Rattle.pg_grammar.specs.declared.class_item.ClassItem.{ClassItem}
-use Rattle.pg_grammar.specs.declared.form.BaseForm.{BaseForm}
-use Rattle.pg_grammar.specs.declared.form.BaseForm.TheVariants as base
+use Rattle.pg_grammar.specs.declared.form.Form.TheVariants as form
+use Rattle.pg_grammar.specs.declared.form.Leaf.{Leaf}
+use Rattle.pg_grammar.specs.declared.form.Leaf.TheVariants as leaf
+use Rattle.pg_grammar.specs.declared.form.Around.{Around}
+use Rattle.pg_grammar.specs.declared.form.Around.TheVariants as around
+use Rattle.pg_grammar.specs.declared.side.Side.{Side}
+use Rattle.pg_grammar.specs.declared.side.Side.TheVariants as side
 use Rattle.pg_grammar.specs.declared.operators_item.OperatorsItem.{OperatorsItem}
 use Rattle.pg_grammar.specs.declared.word_item.WordItem.{WordItem}
 use Rattle.pg_items.specs.declared.words.ClassForm.TheVariants as class_form
 use Rattle.pg_items.specs.declared.words.SomeForm.TheVariants as some_form
 use Rattle.pg_items.specs.declared.words.OneForm.TheVariants as one_form
+use Rattle.pg_items.specs.declared.words.ChainForm.{ChainForm}
 use Rattle.pg_items.specs.declared.words.ChainForm.TheVariants as chain_form
 use Rattle.pg_items.specs.Tree.{Atom, Set, Range, Name, Not, Group, Class, Of, Atoms, No_atom, Or, Value, Of_class, String, Seq, Of_some, Of_one, Chain, Expression, Build, Build_symbol, Label, End_of_text, Word, Rule, Values, No_value, And, Item, Class_item, Word_item, Operators, Table, Start, Rule_item}
 
@@ -88,26 +94,38 @@ abbrev pub build_from : List ℕ → List ℕ → Value → Value
 build_from builder [] v = Build builder v
 build_from builder (c ∷ symbol) v = Build_symbol builder (c ∷ symbol) v
 
+-- the value of a leaf, where the class items have these names
+abbrev pub leaf_value : List names.Name → Leaf names.Name → Value
+leaf_value items (leaf.Satisfy class) = Of_class class_form.Satisfy (class_from items class)
+leaf_value items (leaf.String s) = String s
+leaf_value items (leaf.Word s) = Word s
+leaf_value items (leaf.NotFollowedBy class) = Of_class class_form.NotFollowedBy (class_from items class)
+leaf_value items leaf.EndOfText = End_of_text
+leaf_value items (leaf.Declare class) = Of_class class_form.Declare (class_from items class)
+
+-- the value of a form around a part, over that part's
+abbrev pub around_value : Around → Value → Value
+around_value around.Try part = Of_some some_form.Try part No_value
+around_value around.Text part = Of_one one_form.Text part
+around_value around.Skip part = Of_one one_form.Skip part
+around_value (around.Build used symbol) part = build_from (chars used.name) (chars symbol) part
+around_value (around.Label message) part = Label part message
+
+-- the chain that is folded from a side
+abbrev pub chain_form_of : Side → ChainForm
+chain_form_of side.Left = chain_form.Left
+chain_form_of side.Right = chain_form.Right
+
 -- the value of a base form, over those that are its parts, where the class items have these names
 abbrev pub value_of_form : List names.Name → BaseForm → List Value → Value
-value_of_form items (base.Satisfy class) parts = Of_class class_form.Satisfy (class_from items class)
-value_of_form items (base.String s) parts = String s
-value_of_form items (base.Seq n) parts = Seq (values_from parts)
-value_of_form items (base.Choice n) parts = choice_from parts
-value_of_form items base.Many parts = Of_one one_form.Many (value_at 0 parts)
-value_of_form items (base.ChainLeft used) parts = Chain chain_form.Left (chars used.name) (value_at 0 parts) (value_at 1 parts)
-value_of_form items (base.ChainRight used) parts = Chain chain_form.Right (chars used.name) (value_at 0 parts) (value_at 1 parts)
-value_of_form items base.Try parts = Of_some some_form.Try (value_at 0 parts) No_value
-value_of_form items (base.NotFollowedBy class) parts = Of_class class_form.NotFollowedBy (class_from items class)
-value_of_form items base.EndOfText parts = End_of_text
-value_of_form items (base.Word s) parts = Word s
-value_of_form items (base.Rule s) parts = Rule s
-value_of_form items (base.Expression builders) parts = Expression (chars builders.«infix».name) (chars builders.prefix.name) (chars builders.postfix.name) (value_at 0 parts)
-value_of_form items (base.Declare class) parts = Of_class class_form.Declare (class_from items class)
-value_of_form items base.Text parts = Of_one one_form.Text (value_at 0 parts)
-value_of_form items base.Skip parts = Of_one one_form.Skip (value_at 0 parts)
-value_of_form items (base.Build used symbol) parts = build_from (chars used.name) (chars symbol) (value_at 0 parts)
-value_of_form items (base.Label message) parts = Label (value_at 0 parts) message
+value_of_form items (form.Leaf leaf) parts = leaf_value items leaf
+value_of_form items (form.Seq n) parts = Seq (values_from parts)
+value_of_form items (form.Choice n) parts = choice_from parts
+value_of_form items (form.Many part) parts = Of_one one_form.Many (value_at 0 parts)
+value_of_form items (form.Chain side used operand separator) parts = Chain (chain_form_of side) (chars used.name) (value_at 0 parts) (value_at 1 parts)
+value_of_form items (form.Rule s) parts = Rule s
+value_of_form items (form.Expression builders part) parts = Expression (chars builders.«infix».name) (chars builders.prefix.name) (chars builders.postfix.name) (value_at 0 parts)
+value_of_form items (form.Around around part) parts = around_value around (value_at 0 parts)
 
 -- the values that the base forms spell, from left to right
 abbrev pub values_of : List names.Name → List BaseForm → List Value

@@ -4,15 +4,19 @@ use Rattle.std.specs.Prelude.{◌≡◌, ℕ, zero, suc, ◌+◌, false, List, [
 use Rattle.std.specs.List.{list_any}
 use Rattle.std.specs.Str.{chars}
 use Rattle.pg_grammar.specs.Preorder.{SpellForms}
-use Rattle.pg_grammar.specs.Forms.{part_count, form_of, lacks_alternative}
+use Rattle.pg_grammar.specs.Forms.{BaseForm, Node, part_count, form_of, lacks_alternative}
 use Rattle.pg_grammar.specs.Grammar.{Grammar, rule_names, word_names}
 use Rattle.pg_grammar.specs.Names as names
 use Rattle.pg_grammar.specs.Names.{name_at}
 use Rattle.pg_grammar.specs.declared.class.ClassPart.{ClassPart}
 use Rattle.pg_grammar.specs.declared.class.ClassPart.TheVariants as part
-use Rattle.pg_grammar.specs.declared.form.BaseForm.{BaseForm}
-use Rattle.pg_grammar.specs.declared.form.BaseForm.TheVariants as base
-use Rattle.pg_grammar.specs.declared.form.Node.{Node}
+use Rattle.pg_grammar.specs.declared.form.Form.TheVariants as form
+use Rattle.pg_grammar.specs.declared.form.Leaf.{Leaf}
+use Rattle.pg_grammar.specs.declared.form.Leaf.TheVariants as leaf
+use Rattle.pg_grammar.specs.declared.form.Around.{Around}
+use Rattle.pg_grammar.specs.declared.form.Around.TheVariants as around
+use Rattle.pg_grammar.specs.declared.side.Side.{Side}
+use Rattle.pg_grammar.specs.declared.used.BuilderUse.{BuilderUse}
 use Rattle.pg_grammar.specs.declared.used.OperatorBuilders.{OperatorBuilders}
 use Rattle.pg_items.specs.declared.words.ClassForm.{ClassForm}
 use Rattle.pg_items.specs.declared.words.ClassForm.TheVariants as class_form
@@ -22,9 +26,9 @@ use Rattle.pg_print.specs.declared.levels.Ending.{Ending}
 use Rattle.pg_print.specs.declared.levels.Ending.TheVariants as ending
 use Rattle.pg_print.specs.declared.levels.Level.{Level}
 use Rattle.pg_tokens.specs.Tokens.{Token, name, literal, mark}
-use Rattle.pg_items.specs.Syntax.{class_word, class_written, opened}
+use Rattle.pg_items.specs.Syntax.{class_word, chain_word, class_written, opened}
 use Rattle.pg_items.specs.Tree.{Value}
-use Rattle.pg_print.specs.Canonical.{class_from, class_names, values_of}
+use Rattle.pg_print.specs.Canonical.{class_from, class_names, chain_form_of, values_of}
 use Rattle.pg_print.specs.Printed.{Laid, with_tokens}
 
 -- ---- behind a part
@@ -117,17 +121,17 @@ needed (level ∷ levels) = suc (level.left + owed levels)
 -- ---- class expressions
 
 -- tokens alone
-abbrev pub leaf : List Token → Piece
-leaf tokens = record { front = tokens; count = 0; separator = Bar; ending = ending.Nothing }
+abbrev pub tokens_alone : List Token → Piece
+tokens_alone tokens = record { front = tokens; count = 0; separator = Bar; ending = ending.Nothing }
 
 -- a part that is not the whole expression
 abbrev pub part_piece : List names.Name → ClassPart → Piece
-part_piece items (part.Literal s) = leaf (literal s ∷ [])
-part_piece items (part.Range low high) = leaf (literal (low ∷ []) ∷ mark Dots ∷ literal (high ∷ []) ∷ [])
+part_piece items (part.Literal s) = tokens_alone (literal s ∷ [])
+part_piece items (part.Range low high) = tokens_alone (literal (low ∷ []) ∷ mark Dots ∷ literal (high ∷ []) ∷ [])
 part_piece items (part.Union n) = record { front = mark Open ∷ []; count = n; separator = Bar; ending = ending.Close }
 part_piece items part.Complement = record { front = name (codes "not") ∷ []; count = 1; separator = Bar; ending = ending.Nothing }
-part_piece items (part.Class k) = leaf (name (name_at items k) ∷ [])
-part_piece items (part.Predicate used) = leaf (name (chars used.name) ∷ [])
+part_piece items (part.Class k) = tokens_alone (name (name_at items k) ∷ [])
+part_piece items (part.Predicate used) = tokens_alone (name (chars used.name) ∷ [])
 
 -- the first part of the whole expression: no parentheses stand round the whole
 abbrev pub first_piece : List names.Name → ClassPart → Piece
@@ -163,25 +167,33 @@ expression_piece builders =
 abbrev pub label_piece : List ℕ → Piece
 label_piece message = record { front = opened (codes "label") []; count = 1; separator = Comma; ending = ending.Message message }
 
+abbrev pub leaf_piece : List names.Name → Leaf names.Name → Piece
+leaf_piece items (leaf.Satisfy class) = class_piece class_form.Satisfy items class
+leaf_piece items (leaf.String s) = form_piece (codes "string") (literal s ∷ []) 0
+leaf_piece items (leaf.Word s) = form_piece (codes "word") (name s ∷ []) 0
+leaf_piece items (leaf.NotFollowedBy class) = class_piece class_form.NotFollowedBy items class
+leaf_piece items leaf.EndOfText = tokens_alone (name (codes "eof") ∷ [])
+leaf_piece items (leaf.Declare class) = class_piece class_form.Declare items class
+
+abbrev pub around_piece : Around → Piece
+around_piece around.Try = form_piece (codes "try") [] 1
+around_piece around.Text = form_piece (codes "text") [] 1
+around_piece around.Skip = form_piece (codes "skip") [] 1
+around_piece (around.Build used symbol) = form_piece (codes "build") (builder_tokens (chars used.name) (chars symbol)) 1
+around_piece (around.Label message) = label_piece message
+
+abbrev pub chain_piece : Side → BuilderUse → Piece
+chain_piece side used = form_piece (chain_word (chain_form_of side)) (builder_tokens (chars used.name) []) 2
+
 abbrev pub base_piece : List names.Name → BaseForm → Piece
-base_piece items (base.Satisfy class) = class_piece class_form.Satisfy items class
-base_piece items (base.String s) = form_piece (codes "string") (literal s ∷ []) 0
-base_piece items (base.Seq n) = form_piece (codes "seq") [] n
-base_piece items (base.Choice n) = form_piece (codes "choice") [] n
-base_piece items base.Many = form_piece (codes "many") [] 1
-base_piece items (base.ChainLeft used) = form_piece (codes "chainl1") (builder_tokens (chars used.name) []) 2
-base_piece items (base.ChainRight used) = form_piece (codes "chainr1") (builder_tokens (chars used.name) []) 2
-base_piece items base.Try = form_piece (codes "try") [] 1
-base_piece items (base.NotFollowedBy class) = class_piece class_form.NotFollowedBy items class
-base_piece items base.EndOfText = leaf (name (codes "eof") ∷ [])
-base_piece items (base.Word s) = form_piece (codes "word") (name s ∷ []) 0
-base_piece items (base.Rule s) = leaf (name s ∷ [])
-base_piece items (base.Expression builders) = expression_piece builders
-base_piece items (base.Declare class) = class_piece class_form.Declare items class
-base_piece items base.Text = form_piece (codes "text") [] 1
-base_piece items base.Skip = form_piece (codes "skip") [] 1
-base_piece items (base.Build used symbol) = form_piece (codes "build") (builder_tokens (chars used.name) (chars symbol)) 1
-base_piece items (base.Label message) = label_piece message
+base_piece items (form.Leaf leaf) = leaf_piece items leaf
+base_piece items (form.Seq n) = form_piece (codes "seq") [] n
+base_piece items (form.Choice n) = form_piece (codes "choice") [] n
+base_piece items (form.Many part) = form_piece (codes "many") [] 1
+base_piece items (form.Chain side used operand separator) = chain_piece side used
+base_piece items (form.Rule s) = tokens_alone (name s ∷ [])
+base_piece items (form.Expression builders part) = expression_piece builders
+base_piece items (form.Around around part) = around_piece around
 
 -- ---- bodies of a grammar
 

@@ -2,18 +2,23 @@
 
 ghost use Rattle.std.specs.Prelude.{◌≡◌, ◌<◌, ◌∷◌, [], length, drop, codes, IfOk, OnOk};
 ghost use Rattle.std.specs.Str.{chars};
+ghost use Rattle.pg_grammar.specs.Forms.{leaf_with};
 ghost use Rattle.pg_grammar.specs.Grammar.{rule_names, word_names};
 ghost use Rattle.pg_grammar.specs.Names.{name_at};
 ghost use Rattle.pg_tokens.specs.Tokens.{name, literal};
+ghost use Rattle.pg_items.specs.Syntax as syntax;
 ghost use Rattle.pg_items.specs.Syntax.{class_written, opened, written};
-ghost use Rattle.pg_print.specs.Canonical.{class_from, class_names, value_at};
+ghost use Rattle.pg_print.specs.Canonical.{class_from, class_names, chain_form_of, value_at};
 ghost use Rattle.pg_print.specs.Printed.{with_tokens};
-ghost use Rattle.pg_print.specs.Levels.{leaf, form_piece, builder_tokens, symbol_tokens, expression_piece, label_piece, left_over, with_piece, levels_behind, node_piece, node_values, AreBodies};
+ghost use Rattle.pg_print.specs.Levels.{tokens_alone, leaf_piece, around_piece, chain_piece, form_piece, builder_tokens, symbol_tokens, expression_piece, label_piece, left_over, with_piece, levels_behind, node_piece, node_values, AreBodies};
 
 use crate::class::put_class;
 use crate::layout::Layout;
 use crate::levels::{Ending, Level, enter, put_end};
-use pg_grammar::{BuilderUse, ClassExpression, Grammar, Node, OperatorBuilders, RuleId, WordId};
+use pg_grammar::{
+    Around, BuilderUse, ClassExpression, Form, Grammar, Leaf, Node, OperatorBuilders, RuleId, Side,
+    WordId,
+};
 use pg_text::Characters;
 use pg_tokens::{Mark, characters_of, copied};
 use std::alloc::{AllocError, Global};
@@ -57,26 +62,60 @@ fn put_node(
     ensures levels { OnOk result (levels.new.items ≡ levels_behind (node_piece grammar.now node.now) levels.old.items) }
 {
     match node {
-        Node::Satisfy(class) => put_class_form(alloc, out, grammar, "satisfy", class, levels),
-        Node::String(text) => put_string(alloc, out, text, levels),
-        Node::Seq(parts) => put_form(alloc, out, "seq", parts.as_slice().len(), levels),
-        Node::Choice(parts) => put_form(alloc, out, "choice", parts.as_slice().len(), levels),
-        Node::Many(_) => put_form(alloc, out, "many", 1, levels),
-        Node::ChainLeft(used, _, _) => put_chain(alloc, out, "chainl1", used, levels),
-        Node::ChainRight(used, _, _) => put_chain(alloc, out, "chainr1", used, levels),
-        Node::Try(_) => put_form(alloc, out, "try", 1, levels),
-        Node::NotFollowedBy(class) => {
-            put_class_form(alloc, out, grammar, "notFollowedBy", class, levels)
-        }
-        Node::EndOfText => put_end_of_text(alloc, out, levels),
-        Node::Word(word) => put_word_form(alloc, out, grammar, *word, levels),
-        Node::Rule(rule) => put_rule(alloc, out, grammar, *rule, levels),
-        Node::Expression(builders, _) => put_expression(alloc, out, builders, levels),
-        Node::Declare(class) => put_class_form(alloc, out, grammar, "declare", class, levels),
-        Node::Text(_) => put_form(alloc, out, "text", 1, levels),
-        Node::Skip(_) => put_form(alloc, out, "skip", 1, levels),
-        Node::Build(used, symbol, _) => put_build(alloc, out, used, symbol.as_str(), levels),
-        Node::Label(_, message) => put_label(alloc, out, message, levels),
+        Form::Leaf(leaf) => put_leaf(alloc, out, grammar, leaf, levels),
+        Form::Seq(parts) => put_form(alloc, out, "seq", parts.as_slice().len(), levels),
+        Form::Choice(parts) => put_form(alloc, out, "choice", parts.as_slice().len(), levels),
+        Form::Many(_) => put_form(alloc, out, "many", 1, levels),
+        Form::Chain(side, used, _, _) => put_chain(alloc, out, *side, used, levels),
+        Form::Rule(rule) => put_rule(alloc, out, grammar, *rule, levels),
+        Form::Expression(builders, _) => put_expression(alloc, out, builders, levels),
+        Form::Around(around, _) => put_around(alloc, out, around, levels),
+    }
+}
+
+fn put_leaf(
+    alloc: Global,
+    out: &mut Layout,
+    grammar: &Grammar,
+    leaf: &Leaf<WordId>,
+    levels: &mut VecDeque<Level>,
+) -> Result<(), AllocError>
+    ensures text { OnOk result (out.new ≡ with_piece out.old (leaf_piece (class_names grammar.now) (leaf_with (name_at (word_names grammar.now)) leaf.now)) levels.old.items) }
+    ensures levels { OnOk result (levels.new.items ≡ left_over levels.old.items) }
+{
+    match leaf {
+        Leaf::Satisfy(class) => put_class_form(alloc, out, grammar, "satisfy", class, levels),
+        Leaf::String(text) => put_string(alloc, out, text, levels),
+        Leaf::Word(word) => put_word_form(alloc, out, grammar, *word, levels),
+        Leaf::NotFollowedBy(class) => put_class_form(
+            alloc,
+            out,
+            grammar,
+            "notFollowedBy",
+            class,
+            levels,
+        ),
+        Leaf::EndOfText => put_end_of_text(alloc, out, levels),
+        Leaf::Declare(class) => put_class_form(alloc, out, grammar, "declare", class, levels),
+    }
+}
+
+/// A form around a part, up to the part.
+fn put_around(
+    alloc: Global,
+    out: &mut Layout,
+    around: &Around,
+    levels: &mut VecDeque<Level>,
+) -> Result<(), AllocError>
+    ensures text { OnOk result (out.new ≡ with_piece out.old (around_piece around.now) levels.old.items) }
+    ensures levels { OnOk result (levels.new.items ≡ levels_behind (around_piece around.now) levels.old.items) }
+{
+    match around {
+        Around::Try => put_form(alloc, out, "try", 1, levels),
+        Around::Text => put_form(alloc, out, "text", 1, levels),
+        Around::Skip => put_form(alloc, out, "skip", 1, levels),
+        Around::Build(used, symbol) => put_build(alloc, out, used, symbol.as_str(), levels),
+        Around::Label(message) => put_label(alloc, out, message, levels),
     }
 }
 
@@ -140,7 +179,7 @@ fn put_end_of_text(
     out: &mut Layout,
     levels: &mut VecDeque<Level>,
 ) -> Result<(), AllocError>
-    ensures text { OnOk result (out.new ≡ with_piece out.old (leaf (name (codes "eof") ∷ [])) levels.old.items) }
+    ensures text { OnOk result (out.new ≡ with_piece out.old (tokens_alone (name (codes "eof") ∷ [])) levels.old.items) }
     ensures levels { OnOk result (levels.new.items ≡ left_over levels.old.items) }
 {
     out.put_word(alloc, "eof")?;
@@ -169,7 +208,7 @@ fn put_rule(
     rule: RuleId,
     levels: &mut VecDeque<Level>,
 ) -> Result<(), AllocError>
-    ensures text { OnOk result (out.new ≡ with_piece out.old (leaf (name (name_at (rule_names grammar.now) rule) ∷ [])) levels.old.items) }
+    ensures text { OnOk result (out.new ≡ with_piece out.old (tokens_alone (name (name_at (rule_names grammar.now) rule) ∷ [])) levels.old.items) }
     ensures levels { OnOk result (levels.new.items ≡ left_over levels.old.items) }
 {
     out.put_name(rule_name(grammar, rule))?;
@@ -187,16 +226,26 @@ fn put_builder(alloc: Global, out: &mut Layout, used: &BuilderUse) -> Result<(),
 fn put_chain(
     alloc: Global,
     out: &mut Layout,
-    word: &str,
+    side: Side,
     used: &BuilderUse,
     levels: &mut VecDeque<Level>,
 ) -> Result<(), AllocError>
-    ensures text { OnOk result (out.new ≡ with_piece out.old (form_piece word.now (builder_tokens (chars used.now.name) []) 2) levels.old.items) }
-    ensures levels { OnOk result (levels.new.items ≡ levels_behind (form_piece word.now (builder_tokens (chars used.now.name) []) 2) levels.old.items) }
+    ensures text { OnOk result (out.new ≡ with_piece out.old (chain_piece side used.now) levels.old.items) }
+    ensures levels { OnOk result (levels.new.items ≡ levels_behind (chain_piece side used.now) levels.old.items) }
 {
-    put_opened(alloc, out, word)?;
+    put_opened(alloc, out, chain_word(side))?;
     put_builder(alloc, out, used)?;
     enter(alloc, out, levels, 2, Mark::Comma, Ending::Close)
+}
+
+/// The word for a chain that is folded from a side.
+fn chain_word(side: Side) -> &'static str
+    ensures { result.now ≡ syntax.chain_word (chain_form_of side) }
+{
+    match side {
+        Side::Left => "chainl1",
+        Side::Right => "chainr1",
+    }
 }
 
 fn put_expression(

@@ -6,10 +6,11 @@ use Rattle.std.specs.Option.{option_map_or}
 use Rattle.std.proofs.lemmas.Bool.{cases_Bool}
 use Rattle.std.proofs.lemmas.List.{length-replicate}
 use Rattle.std.proofs.lemmas.Option.{slice_get_within}
-use Rattle.pg_grammar.specs.Forms.{parts_of}
+use Rattle.pg_grammar.specs.Forms.{Node, parts_of}
 use Rattle.pg_grammar.specs.Grammar.{Grammar, IsGrammar, rule_body}
-use Rattle.pg_grammar.specs.declared.form.Node.{Node}
-use Rattle.pg_grammar.specs.declared.form.Node.TheVariants as form
+use Rattle.pg_grammar.specs.declared.form.Form.TheVariants as form
+use Rattle.pg_grammar.specs.declared.form.Around.{Around}
+use Rattle.pg_grammar.specs.declared.form.Around.TheVariants as kind
 use Rattle.pg_grammar.specs.declared.grammar.Rule as declared
 use Rattle.pg_grammar.proofs.Numbers.{bodies_are_nodes}
 use Rattle.pg_start.specs.declared.kind.StartKind.{StartKind}
@@ -128,9 +129,9 @@ module _ (g : Grammar) (start : StartKind) (nullable keys : List Bool) (on : Mar
     | inr e ↦ subst (λ b. IsIn (follow_of (length g.nodes) p) (follow_of (length g.nodes) q) (cond b ((follow_of (length g.nodes) p, follow_of (length g.nodes) q) ∷ []) (flows_of_only (length g.nodes) p q))) (sym e) (further here)
   ]
 
-  try_first : (p q : ℕ) → slice_get g.nodes p ≡ Some (form.Try q) → (IsKeyTry g (form.Try q) → ⊥) → IsIn q p (try_flows keys (length g.nodes) p q)
+  try_first : (p q : ℕ) → slice_get g.nodes p ≡ Some (form.Around kind.Try q) → (IsKeyTry g (form.Around kind.Try q) → ⊥) → IsIn q p (try_flows keys (length g.nodes) p q)
   try_first p q at no_key = elim (cases_Bool (is_marked keys p)) [
-    | inl e ↦ absurd (no_key ((tries p (form.Try q) at).0 e))
+    | inl e ↦ absurd (no_key ((tries p (form.Around kind.Try q) at).0 e))
     | inr e ↦ subst (λ b. IsIn q p (cond b ((follow_of (length g.nodes) p, follow_of (length g.nodes) q) ∷ []) (flows_of_only (length g.nodes) p q))) (sym e) here
   ]
 
@@ -156,19 +157,24 @@ module _ (g : Grammar) (start : StartKind) (nullable keys : List Bool) (on : Mar
       ++ flows_of_all nullable (o ∷ []) (follow_of (length g.nodes) p) (follow_of (length g.nodes) s) ++ ((follow_of (length g.nodes) p, follow_of (length g.nodes) o) ∷ []))
       (over g nullable on o s (follow_of (length g.nodes) s) (flows_of_some nullable (s ∷ []) (follow_of (length g.nodes) s)) null here)
 
+  -- what is told of the part of a form around one
+  around_first : (around : Around) (p q : ℕ) → slice_get g.nodes p ≡ Some (form.Around around q) → (IsKeyTry g (form.Around around q) → ⊥) →
+      IsIn q p (node_flows g.rules nullable keys (length g.nodes) p (form.Around around q))
+  around_first kind.Try p q at no_key = try_first p q at no_key
+  around_first _ p q at no_key = here
+
+  around_follow : (around : Around) (p q : ℕ) → IsIn (follow_of (length g.nodes) p) (follow_of (length g.nodes) q) (node_flows g.rules nullable keys (length g.nodes) p (form.Around around q))
+  around_follow kind.Try p q = try_follow p q
+  around_follow _ p q = further here
+
   -- what is told of a part that is reached
   reached_flow : {n : Node} {q : ℕ} (p : ℕ) → slice_get g.nodes p ≡ Some n → (IsKeyTry g n → ⊥) → ReachedPart g n q → IsIn q p (node_flows g.rules nullable keys (length g.nodes) p n)
   reached_flow p at no_key (reached.seq {parts = parts} r) = in_left (flows_behind_parts nullable (length g.nodes) p parts) (reached_in g nullable on p r)
   reached_flow p at no_key (reached.choice {parts = parts} k {part = q} e) = alternative_first g nullable on p parts k q e
-  reached_flow p at no_key (reached.chain_left {operand = o} {separator = s} {part = q} r) = chain_1 p o s q p (reached_in g nullable on p (again_left r))
-  reached_flow p at no_key (reached.chain_right {operand = o} {separator = s} {part = q} r) = chain_1 p o s q p (reached_in g nullable on p (again_left r))
+  reached_flow p at no_key (reached.chain {operand = o} {separator = s} {part = q} r) = chain_1 p o s q p (reached_in g nullable on p (again_left r))
   reached_flow p at no_key reached.many = further here
-  reached_flow p at no_key (reached.try {part = q}) = try_first p q at no_key
   reached_flow p at no_key reached.expression = here
-  reached_flow p at no_key reached.text = here
-  reached_flow p at no_key reached.skip = here
-  reached_flow p at no_key reached.build = here
-  reached_flow p at no_key reached.label = here
+  reached_flow p at no_key (reached.around {around = around} {part = q}) = around_first around p q at no_key
 
   -- each first set that holds the start is met
   pub first_met : {p : ℕ} → IsFirst g start p → IsReached graph roots p
@@ -180,26 +186,16 @@ module _ (g : Grammar) (start : StartKind) (nullable keys : List Bool) (on : Mar
   first_met (first_of.rule {p} {r} {named} at e is) = to_first_set p (form.Rule r) (rule_body named) at (use_flows p r (rule_body named) p named e here) (first_met is)
 
   chain_flows : {o s : ℕ} {n : Node} (p u x : ℕ) → IsChain o s n → IsIn u x (flows_of_chain nullable (length g.nodes) p o s) → IsIn u x (node_flows g.rules nullable keys (length g.nodes) p n)
-  chain_flows p u x follow.left is = is
-  chain_flows p u x follow.right is = is
+  chain_flows p u x follow.chain is = is
 
   chain_below : {o s : ℕ} {n : Node} → IsChain o s n → AllByRecursion (λ q. q < length g.nodes) (parts_of n) → (o < length g.nodes) × (s < length g.nodes)
-  chain_below follow.left b = (b.0, b.1.0)
-  chain_below follow.right b = (b.0, b.1.0)
+  chain_below follow.chain b = (b.0, b.1.0)
 
   only_flow : {q : ℕ} {n : Node} (p : ℕ) → HasOnly q n → IsIn (follow_of (length g.nodes) p) (follow_of (length g.nodes) q) (node_flows g.rules nullable keys (length g.nodes) p n)
-  only_flow {q} p follow.try = try_follow p q
-  only_flow p follow.text = further here
-  only_flow p follow.skip = further here
-  only_flow p follow.build = further here
-  only_flow p follow.label = further here
+  only_flow {q} p (follow.around {around = around}) = around_follow around p q
 
   only_below : {q : ℕ} {n : Node} → HasOnly q n → AllByRecursion (λ r. r < length g.nodes) (parts_of n) → q < length g.nodes
-  only_below follow.try b = b.0
-  only_below follow.text b = b.0
-  only_below follow.skip b = b.0
-  only_below follow.build b = b.0
-  only_below follow.label b = b.0
+  only_below follow.around b = b.0
 
   first_as : {s : StartKind} {p : ℕ} → s ≡ start → IsFirst g s p → IsReached graph roots p
   first_as {p = p} same is = first_met (subst (λ x. IsFirst g x p) same is)

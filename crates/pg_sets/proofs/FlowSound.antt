@@ -4,15 +4,16 @@ use Rattle.std.specs.List.{AllByRecursion}
 use Rattle.std.specs.Option.{option_map_or}
 use Rattle.std.proofs.lemmas.Bool.{cases_lt, true≢false, lt-ltb, le-ltb}
 use Rattle.std.proofs.lemmas.Option.{slice_get_within}
-use Rattle.pg_grammar.specs.Forms.{parts_of}
+use Rattle.pg_grammar.specs.Forms.{Node, parts_of}
 use Rattle.pg_grammar.specs.Grammar.{Grammar, IsGrammar, rule_body}
-use Rattle.pg_grammar.specs.declared.form.Node.{Node}
-use Rattle.pg_grammar.specs.declared.form.Node.TheVariants as form
+use Rattle.pg_grammar.specs.declared.form.Form.TheVariants as form
+use Rattle.pg_grammar.specs.declared.form.Around.{Around}
+use Rattle.pg_grammar.specs.declared.form.Around.TheVariants as kind
 use Rattle.pg_grammar.specs.declared.grammar.Rule as declared
 use Rattle.pg_start.specs.declared.kind.StartKind.{StartKind}
 use Rattle.pg_sets.specs.First.{IsFirst, IsFirstOf}
 use Rattle.pg_sets.specs.First as first_of
-use Rattle.pg_sets.specs.Flows.{Flow, follow_of, flows_of_all, flows_of_some, flows_of_next, flows_behind_parts, flows_of_alternatives, flows_of_chain, flows_of_only, node_flows, with_flows, all_flows}
+use Rattle.pg_sets.specs.Flows.{Flow, follow_of, flows_of_all, flows_of_some, flows_of_next, flows_behind_parts, flows_of_alternatives, flows_of_chain, flows_of_only, around_flows, node_flows, with_flows, all_flows}
 use Rattle.pg_sets.specs.Follow.{StandsBefore, IsChain, HasOnly, IsFollow}
 use Rattle.pg_sets.specs.Follow as follow
 use Rattle.pg_sets.specs.Marks.{is_marked}
@@ -165,12 +166,10 @@ module _ (g : Grammar) (start : StartKind) (nullable : List Bool) (on : MarksNul
 
   -- of a chain
   chain_key : {o s : ℕ} {n : Node} → IsChain o s n → IsKeyTry g n → ⊥
-  chain_key follow.left is = elim is [ ]
-  chain_key follow.right is = elim is [ ]
+  chain_key follow.chain is = elim is [ ]
 
   chain_part : {o s q : ℕ} {n : Node} → IsChain o s n → ReachedIn g (o ∷ s ∷ []) q → ReachedPart g n q
-  chain_part follow.left r = reached.chain_left (again_shown r)
-  chain_part follow.right r = reached.chain_right (again_shown r)
+  chain_part follow.chain r = reached.chain (again_shown r)
 
   only_first : {o : ℕ} → IsFirstOf g start (o ∷ []) → IsFirst g start o
   only_first (first_of.here is) = is
@@ -238,13 +237,18 @@ module _ (g : Grammar) (start : StartKind) (nullable keys : List Bool) (on : Mar
   only_at p q n at no_key reaches back below u x is from =
       only_sound g start nullable on p q u x (λ i. first_of.part at no_key reaches i) back below (slice_get_within g.nodes p n at) is from
 
-  try_sound : (p q : ℕ) → slice_get g.nodes p ≡ Some (form.Try q) → q < length g.nodes → (b : Bool) → is_marked keys p ≡ b → (u x : ℕ)
+  try_sound : (p q : ℕ) → slice_get g.nodes p ≡ Some (form.Around kind.Try q) → q < length g.nodes → (b : Bool) → is_marked keys p ≡ b → (u x : ℕ)
       → IsIn u x (cond b ((follow_of (length g.nodes) p, follow_of (length g.nodes) q) ∷ []) (flows_of_only (length g.nodes) p q)) → Holds g start u → Holds g start x
   try_sound p q at below true e u x here from =
-      to_follow g start q (λ few. follow.only at follow.try (from_follow g start p (slice_get_within g.nodes p (form.Try q) at) from))
+      to_follow g start q (λ few. follow.only at follow.around (from_follow g start p (slice_get_within g.nodes p (form.Around kind.Try q) at) from))
   try_sound p q at below true e u x (further none) from = elim none [ ]
   try_sound p q at below false e u x is from =
-      only_at p q (form.Try q) at (λ k. true≢false (sym ((tries p (form.Try q) at).1 k) ∙ e)) reached.try (λ f. follow.only at follow.try f) below u x is from
+      only_at p q (form.Around kind.Try q) at (λ k. true≢false (sym ((tries p (form.Around kind.Try q) at).1 k) ∙ e)) reached.around (λ f. follow.only at follow.around f) below u x is from
+
+  around_sound : (around : Around) (p q : ℕ) → slice_get g.nodes p ≡ Some (form.Around around q) → q < length g.nodes → (u x : ℕ)
+      → IsIn u x (around_flows keys (length g.nodes) p around q) → Holds g start u → Holds g start x
+  around_sound kind.Try p q at below u x is from = try_sound p q at below (is_marked keys p) refl u x is from
+  around_sound k p q at below u x is from = only_at p q (form.Around k q) at (λ k. elim k [ ]) reached.around (λ f. follow.only at follow.around f) below u x is from
 
   use_sound : (p r : ℕ) → slice_get g.nodes p ≡ Some (form.Rule r) → (found : Option declared.Rule) → slice_get g.rules r ≡ found → (u x : ℕ)
       → IsIn u x (option_map_or (λ rule. flows_of_only (length g.nodes) p (rule_body rule)) found []) → Holds g start u → Holds g start x
@@ -256,8 +260,7 @@ module _ (g : Grammar) (start : StartKind) (nullable keys : List Bool) (on : Mar
   -- each edge that a node tells leads to a set that contains the one that it comes from
   pub node_sound : (p : ℕ) (n : Node) → slice_get g.nodes p ≡ Some n → (u x : ℕ) → IsIn u x (node_flows g.rules nullable keys (length g.nodes) p n)
       → Holds g start u → Holds g start x
-  node_sound p (form.Satisfy class) at u x is from = elim is [ ]
-  node_sound p (form.String text) at u x is from = elim is [ ]
+  node_sound p (form.Leaf leaf) at u x is from = elim is [ ]
   node_sound p (form.Seq parts) at u x is from =
       let inside = slice_get_within g.nodes p (form.Seq parts) at in
       let below = parts_below p (form.Seq parts) at in
@@ -274,28 +277,13 @@ module _ (g : Grammar) (start : StartKind) (nullable keys : List Bool) (on : Mar
       to_follow g start q (λ few. follow.next_round p at (from.first (parts_below p (form.Many q) at).0))
   node_sound p (form.Many q) at u x (further is) from =
       only_at p q (form.Many q) at (λ k. elim k [ ]) reached.many (λ f. follow.last_round at f) (parts_below p (form.Many q) at).0 u x is from
-  node_sound p (form.ChainLeft used o s) at u x is from =
-      let below = parts_below p (form.ChainLeft used o s) at in
-      chain_sound g start nullable on p o s (form.ChainLeft used o s) at follow.left below.0 below.1.0 (slice_get_within g.nodes p (form.ChainLeft used o s) at) u x is from
-  node_sound p (form.ChainRight used o s) at u x is from =
-      let below = parts_below p (form.ChainRight used o s) at in
-      chain_sound g start nullable on p o s (form.ChainRight used o s) at follow.right below.0 below.1.0 (slice_get_within g.nodes p (form.ChainRight used o s) at) u x is from
-  node_sound p (form.Try q) at u x is from = try_sound p q at (parts_below p (form.Try q) at).0 (is_marked keys p) refl u x is from
-  node_sound p (form.NotFollowedBy class) at u x is from = elim is [ ]
-  node_sound p form.EndOfText at u x is from = elim is [ ]
-  node_sound p (form.Word word) at u x is from = elim is [ ]
+  node_sound p (form.Chain side used o s) at u x is from =
+      let below = parts_below p (form.Chain side used o s) at in
+      chain_sound g start nullable on p o s (form.Chain side used o s) at follow.chain below.0 below.1.0 (slice_get_within g.nodes p (form.Chain side used o s) at) u x is from
   node_sound p (form.Rule r) at u x is from = use_sound p r at (slice_get g.rules r) refl u x is from
   node_sound p (form.Expression builders q) at u x is from =
       only_at p q (form.Expression builders q) at (λ k. elim k [ ]) reached.expression (λ f. follow.last_term at f) (parts_below p (form.Expression builders q) at).0 u x is from
-  node_sound p (form.Declare class) at u x is from = elim is [ ]
-  node_sound p (form.Text q) at u x is from =
-      only_at p q (form.Text q) at (λ k. elim k [ ]) reached.text (λ f. follow.only at follow.text f) (parts_below p (form.Text q) at).0 u x is from
-  node_sound p (form.Skip q) at u x is from =
-      only_at p q (form.Skip q) at (λ k. elim k [ ]) reached.skip (λ f. follow.only at follow.skip f) (parts_below p (form.Skip q) at).0 u x is from
-  node_sound p (form.Build used symbol q) at u x is from =
-      only_at p q (form.Build used symbol q) at (λ k. elim k [ ]) reached.build (λ f. follow.only at follow.build f) (parts_below p (form.Build used symbol q) at).0 u x is from
-  node_sound p (form.Label q message) at u x is from =
-      only_at p q (form.Label q message) at (λ k. elim k [ ]) reached.label (λ f. follow.only at follow.label f) (parts_below p (form.Label q message) at).0 u x is from
+  node_sound p (form.Around around q) at u x is from = around_sound around p q at (parts_below p (form.Around around q) at).0 u x is from
 
   -- what is reached from sets that hold the start holds it
   pub flow_sound : (graph : List (List ℕ)) (roots : List ℕ)

@@ -6,16 +6,16 @@ use Rattle.std.proofs.lemmas.Bool.{true≢false}
 use Rattle.std.proofs.lemmas.List.{length-map, length-replicate}
 use Rattle.std.proofs.lemmas.Option.{slice_get_within, none-some, same_Some}
 use Rattle.pg_grammar.specs.Follows.{BodiesAreNodes}
-use Rattle.pg_grammar.specs.Forms.{NamesRule}
+use Rattle.pg_grammar.specs.Forms.{Node, NamesRule}
 use Rattle.pg_grammar.specs.Grammar.{Grammar, IsGrammar, rule_body}
-use Rattle.pg_grammar.specs.declared.form.Node.{Node}
-use Rattle.pg_grammar.specs.declared.form.Node.TheVariants as form
+use Rattle.pg_grammar.specs.declared.form.Form.TheVariants as form
 use Rattle.pg_grammar.specs.declared.grammar.Rule as declared
 use Rattle.pg_sets.specs.Graphs.{has, numbers_at, IsReached, root, onward, IsGathered}
 use Rattle.pg_sets.specs.Marks.{is_marked}
 use Rattle.pg_sets.specs.Nullable.{Nullable}
 use Rattle.pg_sets.specs.Parts.{up_to_unmarked, reached_parts, used_rules, all_joined}
-use Rattle.pg_sets.specs.Reached.{ReachedIn, first, later, ReachedPart, seq, choice, chain_left, chain_right, many, try, expression, text, skip, build, label, ReachesUse, here, through, Heads, AreHeads}
+use Rattle.pg_sets.specs.Reached as reached_by
+use Rattle.pg_sets.specs.Reached.{ReachedIn, first, later, ReachedPart, seq, choice, many, expression, ReachesUse, here, through, Heads, AreHeads}
 use Rattle.pg_sets.proofs.Lists.{has_first, has_behind, has_cases, has_at, stands, all_get, map_at, map_past}
 use Rattle.pg_sets.proofs.Walking.{reached_below}
 use Rattle.pg_sets.proofs.Joining.{Names, all_cases, all_new, all_length, none_at}
@@ -62,60 +62,35 @@ only_one part q h = elim (has_cases [] part q h) [ inl e ↦ e | inr none ↦ ab
 
 -- what is shown by the marks is reached
 pub part_shown : (g : Grammar) (marks : List Bool) → MarksNullable g marks → (n : Node) (q : ℕ) → has (reached_parts marks n) q ≡ true → ReachedPart g n q
-part_shown g marks on (form.Satisfy class) q h = absurd (true≢false (sym h))
-part_shown g marks on (form.String s) q h = absurd (true≢false (sym h))
+part_shown g marks on (form.Leaf leaf) q h = absurd (true≢false (sym h))
 part_shown g marks on (form.Seq parts) q h = seq (in_shown g marks on parts q h)
 part_shown g marks on (form.Choice parts) q h = let at = stands parts q h in choice at.place at.there
 part_shown g marks on (form.Many part) q h = subst (ReachedPart g (form.Many part)) (only_one part q h) many
-part_shown g marks on (form.ChainLeft used operand separator) q h = chain_left (again_shown (in_shown g marks on (operand ∷ separator ∷ []) q h))
-part_shown g marks on (form.ChainRight used operand separator) q h = chain_right (again_shown (in_shown g marks on (operand ∷ separator ∷ []) q h))
-part_shown g marks on (form.Try part) q h = subst (ReachedPart g (form.Try part)) (only_one part q h) try
-part_shown g marks on (form.NotFollowedBy class) q h = absurd (true≢false (sym h))
-part_shown g marks on form.EndOfText q h = absurd (true≢false (sym h))
-part_shown g marks on (form.Word word) q h = absurd (true≢false (sym h))
+part_shown g marks on (form.Chain side used operand separator) q h = reached_by.chain (again_shown (in_shown g marks on (operand ∷ separator ∷ []) q h))
 part_shown g marks on (form.Rule r) q h = absurd (true≢false (sym h))
 part_shown g marks on (form.Expression builders term) q h = subst (ReachedPart g (form.Expression builders term)) (only_one term q h) expression
-part_shown g marks on (form.Declare class) q h = absurd (true≢false (sym h))
-part_shown g marks on (form.Text part) q h = subst (ReachedPart g (form.Text part)) (only_one part q h) text
-part_shown g marks on (form.Skip part) q h = subst (ReachedPart g (form.Skip part)) (only_one part q h) skip
-part_shown g marks on (form.Build used symbol part) q h = subst (ReachedPart g (form.Build used symbol part)) (only_one part q h) build
-part_shown g marks on (form.Label part message) q h = subst (ReachedPart g (form.Label part message)) (only_one part q h) label
+part_shown g marks on (form.Around around part) q h = subst (ReachedPart g (form.Around around part)) (only_one part q h) reached_by.around
 
 -- what is reached is shown
 pub part_noted : {g : Grammar} (marks : List Bool) {n : Node} {q : ℕ} → MarksNullable g marks → ReachedPart g n q → has (reached_parts marks n) q ≡ true
 part_noted marks on (seq reached) = in_noted marks on reached
 part_noted marks on (choice {parts} k {part} at) = has_at parts k part at
-part_noted marks on (chain_left reached) = in_noted marks on (again_left reached)
-part_noted marks on (chain_right reached) = in_noted marks on (again_left reached)
+part_noted marks on (reached_by.chain r) = in_noted marks on (again_left r)
 part_noted marks on (many {part}) = has_first [] part
-part_noted marks on (try {part}) = has_first [] part
 part_noted marks on (expression {term = term}) = has_first [] term
-part_noted marks on (text {part}) = has_first [] part
-part_noted marks on (skip {part}) = has_first [] part
-part_noted marks on (build {part = part}) = has_first [] part
-part_noted marks on (label {part}) = has_first [] part
+part_noted marks on (reached_by.around {part = part}) = has_first [] part
 
 -- ---- uses that are reached
 
 used_is : (n : Node) (r : ℕ) → has (used_rules n) r ≡ true → n ≡ form.Rule r
-used_is (form.Satisfy class) r h = absurd (true≢false (sym h))
-used_is (form.String s) r h = absurd (true≢false (sym h))
+used_is (form.Leaf leaf) r h = absurd (true≢false (sym h))
 used_is (form.Seq parts) r h = absurd (true≢false (sym h))
 used_is (form.Choice parts) r h = absurd (true≢false (sym h))
 used_is (form.Many part) r h = absurd (true≢false (sym h))
-used_is (form.ChainLeft used operand separator) r h = absurd (true≢false (sym h))
-used_is (form.ChainRight used operand separator) r h = absurd (true≢false (sym h))
-used_is (form.Try part) r h = absurd (true≢false (sym h))
-used_is (form.NotFollowedBy class) r h = absurd (true≢false (sym h))
-used_is form.EndOfText r h = absurd (true≢false (sym h))
-used_is (form.Word word) r h = absurd (true≢false (sym h))
+used_is (form.Chain side used operand separator) r h = absurd (true≢false (sym h))
+used_is (form.Around around part) r h = absurd (true≢false (sym h))
 used_is (form.Rule rule) r h = ap form.Rule (only_one rule r h)
 used_is (form.Expression builders term) r h = absurd (true≢false (sym h))
-used_is (form.Declare class) r h = absurd (true≢false (sym h))
-used_is (form.Text part) r h = absurd (true≢false (sym h))
-used_is (form.Skip part) r h = absurd (true≢false (sym h))
-used_is (form.Build used symbol part) r h = absurd (true≢false (sym h))
-used_is (form.Label part message) r h = absurd (true≢false (sym h))
 
 module _ (g : Grammar) (marks : List Bool) (on : MarksNullable g marks) (graph uses : List (List ℕ))
     (graph_is : graph ≡ all_joined (reached_parts marks) 0 g.nodes (replicate (length g.nodes) []))

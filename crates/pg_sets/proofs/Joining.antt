@@ -5,7 +5,7 @@ use Rattle.std.specs.List.Sorted.{IsStrictlyIncreasing}
 use Rattle.std.proofs.lemmas.Bool.{cases_eq, cases_lt, true≢false, eqb-true, or_cases, or_left, or_right, eq-eqb}
 use Rattle.std.proofs.lemmas.List.{get_or-set_same, get_or-set_other, get_or_past, get_or_push, get_or_append_left, get_or-replicate, length-replicate}
 use Rattle.std.proofs.lemmas.Option.{slice_get-get_or}
-use Rattle.pg_grammar.specs.declared.form.Node.{Node}
+use Rattle.pg_grammar.specs.Forms.{Node}
 use Rattle.pg_sets.specs.Graphs.{has, AreOnce, numbers_at, joined, joined_each, IsReached, IsGathered}
 use Rattle.pg_sets.specs.Parts.{all_joined}
 use Rattle.pg_sets.proofs.Lists.{has_push, has_first, has_behind, has_cases, has_other, has_at}

@@ -11,7 +11,7 @@ use Rattle.std.proofs.lemmas.Map.Keys.{sorted_head, sorted_tail}
 use Rattle.std.proofs.lemmas.Option.{slice_get_within}
 use Rattle.pg_class.specs.Ranges.{Range}
 use Rattle.pg_grammar.specs.Grammar.{Grammar}
-use Rattle.pg_grammar.specs.declared.form.Node.{Node}
+use Rattle.pg_grammar.specs.Forms.{Node}
 use Rattle.pg_start.specs.declared.kind.StartKind.{StartKind}
 use Rattle.pg_sets.specs.Graphs.{has, numbers_at}
 use Rattle.pg_sets.specs.Listed.{IsListed, IsNumbered, IsFirstReader, start_order, start_order_total}

@@ -5,11 +5,13 @@ use Rattle.std.specs.Option.{option_map_or}
 use Rattle.std.proofs.lemmas.Bool.{and_parts, and_from}
 use Rattle.std.proofs.lemmas.Map.Keys.{any_passes_from_place}
 use Rattle.pg_grammar.specs.Grammar.{Grammar}
-use Rattle.pg_grammar.specs.declared.form.Node.{Node}
-use Rattle.pg_grammar.specs.declared.form.Node.TheVariants as form
+use Rattle.pg_grammar.specs.Forms.{Node}
+use Rattle.pg_grammar.specs.declared.form.Form.TheVariants as form
+use Rattle.pg_grammar.specs.declared.form.Leaf.TheVariants as leaf
 use Rattle.pg_grammar.specs.declared.grammar.Rule as declared
 use Rattle.pg_sets.specs.Marks.{is_marked, body_is_marked, looks_nullable}
-use Rattle.pg_sets.specs.Nullable.{Nullable, NullableForm, AllNullable, at_node, many, not_followed_by, end_of_text, seq, choice, chain_left, chain_right, try, text, skip, build, label, expression, rule, none, first}
+use Rattle.pg_sets.specs.Nullable as null
+use Rattle.pg_sets.specs.Nullable.{Nullable, NullableForm, AllNullable, at_node, many, not_followed_by, end_of_text, seq, choice, expression, rule, none, first}
 use Rattle.pg_sets.proofs.Lists.{passes-from_any}
 
 -- only nullable nodes are marked
@@ -43,24 +45,19 @@ body_shown g marks on r e = go (slice_get g.rules r) refl e
 
 -- what is shown of a form by marks on nullable nodes
 pub shown : (g : Grammar) (marks : List Bool) → OnNullable g marks → (n : Node) → looks_nullable g.rules marks n ≡ true → NullableForm g n
-shown g marks on (form.Satisfy class) e = absurd cc
-shown g marks on (form.String s) e = absurd cc
+shown g marks on (form.Leaf (leaf.NotFollowedBy class)) e = not_followed_by
+shown g marks on (form.Leaf leaf.EndOfText) e = end_of_text
+shown g marks on (form.Leaf (leaf.Satisfy class)) e = absurd cc
+shown g marks on (form.Leaf (leaf.String s)) e = absurd cc
+shown g marks on (form.Leaf (leaf.Word word)) e = absurd cc
+shown g marks on (form.Leaf (leaf.Declare class)) e = absurd cc
 shown g marks on (form.Seq parts) e = seq (all_shown g marks on parts e)
 shown g marks on (form.Choice parts) e = one_shown g marks on parts e
 shown g marks on (form.Many part) e = many
-shown g marks on (form.ChainLeft used operand separator) e = chain_left (on operand e)
-shown g marks on (form.ChainRight used operand separator) e = chain_right (on operand e)
-shown g marks on (form.Try part) e = try (on part e)
-shown g marks on (form.NotFollowedBy class) e = not_followed_by
-shown g marks on form.EndOfText e = end_of_text
-shown g marks on (form.Word word) e = absurd cc
+shown g marks on (form.Chain side used operand separator) e = null.chain (on operand e)
 shown g marks on (form.Rule r) e = body_shown g marks on r e
 shown g marks on (form.Expression builders term) e = expression (on term e)
-shown g marks on (form.Declare class) e = absurd cc
-shown g marks on (form.Text part) e = text (on part e)
-shown g marks on (form.Skip part) e = skip (on part e)
-shown g marks on (form.Build used symbol part) e = build (on part e)
-shown g marks on (form.Label part message) e = label (on part e)
+shown g marks on (form.Around around part) e = null.around (on part e)
 
 -- ---- what is nullable is marked
 
@@ -75,13 +72,8 @@ mutual
   looks marks closed end_of_text = refl
   looks marks closed (seq all) = all_marked marks closed all
   looks marks closed (choice {parts} k {part} at one) = any_passes_from_place (is_marked marks) parts k part at (marked marks closed one)
-  looks marks closed (chain_left one) = marked marks closed one
-  looks marks closed (chain_right one) = marked marks closed one
-  looks marks closed (try one) = marked marks closed one
-  looks marks closed (text one) = marked marks closed one
-  looks marks closed (skip one) = marked marks closed one
-  looks marks closed (build one) = marked marks closed one
-  looks marks closed (label one) = marked marks closed one
+  looks marks closed (null.chain one) = marked marks closed one
+  looks marks closed (null.around one) = marked marks closed one
   looks marks closed (expression one) = marked marks closed one
   looks marks closed (rule at one) = ap (λ found. option_map_or (λ rule. is_marked marks rule.body) found false) at ∙ marked marks closed one
 

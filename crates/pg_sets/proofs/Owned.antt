@@ -4,15 +4,15 @@ use Rattle.std.proofs.lemmas.Bool.{cases_order, true≢false}
 use Rattle.std.proofs.lemmas.Option.{slice_get_within, same_Some, none-some}
 use Rattle.pg_class.specs.Ranges.{Range}
 use Rattle.pg_class.proofs.Unique.{same_class}
-use Rattle.pg_grammar.specs.Forms.{form_of, has_bad_literal}
+use Rattle.pg_grammar.specs.Forms.{Node, form_of, has_bad_literal}
 use Rattle.pg_grammar.specs.Grammar.{Grammar, IsGrammar, rule_names, word_names}
-use Rattle.pg_grammar.specs.declared.form.BaseForm.TheVariants as base
+use Rattle.pg_grammar.specs.declared.form.Form.TheVariants as form
+use Rattle.pg_grammar.specs.declared.form.Leaf.TheVariants as leaf
+use Rattle.pg_grammar.specs.declared.form.Around.TheVariants as around
 use Rattle.pg_grammar.proofs.Each.{none-get}
 use Rattle.pg_grammar.specs.declared.class.ClassPart.{ClassPart}
 use Rattle.pg_grammar.specs.declared.decl.Role.{Role}
 use Rattle.pg_grammar.specs.declared.decl.Role.TheVariants.{InfixLeft, InfixRight, InfixNone, Prefix, Postfix}
-use Rattle.pg_grammar.specs.declared.form.Node.{Node}
-use Rattle.pg_grammar.specs.declared.form.Node.TheVariants as form
 use Rattle.pg_grammar.specs.declared.operators_item.OperatorsItem.{OperatorsItem}
 use Rattle.pg_grammar.specs.declared.used.OperatorBuilders.{OperatorBuilders}
 use Rattle.pg_grammar.specs.declared.word_item.WordItem.{WordItem}
@@ -50,27 +50,27 @@ none_own none no_plain = record {
 }
 
 -- a character of a class
-pub satisfy_own : {g : Grammar} {expression : List ClassPart} (class : List Range) → IsClassOf g expression class → AreOwn g (form.Satisfy expression) (record { start = Class class; word = 0 } ∷ [])
+pub satisfy_own : {g : Grammar} {expression : List ClassPart} (class : List Range) → IsClassOf g expression class → AreOwn g (form.Leaf (leaf.Satisfy expression)) (record { start = Class class; word = 0 } ∷ [])
 satisfy_own {g} {expression} class is = one_own (record { start = Class class; word = 0 }) (record { own = own.satisfy is; named = refl }) only
   where
-    only : (s : StartKind) (w : ℕ) → OwnStart g (form.Satisfy expression) s → IsNumbered g s w → ◌≡◌ {A = ListedStart} (record { start = Class class; word = 0 }) (record { start = s; word = w })
+    only : (s : StartKind) (w : ℕ) → OwnStart g (form.Leaf (leaf.Satisfy expression)) s → IsNumbered g s w → ◌≡◌ {A = ListedStart} (record { start = Class class; word = 0 }) (record { start = s; word = w })
     only s w (own.satisfy also) named = listed_path (ap Class (one_class is also)) (sym named)
 
 -- a string
-pub string_own : {g : Grammar} (c : ℕ) (cs : List ℕ) → AreOwn g (form.String (c ∷ cs)) (record { start = Class ((c, c) ∷ []); word = 0 } ∷ [])
+pub string_own : {g : Grammar} (c : ℕ) (cs : List ℕ) → AreOwn g (form.Leaf (leaf.String (c ∷ cs))) (record { start = Class ((c, c) ∷ []); word = 0 } ∷ [])
 string_own {g} c cs = one_own (record { start = Class ((c, c) ∷ []); word = 0 }) (record { own = own.string; named = refl }) only
   where
-    only : (s : StartKind) (w : ℕ) → OwnStart g (form.String (c ∷ cs)) s → IsNumbered g s w
+    only : (s : StartKind) (w : ℕ) → OwnStart g (form.Leaf (leaf.String (c ∷ cs))) s → IsNumbered g s w
         → ◌≡◌ {A = ListedStart} (record { start = Class ((c, c) ∷ []); word = 0 }) (record { start = s; word = w })
     only s w own.string named = listed_path refl (sym named)
 
-pub empty_own : {g : Grammar} → AreOwn g (form.String []) []
+pub empty_own : {g : Grammar} → AreOwn g (form.Leaf (leaf.String [])) []
 empty_own {g} = none_own none no_plain
   where
-    none : (s : StartKind) → OwnStart g (form.String []) s → ⊥
+    none : (s : StartKind) → OwnStart g (form.Leaf (leaf.String [])) s → ⊥
     none s is = elim is [ ]
 
-    no_plain : IsPlain g (form.String []) → ⊥
+    no_plain : IsPlain g (form.Leaf (leaf.String [])) → ⊥
     no_plain (plain.key is) = elim is [ ]
 
 -- ---- keys
@@ -78,26 +78,26 @@ empty_own {g} = none_own none no_plain
 apart_forms : (g : Grammar) (p : ℕ) {n m : Node} → slice_get g.nodes p ≡ Some n → slice_get g.nodes p ≡ Some m → n ≡ m
 apart_forms g p {n} {m} a b = same_Some n m (sym a ∙ b)
 
-string_seq : {text : List ℕ} {parts : List ℕ} → form.String text ≡ form.Seq parts → ⊥
+string_seq : {text : List ℕ} {parts : List ℕ} → ◌≡◌ {A = Node} (form.Leaf (leaf.String text)) (form.Seq parts) → ⊥
 string_seq e = absurd cc
 
-string_text : {text other : List ℕ} → form.String text ≡ form.String other → text ≡ other
+string_text : {text other : List ℕ} → ◌≡◌ {A = Node} (form.Leaf (leaf.String text)) (form.Leaf (leaf.String other)) → text ≡ other
 string_text e = cc
 
-pub key_own : {g : Grammar} {part : ℕ} (text : List ℕ) → slice_get g.nodes part ≡ Some (form.String text) → AreOwn g (form.Try part) (record { start = Key text []; word = 0 } ∷ [])
+pub key_own : {g : Grammar} {part : ℕ} (text : List ℕ) → slice_get g.nodes part ≡ Some (form.Leaf (leaf.String text)) → AreOwn g (form.Around around.Try part) (record { start = Key text []; word = 0 } ∷ [])
 key_own {g} {part} text at = one_own (record { start = Key text []; word = 0 }) (record { own = own.key at; named = refl }) only
   where
-    only : (s : StartKind) (w : ℕ) → OwnStart g (form.Try part) s → IsNumbered g s w → ◌≡◌ {A = ListedStart} (record { start = Key text []; word = 0 }) (record { start = s; word = w })
+    only : (s : StartKind) (w : ℕ) → OwnStart g (form.Around around.Try part) s → IsNumbered g s w → ◌≡◌ {A = ListedStart} (record { start = Key text []; word = 0 }) (record { start = s; word = w })
     only s w (own.key also) named = listed_path (ap (λ t. Key t []) (string_text (apart_forms g part at also))) (sym named)
     only s w (own.key_that_ends keyed is) named = absurd (string_seq (apart_forms g part at keyed.both))
 
-not_followed_class : {class other : List ClassPart} → form.NotFollowedBy class ≡ form.NotFollowedBy other → class ≡ other
+not_followed_class : {class other : List ClassPart} → ◌≡◌ {A = Node} (form.Leaf (leaf.NotFollowedBy class)) (form.Leaf (leaf.NotFollowedBy other)) → class ≡ other
 not_followed_class e = cc
 
-seq_first : {a b c d : ℕ} → form.Seq (a ∷ b ∷ []) ≡ form.Seq (c ∷ d ∷ []) → a ≡ c
+seq_first : {a b c d : ℕ} → ◌≡◌ {A = Node} (form.Seq (a ∷ b ∷ [])) (form.Seq (c ∷ d ∷ [])) → a ≡ c
 seq_first e = cc
 
-seq_second : {a b c d : ℕ} → form.Seq (a ∷ b ∷ []) ≡ form.Seq (c ∷ d ∷ []) → b ≡ d
+seq_second : {a b c d : ℕ} → ◌≡◌ {A = Node} (form.Seq (a ∷ b ∷ [])) (form.Seq (c ∷ d ∷ [])) → b ≡ d
 seq_second e = cc
 
 one_keyed : (g : Grammar) (part : ℕ) (text other : List ℕ) (class excluded : List ClassPart) → IsKeyed g part text class → IsKeyed g part other excluded
@@ -106,43 +106,43 @@ one_keyed g part text other class excluded is also =
     let parts = apart_forms g part is.both also.both in
     let first : is.first ≡ also.first = seq_first parts in
     let second : is.second ≡ also.second = seq_second parts in (
-      string_text (apart_forms g also.first (subst (λ p. slice_get g.nodes p ≡ Some (form.String text)) first is.string) also.string),
-      not_followed_class (apart_forms g also.second (subst (λ p. slice_get g.nodes p ≡ Some (form.NotFollowedBy class)) second is.ends) also.ends),
+      string_text (apart_forms g also.first (subst (λ p. slice_get g.nodes p ≡ Some (form.Leaf (leaf.String text))) first is.string) also.string),
+      not_followed_class (apart_forms g also.second (subst (λ p. slice_get g.nodes p ≡ Some (form.Leaf (leaf.NotFollowedBy class))) second is.ends) also.ends),
     )
 
 pub keyword_own : {g : Grammar} {part : ℕ} (text : List ℕ) (excluded : List ClassPart) (class : List Range) → IsKeyed g part text excluded → IsClassOf g excluded class
-    → AreOwn g (form.Try part) (record { start = Key text class; word = 0 } ∷ [])
+    → AreOwn g (form.Around around.Try part) (record { start = Key text class; word = 0 } ∷ [])
 keyword_own {g} {part} text excluded class keyed is = one_own (record { start = Key text class; word = 0 }) (record { own = own.key_that_ends keyed is; named = refl }) only
   where
-    only : (s : StartKind) (w : ℕ) → OwnStart g (form.Try part) s → IsNumbered g s w → ◌≡◌ {A = ListedStart} (record { start = Key text class; word = 0 }) (record { start = s; word = w })
+    only : (s : StartKind) (w : ℕ) → OwnStart g (form.Around around.Try part) s → IsNumbered g s w → ◌≡◌ {A = ListedStart} (record { start = Key text class; word = 0 }) (record { start = s; word = w })
     only s w (own.key also) named = absurd (string_seq (apart_forms g part also keyed.both))
     only s w (own.key_that_ends {characters = other} {excluded = others} {class = ranges} also known) named =
         let same = one_keyed g part text other excluded others keyed also in
         listed_path (ap (λ t. Key t class) same.0 ∙ ap (Key other) (one_class is (subst (λ e. IsClassOf g e ranges) (sym same.1) known))) (sym named)
 
-pub no_key_own : {g : Grammar} {part : ℕ} → ((text : List ℕ) → slice_get g.nodes part ≡ Some (form.String text) → ⊥)
-    → ((text : List ℕ) (excluded : List ClassPart) → IsKeyed g part text excluded → ⊥) → AreOwn g (form.Try part) []
+pub no_key_own : {g : Grammar} {part : ℕ} → ((text : List ℕ) → slice_get g.nodes part ≡ Some (form.Leaf (leaf.String text)) → ⊥)
+    → ((text : List ℕ) (excluded : List ClassPart) → IsKeyed g part text excluded → ⊥) → AreOwn g (form.Around around.Try part) []
 no_key_own {g} {part} no_string no_keyword = none_own none no_plain
   where
-    none : (s : StartKind) → OwnStart g (form.Try part) s → ⊥
+    none : (s : StartKind) → OwnStart g (form.Around around.Try part) s → ⊥
     none s (own.key {characters = text} at) = no_string text at
     none s (own.key_that_ends {characters = text} {excluded = excluded} keyed is) = no_keyword text excluded keyed
 
-    no_plain : IsPlain g (form.Try part) → ⊥
+    no_plain : IsPlain g (form.Around around.Try part) → ⊥
     no_plain (plain.key (own.string {characters = text} at)) = no_string text at
     no_plain (plain.key (own.keyed {characters = text} {excluded = excluded} keyed)) = no_keyword text excluded keyed
 
 -- a string of a grammar has a character
-pub spelled : (g : Grammar) (p : ℕ) (text : List ℕ) → IsGrammar g → slice_get g.nodes p ≡ Some (form.String text) → 0 < length text
-spelled g p text grammar at = positive text (none-get has_bad_literal (form_of (rule_names g) (word_names g)) g.nodes p (form.String text) grammar.literals at)
+pub spelled : (g : Grammar) (p : ℕ) (text : List ℕ) → IsGrammar g → slice_get g.nodes p ≡ Some (form.Leaf (leaf.String text)) → 0 < length text
+spelled g p text grammar at = positive text (none-get has_bad_literal (form_of (rule_names g) (word_names g)) g.nodes p (form.Leaf (leaf.String text)) grammar.literals at)
   where
-    positive : (text : List ℕ) → has_bad_literal (base.String text) ≡ false → 0 < length text
+    positive : (text : List ℕ) → has_bad_literal (form.Leaf (leaf.String text)) ≡ false → 0 < length text
     positive [] e = absurd (true≢false e)
     positive (c ∷ cs) e = omega arith
 
 -- ---- declarations
 
-pub declare_own : {g : Grammar} {expression : List ClassPart} (class : List Range) → IsExcludedBy g expression class → AreOwn g (form.Declare expression) (keyword_keys class)
+pub declare_own : {g : Grammar} {expression : List ClassPart} (class : List Range) → IsExcludedBy g expression class → AreOwn g (form.Leaf (leaf.Declare expression)) (keyword_keys class)
 declare_own {g} {expression} class is = record {
   members = λ other. (λ among. from other among, λ o. to other.start other.word o.own o.named);
   there = λ plain. absurd (no_plain plain);
@@ -151,10 +151,10 @@ declare_own {g} {expression} class is = record {
     key_of : Role → ListedStart
     key_of role = record { start = Key (role_keyword role) class; word = 0 }
 
-    each : (role : Role) (other : ListedStart) → key_of role ≡ other → OwnListed g (form.Declare expression) other
-    each role other same = subst (OwnListed g (form.Declare expression)) same (record { own = own.declare role is; named = refl })
+    each : (role : Role) (other : ListedStart) → key_of role ≡ other → OwnListed g (form.Leaf (leaf.Declare expression)) other
+    each role other same = subst (OwnListed g (form.Leaf (leaf.Declare expression))) same (record { own = own.declare role is; named = refl })
 
-    from : (other : ListedStart) → IsAmong (keyword_keys class) other → OwnListed g (form.Declare expression) other
+    from : (other : ListedStart) → IsAmong (keyword_keys class) other → OwnListed g (form.Leaf (leaf.Declare expression)) other
     from other (inl same) = each InfixLeft other same
     from other (inr (inl same)) = each InfixRight other same
     from other (inr (inr (inl same))) = each InfixNone other same
@@ -165,14 +165,14 @@ declare_own {g} {expression} class is = record {
     path : (role : Role) {ranges : List Range} {w : ℕ} → IsExcludedBy g expression ranges → w ≡ 0 → key_of role ≡ record { start = Key (role_keyword role) ranges; word = w }
     path role {ranges} also named = listed_path (ap (Key (role_keyword role)) (same_class class ranges is.ranges also.ranges (λ c scalar. is.members c scalar ∙ sym (also.members c scalar)))) (sym named)
 
-    to : (s : StartKind) (w : ℕ) → OwnStart g (form.Declare expression) s → IsNumbered g s w → IsAmong (keyword_keys class) (record { start = s; word = w })
+    to : (s : StartKind) (w : ℕ) → OwnStart g (form.Leaf (leaf.Declare expression)) s → IsNumbered g s w → IsAmong (keyword_keys class) (record { start = s; word = w })
     to s w (own.declare InfixLeft also) named = inl (path InfixLeft also named)
     to s w (own.declare InfixRight also) named = inr (inl (path InfixRight also named))
     to s w (own.declare InfixNone also) named = inr (inr (inl (path InfixNone also named)))
     to s w (own.declare Prefix also) named = inr (inr (inr (inl (path Prefix also named))))
     to s w (own.declare Postfix also) named = inr (inr (inr (inr (inl (path Postfix also named)))))
 
-    no_plain : IsPlain g (form.Declare expression) → ⊥
+    no_plain : IsPlain g (form.Leaf (leaf.Declare expression)) → ⊥
     no_plain (plain.key is) = elim is [ ]
 
 -- ---- words
@@ -237,13 +237,13 @@ words_path {g} {heads} {rest} {texts} {reserved} {w} listed lists is named =
     listed_path start (one_number listed.word w number named)
 
 pub word_own : {g : Grammar} {w : ℕ} (item : WordItem) (heads rest : List Range) (listed : ListedStart) → slice_get g.words w ≡ Some item → IsClassOf g item.head heads → IsClassOf g item.rest rest
-    → ListsWords g heads rest item.reserved listed → AreOwn g (form.Word w) (listed ∷ [])
+    → ListsWords g heads rest item.reserved listed → AreOwn g (form.Leaf (leaf.Word w)) (listed ∷ [])
 word_own {g} {w} item heads rest listed at first other lists =
     let known = words_reserved listed lists in
-    let gives : OwnStart g (form.Word w) listed.start = subst (OwnStart g (form.Word w)) (sym known.1) (own.word at first other known.2) in
+    let gives : OwnStart g (form.Leaf (leaf.Word w)) listed.start = subst (OwnStart g (form.Leaf (leaf.Word w))) (sym known.1) (own.word at first other known.2) in
     one_own listed (record { own = gives; named = known.3 }) only
   where
-    only : (s : StartKind) (v : ℕ) → OwnStart g (form.Word w) s → IsNumbered g s v → listed ≡ record { start = s; word = v }
+    only : (s : StartKind) (v : ℕ) → OwnStart g (form.Leaf (leaf.Word w)) s → IsNumbered g s v → listed ≡ record { start = s; word = v }
     only s v (own.word {item = also} {heads = h} {rest = r} {reserved = reserved} there begins goes is) named =
         let one : also ≡ item = same_Some also item (sym there ∙ at) in
         let same_heads : h ≡ heads = one_class (subst (λ i. IsClassOf g i.head h) one begins) first in
@@ -254,13 +254,13 @@ word_own {g} {w} item heads rest listed at first other lists =
         words_path listed lists reserved_so numbered
         ∙ listed_path (ap (λ x. Word x rest reserved) (sym same_heads) ∙ ap (λ x. Word h x reserved) (sym same_rest)) refl
 
-pub no_word_own : {g : Grammar} {w : ℕ} → ((item : WordItem) → slice_get g.words w ≡ Some item → ⊥) → AreOwn g (form.Word w) []
+pub no_word_own : {g : Grammar} {w : ℕ} → ((item : WordItem) → slice_get g.words w ≡ Some item → ⊥) → AreOwn g (form.Leaf (leaf.Word w)) []
 no_word_own {g} {w} no_item = none_own none no_plain
   where
-    none : (s : StartKind) → OwnStart g (form.Word w) s → ⊥
+    none : (s : StartKind) → OwnStart g (form.Leaf (leaf.Word w)) s → ⊥
     none s (own.word {item = item} there begins goes is) = no_item item there
 
-    no_plain : IsPlain g (form.Word w) → ⊥
+    no_plain : IsPlain g (form.Leaf (leaf.Word w)) → ⊥
     no_plain (plain.word {item = item} there) = no_item item there
     no_plain (plain.key is) = elim is [ ]
 

@@ -3,17 +3,16 @@ use Rattle.std.proofs.Common.{◌≡◌, ℕ, zero, suc, ◌+◌, ◌<◌, ◌�
 use Rattle.std.specs.Option.{option_map}
 use Rattle.std.proofs.lemmas.Bool.{cases_Bool, true≢false}
 use Rattle.std.proofs.lemmas.Option.{same_Some, slice_get-map}
-use Rattle.pg_grammar.specs.Forms.{parts_of, node_part_count, InPreorder}
+use Rattle.pg_grammar.specs.Forms.{Node, parts_of, node_part_count, InPreorder}
 use Rattle.pg_grammar.specs.Grammar.{Grammar, IsGrammar, rule_body}
 use Rattle.pg_grammar.specs.Preorder.{roots}
-use Rattle.pg_grammar.specs.declared.form.Node.{Node}
-use Rattle.pg_grammar.specs.declared.form.Node.TheVariants as form
+use Rattle.pg_grammar.specs.declared.form.Form.TheVariants as form
 use Rattle.pg_grammar.specs.declared.grammar.Rule as declared
 use Rattle.pg_grammar.proofs.Numbers.{parts_follow}
 use Rattle.pg_grammar.proofs.Preorder.{roots_within}
 use Rattle.pg_start.specs.declared.kind.StartKind.{StartKind}
 use Rattle.pg_sets.specs.First.{IsFirstOf}
-use Rattle.pg_sets.specs.Follow.{StandsBefore, here, further, IsChain, left, right, HasOnly, IsFollow}
+use Rattle.pg_sets.specs.Follow.{StandsBefore, here, further, IsChain, HasOnly, IsFollow}
 use Rattle.pg_sets.specs.Follow as follow
 use Rattle.pg_sets.specs.Graphs.{has, AreOnce}
 use Rattle.pg_sets.specs.Nullable.{AllNullable}
@@ -161,18 +160,13 @@ stands_next (further stands) = further (stands_next stands)
 -- ---- what follows a part of a sequence
 
 chain_parts : {o s : ℕ} {n : Node} → IsChain o s n → (has (parts_of n) o ≡ true) × (has (parts_of n) s ≡ true)
-chain_parts {o} {s} left = (has_first (s ∷ []) o, has_behind (s ∷ []) o s (has_first [] s))
-chain_parts {o} {s} right = (has_first (s ∷ []) o, has_behind (s ∷ []) o s (has_first [] s))
+chain_parts {o} {s} follow.chain = (has_first (s ∷ []) o, has_behind (s ∷ []) o s (has_first [] s))
 
 chain_no_seq : {o s : ℕ} {parts : List ℕ} → IsChain o s (form.Seq parts) → ⊥
 chain_no_seq is = elim is [ ]
 
 only_part : {q : ℕ} {n : Node} → HasOnly q n → has (parts_of n) q ≡ true
-only_part {q} follow.try = has_first [] q
-only_part {q} follow.text = has_first [] q
-only_part {q} follow.skip = has_first [] q
-only_part {q} follow.build = has_first [] q
-only_part {q} follow.label = has_first [] q
+only_part {q} follow.around = has_first [] q
 
 only_no_seq : {q : ℕ} {parts : List ℕ} → HasOnly q (form.Seq parts) → ⊥
 only_no_seq is = elim is [ ]

@@ -1,8 +1,10 @@
 -- Which sets are contained in which: as edges of a graph whose vertices are the first and the follow sets of nodes.
 use Rattle.std.specs.Prelude.{ℕ, suc, ◌+◌, nat_lt, Bool, if◌then◌else◌, List, [], ◌∷◌, ◌++◌, slice_get}
 use Rattle.std.specs.Option.{option_map_or}
-use Rattle.pg_grammar.specs.declared.form.Node.{Node}
-use Rattle.pg_grammar.specs.declared.form.Node.TheVariants as form
+use Rattle.pg_grammar.specs.Forms.{Node}
+use Rattle.pg_grammar.specs.declared.form.Form.TheVariants as form
+use Rattle.pg_grammar.specs.declared.form.Around.{Around}
+use Rattle.pg_grammar.specs.declared.form.Around.TheVariants as kind
 use Rattle.pg_grammar.specs.declared.grammar.Rule.{Rule}
 use Rattle.pg_sets.specs.Graphs.{joined}
 use Rattle.pg_sets.specs.Marks.{is_marked}
@@ -63,30 +65,28 @@ flows_of_only count p q = (q, p) ∷ (follow_of count p, follow_of count q) ∷ 
 abbrev pub try_flows : List Bool → ℕ → ℕ → ℕ → List Flow
 try_flows keys count p q = if is_marked keys p then (follow_of count p, follow_of count q) ∷ [] else flows_of_only count p q
 
+-- of a form around a part
+abbrev pub around_flows : List Bool → ℕ → ℕ → Around → ℕ → List Flow
+around_flows keys count p kind.Try q = try_flows keys count p q
+around_flows keys count p kind.Text q = flows_of_only count p q
+around_flows keys count p kind.Skip q = flows_of_only count p q
+around_flows keys count p (kind.Build used symbol) q = flows_of_only count p q
+around_flows keys count p (kind.Label message) q = flows_of_only count p q
+
 -- of a use of a rule
 abbrev pub flows_of_use : List Rule → ℕ → ℕ → ℕ → List Flow
 flows_of_use rules count p r = option_map_or (λ rule. flows_of_only count p rule.body) (slice_get rules r) []
 
 -- those that a node tells, whose number is p
 abbrev pub node_flows : List Rule → List Bool → List Bool → ℕ → ℕ → Node → List Flow
-node_flows rules nullable keys count p (form.Satisfy class) = []
-node_flows rules nullable keys count p (form.String text) = []
+node_flows rules nullable keys count p (form.Leaf leaf) = []
 node_flows rules nullable keys count p (form.Seq parts) = flows_of_some nullable parts p ++ flows_behind_parts nullable count p parts
 node_flows rules nullable keys count p (form.Choice parts) = flows_of_alternatives count p parts
 node_flows rules nullable keys count p (form.Many part) = (part, follow_of count part) ∷ flows_of_only count p part
-node_flows rules nullable keys count p (form.ChainLeft used operand separator) = flows_of_chain nullable count p operand separator
-node_flows rules nullable keys count p (form.ChainRight used operand separator) = flows_of_chain nullable count p operand separator
-node_flows rules nullable keys count p (form.Try part) = try_flows keys count p part
-node_flows rules nullable keys count p (form.NotFollowedBy class) = []
-node_flows rules nullable keys count p form.EndOfText = []
-node_flows rules nullable keys count p (form.Word word) = []
+node_flows rules nullable keys count p (form.Chain side used operand separator) = flows_of_chain nullable count p operand separator
 node_flows rules nullable keys count p (form.Rule rule) = flows_of_use rules count p rule
 node_flows rules nullable keys count p (form.Expression builders term) = flows_of_only count p term
-node_flows rules nullable keys count p (form.Declare class) = []
-node_flows rules nullable keys count p (form.Text part) = flows_of_only count p part
-node_flows rules nullable keys count p (form.Skip part) = flows_of_only count p part
-node_flows rules nullable keys count p (form.Build used symbol part) = flows_of_only count p part
-node_flows rules nullable keys count p (form.Label part message) = flows_of_only count p part
+node_flows rules nullable keys count p (form.Around around part) = around_flows keys count p around part
 
 -- those of these nodes, the first having the number p
 abbrev pub all_flows : List Rule → List Bool → List Bool → ℕ → ℕ → List Node → List Flow

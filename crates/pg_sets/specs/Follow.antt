@@ -2,8 +2,10 @@
 -- start rule leads to it or not.
 use Rattle.std.specs.Prelude.{◌≡◌, ℕ, List, [], ◌∷◌, Some, slice_get}
 use Rattle.pg_grammar.specs.Grammar.{Grammar}
-use Rattle.pg_grammar.specs.declared.form.Node.{Node}
-use Rattle.pg_grammar.specs.declared.form.Node.TheVariants as form
+use Rattle.pg_grammar.specs.Forms.{Node}
+use Rattle.pg_grammar.specs.declared.form.Form.TheVariants as form
+use Rattle.pg_grammar.specs.declared.form.Around.{Around}
+use Rattle.pg_grammar.specs.declared.side.Side.{Side}
 use Rattle.pg_grammar.specs.declared.grammar.Rule as declared
 use Rattle.pg_grammar.specs.declared.used.BuilderUse.{BuilderUse}
 use Rattle.pg_grammar.specs.declared.used.OperatorBuilders.{OperatorBuilders}
@@ -20,16 +22,11 @@ pub data StandsBefore (part : ℕ) (rest : List ℕ) : List ℕ → Type 0 where
 
 -- what stands at a node is a chain of this operand and this separator
 pub data IsChain (operand separator : ℕ) : Node → Type 0 where
-  left : {used : BuilderUse} → IsChain operand separator (form.ChainLeft used operand separator)
-  right : {used : BuilderUse} → IsChain operand separator (form.ChainRight used operand separator)
+  chain : {side : Side} {used : BuilderUse} → IsChain operand separator (form.Chain side used operand separator)
 
 -- what stands at a node reads what its one part reads
 pub data HasOnly (part : ℕ) : Node → Type 0 where
-  try : HasOnly part (form.Try part)
-  text : HasOnly part (form.Text part)
-  skip : HasOnly part (form.Skip part)
-  build : {used : BuilderUse} {symbol : List ℕ} → HasOnly part (form.Build used symbol part)
-  label : {message : List ℕ} → HasOnly part (form.Label part message)
+  around : {around : Around} → HasOnly part (form.Around around part)
 
 -- the start is among those that follow the node
 pub data IsFollow (g : Grammar) : StartKind → ℕ → Type 0 where

@@ -2,8 +2,11 @@
 use Rattle.std.specs.Prelude.{◌≡◌, ℕ, List, [], ◌∷◌, Some, slice_get}
 use Rattle.pg_grammar.specs.Grammar.{Grammar}
 use Rattle.pg_grammar.specs.declared.class.ClassPart.{ClassPart}
-use Rattle.pg_grammar.specs.declared.form.Node.{Node}
-use Rattle.pg_grammar.specs.declared.form.Node.TheVariants as form
+use Rattle.pg_grammar.specs.Forms.{Node}
+use Rattle.pg_grammar.specs.declared.form.Form.TheVariants as form
+use Rattle.pg_grammar.specs.declared.form.Leaf.TheVariants as leaf
+use Rattle.pg_grammar.specs.declared.form.Around.{Around}
+use Rattle.pg_grammar.specs.declared.side.Side.{Side}
 use Rattle.pg_grammar.specs.declared.grammar.Rule as declared
 use Rattle.pg_grammar.specs.declared.used.BuilderUse.{BuilderUse}
 use Rattle.pg_grammar.specs.declared.used.OperatorBuilders.{OperatorBuilders}
@@ -16,21 +19,16 @@ mutual
   -- the same, of what stands at a node
   pub data NullableForm (g : Grammar) : Node → Type 0 where
     many : {part : ℕ} → NullableForm g (form.Many part)
-    not_followed_by : {class : List ClassPart} → NullableForm g (form.NotFollowedBy class)
-    end_of_text : NullableForm g form.EndOfText
+    not_followed_by : {class : List ClassPart} → NullableForm g (form.Leaf (leaf.NotFollowedBy class))
+    end_of_text : NullableForm g (form.Leaf leaf.EndOfText)
     -- all parts, of which there may be none
     seq : {parts : List ℕ} → AllNullable g parts → NullableForm g (form.Seq parts)
     -- an alternative
     choice : {parts : List ℕ} (k : ℕ) {part : ℕ} → slice_get parts k ≡ Some part → Nullable g part → NullableForm g (form.Choice parts)
     -- the operand
-    chain_left : {used : BuilderUse} {operand separator : ℕ} → Nullable g operand → NullableForm g (form.ChainLeft used operand separator)
-    chain_right : {used : BuilderUse} {operand separator : ℕ} → Nullable g operand → NullableForm g (form.ChainRight used operand separator)
+    chain : {side : Side} {used : BuilderUse} {operand separator : ℕ} → Nullable g operand → NullableForm g (form.Chain side used operand separator)
     -- the part
-    try : {part : ℕ} → Nullable g part → NullableForm g (form.Try part)
-    text : {part : ℕ} → Nullable g part → NullableForm g (form.Text part)
-    skip : {part : ℕ} → Nullable g part → NullableForm g (form.Skip part)
-    build : {used : BuilderUse} {symbol : List ℕ} {part : ℕ} → Nullable g part → NullableForm g (form.Build used symbol part)
-    label : {part : ℕ} {message : List ℕ} → Nullable g part → NullableForm g (form.Label part message)
+    around : {around : Around} {part : ℕ} → Nullable g part → NullableForm g (form.Around around part)
     expression : {builders : OperatorBuilders} {term : ℕ} → Nullable g term → NullableForm g (form.Expression builders term)
     -- the rule's body
     rule : {r : ℕ} {named : declared.Rule} → slice_get g.rules r ≡ Some named → Nullable g named.body → NullableForm g (form.Rule r)

@@ -2,8 +2,9 @@
 use Rattle.std.specs.Prelude.{◌≡◌, ◌↔◌, ◌⊎◌, ℕ, List, [], ◌∷◌, Some, slice_get}
 use Rattle.pg_grammar.specs.Grammar.{Grammar}
 use Rattle.pg_grammar.specs.declared.class.ClassPart.{ClassPart}
-use Rattle.pg_grammar.specs.declared.form.Node.{Node}
-use Rattle.pg_grammar.specs.declared.form.Node.TheVariants as form
+use Rattle.pg_grammar.specs.Forms.{Node}
+use Rattle.pg_grammar.specs.declared.form.Form.TheVariants as form
+use Rattle.pg_grammar.specs.declared.form.Leaf.TheVariants as leaf
 use Rattle.pg_grammar.specs.declared.word_item.WordItem.{WordItem}
 use Rattle.pg_class.specs.Ranges.{Range}
 use Rattle.pg_grammar.specs.declared.decl.Role.TheVariants.{InfixLeft, InfixRight, InfixNone, Prefix, Postfix}
@@ -20,8 +21,8 @@ pub record OwnListed (g : Grammar) (n : Node) (listed : ListedStart) : Type 0 wh
 
 -- a character of a class, a word of an item that is there, and a try that gives a key
 pub data IsPlain (g : Grammar) : Node → Type 0 where
-  satisfy : {class : List ClassPart} → IsPlain g (form.Satisfy class)
-  word : {w : ℕ} {item : WordItem} → slice_get g.words w ≡ Some item → IsPlain g (form.Word w)
+  satisfy : {class : List ClassPart} → IsPlain g (form.Leaf (leaf.Satisfy class))
+  word : {w : ℕ} {item : WordItem} → slice_get g.words w ≡ Some item → IsPlain g (form.Leaf (leaf.Word w))
   key : {n : Node} → IsKeyTry g n → IsPlain g n
 
 -- the start is one of these

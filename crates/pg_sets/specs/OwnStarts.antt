@@ -7,8 +7,10 @@ use Rattle.pg_grammar.specs.Grammar.{Grammar}
 use Rattle.pg_grammar.specs.declared.class.ClassPart.{ClassPart}
 use Rattle.pg_grammar.specs.declared.decl.Role.{Role}
 use Rattle.pg_grammar.specs.declared.decl.Role.TheVariants.{InfixLeft, InfixRight, InfixNone, Prefix, Postfix}
-use Rattle.pg_grammar.specs.declared.form.Node.{Node}
-use Rattle.pg_grammar.specs.declared.form.Node.TheVariants as form
+use Rattle.pg_grammar.specs.Forms.{Node}
+use Rattle.pg_grammar.specs.declared.form.Form.TheVariants as form
+use Rattle.pg_grammar.specs.declared.form.Leaf.TheVariants as leaf
+use Rattle.pg_grammar.specs.declared.form.Around.TheVariants as around
 use Rattle.pg_grammar.specs.declared.operators_item.OperatorsItem.{OperatorsItem}
 use Rattle.pg_grammar.specs.declared.used.OperatorBuilders.{OperatorBuilders}
 use Rattle.pg_grammar.specs.declared.word_item.WordItem.{WordItem}
@@ -57,13 +59,13 @@ pub record IsKeyed (g : Grammar) (part : ℕ) (characters : List ℕ) (excluded 
   pub first : ℕ
   pub second : ℕ
   pub both : slice_get g.nodes part ≡ Some (form.Seq (first ∷ second ∷ []))
-  pub string : slice_get g.nodes first ≡ Some (form.String characters)
-  pub ends : slice_get g.nodes second ≡ Some (form.NotFollowedBy excluded)
+  pub string : slice_get g.nodes first ≡ Some (form.Leaf (leaf.String characters))
+  pub ends : slice_get g.nodes second ≡ Some (form.Leaf (leaf.NotFollowedBy excluded))
 
 -- a try around a string, or around a string with a class that doesn't follow it
 pub data IsKeyTry (g : Grammar) : Node → Type 0 where
-  string : {part : ℕ} {characters : List ℕ} → slice_get g.nodes part ≡ Some (form.String characters) → IsKeyTry g (form.Try part)
-  keyed : {part : ℕ} {characters : List ℕ} {excluded : List ClassPart} → IsKeyed g part characters excluded → IsKeyTry g (form.Try part)
+  string : {part : ℕ} {characters : List ℕ} → slice_get g.nodes part ≡ Some (form.Leaf (leaf.String characters)) → IsKeyTry g (form.Around around.Try part)
+  keyed : {part : ℕ} {characters : List ℕ} {excluded : List ClassPart} → IsKeyed g part characters excluded → IsKeyTry g (form.Around around.Try part)
 
 -- the marks are on the tries that give keys
 abbrev pub MarksKeys : Grammar → List Bool → Type 0
@@ -87,20 +89,20 @@ pub data IsOperatorStart (g : Grammar) : StartKind → Type 0 where
 -- the start is one that this gives by itself
 pub data OwnStart (g : Grammar) : Node → StartKind → Type 0 where
   -- a character of the class
-  satisfy : {expression : List ClassPart} {class : List Range} → IsClassOf g expression class → OwnStart g (form.Satisfy expression) (Class class)
+  satisfy : {expression : List ClassPart} {class : List Range} → IsClassOf g expression class → OwnStart g (form.Leaf (leaf.Satisfy expression)) (Class class)
   -- the first character of the string
-  string : {c : ℕ} {cs : List ℕ} → OwnStart g (form.String (c ∷ cs)) (Class ((c, c) ∷ []))
+  string : {c : ℕ} {cs : List ℕ} → OwnStart g (form.Leaf (leaf.String (c ∷ cs))) (Class ((c, c) ∷ []))
   -- the words of the item
   word : {w : ℕ} {item : WordItem} {heads rest : List Range} {reserved : List (List ℕ)} → slice_get g.words w ≡ Some item
       → IsClassOf g item.head heads → IsClassOf g item.rest rest → ReservedAs g heads rest item.reserved reserved
-      → OwnStart g (form.Word w) (Word heads rest reserved)
+      → OwnStart g (form.Leaf (leaf.Word w)) (Word heads rest reserved)
   -- the whole string that is tried
-  key : {part : ℕ} {characters : List ℕ} → slice_get g.nodes part ≡ Some (form.String characters) → OwnStart g (form.Try part) (Key characters [])
+  key : {part : ℕ} {characters : List ℕ} → slice_get g.nodes part ≡ Some (form.Leaf (leaf.String characters)) → OwnStart g (form.Around around.Try part) (Key characters [])
   -- the whole string, without a character of the class behind it
   key_that_ends : {part : ℕ} {characters : List ℕ} {excluded : List ClassPart} {class : List Range} → IsKeyed g part characters excluded
-      → IsClassOf g excluded class → OwnStart g (form.Try part) (Key characters class)
+      → IsClassOf g excluded class → OwnStart g (form.Around around.Try part) (Key characters class)
   -- the operators
   expression : {builders : OperatorBuilders} {term : ℕ} {start : StartKind} → IsOperatorStart g start → OwnStart g (form.Expression builders term) start
   -- the keyword of each role, without a character of the class or one of a to z behind it
   declare : {excluded : List ClassPart} {class : List Range} (role : Role) → IsExcludedBy g excluded class
-      → OwnStart g (form.Declare excluded) (Key (role_keyword role) class)
+      → OwnStart g (form.Leaf (leaf.Declare excluded)) (Key (role_keyword role) class)

@@ -1,8 +1,10 @@
 -- Which parts of a node are reached: nothing need be consumed before them.
 use Rattle.std.specs.Prelude.{◌≡◌, ◌<◌, ◌↔◌, ℕ, true, length, List, ◌∷◌, [], Some, slice_get}
 use Rattle.pg_grammar.specs.Grammar.{Grammar}
-use Rattle.pg_grammar.specs.declared.form.Node.{Node}
-use Rattle.pg_grammar.specs.declared.form.Node.TheVariants as form
+use Rattle.pg_grammar.specs.Forms.{Node}
+use Rattle.pg_grammar.specs.declared.form.Form.TheVariants as form
+use Rattle.pg_grammar.specs.declared.form.Around.{Around}
+use Rattle.pg_grammar.specs.declared.side.Side.{Side}
 use Rattle.pg_grammar.specs.declared.grammar.Rule as declared
 use Rattle.pg_grammar.specs.declared.used.BuilderUse.{BuilderUse}
 use Rattle.pg_grammar.specs.declared.used.OperatorBuilders.{OperatorBuilders}
@@ -22,18 +24,12 @@ pub data ReachedPart (g : Grammar) : Node → ℕ → Type 0 where
   -- all alternatives
   choice : {parts : List ℕ} (k : ℕ) {part : ℕ} → slice_get parts k ≡ Some part → ReachedPart g (form.Choice parts) part
   -- of operand, separator and operand as in a sequence
-  chain_left : {used : BuilderUse} {operand separator part : ℕ} → ReachedIn g (operand ∷ separator ∷ operand ∷ []) part →
-      ReachedPart g (form.ChainLeft used operand separator) part
-  chain_right : {used : BuilderUse} {operand separator part : ℕ} → ReachedIn g (operand ∷ separator ∷ operand ∷ []) part →
-      ReachedPart g (form.ChainRight used operand separator) part
+  chain : {side : Side} {used : BuilderUse} {operand separator part : ℕ} → ReachedIn g (operand ∷ separator ∷ operand ∷ []) part →
+      ReachedPart g (form.Chain side used operand separator) part
   -- the one part
   many : {part : ℕ} → ReachedPart g (form.Many part) part
-  try : {part : ℕ} → ReachedPart g (form.Try part) part
   expression : {builders : OperatorBuilders} {term : ℕ} → ReachedPart g (form.Expression builders term) term
-  text : {part : ℕ} → ReachedPart g (form.Text part) part
-  skip : {part : ℕ} → ReachedPart g (form.Skip part) part
-  build : {used : BuilderUse} {symbol : List ℕ} {part : ℕ} → ReachedPart g (form.Build used symbol part) part
-  label : {part : ℕ} {message : List ℕ} → ReachedPart g (form.Label part message) part
+  around : {around : Around} {part : ℕ} → ReachedPart g (form.Around around part) part
 
 -- a use of the rule is reached in the node
 pub data ReachesUse (g : Grammar) : ℕ → ℕ → Type 0 where

@@ -4,11 +4,11 @@
 //! to its own first set and to the follow sets of its parts. A part that can be empty lets through what is behind it.
 ghost use Rattle.std.specs.Prelude.{◌≡◌, ◌≤◌, ◌+◌, [], ◌∷◌, ◌++◌, replicate, length, IfOk, OnOk};
 ghost use Rattle.pg_grammar.specs.Grammar.{IsGrammar};
-ghost use Rattle.pg_sets.specs.Flows.{follow_of, with_flows, flows_of_all, flows_of_some, flows_of_next, flows_behind_parts, flows_of_alternatives, flows_of_chain, flows_of_only, flows_of_use, try_flows, node_flows, all_flows};
+ghost use Rattle.pg_sets.specs.Flows.{follow_of, with_flows, flows_of_all, flows_of_some, flows_of_next, flows_behind_parts, flows_of_alternatives, flows_of_chain, flows_of_only, flows_of_use, try_flows, around_flows, node_flows, all_flows};
 
 use crate::marks::is_marked;
 use crate::numbers::{Numbers, empty_lists, join};
-use pg_grammar::{Grammar, Node, NodeId, Rule, RuleId};
+use pg_grammar::{Around, Form, Grammar, Leaf, Node, NodeId, Rule, RuleId};
 use std::alloc::{AllocError, Global};
 
 /// For each first and each follow set those that contain it, by the marks of the nullable nodes and of the tries that give
@@ -60,25 +60,38 @@ fn join_node(
     ensures { OnOk result (graph.new ≡ with_flows graph.old (node_flows rules.now nullable.now keys.now count number node.now)) }
 {
     match node {
-        Node::Seq(parts) => join_seq(graph, nullable, count, number, parts.as_slice()),
-        Node::Choice(parts) => join_alternatives(graph, count, number, parts.as_slice()),
-        Node::Many(part) => join_many(graph, count, number, part.index()),
-        Node::ChainLeft(_, operand, separator) | Node::ChainRight(_, operand, separator) => {
+        Form::Seq(parts) => join_seq(graph, nullable, count, number, parts.as_slice()),
+        Form::Choice(parts) => join_alternatives(graph, count, number, parts.as_slice()),
+        Form::Many(part) => join_many(graph, count, number, part.index()),
+        Form::Chain(_, _, operand, separator) => {
             join_chain(graph, nullable, count, number, *operand, *separator)
         }
-        Node::Try(part) => join_try(graph, keys, count, number, part.index()),
-        Node::Rule(rule) => join_use(graph, rules, count, number, *rule),
-        Node::Expression(_, part)
-        | Node::Text(part)
-        | Node::Skip(part)
-        | Node::Build(_, _, part)
-        | Node::Label(part, _) => join_only(graph, count, number, part.index()),
-        Node::Satisfy(_)
-        | Node::String(_)
-        | Node::NotFollowedBy(_)
-        | Node::EndOfText
-        | Node::Word(_)
-        | Node::Declare(_) => Ok(()),
+        Form::Rule(rule) => join_use(graph, rules, count, number, *rule),
+        Form::Expression(_, part) => join_only(graph, count, number, part.index()),
+        Form::Around(around, part) => {
+            join_around(graph, keys, count, number, around, part.index())
+        }
+        Form::Leaf(_) => Ok(()),
+    }
+}
+
+/// Adds the edges of a form around a part: a try that gives a key is no set of its part's.
+fn join_around(
+    graph: &mut [Numbers],
+    keys: &[bool],
+    count: usize,
+    number: usize,
+    around: &Around,
+    part: usize,
+) -> Result<(), AllocError>
+    requires { count ≤ 8192 }
+    ensures { OnOk result (graph.new ≡ with_flows graph.old (around_flows keys.now count number around.now part)) }
+{
+    match around {
+        Around::Try => join_try(graph, keys, count, number, part),
+        Around::Text | Around::Skip | Around::Build(_, _) | Around::Label(_) => {
+            join_only(graph, count, number, part)
+        }
     }
 }
 

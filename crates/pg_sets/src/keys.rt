@@ -5,7 +5,7 @@ ghost use Rattle.std.specs.Prelude.{◌≡◌, ◌↔◌, ◌∷◌, [], true, �
 ghost use Rattle.pg_grammar.specs.declared.class.ClassPart.{ClassPart};
 ghost use Rattle.pg_sets.specs.OwnStarts.{IsKeyTry, IsKeyed, MarksKeys};
 
-use pg_grammar::{ClassExpression, Grammar, Node, NodeId};
+use pg_grammar::{Around, ClassExpression, Form, Grammar, Leaf, Node, NodeId};
 use pg_text::Characters;
 use std::alloc::{AllocError, Global};
 
@@ -25,30 +25,24 @@ fn is_key_try(grammar: &Grammar, node: &Node) -> bool
     ensures { (result ≡ true) ↔ IsKeyTry grammar.now node.now }
 {
     match node {
-        Node::Try(part) => gives_key(grammar, *part),
-        Node::Satisfy(_)
-        | Node::String(_)
-        | Node::Seq(_)
-        | Node::Choice(_)
-        | Node::Many(_)
-        | Node::ChainLeft(_, _, _)
-        | Node::ChainRight(_, _, _)
-        | Node::NotFollowedBy(_)
-        | Node::EndOfText
-        | Node::Word(_)
-        | Node::Rule(_)
-        | Node::Expression(_, _)
-        | Node::Declare(_)
-        | Node::Text(_)
-        | Node::Skip(_)
-        | Node::Build(_, _, _)
-        | Node::Label(_, _) => false,
+        Form::Around(Around::Try, part) => gives_key(grammar, *part),
+        Form::Leaf(_)
+        | Form::Seq(_)
+        | Form::Choice(_)
+        | Form::Many(_)
+        | Form::Chain(_, _, _, _)
+        | Form::Rule(_)
+        | Form::Expression(_, _)
+        | Form::Around(Around::Text, _)
+        | Form::Around(Around::Skip, _)
+        | Form::Around(Around::Build(_, _), _)
+        | Form::Around(Around::Label(_), _) => false,
     }
 }
 
 /// Whether a try around this part gives a key.
 fn gives_key(grammar: &Grammar, part: NodeId) -> bool
-    ensures { (result ≡ true) ↔ IsKeyTry grammar.now (Node.Try part) }
+    ensures { (result ≡ true) ↔ IsKeyTry grammar.now (Form.Around Around.Try part) }
 {
     match tried_string(grammar, part) {
         Some(_) => true,
@@ -61,29 +55,28 @@ fn gives_key(grammar: &Grammar, part: NodeId) -> bool
 
 /// The string at a node, if one stands there.
 pub(crate) fn tried_string(grammar: &Grammar, node: NodeId) -> Option<&Characters>
-    ensures { MatchOption result ((text : List ℕ) → slice_get grammar.now.nodes node ≡ Some (Node.String text) → ⊥)
-        (λ text. slice_get grammar.now.nodes node ≡ Some (Node.String text.now)) }
+    ensures { MatchOption result ((text : List ℕ) → slice_get grammar.now.nodes node ≡ Some (Form.Leaf (Leaf.String text)) → ⊥)
+        (λ text. slice_get grammar.now.nodes node ≡ Some (Form.Leaf (Leaf.String text.now))) }
 {
     match grammar.nodes().get(node.index()) {
-        Some(Node::String(text)) => Some(text),
+        Some(Form::Leaf(Leaf::String(text))) => Some(text),
         Some(
-            Node::Satisfy(_)
-            | Node::Seq(_)
-            | Node::Choice(_)
-            | Node::Many(_)
-            | Node::ChainLeft(_, _, _)
-            | Node::ChainRight(_, _, _)
-            | Node::Try(_)
-            | Node::NotFollowedBy(_)
-            | Node::EndOfText
-            | Node::Word(_)
-            | Node::Rule(_)
-            | Node::Expression(_, _)
-            | Node::Declare(_)
-            | Node::Text(_)
-            | Node::Skip(_)
-            | Node::Build(_, _, _)
-            | Node::Label(_, _),
+            Form::Leaf(Leaf::Satisfy(_))
+            | Form::Seq(_)
+            | Form::Choice(_)
+            | Form::Many(_)
+            | Form::Chain(_, _, _, _)
+            | Form::Around(Around::Try, _)
+            | Form::Leaf(Leaf::NotFollowedBy(_))
+            | Form::Leaf(Leaf::EndOfText)
+            | Form::Leaf(Leaf::Word(_))
+            | Form::Rule(_)
+            | Form::Expression(_, _)
+            | Form::Leaf(Leaf::Declare(_))
+            | Form::Around(Around::Text, _)
+            | Form::Around(Around::Skip, _)
+            | Form::Around(Around::Build(_, _), _)
+            | Form::Around(Around::Label(_), _),
         )
         | None => None,
     }
@@ -91,29 +84,28 @@ pub(crate) fn tried_string(grammar: &Grammar, node: NodeId) -> Option<&Character
 
 /// The class at a node, if characters of a class may not follow there.
 fn excluded_class(grammar: &Grammar, node: NodeId) -> Option<&ClassExpression>
-    ensures { MatchOption result ((class : List ClassPart) → slice_get grammar.now.nodes node ≡ Some (Node.NotFollowedBy class) → ⊥)
-        (λ class. slice_get grammar.now.nodes node ≡ Some (Node.NotFollowedBy class.now)) }
+    ensures { MatchOption result ((class : List ClassPart) → slice_get grammar.now.nodes node ≡ Some (Form.Leaf (Leaf.NotFollowedBy class)) → ⊥)
+        (λ class. slice_get grammar.now.nodes node ≡ Some (Form.Leaf (Leaf.NotFollowedBy class.now))) }
 {
     match grammar.nodes().get(node.index()) {
-        Some(Node::NotFollowedBy(class)) => Some(class),
+        Some(Form::Leaf(Leaf::NotFollowedBy(class))) => Some(class),
         Some(
-            Node::Satisfy(_)
-            | Node::String(_)
-            | Node::Seq(_)
-            | Node::Choice(_)
-            | Node::Many(_)
-            | Node::ChainLeft(_, _, _)
-            | Node::ChainRight(_, _, _)
-            | Node::Try(_)
-            | Node::EndOfText
-            | Node::Word(_)
-            | Node::Rule(_)
-            | Node::Expression(_, _)
-            | Node::Declare(_)
-            | Node::Text(_)
-            | Node::Skip(_)
-            | Node::Build(_, _, _)
-            | Node::Label(_, _),
+            Form::Leaf(Leaf::Satisfy(_))
+            | Form::Leaf(Leaf::String(_))
+            | Form::Seq(_)
+            | Form::Choice(_)
+            | Form::Many(_)
+            | Form::Chain(_, _, _, _)
+            | Form::Around(Around::Try, _)
+            | Form::Leaf(Leaf::EndOfText)
+            | Form::Leaf(Leaf::Word(_))
+            | Form::Rule(_)
+            | Form::Expression(_, _)
+            | Form::Leaf(Leaf::Declare(_))
+            | Form::Around(Around::Text, _)
+            | Form::Around(Around::Skip, _)
+            | Form::Around(Around::Build(_, _), _)
+            | Form::Around(Around::Label(_), _),
         )
         | None => None,
     }
@@ -121,29 +113,23 @@ fn excluded_class(grammar: &Grammar, node: NodeId) -> Option<&ClassExpression>
 
 /// The parts at a node, if a sequence stands there.
 fn sequence_parts(grammar: &Grammar, node: NodeId) -> Option<&[NodeId]>
-    ensures { MatchOption result ((parts : List ℕ) → slice_get grammar.now.nodes node ≡ Some (Node.Seq parts) → ⊥)
-        (λ parts. slice_get grammar.now.nodes node ≡ Some (Node.Seq parts.now)) }
+    ensures { MatchOption result ((parts : List ℕ) → slice_get grammar.now.nodes node ≡ Some (Form.Seq parts) → ⊥)
+        (λ parts. slice_get grammar.now.nodes node ≡ Some (Form.Seq parts.now)) }
 {
     match grammar.nodes().get(node.index()) {
-        Some(Node::Seq(parts)) => Some(parts.as_slice()),
+        Some(Form::Seq(parts)) => Some(parts.as_slice()),
         Some(
-            Node::Satisfy(_)
-            | Node::String(_)
-            | Node::Choice(_)
-            | Node::Many(_)
-            | Node::ChainLeft(_, _, _)
-            | Node::ChainRight(_, _, _)
-            | Node::Try(_)
-            | Node::NotFollowedBy(_)
-            | Node::EndOfText
-            | Node::Word(_)
-            | Node::Rule(_)
-            | Node::Expression(_, _)
-            | Node::Declare(_)
-            | Node::Text(_)
-            | Node::Skip(_)
-            | Node::Build(_, _, _)
-            | Node::Label(_, _),
+            Form::Leaf(_)
+            | Form::Choice(_)
+            | Form::Many(_)
+            | Form::Chain(_, _, _, _)
+            | Form::Around(Around::Try, _)
+            | Form::Rule(_)
+            | Form::Expression(_, _)
+            | Form::Around(Around::Text, _)
+            | Form::Around(Around::Skip, _)
+            | Form::Around(Around::Build(_, _), _)
+            | Form::Around(Around::Label(_), _),
         )
         | None => None,
     }

@@ -4,12 +4,12 @@
 //! to the first, and only rules that lead back take more rounds than one.
 ghost use Rattle.std.specs.Prelude.{◌≡◌, ◌<◌, ◌↔◌, ℕ, true, not, length, count_by, slice_get, Some, IfOk};
 ghost use Rattle.std.specs.Bool.{OnTrue, OnFalse};
-ghost use Rattle.pg_grammar.specs.declared.form.Node.{Node};
+ghost use Rattle.pg_grammar.specs.Forms.{Node};
 ghost use Rattle.pg_sets.specs.Marks.{is_marked, looks_nullable};
 ghost use Rattle.pg_sets.specs.Nullable.{Nullable};
 
 use crate::marks::{all_are_marked, body_is_marked, is_marked, one_is_marked};
-use pg_grammar::{Grammar, Node, Rule};
+use pg_grammar::{Around, Form, Grammar, Leaf, Node, Rule};
 use std::alloc::{AllocError, Global};
 
 /// For each node whether it is nullable. The only error is that memory ran out.
@@ -47,18 +47,17 @@ fn looks_nullable(rules: &[Rule], marks: &[bool], node: &Node) -> bool
     ensures { result ≡ looks_nullable rules.now marks.now node.now }
 {
     match node {
-        Node::Many(_) | Node::NotFollowedBy(_) | Node::EndOfText => true,
-        Node::Seq(parts) => all_are_marked(marks, parts.as_slice()),
-        Node::Choice(parts) => one_is_marked(marks, parts.as_slice()),
-        Node::ChainLeft(_, part, _)
-        | Node::ChainRight(_, part, _)
-        | Node::Try(part)
-        | Node::Text(part)
-        | Node::Skip(part)
-        | Node::Build(_, _, part)
-        | Node::Label(part, _)
-        | Node::Expression(_, part) => is_marked(marks, part.index()),
-        Node::Rule(rule) => body_is_marked(rules, marks, *rule),
-        Node::Satisfy(_) | Node::String(_) | Node::Word(_) | Node::Declare(_) => false,
+        Form::Many(_) | Form::Leaf(Leaf::NotFollowedBy(_)) | Form::Leaf(Leaf::EndOfText) => true,
+        Form::Seq(parts) => all_are_marked(marks, parts.as_slice()),
+        Form::Choice(parts) => one_is_marked(marks, parts.as_slice()),
+        Form::Chain(_, _, part, _) | Form::Around(_, part) | Form::Expression(_, part) => is_marked(
+            marks,
+            part.index(),
+        ),
+        Form::Rule(rule) => body_is_marked(rules, marks, *rule),
+        Form::Leaf(Leaf::Satisfy(_))
+        | Form::Leaf(Leaf::String(_))
+        | Form::Leaf(Leaf::Word(_))
+        | Form::Leaf(Leaf::Declare(_)) => false,
     }
 }

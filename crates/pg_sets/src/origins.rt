@@ -21,7 +21,7 @@ use crate::numbers::Numbers;
 use crate::own_starts::own_starts;
 use crate::words::{WordClasses, classes_of_words};
 use pg_class::Class;
-use pg_grammar::{Grammar, Node};
+use pg_grammar::{Form, Grammar, Node};
 use pg_start::Start;
 use std::alloc::{AllocError, Global};
 use std::collections::BTreeMap;
@@ -96,7 +96,7 @@ fn add_node(
 {
     let own = own_starts(alloc, grammar, classes, words, node)?;
     add_own(alloc, origins, own, number)?;
-    if let Node::Expression(_, term) = node {
+    if let Form::Expression(_, term) = node {
         let operators = own_starts(alloc, grammar, classes, words, node)?;
         let set = follow_of(grammar.nodes().len(), term.index());
         add_own(alloc, origins, operators, set)?;

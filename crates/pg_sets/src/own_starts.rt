@@ -10,7 +10,7 @@ use crate::keys::{tried_keyword, tried_string};
 use crate::listed::ListedStart;
 use crate::words::{WordClasses, listed_words};
 use pg_class::Class;
-use pg_grammar::{ClassExpression, Grammar, Node, NodeId, Role, WordId};
+use pg_grammar::{Around, ClassExpression, Form, Grammar, Leaf, Node, NodeId, Role, WordId};
 use pg_start::{Start, StartKind};
 use pg_text::Characters;
 use std::alloc::{AllocError, Global};
@@ -29,24 +29,23 @@ pub(crate) fn own_starts(
     ensures { IfOk result (λ own. AreOwn grammar.now node.now own.items) }
 {
     match node {
-        Node::Satisfy(expression) => class_starts(alloc, grammar, classes, expression),
-        Node::String(text) => string_starts(alloc, grammar, text),
-        Node::Word(word) => word_starts(alloc, grammar, words, *word),
-        Node::Try(part) => key_starts(alloc, grammar, classes, *part),
-        Node::Expression(_, _) => operator_starts(alloc, grammar, classes, words),
-        Node::Declare(excluded) => keyword_starts(alloc, grammar, classes, excluded),
-        Node::Seq(_)
-        | Node::Choice(_)
-        | Node::Many(_)
-        | Node::ChainLeft(_, _, _)
-        | Node::ChainRight(_, _, _)
-        | Node::NotFollowedBy(_)
-        | Node::EndOfText
-        | Node::Rule(_)
-        | Node::Text(_)
-        | Node::Skip(_)
-        | Node::Build(_, _, _)
-        | Node::Label(_, _) => Ok(Vec::new(alloc)),
+        Form::Leaf(Leaf::Satisfy(expression)) => class_starts(alloc, grammar, classes, expression),
+        Form::Leaf(Leaf::String(text)) => string_starts(alloc, grammar, text),
+        Form::Leaf(Leaf::Word(word)) => word_starts(alloc, grammar, words, *word),
+        Form::Around(Around::Try, part) => key_starts(alloc, grammar, classes, *part),
+        Form::Expression(_, _) => operator_starts(alloc, grammar, classes, words),
+        Form::Leaf(Leaf::Declare(excluded)) => keyword_starts(alloc, grammar, classes, excluded),
+        Form::Seq(_)
+        | Form::Choice(_)
+        | Form::Many(_)
+        | Form::Chain(_, _, _, _)
+        | Form::Leaf(Leaf::NotFollowedBy(_))
+        | Form::Leaf(Leaf::EndOfText)
+        | Form::Rule(_)
+        | Form::Around(Around::Text, _)
+        | Form::Around(Around::Skip, _)
+        | Form::Around(Around::Build(_, _), _)
+        | Form::Around(Around::Label(_), _) => Ok(Vec::new(alloc)),
     }
 }
 
@@ -67,7 +66,7 @@ fn class_starts(
     expression: &ClassExpression,
 ) -> Result<Vec<ListedStart>, AllocError>
     requires { AreClassesOf grammar.now classes.now }
-    ensures { IfOk result (λ own. AreOwn grammar.now (Node.Satisfy expression.now) own.items) }
+    ensures { IfOk result (λ own. AreOwn grammar.now (Form.Leaf (Leaf.Satisfy expression.now)) own.items) }
 {
     let class = class_in_grammar(alloc, grammar, classes, expression)?;
     let start = Start::class(alloc, &class)?;
@@ -80,7 +79,7 @@ fn string_starts(
     grammar: &Grammar,
     text: &Characters,
 ) -> Result<Vec<ListedStart>, AllocError>
-    ensures { IfOk result (λ own. AreOwn grammar.now (Node.String text.now) own.items) }
+    ensures { IfOk result (λ own. AreOwn grammar.now (Form.Leaf (Leaf.String text.now)) own.items) }
 {
     let _items = grammar.class_items();
     match text.as_slice() {
@@ -110,7 +109,7 @@ fn word_starts(
     word: WordId,
 ) -> Result<Vec<ListedStart>, AllocError>
     requires { AreWordClasses grammar.now words.now }
-    ensures { IfOk result (λ own. AreOwn grammar.now (Node.Word word) own.items) }
+    ensures { IfOk result (λ own. AreOwn grammar.now (Form.Leaf (Leaf.Word word)) own.items) }
 {
     let items = grammar.word_items();
     let number = word.index();
@@ -137,7 +136,7 @@ fn key_starts(
     part: NodeId,
 ) -> Result<Vec<ListedStart>, AllocError>
     requires { AreClassesOf grammar.now classes.now }
-    ensures { IfOk result (λ own. AreOwn grammar.now (Node.Try part) own.items) }
+    ensures { IfOk result (λ own. AreOwn grammar.now (Form.Around Around.Try part) own.items) }
 {
     let _nodes = grammar.nodes();
     if let Some(text) = tried_string(grammar, part) {
@@ -178,7 +177,7 @@ fn operator_starts(
 ) -> Result<Vec<ListedStart>, AllocError>
     requires classes { AreClassesOf grammar.now classes.now }
     requires words { AreWordClasses grammar.now words.now }
-    ensures { IfOk result (λ own. (builders : OperatorBuilders) (term : ℕ) → AreOwn grammar.now (Node.Expression builders term) own.items) }
+    ensures { IfOk result (λ own. (builders : OperatorBuilders) (term : ℕ) → AreOwn grammar.now (Form.Expression builders term) own.items) }
 {
     match grammar.operators_item() {
         Some(item) => {
@@ -198,7 +197,7 @@ fn keyword_starts(
     excluded: &ClassExpression,
 ) -> Result<Vec<ListedStart>, AllocError>
     requires { AreClassesOf grammar.now classes.now }
-    ensures { IfOk result (λ own. AreOwn grammar.now (Node.Declare excluded.now) own.items) }
+    ensures { IfOk result (λ own. AreOwn grammar.now (Form.Leaf (Leaf.Declare excluded.now)) own.items) }
 {
     let class = class_in_grammar(alloc, grammar, classes, excluded)?;
     let letters = class_between(alloc, 'a', 'z')?;

@@ -7,7 +7,7 @@ ghost use Rattle.pg_sets.specs.Parts.{up_to_unmarked, reached_parts, used_rules,
 
 use crate::marks::is_marked;
 use crate::numbers::{Numbers, empty_lists, join, join_each};
-use pg_grammar::{Grammar, Node, NodeId, RuleId};
+use pg_grammar::{Around, Form, Grammar, Leaf, Node, NodeId, RuleId};
 use std::alloc::{AllocError, Global};
 
 /// For each node those that it is a reached part of. The only error is that memory ran out.
@@ -49,25 +49,15 @@ fn reached_parts(alloc: Global, node: &Node, nullable: &[bool]) -> Result<Vec<us
 {
     let mut reached = Vec::new(alloc);
     match node {
-        Node::Seq(parts) => push_reached(&mut reached, parts.as_slice(), nullable)?,
-        Node::Choice(parts) => push_all(&mut reached, parts.as_slice())?,
-        Node::ChainLeft(_, operand, separator) | Node::ChainRight(_, operand, separator) => {
+        Form::Seq(parts) => push_reached(&mut reached, parts.as_slice(), nullable)?,
+        Form::Choice(parts) => push_all(&mut reached, parts.as_slice())?,
+        Form::Chain(_, _, operand, separator) => {
             push_reached(&mut reached, &[*operand, *separator], nullable)?;
         }
-        Node::Many(part)
-        | Node::Try(part)
-        | Node::Expression(_, part)
-        | Node::Text(part)
-        | Node::Skip(part)
-        | Node::Build(_, _, part)
-        | Node::Label(part, _) => reached.push(part.index())?,
-        Node::Satisfy(_)
-        | Node::String(_)
-        | Node::NotFollowedBy(_)
-        | Node::EndOfText
-        | Node::Word(_)
-        | Node::Rule(_)
-        | Node::Declare(_) => {}
+        Form::Many(part) | Form::Around(_, part) | Form::Expression(_, part) => reached.push(
+            part.index(),
+        )?,
+        Form::Leaf(_) | Form::Rule(_) => {}
     }
     Ok(reached)
 }
@@ -104,23 +94,13 @@ fn used_rule(node: &Node) -> Option<RuleId>
     ensures { MatchOption result (used_rules node.now ≡ []) (λ rule. used_rules node.now ≡ rule ∷ []) }
 {
     match node {
-        Node::Rule(rule) => Some(*rule),
-        Node::Satisfy(_)
-        | Node::String(_)
-        | Node::Seq(_)
-        | Node::Choice(_)
-        | Node::Many(_)
-        | Node::ChainLeft(_, _, _)
-        | Node::ChainRight(_, _, _)
-        | Node::Try(_)
-        | Node::NotFollowedBy(_)
-        | Node::EndOfText
-        | Node::Word(_)
-        | Node::Expression(_, _)
-        | Node::Declare(_)
-        | Node::Text(_)
-        | Node::Skip(_)
-        | Node::Build(_, _, _)
-        | Node::Label(_, _) => None,
+        Form::Rule(rule) => Some(*rule),
+        Form::Leaf(_)
+        | Form::Seq(_)
+        | Form::Choice(_)
+        | Form::Many(_)
+        | Form::Chain(_, _, _, _)
+        | Form::Around(_, _)
+        | Form::Expression(_, _) => None,
     }
 }

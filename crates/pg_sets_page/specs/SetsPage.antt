@@ -4,8 +4,14 @@ use Rattle.std.specs.Fmt.{decimal}
 use Rattle.std.specs.List.{filter, flat_map, join_by, range_with_len}
 use Rattle.std.specs.Option.{option_map_or}
 use Rattle.pg_grammar.specs.Grammar.{Grammar, rule_body}
-use Rattle.pg_grammar.specs.declared.form.Node.{Node}
-use Rattle.pg_grammar.specs.declared.form.Node.TheVariants as form
+use Rattle.pg_grammar.specs.Forms.{Node}
+use Rattle.pg_grammar.specs.declared.form.Form.TheVariants as form
+use Rattle.pg_grammar.specs.declared.form.Leaf.{Leaf}
+use Rattle.pg_grammar.specs.declared.form.Leaf.TheVariants as leaf
+use Rattle.pg_grammar.specs.declared.form.Around.{Around}
+use Rattle.pg_grammar.specs.declared.form.Around.TheVariants as around
+use Rattle.pg_grammar.specs.declared.side.Side.{Side}
+use Rattle.pg_grammar.specs.declared.side.Side.TheVariants as side
 use Rattle.pg_numbers.specs.Numbers.{contains, set_at}
 use Rattle.pg_predict.specs.Findings.{name_text, body_of}
 use Rattle.pg_sets.specs.Graphs.{numbers_at}
@@ -38,26 +44,38 @@ set_text texts set = list_text texts (filter (contains set) (range_with_len 0 (l
 
 -- ---- a node's line
 
+-- the word of a leaf
+abbrev pub leaf_word : Leaf ℕ → List ℕ
+leaf_word (leaf.Satisfy class) = codes "satisfy"
+leaf_word (leaf.String text) = codes "string"
+leaf_word (leaf.Word word) = codes "word"
+leaf_word (leaf.NotFollowedBy class) = codes "notFollowedBy"
+leaf_word leaf.EndOfText = codes "eof"
+leaf_word (leaf.Declare class) = codes "declare"
+
+-- the word of a chain that is folded from this side
+abbrev pub chain_word : Side → List ℕ
+chain_word side.Left = codes "chainl1"
+chain_word side.Right = codes "chainr1"
+
+-- the word of what stands around a part
+abbrev pub around_word : Around → List ℕ
+around_word around.Try = codes "try"
+around_word around.Text = codes "text"
+around_word around.Skip = codes "skip"
+around_word (around.Build used symbol) = codes "build"
+around_word (around.Label message) = codes "label"
+
 -- the word of a form
 abbrev pub form_word : Node → List ℕ
-form_word (form.Satisfy class) = codes "satisfy"
-form_word (form.String text) = codes "string"
+form_word (form.Leaf leaf) = leaf_word leaf
 form_word (form.Seq parts) = codes "seq"
 form_word (form.Choice parts) = codes "choice"
 form_word (form.Many part) = codes "many"
-form_word (form.ChainLeft used operand separator) = codes "chainl1"
-form_word (form.ChainRight used operand separator) = codes "chainr1"
-form_word (form.Try part) = codes "try"
-form_word (form.NotFollowedBy class) = codes "notFollowedBy"
-form_word form.EndOfText = codes "eof"
-form_word (form.Word word) = codes "word"
+form_word (form.Chain side used operand separator) = chain_word side
 form_word (form.Rule rule) = codes "rule"
 form_word (form.Expression builders term) = codes "expr"
-form_word (form.Declare class) = codes "declare"
-form_word (form.Text part) = codes "text"
-form_word (form.Skip part) = codes "skip"
-form_word (form.Build used symbol part) = codes "build"
-form_word (form.Label part message) = codes "label"
+form_word (form.Around around part) = around_word around
 
 -- the word of the form at a node
 abbrev pub word_of : Grammar → ℕ → List ℕ

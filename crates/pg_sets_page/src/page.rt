@@ -8,9 +8,9 @@ ghost use Rattle.std.specs.List.{filter, join_by, range_with_len};
 ghost use Rattle.pg_numbers.specs.Numbers.{contains};
 ghost use Rattle.pg_predict.specs.Findings.{name_text, body_of};
 ghost use Rattle.pg_sets.specs.PrintedStarts.{start_text};
-ghost use Rattle.pg_sets_page.specs.SetsPage.{IsSetsPage, text_at, list_text, set_text, form_word, word_of, nullable_text, place_text, sets_text, node_line, rank_text, rule_line, end_of, node_lines, rule_text, page_text};
+ghost use Rattle.pg_sets_page.specs.SetsPage.{IsSetsPage, text_at, list_text, set_text, leaf_word, chain_word, around_word, form_word, word_of, nullable_text, place_text, sets_text, node_line, rank_text, rule_line, end_of, node_lines, rule_text, page_text};
 
-use pg_grammar::{Grammar, Node, NodeId, Rule, RuleId};
+use pg_grammar::{Around, Form, Grammar, Leaf, Node, NodeId, Rule, RuleId, Side, WordId};
 use pg_numbers::NumberSet;
 use pg_sets::{ListedStart, Sets, printed_start};
 use std::alloc::{AllocError, Global};
@@ -187,24 +187,48 @@ fn form_word(node: &Node) -> &'static str
     ensures { result.now ≡ form_word node.now }
 {
     match node {
-        Node::Satisfy(_) => "satisfy",
-        Node::String(_) => "string",
-        Node::Seq(_) => "seq",
-        Node::Choice(_) => "choice",
-        Node::Many(_) => "many",
-        Node::ChainLeft(_, _, _) => "chainl1",
-        Node::ChainRight(_, _, _) => "chainr1",
-        Node::Try(_) => "try",
-        Node::NotFollowedBy(_) => "notFollowedBy",
-        Node::EndOfText => "eof",
-        Node::Word(_) => "word",
-        Node::Rule(_) => "rule",
-        Node::Expression(_, _) => "expr",
-        Node::Declare(_) => "declare",
-        Node::Text(_) => "text",
-        Node::Skip(_) => "skip",
-        Node::Build(_, _, _) => "build",
-        Node::Label(_, _) => "label",
+        Form::Leaf(leaf) => leaf_word(leaf),
+        Form::Seq(_) => "seq",
+        Form::Choice(_) => "choice",
+        Form::Many(_) => "many",
+        Form::Chain(side, _, _, _) => chain_word(*side),
+        Form::Rule(_) => "rule",
+        Form::Expression(_, _) => "expr",
+        Form::Around(around, _) => around_word(around),
+    }
+}
+
+fn leaf_word(leaf: &Leaf<WordId>) -> &'static str
+    ensures { result.now ≡ leaf_word leaf.now }
+{
+    match leaf {
+        Leaf::Satisfy(_) => "satisfy",
+        Leaf::String(_) => "string",
+        Leaf::Word(_) => "word",
+        Leaf::NotFollowedBy(_) => "notFollowedBy",
+        Leaf::EndOfText => "eof",
+        Leaf::Declare(_) => "declare",
+    }
+}
+
+fn chain_word(side: Side) -> &'static str
+    ensures { result.now ≡ chain_word side }
+{
+    match side {
+        Side::Left => "chainl1",
+        Side::Right => "chainr1",
+    }
+}
+
+fn around_word(around: &Around) -> &'static str
+    ensures { result.now ≡ around_word around.now }
+{
+    match around {
+        Around::Try => "try",
+        Around::Text => "text",
+        Around::Skip => "skip",
+        Around::Build(_, _) => "build",
+        Around::Label(_) => "label",
     }
 }
 

@@ -4,7 +4,7 @@
 ghost use Rattle.std.specs.Prelude.{◌<◌, length, IfOk};
 
 use super::*;
-use pg_grammar::{BaseForm, ClassExpression, ClassPart, Decl, Grammar, Maker, Role, Texts};
+use pg_grammar::{ClassExpression, ClassPart, Decl, Form, Grammar, Leaf, Maker, Role, Texts};
 use pg_text::Characters;
 use std::alloc::{AllocError, Global};
 use std::test::Fail;
@@ -51,7 +51,7 @@ fn grammar_of(alloc: Global, most: usize, initials: &[(Role, Symbol)]) -> Result
     }
     maker.rule(
         spelled(alloc, (0, 's'))?,
-        vec![in alloc; BaseForm::EndOfText]?,
+        vec![in alloc; Form::Leaf(Leaf::EndOfText)]?,
     )?;
     maker.start(spelled(alloc, (0, 's'))?)?;
     Ok(maker.finish()?)
@@ -237,7 +237,7 @@ fn counts_each_precedence_once(rt: HostRuntime) -> Result<(), Fail> {
 fn holds_no_operator_without_an_operators_item(rt: HostRuntime) -> Result<(), Fail> {
     let alloc = rt.alloc();
     let mut maker = Maker::new(alloc);
-    let body = vec![in alloc; BaseForm::EndOfText]?;
+    let body = vec![in alloc; Form::Leaf(Leaf::EndOfText)]?;
     maker.rule(spelled(alloc, (0, 's'))?, body)?;
     maker.start(spelled(alloc, (0, 's'))?)?;
     let grammar = maker.finish()?;

@@ -2,25 +2,27 @@
 use Rattle.std.proofs.Common.{◌≡◌, ℕ, zero, suc, ◌+◌, List, [], ◌∷◌, Bool, true, false, refl, subst, sym, ap, ◌∙◌, arith}
 use Rattle.std.specs.Prelude.{Option, Some, None, slice_get, ◌||◌}
 use Rattle.pg_tree.specs.Trees.{Tree}
-use Rattle.pg_grammar.specs.declared.form.Node.{Node}
-use Rattle.pg_grammar.specs.declared.form.Node.TheVariants as form
+use Rattle.pg_grammar.specs.Forms.{Node}
+use Rattle.pg_grammar.specs.declared.form.Form.TheVariants as form
+use Rattle.pg_grammar.specs.declared.form.Around.{Around}
+use Rattle.pg_grammar.specs.declared.form.Leaf.{Leaf}
 use Rattle.pg_grammar.specs.declared.grammar.Rule as declared
+use Rattle.pg_grammar.specs.declared.side.Side.{Side}
 use Rattle.pg_grammar.specs.declared.used.BuilderUse.{BuilderUse}
-use Rattle.pg_grammar.specs.declared.word_item.WordItem.{WordItem}
 use Rattle.pg_grammar.specs.declared.trail.TrailItem.{TrailItem}
 use Rattle.pg_grammar.specs.declared.trail.TrailItem.TheVariants.{Alt, Rounds}
 use Rattle.pg_language.specs.Derives.{Spot}
 use Rattle.pg_language.specs.Answers as answers
-use Rattle.pg_language.specs.Answers.{Given, Answers, entered, AnswersForm, AnswersParts, part, AfterPart, part_last, part_failed, part_stuck, part_ok, AnswersAlternatives, no_alternative, alternative, AfterAlternative, alternative_consumed, alternative_stands, alternative_waits, alternative_commits, alternative_failed, alternative_stuck, AnswersRounds, round, AfterRound, round_ended, round_failed, round_empty, round_stuck, round_ok, AnswersChain, chain, AfterFirst, first_failed, first_stuck, first_ok, AnswersLinks, link, AfterSeparator, separator_failed, separator_stuck, separator_ok, AfterOperand, operand_failed, operand_stuck, operand_ok}
+use Rattle.pg_language.specs.Answers.{Given, Answers, entered, AnswersForm, AnswersParts, part, AfterPart, part_last, part_failed, part_stuck, part_ok, AnswersAlternatives, no_alternative, alternative, AfterAlternative, alternative_consumed, alternative_stands, alternative_waits, alternative_commits, alternative_failed, alternative_stuck, AnswersRounds, round, AfterRound, round_ended, round_failed, round_empty, round_stuck, round_ok, AnswersChain, first_operand, AfterFirst, first_failed, first_stuck, first_ok, AnswersLinks, link, AfterSeparator, separator_failed, separator_stuck, separator_ok, AfterOperand, operand_failed, operand_stuck, operand_ok}
 use Rattle.pg_language.specs.Errors.{Error, nothing_said}
 use Rattle.pg_language.specs.Outcomes.{Outcome, ok, failed, empty_round}
-use Rattle.pg_language.specs.Reactions.{then_rest, noted}
-use Rattle.pg_language.specs.declared.fold.Fold.TheVariants.{FromLeft, FromRight}
+use Rattle.pg_language.specs.Reactions.{then_rest, noted, surrounded}
+use Rattle.pg_language.specs.Leaves.{leaf_outcome}
 use Rattle.pg_language.specs.declared.reading.Reading.{Reading}
 use Rattle.pg_language.specs.declared.reading.Reading.TheVariants.{Library, Report}
-use Rattle.pg_turns.specs.Frames.{Before, none_before, behind_parts, Kept, none_kept, behind_kept, with_failure, with_empty_ok, behind_rounds, Chain, Linked, behind_links, Around, a_try, a_label, a_rule, a_text, a_skip, a_build, around, Frame, in_parts, in_choice, in_rounds, in_first, in_separator, in_operand, in_around}
-use Rattle.pg_turns.specs.Turns.{at_node, with_outcome, next_alternative, enter_word, enter_rule, enter_form, enter_node, hand_empty_ok, hand_to_choice, hand_to_parts, hand_to_rounds, ended, with_link, hand_to_first, hand_to_separator, next_link, hand_to_operand, hand}
-use Rattle.pg_turns.specs.Finishes.{Gives, gives_parts, gives_choice, gives_rounds, gives_first, gives_separator, gives_operand, gives_around, Returns, over, Finishes, entering, handing, HandedOn}
+use Rattle.pg_turns.specs.Frames.{Before, none_before, behind_parts, Kept, none_kept, behind_kept, with_failure, with_empty_ok, behind_rounds, Chain, Linked, behind_links, Frame, in_parts, in_choice, in_rounds, in_first, in_separator, in_operand, in_rule, in_around}
+use Rattle.pg_turns.specs.Turns.{at_node, with_outcome, next_alternative, told, enter_rule, enter_form, enter_node, hand_empty_ok, hand_to_choice, hand_to_parts, hand_to_rounds, ended, with_link, hand_to_first, hand_to_separator, next_link, hand_to_operand, hand}
+use Rattle.pg_turns.specs.Finishes.{Gives, gives_parts, gives_choice, gives_rounds, gives_first, gives_separator, gives_operand, gives_rule, gives_around, Returns, over, Finishes, entering, handing, HandedOn}
 use Rattle.pg_turns.proofs.Joined.{behind_part, stuck_parts, behind_failure, behind_empty_ok, stuck_kept, behind_round, no_round, round_failed_so, rounds_none, behind_link, stuck_links, noted_more}
 
 -- so many rounds and their outcome
@@ -38,7 +40,7 @@ record SomeLinks (G : Given) (ch : Chain) (a : Spot) (linked : Linked) (fs : Lis
   outcome : Outcome
   nodes : ℕ
   further : ℕ
-  answers : AnswersLinks G ch.fold ch.shape ch.operand ch.separator linked.left links a outcome nodes
+  answers : AnswersLinks G ch.side ch.shape ch.operand ch.separator linked.left links a outcome nodes
   returns : Returns G fs (noted (Rounds (linked.count + links)) (behind_links ch linked outcome)) out further
   count : n ≡ nodes + further
 
@@ -48,7 +50,7 @@ record SomeChain (G : Given) (ch : Chain) (a : Spot) (fs : List Frame) (out : Ou
   outcome : Outcome
   nodes : ℕ
   further : ℕ
-  answers : AnswersChain G ch.fold ch.shape ch.operand ch.separator links a outcome nodes
+  answers : AnswersChain G ch.side ch.shape ch.operand ch.separator links a outcome nodes
   returns : Returns G fs (noted (Rounds links) outcome) out further
   count : n ≡ nodes + further
 
@@ -179,9 +181,6 @@ module _ {G : Given} where
   operand_back ch linked a c v t e empty_round fs out n (handing r) =
       let z : n ≡ zero + n = omega arith in over_same n (gives_operand linked operand_stuck) (last_stuck ch linked) r z
 
-  around_back : (w : Around) (x : Outcome) (fs : List Frame) (out : Outcome) (n : ℕ) → Finishes G (with_outcome (around G.text w x) fs) out n → Returns G (in_around w ∷ fs) x out n
-  around_back w x fs out n (handing r) = over_none gives_around r
-
   pub hand_back : (f : Frame) (x : Outcome) (fs : List Frame) (out : Outcome) (n : ℕ) → Finishes G (hand G f x fs) out n → Returns G (f ∷ fs) x out n
   hand_back (in_parts ps done) x fs out n h = parts_back ps done x fs out n h
   hand_back (in_choice k ps a kept) x fs out n h = choice_back k ps a kept x fs out n h
@@ -189,7 +188,8 @@ module _ {G : Given} where
   hand_back (in_first ch) x fs out n h = first_back ch x fs out n h
   hand_back (in_separator ch linked a) x fs out n h = separator_back ch linked a x fs out n h
   hand_back (in_operand ch linked a c v t e) x fs out n h = operand_back ch linked a c v t e x fs out n h
-  hand_back (in_around w) x fs out n h = around_back w x fs out n h
+  hand_back in_rule x fs out n (handing r) = over_none gives_rule r
+  hand_back (in_around around a) x fs out n (handing r) = over_none gives_around r
 
   -- ---- a node is entered
 
@@ -200,16 +200,24 @@ module _ {G : Given} where
       let k : suc m + l ≡ suc n = omega arith in
       subst (Finishes G (at_node p a fs) out) k (entering (entered there d) (subst (λ (z : Outcome). Returns G fs z out l) (sym same) r))
 
-  leaf_entered : {p : ℕ} {f : Node} {a : Spot} {fs : List Frame} {x out : Outcome} (n : ℕ) → slice_get G.grammar.nodes p ≡ Some f → AnswersForm G f a x zero →
-      Finishes G (with_outcome x fs) out n → Finishes G (at_node p a fs) out (suc n)
-  leaf_entered n there d (handing r) = let z : n ≡ zero + n = omega arith in form_entered n there d refl r z
+  nothing_entered : {p : ℕ} {a : Spot} {fs : List Frame} {out : Outcome} (n : ℕ) → slice_get G.grammar.nodes p ≡ Some (form.Seq []) →
+      Finishes G (with_outcome (ok false a [] [] (nothing_said a.place)) fs) out n → Finishes G (at_node p a fs) out (suc n)
+  nothing_entered n there (handing r) = let z : n ≡ zero + n = omega arith in form_entered n there answers.nothing refl r z
 
-  -- a form around one part
-  around_entered : {p q : ℕ} {f : Node} {a : Spot} {fs : List Frame} {out : Outcome} (n : ℕ) (w : Around) → slice_get G.grammar.nodes p ≡ Some f →
-      ((x : Outcome) (m : ℕ) → Answers G q a x m → AnswersForm G f a (around G.text w x) m) →
-      Finishes G (at_node q a (in_around w ∷ fs)) out n → Finishes G (at_node p a fs) out (suc n)
-  around_entered n w there made (entering {m = m} {x = x} d (over {n = l} gives_around r)) =
-      let z : n ≡ m + l = omega arith in form_entered n there (made x m d) refl r z
+  leaf_entered : (p : ℕ) (l : Leaf ℕ) (o : Option Outcome) (a : Spot) (fs : List Frame) (out : Outcome) (n : ℕ) → slice_get G.grammar.nodes p ≡ Some (form.Leaf l) →
+      leaf_outcome G.grammar G.text l a ≡ o → Finishes G (told o fs) out n → Finishes G (at_node p a fs) out (suc n)
+  leaf_entered p l None a fs out n there e h = elim h [ ]
+  leaf_entered p l (Some o) a fs out n there e (handing r) = let z : n ≡ zero + n = omega arith in form_entered n there (answers.leaf e) refl r z
+
+  around_entered : {p q : ℕ} {around : Around} {a : Spot} {fs : List Frame} {out : Outcome} (n : ℕ) → slice_get G.grammar.nodes p ≡ Some (form.Around around q) →
+      Finishes G (at_node q a (in_around around a ∷ fs)) out n → Finishes G (at_node p a fs) out (suc n)
+  around_entered n there (entering {m = m} d (over {n = l} gives_around r)) =
+      let z : n ≡ m + l = omega arith in form_entered n there (answers.around d) refl r z
+
+  body_entered : {p r : ℕ} {named : declared.Rule} {a : Spot} {fs : List Frame} {out : Outcome} (n : ℕ) → slice_get G.grammar.nodes p ≡ Some (form.Rule r) →
+      slice_get G.grammar.rules r ≡ Some named → Finishes G (at_node named.body a (in_rule ∷ fs)) out n → Finishes G (at_node p a fs) out (suc n)
+  body_entered n there e (entering {m = m} d (over {n = l} gives_rule r)) =
+      let z : n ≡ m + l = omega arith in form_entered n there (answers.rule e d) refl r z
 
   parts_entered : (p q : ℕ) (ps : List ℕ) (a : Spot) (fs : List Frame) (out : Outcome) (n : ℕ) → slice_get G.grammar.nodes p ≡ Some (form.Seq (q ∷ ps)) →
       Finishes G (at_node q a (in_parts ps none_before ∷ fs)) out n → Finishes G (at_node p a fs) out (suc n)
@@ -229,47 +237,28 @@ module _ {G : Given} where
 
   chain_on : {ch : Chain} {a : Spot} {fs : List Frame} {out : Outcome} {n : ℕ} → Finishes G (at_node ch.operand a (in_first ch ∷ fs)) out n → SomeChain G ch a fs out n
   chain_on (entering {m = m} d (over {m = j} {n = l} (gives_first {k = k} {o = o} g) h)) =
-      record { links = k; outcome = o; nodes = m + j; further = l; answers = chain d g; returns = h; count = omega arith }
+      record { links = k; outcome = o; nodes = m + j; further = l; answers = first_operand d g; returns = h; count = omega arith }
 
-  left_entered : (p q s : ℕ) (used : BuilderUse) (a : Spot) (fs : List Frame) (out : Outcome) (n : ℕ) → slice_get G.grammar.nodes p ≡ Some (form.ChainLeft used q s) →
-      Finishes G (at_node q a (in_first (record { fold = FromLeft; shape = used.shape; operand = q; separator = s }) ∷ fs)) out n → Finishes G (at_node p a fs) out (suc n)
-  left_entered p q s used a fs out n there h = let d = chain_on h in form_entered n there (answers.chain_left d.answers) refl d.returns d.count
-
-  right_entered : (p q s : ℕ) (used : BuilderUse) (a : Spot) (fs : List Frame) (out : Outcome) (n : ℕ) → slice_get G.grammar.nodes p ≡ Some (form.ChainRight used q s) →
-      Finishes G (at_node q a (in_first (record { fold = FromRight; shape = used.shape; operand = q; separator = s }) ∷ fs)) out n → Finishes G (at_node p a fs) out (suc n)
-  right_entered p q s used a fs out n there h = let d = chain_on h in form_entered n there (answers.chain_right d.answers) refl d.returns d.count
-
-  word_entered : (p w : ℕ) (item : Option WordItem) (a : Spot) (fs : List Frame) (out : Outcome) (n : ℕ) → slice_get G.grammar.nodes p ≡ Some (form.Word w) →
-      slice_get G.grammar.words w ≡ item → Finishes G (enter_word G item a fs) out n → Finishes G (at_node p a fs) out (suc n)
-  word_entered p w None a fs out n there e h = elim h [ ]
-  word_entered p w (Some item) a fs out n there e h = leaf_entered n there (answers.word e) h
+  chain_entered : (p q s : ℕ) (side : Side) (used : BuilderUse) (a : Spot) (fs : List Frame) (out : Outcome) (n : ℕ) → slice_get G.grammar.nodes p ≡ Some (form.Chain side used q s) →
+      Finishes G (at_node q a (in_first (record { side = side; shape = used.shape; operand = q; separator = s }) ∷ fs)) out n → Finishes G (at_node p a fs) out (suc n)
+  chain_entered p q s side used a fs out n there h = let d = chain_on h in form_entered n there (answers.chain d.answers) refl d.returns d.count
 
   rule_entered : (p r : ℕ) (named : Option declared.Rule) (a : Spot) (fs : List Frame) (out : Outcome) (n : ℕ) → slice_get G.grammar.nodes p ≡ Some (form.Rule r) →
       slice_get G.grammar.rules r ≡ named → Finishes G (enter_rule named a fs) out n → Finishes G (at_node p a fs) out (suc n)
   rule_entered p r None a fs out n there e h = elim h [ ]
-  rule_entered p r (Some named) a fs out n there e h = around_entered n a_rule there (λ x m d. answers.rule e d) h
+  rule_entered p r (Some named) a fs out n there e h = body_entered n there e h
 
   form_back : (p : ℕ) (f : Node) (a : Spot) (fs : List Frame) (out : Outcome) (n : ℕ) → slice_get G.grammar.nodes p ≡ Some f → Finishes G (enter_form G f a fs) out n →
       Finishes G (at_node p a fs) out (suc n)
-  form_back p (form.Satisfy class) a fs out n there h = leaf_entered n there answers.satisfy h
-  form_back p (form.String s) a fs out n there h = leaf_entered n there answers.string h
-  form_back p (form.Seq []) a fs out n there h = leaf_entered n there answers.nothing h
+  form_back p (form.Leaf l) a fs out n there h = leaf_entered p l (leaf_outcome G.grammar G.text l a) a fs out n there refl h
+  form_back p (form.Seq []) a fs out n there h = nothing_entered n there h
   form_back p (form.Seq (q ∷ ps)) a fs out n there h = parts_entered p q ps a fs out n there h
   form_back p (form.Choice ps) a fs out n there h = choice_entered p ps a fs out n there h
   form_back p (form.Many q) a fs out n there h = many_entered p q a fs out n there h
-  form_back p (form.ChainLeft used q s) a fs out n there h = left_entered p q s used a fs out n there h
-  form_back p (form.ChainRight used q s) a fs out n there h = right_entered p q s used a fs out n there h
-  form_back p (form.Try q) a fs out n there h = around_entered n a_try there (λ x m d. answers.try d) h
-  form_back p (form.NotFollowedBy class) a fs out n there h = leaf_entered n there answers.not_followed_by h
-  form_back p form.EndOfText a fs out n there h = leaf_entered n there answers.end_of_text h
-  form_back p (form.Word w) a fs out n there h = word_entered p w (slice_get G.grammar.words w) a fs out n there refl h
+  form_back p (form.Chain side used q s) a fs out n there h = chain_entered p q s side used a fs out n there h
   form_back p (form.Rule r) a fs out n there h = rule_entered p r (slice_get G.grammar.rules r) a fs out n there refl h
   form_back p (form.Expression builders q) a fs out n there h = elim h [ ]
-  form_back p (form.Declare class) a fs out n there h = elim h [ ]
-  form_back p (form.Text q) a fs out n there h = around_entered n (a_text a) there (λ x m d. answers.text d) h
-  form_back p (form.Skip q) a fs out n there h = around_entered n a_skip there (λ x m d. answers.skip d) h
-  form_back p (form.Build used symbol q) a fs out n there h = around_entered n (a_build used.shape symbol) there (λ x m d. answers.build d) h
-  form_back p (form.Label q message) a fs out n there h = around_entered n (a_label message) there (λ x m d. answers.label d) h
+  form_back p (form.Around around q) a fs out n there h = around_entered n there h
 
   pub node_back : (p : ℕ) (f : Option Node) (a : Spot) (fs : List Frame) (out : Outcome) (n : ℕ) → slice_get G.grammar.nodes p ≡ f → Finishes G (enter_node G f a fs) out n →
       Finishes G (at_node p a fs) out (suc n)

@@ -7,13 +7,13 @@ use Rattle.pg_tree.specs.Built.{built}
 use Rattle.pg_tree.specs.declared.shape.Shape.{Shape}
 use Rattle.pg_grammar.specs.declared.trail.TrailItem.{TrailItem}
 use Rattle.pg_grammar.specs.declared.trail.TrailItem.TheVariants.{Rounds}
-use Rattle.pg_language.specs.Derives.{Spot}
+use Rattle.pg_language.specs.Derives.{Spot, carried}
 use Rattle.pg_table.specs.Tables.{Table, first_operators}
 use Rattle.pg_language.specs.Errors.{Error, merge, nothing_said}
 use Rattle.pg_language.specs.Outcomes.{ok, failed}
-use Rattle.pg_language.specs.Reactions.{error_behind, noted, then_rest, unless_begun, as_finished, carried}
-use Rattle.pg_language.specs.declared.fold.Fold.{Fold}
-use Rattle.pg_language.specs.declared.fold.Fold.TheVariants.{FromLeft, FromRight}
+use Rattle.pg_language.specs.Reactions.{error_behind, noted, then_rest, unless_begun, as_finished}
+use Rattle.pg_grammar.specs.declared.side.Side.{Side}
+use Rattle.pg_grammar.specs.declared.side.Side.TheVariants.{Left, Right}
 use Rattle.pg_turns.specs.Frames.{Chain, Linked, folded, Frame}
 use Rattle.pg_turns.specs.Messages.{Said}
 use Rattle.pg_turns.specs.Shows.{Extends, plain, Waits, none_wait, from_left, from_right, ShowsLinks, links, Stands, stands_separator, stands_operand, Shows, shows_at, shows_fine, shows_failed, shows_endless}
@@ -36,11 +36,11 @@ pub record Folds (ch : OnChain) (v : List Tree) (waiting : List (List Tree × Li
   pub on_list : all_built ch.used.shape ns (y ++ left) ≡ v ++ forest
   pub in_outcome : (c : Bool) (b : Spot) (t : List TrailItem) (e : Error) → folded (plain ch) waiting (ok c b left t e) ≡ ok c b forest t e
 
-left_alone : (ch : OnChain) → ch.fold ≡ FromLeft → (waiting : List (List Tree × List Tree)) (left : List Tree) (c : Bool) (b : Spot) (t : List TrailItem) (e : Error) →
+left_alone : (ch : OnChain) → ch.side ≡ Left → (waiting : List (List Tree × List Tree)) (left : List Tree) (c : Bool) (b : Spot) (t : List TrailItem) (e : Error) →
     folded (plain ch) waiting (ok c b left t e) ≡ ok c b left t e
 left_alone ch h [] left c b t e = refl
 left_alone ch h (x ∷ waiting) left c b t e =
-    ap (λ (fold : Fold). folded (plain ch) waiting (as_finished fold ch.used.shape x.0 x.1 (ok c b left t e))) h ∙ left_alone ch h waiting left c b t e
+    ap (λ (side : Side). folded (plain ch) waiting (as_finished side ch.used.shape x.0 x.1 (ok c b left t e))) h ∙ left_alone ch h waiting left c b t e
 
 built_seam : (shape : Shape) (v w : List Tree) → built_behind shape [] (length v) (v ++ w) ≡ v ++ built shape [] w ∷ []
 built_seam shape v w = let a = take_seam v w in let b = drop_seam v w in cc
@@ -54,7 +54,7 @@ folds {ch = ch} (from_right {y = y} {a = a} {s = s} {waiting = waiting} {ns = ns
     record {
       forest = next.forest;
       on_list = ap (λ z. all_built ch.used.shape ns (built_behind ch.used.shape [] (length y) z)) lists ∙ ap (all_built ch.used.shape ns) (built_seam ch.used.shape y (a ++ s ++ left)) ∙ next.on_list;
-      in_outcome = λ c b t e. ap (λ (fold : Fold). folded (plain ch) waiting (as_finished fold ch.used.shape a s (ok c b left t e))) h ∙ next.in_outcome c b t e;
+      in_outcome = λ c b t e. ap (λ (side : Side). folded (plain ch) waiting (as_finished side ch.used.shape a s (ok c b left t e))) h ∙ next.in_outcome c b t e;
     }
 
 folded_failed : (ch : Chain) (waiting : List (List Tree × List Tree)) (c : Bool) (e : Error) → folded ch waiting (failed c e) ≡ failed c e
@@ -70,10 +70,10 @@ or_false true = refl
 or_false false = refl
 
 -- a link more waits
-left_waits : {ch : OnChain} {v y : List Tree} {waiting : List (List Tree × List Tree)} {ns : List ℕ} (x : List Tree × List Tree) → ch.fold ≡ FromLeft → Waits ch v waiting ns y → Waits ch v (x ∷ waiting) ns y
+left_waits : {ch : OnChain} {v y : List Tree} {waiting : List (List Tree × List Tree)} {ns : List ℕ} (x : List Tree × List Tree) → ch.side ≡ Left → Waits ch v waiting ns y → Waits ch v (x ∷ waiting) ns y
 left_waits x h none_wait = from_left h
 left_waits x h (from_left k) = from_left h
-left_waits x h (from_right k w) = let z : FromLeft ≡ FromRight = sym h ∙ k in cc
+left_waits x h (from_right k w) = let z : Left ≡ Right = sym h ∙ k in cc
 
 -- what waits lies behind what stands below
 record Behind (v y : List Tree) : Type 0 where
@@ -148,40 +148,40 @@ module _ {T : Table} where
   separator_fine c j s r h k o m = shows_at (stands_operand h k (hold o) m)
 
   -- the next separator runs
-  more_shown : {fs : List Frame} {gs : List OnFrame} {v y : List Tree} {t : List TrailItem} {x z : List Said} {W : Table} {why : Why} {f : Error} (w a : List Tree) (u q : List TrailItem) {waiting : List (List Tree × List Tree)} {ns : List ℕ} (fold : Fold) (ch : OnChain)
-      (n i j : ℕ) (b : Bool) (held : Held) (item : TrailItem) (s : List Tree) (r : List TrailItem) → ch.fold ≡ fold → Stands fs gs v t x T → Waits ch v waiting ns y → Says x why f z → Extends true T W →
+  more_shown : {fs : List Frame} {gs : List OnFrame} {v y : List Tree} {t : List TrailItem} {x z : List Said} {W : Table} {why : Why} {f : Error} (w a : List Tree) (u q : List TrailItem) {waiting : List (List Tree × List Tree)} {ns : List ℕ} (side : Side) (ch : OnChain)
+      (n i j : ℕ) (b : Bool) (held : Held) (item : TrailItem) (s : List Tree) (r : List TrailItem) → ch.side ≡ side → Stands fs gs v t x T → Waits ch v waiting ns y → Says x why f z → Extends true T W →
       Shows (at_node ch.separator (spot_at W j) (in_separator (plain ch)
-      (record { count = suc n; consumed = true; trail = u ++ (q ++ r); error = f; waiting = (w, a) ∷ waiting; left = carried fold ch.used.shape w a s }) (spot_at W j) ∷ fs))
+      (record { count = suc n; consumed = true; trail = u ++ (q ++ r); error = f; waiting = (w, a) ∷ waiting; left = carried side ch.used.shape w a s }) (spot_at W j) ∷ fs))
       (tape_at ch.separator j (on_separator (record {
         chain = ch;
         slot = length t;
         count = suc n;
         consumed = true;
         held = held_at (length z) why;
-        waiting = link_waiting fold (length y) ns;
-        left = link_left fold (length y) (length (y ++ w ++ a));
+        waiting = link_waiting side (length y) ns;
+        left = link_left side (length y) (length (y ++ w ++ a));
         start = j;
-        forest = length (link_forest fold ch.used.shape (length y) (y ++ w ++ a ++ s));
+        forest = length (link_forest side ch.used.shape (length y) (y ++ w ++ a ++ s));
         trail = length (t ++ item ∷ u ++ q ++ r);
         operators = length W.operators;
       }) ∷ gs)
-      (link_forest fold ch.used.shape (length y) (y ++ w ++ a ++ s)) (t ++ item ∷ u ++ q ++ r) z W)
-  more_shown {y = y} {t = t} w a u q FromLeft ch n i j b held item s r is h k o m =
+      (link_forest side ch.used.shape (length y) (y ++ w ++ a ++ s)) (t ++ item ∷ u ++ q ++ r) z W)
+  more_shown {y = y} {t = t} w a u q Left ch n i j b held item s r is h k o m =
       let inner : y ++ w ++ a ++ s ≡ y ++ (w ++ a ++ s) = append_assoc (y ++ w) a s ∙ append_assoc y w (a ++ s) ∙ ap (λ z. y ++ z) (sym (append_assoc w a s)) in
       let lists : built_behind ch.used.shape [] (length y) (y ++ w ++ a ++ s) ≡ y ++ built ch.used.shape [] (w ++ a ++ s) ∷ [] =
       ap (built_behind ch.used.shape [] (length y)) inner ∙ built_seam ch.used.shape y (w ++ a ++ s) in
       let items : t ++ (item ∷ (u ++ (q ++ r))) ≡ t ++ item ∷ u ++ q ++ r = three t (item ∷ u) (q ++ r) ∙ three (t ++ item ∷ u) q r in
       moved (shows_at (stands_separator h (links item (left_waits (w, a) is k) (hold o) m))) cc
-  more_shown {y = y} {t = t} w a u q FromRight ch n i j b held item s r is h k o m =
+  more_shown {y = y} {t = t} w a u q Right ch n i j b held item s r is h k o m =
       let items : t ++ (item ∷ (u ++ (q ++ r))) ≡ t ++ item ∷ u ++ q ++ r = three t (item ∷ u) (q ++ r) ∙ three (t ++ item ∷ u) q r in
       moved (shows_at (stands_separator h (links item (from_right is k) (hold o) m))) cc
 
   linked_shown : {fs : List Frame} {gs : List OnFrame} {v w : List Tree} {t u : List TrailItem} {x y z : List Said} {U W : Table} {why : Why} (a : List Tree) (q : List TrailItem) (f : Error) {linked : Linked} {i : ℕ} {l : OnLinks}
       (b c d : Bool) (j : ℕ) (e : Error) (s : List Tree) (r : List TrailItem) → Stands fs gs v t x T → ShowsLinks v t x T linked i l w u y U → Says y why (error_behind d e f) z → Extends true U W →
       Shows (next_link b (plain l.chain) (with_link (plain l.chain) linked a q e d s r f) (spot_at W j) fs)
-      (tape_linked b l j (length (w ++ a)) (held_at (length z) why) gs (link_forest l.chain.fold l.chain.used.shape l.left (w ++ a ++ s)) (u ++ q ++ r) z W)
+      (tape_linked b l j (length (w ++ a)) (held_at (length z) why) gs (link_forest l.chain.side l.chain.used.shape l.left (w ++ a ++ s)) (u ++ q ++ r) z W)
   linked_shown a q f true c d j e s r h (links {ch = ch} {w = w} {u = u} {n = n} {i = i} {c = b} {held = held} item k o l) m p =
-      more_shown w a u q ch.fold ch n i j b held item s r refl h k (alone o m) (extends_both true true (extends_any l) p)
+      more_shown w a u q ch.side ch n i j b held item s r refl h k (alone o m) (extends_both true true (extends_any l) p)
   linked_shown a q f false c d j e s r h k m p = shows_endless
 
   pub operand_fine : {fs : List Frame} {gs : List OnFrame} {v w : List Tree} {t u : List TrailItem} {x y z zs : List Said} {U V W : Table} {why : Why} {e f : Error} {linked : Linked} {i : ℕ} {l : OnLinks} {held : Held}

@@ -2,23 +2,21 @@
 use Rattle.std.proofs.Common.{◌≡◌, ℕ, zero, suc, ◌+◌, List, [], ◌∷◌, ◌++◌, Bool, true, false, refl, subst, sym, ap, ◌∙◌, arith}
 use Rattle.std.specs.Prelude.{Option, slice_get, ◌||◌}
 use Rattle.pg_tree.specs.Trees.{Tree}
-use Rattle.pg_grammar.specs.declared.form.Node.{Node}
+use Rattle.pg_grammar.specs.Forms.{Node}
 use Rattle.pg_grammar.specs.declared.grammar.Rule as declared
-use Rattle.pg_grammar.specs.declared.word_item.WordItem.{WordItem}
 use Rattle.pg_grammar.specs.declared.trail.TrailItem.{TrailItem}
 use Rattle.pg_grammar.specs.declared.trail.TrailItem.TheVariants.{Alt, Rounds}
-use Rattle.pg_language.specs.Derives.{Spot}
+use Rattle.pg_language.specs.Derives.{Spot, carried}
 use Rattle.pg_language.specs.Answers as answers
-use Rattle.pg_language.specs.Answers.{Given, Answers, entered, AnswersForm, AnswersParts, part, AfterPart, part_last, part_failed, part_stuck, part_ok, AnswersAlternatives, no_alternative, alternative, AfterAlternative, alternative_consumed, alternative_stands, alternative_waits, alternative_commits, alternative_failed, alternative_stuck, AnswersRounds, round, AfterRound, round_ended, round_failed, round_empty, round_stuck, round_ok, AnswersChain, chain, AfterFirst, first_failed, first_stuck, first_ok, AnswersLinks, link, AfterSeparator, separator_failed, separator_stuck, separator_ok, AfterOperand, operand_failed, operand_stuck, operand_ok}
+use Rattle.pg_language.specs.Answers.{Given, Answers, entered, AnswersForm, AnswersParts, part, AfterPart, part_last, part_failed, part_stuck, part_ok, AnswersAlternatives, no_alternative, alternative, AfterAlternative, alternative_consumed, alternative_stands, alternative_waits, alternative_commits, alternative_failed, alternative_stuck, AnswersRounds, round, AfterRound, round_ended, round_failed, round_empty, round_stuck, round_ok, AnswersChain, first_operand, AfterFirst, first_failed, first_stuck, first_ok, AnswersLinks, link, AfterSeparator, separator_failed, separator_stuck, separator_ok, AfterOperand, operand_failed, operand_stuck, operand_ok}
 use Rattle.pg_language.specs.Errors.{Error}
 use Rattle.pg_language.specs.Outcomes.{Outcome, ok, failed, empty_round}
-use Rattle.pg_language.specs.Reactions.{then_rest, noted, as_finished, carried}
-use Rattle.pg_language.specs.declared.fold.Fold.TheVariants.{FromLeft, FromRight}
+use Rattle.pg_language.specs.Reactions.{then_rest, noted, as_finished}
 use Rattle.pg_language.specs.declared.reading.Reading.{Reading}
 use Rattle.pg_language.specs.declared.reading.Reading.TheVariants.{Library, Report}
-use Rattle.pg_turns.specs.Frames.{Before, none_before, behind_parts, with_part, Kept, none_kept, behind_kept, with_failure, with_empty_ok, behind_rounds, Chain, Linked, behind_links, Around, a_try, a_label, a_rule, a_text, a_skip, a_build, around, Frame, in_parts, in_choice, in_rounds, in_first, in_separator, in_operand, in_around}
-use Rattle.pg_turns.specs.Turns.{at_node, with_outcome, next_alternative, enter_word, enter_rule, enter_form, enter_node, hand_empty_ok, hand_to_choice, hand_to_parts, hand_to_rounds, ended, first_linked, with_link, hand_to_first, hand_to_separator, next_link, hand_to_operand, hand}
-use Rattle.pg_turns.specs.Finishes.{Gives, gives_parts, gives_choice, gives_rounds, gives_first, gives_separator, gives_operand, gives_around, Returns, over, Finishes, entering, handing}
+use Rattle.pg_turns.specs.Frames.{Before, none_before, behind_parts, with_part, Kept, none_kept, behind_kept, with_failure, with_empty_ok, behind_rounds, Chain, Linked, behind_links, Frame, in_parts, in_choice, in_rounds, in_first, in_separator, in_operand, in_rule, in_around}
+use Rattle.pg_turns.specs.Turns.{at_node, with_outcome, next_alternative, told, enter_rule, enter_form, enter_node, hand_empty_ok, hand_to_choice, hand_to_parts, hand_to_rounds, ended, first_linked, with_link, hand_to_first, hand_to_separator, next_link, hand_to_operand, hand}
+use Rattle.pg_turns.specs.Finishes.{Gives, gives_parts, gives_choice, gives_rounds, gives_first, gives_separator, gives_operand, gives_rule, gives_around, Returns, over, Finishes, entering, handing}
 use Rattle.pg_turns.proofs.Joined.{behind_part, stuck_parts, behind_failure, behind_empty_ok, stuck_kept, behind_round, no_round, round_failed_so, rounds_none, behind_link, stuck_links, noted_more}
 
 last_count : (ch : Chain) (linked : Linked) (o : Outcome) → noted (Rounds (linked.count + 0)) (behind_links ch linked o) ≡ ended ch linked o
@@ -63,13 +61,13 @@ module _ {G : Given} where
       Returns G fs (noted (Rounds (k + j)) (behind_rounds c v t o)) out l → n ≡ m + l → Finishes G (at_node p a (in_rounds p k c a v t ∷ fs)) out n
   rounds_run k c v t n (round d g) r e = part_runs n d (gives_rounds k c v t g) r e
 
-  links_run : {j : ℕ} {a : Spot} {fs : List Frame} {o out : Outcome} {m l : ℕ} (ch : Chain) (linked : Linked) (n : ℕ) → AnswersLinks G ch.fold ch.shape ch.operand ch.separator linked.left j a o m →
+  links_run : {j : ℕ} {a : Spot} {fs : List Frame} {o out : Outcome} {m l : ℕ} (ch : Chain) (linked : Linked) (n : ℕ) → AnswersLinks G ch.side ch.shape ch.operand ch.separator linked.left j a o m →
       Returns G fs (noted (Rounds (linked.count + j)) (behind_links ch linked o)) out l → n ≡ m + l → Finishes G (at_node ch.separator a (in_separator ch linked a ∷ fs)) out n
   links_run ch linked n (link d g) r e = part_runs n d (gives_separator linked g) r e
 
-  chain_run : {j : ℕ} {a : Spot} {fs : List Frame} {o out : Outcome} {m l : ℕ} (ch : Chain) (n : ℕ) → AnswersChain G ch.fold ch.shape ch.operand ch.separator j a o m →
+  chain_run : {j : ℕ} {a : Spot} {fs : List Frame} {o out : Outcome} {m l : ℕ} (ch : Chain) (n : ℕ) → AnswersChain G ch.side ch.shape ch.operand ch.separator j a o m →
       Returns G fs (noted (Rounds j) o) out l → n ≡ m + l → Finishes G (at_node ch.operand a (in_first ch ∷ fs)) out n
-  chain_run ch n (chain d g) r e = part_runs n d (gives_first g) r e
+  chain_run ch n (first_operand d g) r e = part_runs n d (gives_first g) r e
 
   -- the same with what is handed on in another form
   handed : {fs : List Frame} {x y out : Outcome} {l : ℕ} → x ≡ y → Returns G fs x out l → Returns G fs y out l
@@ -110,7 +108,7 @@ module _ {G : Given} where
   rounds_forth k c v t n (round_ok {k = j} {v = w} {t = u} {o = o} d) r e =
       rounds_run (suc k) true (v ++ w) (t ++ u) n d (handed (noted_more k j _ ∙ ap (noted (Rounds (suc k + j))) (behind_round c v w t u o)) r) e
 
-  first_forth : {j : ℕ} {x o out : Outcome} {fs : List Frame} {m l : ℕ} (ch : Chain) (n : ℕ) → AfterFirst G ch.fold ch.shape ch.operand ch.separator j x o m →
+  first_forth : {j : ℕ} {x o out : Outcome} {fs : List Frame} {m l : ℕ} (ch : Chain) (n : ℕ) → AfterFirst G ch.side ch.shape ch.operand ch.separator j x o m →
       Returns G fs (noted (Rounds j) o) out l → n ≡ m + l → Finishes G (hand_to_first ch x fs) out n
   first_forth ch n first_failed r e = on n refl e r
   first_forth ch n first_stuck r e = on n refl e r
@@ -118,15 +116,15 @@ module _ {G : Given} where
       let y : j ≡ zero + j = omega arith in links_run ch (first_linked c v t f) n d (handed (ap (λ i. noted (Rounds i) (then_rest c [] t f o)) y) r) e
 
   separator_forth : {j : ℕ} {a : Spot} {x o out : Outcome} {fs : List Frame} {m l : ℕ} (ch : Chain) (linked : Linked) (n : ℕ) →
-      AfterSeparator G ch.fold ch.shape ch.operand ch.separator linked.left j a x o m → Returns G fs (noted (Rounds (linked.count + j)) (behind_links ch linked o)) out l → n ≡ m + l →
+      AfterSeparator G ch.side ch.shape ch.operand ch.separator linked.left j a x o m → Returns G fs (noted (Rounds (linked.count + j)) (behind_links ch linked o)) out l → n ≡ m + l →
       Finishes G (hand_to_separator ch linked a x fs) out n
   separator_forth ch linked n separator_failed r e = on n (last_count ch linked _) e r
   separator_forth ch linked n separator_stuck r e = on n (last_stuck ch linked) e r
   separator_forth ch linked n (separator_ok d g) r e = part_runs n d (gives_operand linked g) r e
 
   link_forth : {j : ℕ} {fs : List Frame} {o out : Outcome} {m l : ℕ} (b : Bool) (ch : Chain) (linked : Linked) (c : Bool) (v : List Tree) (t : List TrailItem) (e : Error) (d : Bool) (end : Spot) (w : List Tree) (u : List TrailItem) (f : Error)
-      (n : ℕ) → (c || d) ≡ b → (c || d) ≡ true → AnswersLinks G ch.fold ch.shape ch.operand ch.separator (carried ch.fold ch.shape linked.left v w) j end o m →
-      Returns G fs (noted (Rounds (linked.count + suc j)) (behind_links ch linked (then_rest c [] t e (then_rest d [] u f (as_finished ch.fold ch.shape linked.left v o))))) out l → n ≡ m + l →
+      (n : ℕ) → (c || d) ≡ b → (c || d) ≡ true → AnswersLinks G ch.side ch.shape ch.operand ch.separator (carried ch.side ch.shape linked.left v w) j end o m →
+      Returns G fs (noted (Rounds (linked.count + suc j)) (behind_links ch linked (then_rest c [] t e (then_rest d [] u f (as_finished ch.side ch.shape linked.left v o))))) out l → n ≡ m + l →
       Finishes G (next_link b ch (with_link ch linked v t e d w u f) end fs) out n
   link_forth {j = j} {o = o} true ch linked c v t e d end w u f n q h s r z =
       links_run ch (with_link ch linked v t e d w u f) n s
@@ -134,7 +132,7 @@ module _ {G : Given} where
   link_forth false ch linked c v t e d end w u f n q h s r z = let y : false ≡ true = sym q ∙ h in cc
 
   operand_forth : {j : ℕ} {a : Spot} {c : Bool} {v : List Tree} {t : List TrailItem} {f : Error} {x o out : Outcome} {fs : List Frame} {m l : ℕ} (ch : Chain) (linked : Linked) (n : ℕ) →
-      AfterOperand G ch.fold ch.shape ch.operand ch.separator linked.left j a c v t f x o m → Returns G fs (noted (Rounds (linked.count + j)) (behind_links ch linked o)) out l → n ≡ m + l →
+      AfterOperand G ch.side ch.shape ch.operand ch.separator linked.left j a c v t f x o m → Returns G fs (noted (Rounds (linked.count + j)) (behind_links ch linked o)) out l → n ≡ m + l →
       Finishes G (hand_to_operand ch linked a c v t f x fs) out n
   operand_forth ch linked n operand_failed r e = on n (last_count ch linked _) e r
   operand_forth ch linked n operand_stuck r e = on n (last_stuck ch linked) e r
@@ -148,35 +146,28 @@ module _ {G : Given} where
   hand_forth (in_first ch) x fs out n (over (gives_first g) r) = first_forth ch n g r refl
   hand_forth (in_separator ch linked a) x fs out n (over (gives_separator _ g) r) = separator_forth ch linked n g r refl
   hand_forth (in_operand ch linked a c v t e) x fs out n (over (gives_operand _ g) r) = operand_forth ch linked n g r refl
-  hand_forth (in_around w) x fs out n (over gives_around r) = on n refl refl r
+  hand_forth in_rule x fs out n (over gives_rule r) = on n refl refl r
+  hand_forth (in_around around a) x fs out n (over gives_around r) = on n refl refl r
 
   -- ---- a node is entered
 
-  around_forth : {q : ℕ} {a : Spot} {fs : List Frame} {x out : Outcome} {m l : ℕ} (w : Around) (n : ℕ) → Answers G q a x m → Returns G fs (around G.text w x) out l → n ≡ m + l →
-      Finishes G (at_node q a (in_around w ∷ fs)) out n
-  around_forth {m = m} {l = l} w n d r e = let z : n ≡ m + zero + l = omega arith in part_runs n d (gives_around {w = w}) r z
+  -- the one part runs
+  part_forth : {q : ℕ} {f : Frame} {a : Spot} {fs : List Frame} {x o out : Outcome} {m l : ℕ} (n : ℕ) → Answers G q a x m → Gives G f x o zero → Returns G fs o out l → n ≡ m + l →
+      Finishes G (at_node q a (f ∷ fs)) out n
+  part_forth {m = m} {l = l} n d g r e = let z : n ≡ m + zero + l = omega arith in part_runs n d g r z
 
   form_forth : {f : Node} {a : Spot} {fs : List Frame} {x out : Outcome} {m l : ℕ} (n : ℕ) → AnswersForm G f a x m → Returns G fs x out l → n ≡ m + l → Finishes G (enter_form G f a fs) out n
-  form_forth n answers.satisfy r e = on n refl e r
-  form_forth n answers.string r e = on n refl e r
-  form_forth {a = a} {fs = fs} {out = out} n (answers.word {item = item} there) r e = subst (λ (o : Option WordItem). Finishes G (enter_word G o a fs) out n) (sym there) (on n refl e r)
-  form_forth n answers.not_followed_by r e = on n refl e r
-  form_forth n answers.end_of_text r e = on n refl e r
+  form_forth {a = a} {fs = fs} {out = out} n (answers.leaf there) r e = subst (λ (o : Option Outcome). Finishes G (told o fs) out n) (sym there) (on n refl e r)
   form_forth n answers.nothing r e = on n refl e r
   form_forth n (answers.seq d) r e = parts_run none_before n d r e
   form_forth n (answers.choice d) r e = alternatives_run none_kept n d r e
   form_forth n (answers.many {k = k} {o = o} d) r e =
       let y : k ≡ zero + k = omega arith in
       rounds_run zero false [] [] n d (handed (ap (λ j. noted (Rounds j) o) y ∙ ap (noted (Rounds (zero + k))) (sym (rounds_none o))) r) e
-  form_forth n (answers.chain_left {used = used} {p = p} {s = s} d) r e = chain_run (record { fold = FromLeft; shape = used.shape; operand = p; separator = s }) n d r e
-  form_forth n (answers.chain_right {used = used} {p = p} {s = s} d) r e = chain_run (record { fold = FromRight; shape = used.shape; operand = p; separator = s }) n d r e
-  form_forth n (answers.try d) r e = around_forth a_try n d r e
-  form_forth n (answers.label {message = message} d) r e = around_forth (a_label message) n d r e
+  form_forth n (answers.chain {side = side} {used = used} {p = p} {s = s} d) r e = chain_run (record { side = side; shape = used.shape; operand = p; separator = s }) n d r e
   form_forth {a = a} {fs = fs} {out = out} n (answers.rule {named = named} there d) r e =
-      subst (λ (o : Option declared.Rule). Finishes G (enter_rule o a fs) out n) (sym there) (around_forth a_rule n d r e)
-  form_forth {a = a} n (answers.text d) r e = around_forth (a_text a) n d r e
-  form_forth n (answers.skip d) r e = around_forth a_skip n d r e
-  form_forth n (answers.build {used = used} {symbol = symbol} d) r e = around_forth (a_build used.shape symbol) n d r e
+      subst (λ (o : Option declared.Rule). Finishes G (enter_rule o a fs) out n) (sym there) (part_forth n d gives_rule r e)
+  form_forth n (answers.around d) r e = part_forth n d gives_around r e
 
   pub node_forth : (p : ℕ) (a : Spot) (fs : List Frame) (out : Outcome) (n : ℕ) → Finishes G (at_node p a fs) out n → Entered G p a fs out n
   node_forth p a fs out n (entering {n = l} (entered {m = m} {n = f} there d) r) = record {

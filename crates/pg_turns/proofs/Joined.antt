@@ -138,9 +138,9 @@ pub folded_rest : (chain : Chain) (waiting : List (List Tree × List Tree)) (c :
     folded chain waiting (then_rest c [] t e o) ≡ then_rest c [] t e (folded chain waiting o)
 folded_rest chain [] c t e o = refl
 folded_rest chain (x ∷ waiting) c t e o =
-    ap (folded chain waiting) (apart o) ∙ folded_rest chain waiting c t e (as_finished chain.fold chain.shape x.0 x.1 o)
+    ap (folded chain waiting) (apart o) ∙ folded_rest chain waiting c t e (as_finished chain.side chain.shape x.0 x.1 o)
   where
-    apart : (o : Outcome) → as_finished chain.fold chain.shape x.0 x.1 (then_rest c [] t e o) ≡ then_rest c [] t e (as_finished chain.fold chain.shape x.0 x.1 o)
+    apart : (o : Outcome) → as_finished chain.side chain.shape x.0 x.1 (then_rest c [] t e o) ≡ then_rest c [] t e (as_finished chain.side chain.shape x.0 x.1 o)
     apart (ok d b v u f) = refl
     apart (failed d f) = refl
     apart empty_round = refl
@@ -159,10 +159,10 @@ link_rest c d k t u s e f g o h =
     ∙ ap (λ b. then_rest b [] (s ++ (t ++ u)) (error_behind d e f) o) (or_true k)
 
 pub behind_link : (chain : Chain) (linked : Linked) (v w : List Tree) (t u : List TrailItem) (e f : Error) (c d : Bool) (o : Outcome) → (c || d) ≡ true →
-    behind_links chain linked (then_rest c [] t e (then_rest d [] u f (as_finished chain.fold chain.shape linked.left v o))) ≡
+    behind_links chain linked (then_rest c [] t e (then_rest d [] u f (as_finished chain.side chain.shape linked.left v o))) ≡
     behind_links chain (with_link chain linked v t e d w u f) o
 behind_link chain linked v w t u e f c d o h =
-    let x = as_finished chain.fold chain.shape linked.left v o in
+    let x = as_finished chain.side chain.shape linked.left v o in
     ap (then_rest linked.consumed [] linked.trail linked.error)
     (folded_rest chain linked.waiting c t e (then_rest d [] u f x) ∙ ap (then_rest c [] t e) (folded_rest chain linked.waiting d u f x))
     ∙ link_rest c d linked.consumed t u linked.trail e f linked.error (folded chain linked.waiting x) h

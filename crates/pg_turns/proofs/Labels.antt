@@ -1,4 +1,4 @@
--- Names in place of what was expected, on the list of messages.
+-- Names in place of what was expected, on the list of messages, and what forms around a part say.
 use Rattle.std.proofs.Common.{◌≡◌, List, [], ◌∷◌, ◌++◌, Bool, true, false, refl, ap, sym, ◌∙◌, subst, append_assoc, length, take, drop, ℕ}
 use Rattle.std.specs.Prelude.{◌==◌}
 use Rattle.std.specs.Str.{encode_utf8_all}
@@ -7,10 +7,13 @@ use Rattle.pg_message.specs.declared.answer.AnswerKind.TheVariants.{EmptyOk, Emp
 use Rattle.pg_message.specs.declared.kind.MessageKind.{MessageKind}
 use Rattle.pg_message.specs.declared.kind.MessageKind.TheVariants.{SystemUnexpected, Unexpected, Expected, Plain}
 use Rattle.pg_language.specs.Errors.{Error, relabel}
-use Rattle.pg_language.specs.Reactions.{ok_kind, error_kind}
+use Rattle.pg_grammar.specs.declared.form.Around.{Around}
+use Rattle.pg_grammar.specs.declared.form.Around.TheVariants as kind
+use Rattle.pg_language.specs.Reactions.{ok_kind, error_kind, said_by}
 use Rattle.pg_turns.specs.Messages.{Said, with_said, with_all_said, error_of, unexpected, named, relabelled}
-use Rattle.pg_turns.specs.Tape.{label_fine, label_failed}
+use Rattle.pg_turns.specs.Tape.{label_fine, label_failed, messages_around}
 use Rattle.pg_turns.specs.Why.{why_at, Says, says}
+use Rattle.pg_turns.specs.declared.frame.Reply.TheVariants.{Fine, Failed}
 use Rattle.pg_turns.specs.declared.message_tape.Why.{Why}
 use Rattle.pg_turns.proofs.Merged.{said_append, none_said, is_none, take_seam, drop_seam}
 
@@ -47,7 +50,7 @@ renamed_says {x = x} name (says {place = p} g m) =
     subst (λ (z : List Said). Says x (why_at p from) (relabel EmptyError (encode_utf8_all name) (error_of p m)) z) lists
     (subst (λ (w : Error). Says x (why_at p from) w ((x ++ g) ++ (unexpected m ++ named name ∷ []))) said (says {x = x} {place = p} g (unexpected m ++ named name ∷ [])))
 
-pub label_failed_says : {x y : List Said} {why : Why} {e : Error} (c : Bool) (name : List ℕ) → Says x why e y → Says x why (relabel (error_kind c) (encode_utf8_all name) e) (label_failed c name why y)
+label_failed_says : {x y : List Said} {why : Why} {e : Error} (c : Bool) (name : List ℕ) → Says x why e y → Says x why (relabel (error_kind c) (encode_utf8_all name) e) (label_failed c name why y)
 label_failed_says true name s = s
 label_failed_says false name s = renamed_says name s
 
@@ -66,6 +69,16 @@ ok_says {x = x} {y = y} {why = why} {e = e} name false s h k =
 whether : {x y : List Said} {why : Why} {e : Error} → Says x why e y → (why.from == length y) ≡ is_empty e.messages
 whether {x = x} (says g m) = is_none (x ++ g) m ∙ sym (none_said m)
 
-pub label_fine_says : {x y : List Said} {why : Why} {e : Error} (c : Bool) (name : List ℕ) → Says x why e y → Says x why (relabel (ok_kind c) (encode_utf8_all name) e) (label_fine c name why y)
+label_fine_says : {x y : List Said} {why : Why} {e : Error} (c : Bool) (name : List ℕ) → Says x why e y → Says x why (relabel (ok_kind c) (encode_utf8_all name) e) (label_fine c name why y)
 label_fine_says true name s = s
 label_fine_says {e = e} false name s = ok_says name (is_empty e.messages) s refl (whether s)
+
+-- ---- what forms around a part say
+
+pub around_fine_says : {x y : List Said} {why : Why} {e : Error} (around : Around) (c : Bool) (j : ℕ) → Says x why e y → Says x why (said_by around (ok_kind c) e) (messages_around around (Fine c j why) y)
+around_fine_says (kind.Label name) c j s = label_fine_says c name s
+around_fine_says _ c j s = s
+
+pub around_failed_says : {x y : List Said} {why : Why} {e : Error} (around : Around) (c : Bool) → Says x why e y → Says x why (said_by around (error_kind c) e) (messages_around around (Failed c why) y)
+around_failed_says (kind.Label name) c s = label_failed_says c name s
+around_failed_says _ c s = s

@@ -5,13 +5,17 @@ use Rattle.std.specs.Prelude.{Option, Some, None, slice_get, ◌||◌, nat_lt}
 use Rattle.pg_tree.specs.Trees.{Tree}
 use Rattle.pg_pred.specs.Offer.{Offer}
 use Rattle.pg_grammar.specs.Grammar.{Grammar}
-use Rattle.pg_grammar.specs.declared.form.Node.{Node}
-use Rattle.pg_grammar.specs.declared.form.Node.TheVariants as form
+use Rattle.pg_grammar.specs.Forms.{Node}
+use Rattle.pg_grammar.specs.declared.form.Form.TheVariants as form
+use Rattle.pg_grammar.specs.declared.form.Leaf.{Leaf}
+use Rattle.pg_grammar.specs.declared.form.Leaf.TheVariants as leaf
+use Rattle.pg_grammar.specs.declared.form.Around.{Around}
 use Rattle.pg_grammar.specs.declared.grammar.Rule as declared
 use Rattle.pg_grammar.specs.declared.trail.TrailItem.{TrailItem}
-use Rattle.pg_grammar.specs.declared.word_item.WordItem.{WordItem}
 use Rattle.pg_table.specs.Tables.{Table, first_operators}
-use Rattle.pg_language.specs.Answers.{Given, Answers, entered, satisfy, string, word, not_followed_by, end_of_text}
+use Rattle.pg_language.specs.Answers as answers
+use Rattle.pg_language.specs.Answers.{Given, Answers, entered}
+use Rattle.pg_language.specs.Leaves.{leaf_outcome}
 use Rattle.pg_language.proofs.Moves.{tells}
 use Rattle.pg_language.proofs.Sound.{sound}
 use Rattle.pg_language.proofs.Onward.{leads_on}
@@ -20,7 +24,7 @@ use Rattle.pg_language.specs.Outcomes.{Outcome}
 use Rattle.pg_language.specs.declared.reading.Reading.{Reading}
 use Rattle.pg_language.specs.declared.reading.Reading.TheVariants.{Library, Report}
 use Rattle.pg_turns.specs.Messages.{Said}
-use Rattle.pg_turns.specs.Tape.{OnKept, no_kept, kept_failure, kept_empty_ok, OnChain, OnLinks, OnFrame, on_parts, on_choice, on_rounds, on_first, on_separator, on_operand, on_try, on_label, on_rule, on_text, on_skip, on_build, Tape, tape_at, tape_with, tape_endless, spot_at, tape_leaf, joined_consumed, joined_why, joined_messages, tape_next_part, tape_to_parts, tape_settled, tape_next_alternative, kept_with_failure, kept_with_empty_ok, kept_held, kept_messages, tape_empty_ok, tape_to_choice, tape_to_rounds, tape_to_first, tape_ended, tape_to_separator, link_forest, tape_linked, tape_to_operand, tape_tried, tape_hand, tape_seq, tape_rule, tape_word, tape_enter, tape_enter_at, tape_turn}
+use Rattle.pg_turns.specs.Tape.{OnKept, no_kept, kept_failure, kept_empty_ok, OnChain, OnLinks, OnFrame, on_parts, on_choice, on_rounds, on_first, on_separator, on_operand, on_rule, on_around, Tape, tape_at, tape_with, tape_endless, spot_at, tape_leaf, joined_consumed, joined_why, joined_messages, tape_next_part, tape_to_parts, tape_settled, tape_next_alternative, kept_with_failure, kept_with_empty_ok, kept_held, kept_messages, tape_empty_ok, tape_to_choice, tape_to_rounds, tape_to_first, tape_ended, tape_to_separator, link_forest, tape_linked, tape_to_operand, reply_around, tape_hand, tape_seq, tape_rule, tape_told, tape_enter, tape_enter_at, tape_turn}
 use Rattle.pg_turns.specs.Ready.{IsReady, AreReady, IsTapeReady}
 use Rattle.pg_turns.specs.Why.{why_at, held_at, why_behind, messages_behind}
 use Rattle.pg_turns.specs.declared.frame.Before as before
@@ -67,12 +71,8 @@ module _ (far most : ℕ) where
   IsPlaced (on_first chain slot n) h i = h ≡ i
   IsPlaced (on_separator links) h i = (links.start ≡ i) × (links.count ≤ i) × Goes links.consumed h i
   IsPlaced (on_operand links b n) h i = Goes b.consumed links.start i × (links.count ≤ links.start) × Goes links.consumed h links.start
-  IsPlaced on_try h i = h ≡ i
-  IsPlaced (on_label message) h i = h ≡ i
   IsPlaced on_rule h i = h ≡ i
-  IsPlaced (on_text s n) h i = h ≡ i
-  IsPlaced (on_skip n) h i = h ≡ i
-  IsPlaced (on_build used symbol n) h i = h ≡ i
+  IsPlaced (on_around around s n) h i = h ≡ i
 
   -- the frames below a node that began at the place
   abbrev pub ArePlaced : List OnFrame → ℕ → Type 0
@@ -185,15 +185,15 @@ module _ (far most : ℕ) where
       links.count ≤ links.start → Goes links.consumed h links.start → ArePlaced fs h → IsReplyFrom i reply → IsTapePlaced (tape_to_operand links b n reply fs v t x T)
   operand_placed links b n h i (Fine d j why) fs v t x T s l g r a =
       linked_placed (b.consumed || d) links h j n (held_at (length (messages_behind d b.held why x)) (why_behind d b.held why x)) fs
-      (link_forest links.chain.fold links.chain.used.shape links.left v) t (messages_behind d b.held why x) T l g.onward r (goes_on b.consumed d links.start i j s a.0) a.1
+      (link_forest links.chain.side links.chain.used.shape links.left v) t (messages_behind d b.held why x) T l g.onward r (goes_on b.consumed d links.start i j s a.0) a.1
   operand_placed links b n h i (Failed d why) fs v t x T s l g r a =
       let o = s.onward in ended_placed links (b.consumed || d) (why_behind d b.held why x) h fs v t (messages_behind d b.held why x) T (omega arith) g r
   operand_placed links b n h i EmptyRound fs v t x T s l g r a = let o = s.onward in let m = g.onward in (h, omega arith, r)
 
-  tried_placed : (h : ℕ) (reply : Reply) → IsReplyFrom h reply → IsReplyFrom h (tape_tried reply)
-  tried_placed h (Fine c j why) a = a
-  tried_placed h (Failed c why) a = a
-  tried_placed h EmptyRound a = a
+  around_placed : (around : Around) (h : ℕ) (reply : Reply) → IsReplyFrom h reply → IsReplyFrom h (reply_around around reply)
+  around_placed around h (Fine c j why) a = a
+  around_placed around h (Failed c why) a = a
+  around_placed around h EmptyRound a = a
 
   hand_placed : (G : Given) (f : OnFrame) (h i : ℕ) (reply : Reply) (fs : List OnFrame) (v : List Tree) (t : List TrailItem) (x : List Said) (T : Table) → IsPlaced f h i → ArePlaced fs h → IsReplyFrom i reply →
       IsTapePlaced (tape_hand G f reply fs v t x T)
@@ -208,12 +208,8 @@ module _ (far most : ℕ) where
       let e = f.0 in let l = f.1 in
       separator_placed links h reply fs v t x T (omega arith) (subst (Goes links.consumed h) (sym e) f.2) r (subst (λ (j : ℕ). IsReplyFrom j reply) (sym e) a)
   hand_placed G (on_operand links b n) h i reply fs v t x T f r a = operand_placed links b n h i reply fs v t x T f.0 f.1 f.2 r a
-  hand_placed G on_try h i reply fs v t x T f r a = (h, tried_placed h reply (subst (λ (j : ℕ). IsReplyFrom j reply) (sym f) a), r)
-  hand_placed G (on_label message) h i reply fs v t x T f r a = (h, subst (λ (j : ℕ). IsReplyFrom j reply) (sym f) a, r)
   hand_placed G on_rule h i reply fs v t x T f r a = (h, subst (λ (j : ℕ). IsReplyFrom j reply) (sym f) a, r)
-  hand_placed G (on_text s n) h i reply fs v t x T f r a = (h, subst (λ (j : ℕ). IsReplyFrom j reply) (sym f) a, r)
-  hand_placed G (on_skip n) h i reply fs v t x T f r a = (h, subst (λ (j : ℕ). IsReplyFrom j reply) (sym f) a, r)
-  hand_placed G (on_build used symbol n) h i reply fs v t x T f r a = (h, subst (λ (j : ℕ). IsReplyFrom j reply) (sym f) a, r)
+  hand_placed G (on_around around s n) h i reply fs v t x T f r a = (h, around_placed around h reply (subst (λ (j : ℕ). IsReplyFrom j reply) (sym f) a), r)
 
   -- ---- a node is entered
 
@@ -236,12 +232,8 @@ module _ (far most : ℕ) where
   frame_roomy offer n room h i a b l (on_first ch slot x) f r = (r, omega arith)
   frame_roomy offer n room h i a b l (on_separator links) f r = let e = f.1 in let m = f.2.onward in ((omega arith, r.1), omega arith)
   frame_roomy offer n room h i a b l (on_operand links q x) f r = let d = f.0.onward in let e = f.1 in let m = f.2.onward in ((omega arith, r.1), omega arith)
-  frame_roomy offer n room h i a b l on_try f r = (tt, omega arith)
-  frame_roomy offer n room h i a b l (on_label message) f r = (tt, omega arith)
   frame_roomy offer n room h i a b l on_rule f r = (tt, omega arith)
-  frame_roomy offer n room h i a b l (on_text s x) f r = (tt, omega arith)
-  frame_roomy offer n room h i a b l (on_skip x) f r = (tt, omega arith)
-  frame_roomy offer n room h i a b l (on_build used symbol x) f r = (r, omega arith)
+  frame_roomy offer n room h i a b l (on_around around s x) f r = (r, omega arith)
 
   frames_roomy : (offer : Offer) (n room i : ℕ) → far < room → most < room → i ≤ far → (fs : List OnFrame) → ArePlaced fs i → AreReady offer n fs → AreReady offer room fs
   frames_roomy offer n room i a b l [] p r = tt
@@ -263,7 +255,7 @@ module _ (far most : ℕ) where
 
 -- of a grammar: no string is empty, and no choice has so many alternatives
 pub record IsBounded (g : Grammar) (most : ℕ) : Type 0 where
-  pub spelled : (p : ℕ) (s : List ℕ) → slice_get g.nodes p ≡ Some (form.String s) → 0 < length s
+  pub spelled : (p : ℕ) (s : List ℕ) → slice_get g.nodes p ≡ Some (form.Leaf (leaf.String s)) → 0 < length s
   pub few : (p : ℕ) (ps : List ℕ) → slice_get g.nodes p ≡ Some (form.Choice ps) → length ps ≤ most
 
 module _ (G : Given) (most : ℕ) (bounded : IsBounded G.grammar most) where
@@ -281,40 +273,27 @@ module _ (G : Given) (most : ℕ) (bounded : IsBounded G.grammar most) where
     abbrev Placed : Tape → Type 0
     Placed y = IsTapePlaced (length G.text) most y
 
-    leaf : (p m : ℕ) (o : Outcome) → Answers G p (spot_at T i) o m → Placed (tape_leaf o fs v t x T)
-    leaf p m o d = leaf_placed (length G.text) most o i fs v t x T within placed (leaf_from T i o d within)
-
     rule_placed : (named : Option declared.Rule) → Placed (tape_rule named i fs v t x T)
     rule_placed None = tt
     rule_placed (Some named) = (within, (i, refl, placed))
 
-    word_placed : (p w : ℕ) (item : Option WordItem) → slice_get G.grammar.nodes p ≡ Some (form.Word w) → slice_get G.grammar.words w ≡ item → Placed (tape_word G item i fs v t x T)
-    word_placed p w None e h = tt
-    word_placed p w (Some item) e h = leaf p 1 _ (entered e (word h))
+    told_placed : (p : ℕ) (l : Leaf ℕ) (o : Option Outcome) → slice_get G.grammar.nodes p ≡ Some (form.Leaf l) → leaf_outcome G.grammar G.text l (spot_at T i) ≡ o → Placed (tape_told o fs v t x T)
+    told_placed p l None e h = tt
+    told_placed p l (Some o) e h = leaf_placed (length G.text) most o i fs v t x T within placed (leaf_from T i o (entered e (answers.leaf h)) within)
 
     seq_placed : (ps : List ℕ) → Placed (tape_seq ps i fs v t x T)
     seq_placed [] = (i, (goes_nowhere i, within), placed)
     seq_placed (p ∷ ps) = (within, (i, goes_nowhere i, placed))
 
     form_placed : (p : ℕ) (f : Node) → slice_get G.grammar.nodes p ≡ Some f → Placed (tape_enter G f i fs v t x T)
-    form_placed p (form.Satisfy class) e = leaf p 1 _ (entered e satisfy)
-    form_placed p (form.String s) e = leaf p 1 _ (entered e string)
+    form_placed p (form.Leaf l) e = told_placed p l (leaf_outcome G.grammar G.text l (spot_at T i)) e refl
     form_placed p (form.Seq ps) e = seq_placed ps
     form_placed p (form.Choice ps) e = let l = bounded.few p ps e in alternative_placed (length G.text) most 1 ps i no_kept fs v t x T (omega arith) within tt placed
     form_placed p (form.Many q) e = (within, (i, (refl, omega arith, goes_nowhere i), placed))
-    form_placed p (form.ChainLeft used q s) e = (within, (i, refl, placed))
-    form_placed p (form.ChainRight used q s) e = (within, (i, refl, placed))
-    form_placed p (form.Try q) e = (within, (i, refl, placed))
-    form_placed p (form.NotFollowedBy class) e = leaf p 1 _ (entered e not_followed_by)
-    form_placed p form.EndOfText e = leaf p 1 _ (entered e end_of_text)
-    form_placed p (form.Word w) e = word_placed p w (slice_get G.grammar.words w) e refl
+    form_placed p (form.Chain side used q s) e = (within, (i, refl, placed))
     form_placed p (form.Rule r) e = rule_placed (slice_get G.grammar.rules r)
     form_placed p (form.Expression builders q) e = tt
-    form_placed p (form.Declare class) e = tt
-    form_placed p (form.Text q) e = (within, (i, refl, placed))
-    form_placed p (form.Skip q) e = (within, (i, refl, placed))
-    form_placed p (form.Build used symbol q) e = (within, (i, refl, placed))
-    form_placed p (form.Label q message) e = (within, (i, refl, placed))
+    form_placed p (form.Around around q) e = (within, (i, refl, placed))
 
     node_placed : (p : ℕ) (f : Option Node) → slice_get G.grammar.nodes p ≡ f → Placed (tape_enter_at G f i fs v t x T)
     node_placed p None e = tt

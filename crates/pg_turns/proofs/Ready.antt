@@ -4,21 +4,23 @@ use Rattle.std.specs.Prelude.{Option, Some, None, slice_get, ◌||◌}
 use Rattle.pg_tree.specs.Trees.{Tree}
 use Rattle.pg_pred.specs.Offer.{Offer}
 use Rattle.pg_grammar.specs.Fits.{Fits, NodeFits, BuilderFits}
-use Rattle.pg_grammar.specs.declared.form.Node.{Node}
-use Rattle.pg_grammar.specs.declared.form.Node.TheVariants as form
+use Rattle.pg_grammar.specs.Forms.{Node}
+use Rattle.pg_grammar.specs.declared.form.Form.TheVariants as form
+use Rattle.pg_grammar.specs.declared.form.Around.{Around}
+use Rattle.pg_grammar.specs.declared.form.Around.TheVariants as kind
 use Rattle.pg_grammar.specs.declared.grammar.Rule as declared
 use Rattle.pg_grammar.specs.declared.trail.TrailItem.{TrailItem}
-use Rattle.pg_grammar.specs.declared.word_item.WordItem.{WordItem}
 use Rattle.pg_grammar.proofs.Each.{all-get}
 use Rattle.pg_table.specs.Tables.{Table, first_operators}
 use Rattle.pg_language.specs.Answers.{Given}
+use Rattle.pg_language.specs.Leaves.{leaf_outcome}
 use Rattle.pg_language.specs.Outcomes as outcome
 use Rattle.pg_language.specs.Outcomes.{Outcome}
 use Rattle.pg_language.specs.declared.reading.Reading.{Reading}
 use Rattle.pg_language.specs.declared.reading.Reading.TheVariants.{Library, Report}
 use Rattle.pg_turns.specs.Messages.{Said}
-use Rattle.pg_turns.specs.Tape.{OnKept, no_kept, kept_failure, kept_empty_ok, OnChain, OnLinks, OnFrame, on_parts, on_choice, on_rounds, on_first, on_separator, on_operand, on_try, on_label, on_rule, on_text, on_skip, on_build, Tape, tape_at, tape_with, tape_endless, tape_leaf, joined_consumed, joined_why, joined_messages, tape_next_part, tape_to_parts, tape_settled, tape_next_alternative, kept_messages, kept_with_failure, kept_with_empty_ok, kept_held, tape_empty_ok, tape_to_choice, tape_to_rounds, tape_to_first, tape_ended, tape_to_separator, link_forest, tape_linked, tape_to_operand, tape_hand, tape_rule, tape_word, tape_enter, tape_enter_at, tape_turn}
-use Rattle.pg_turns.specs.Ready.{IsReady, AreReady, IsTapeReady}
+use Rattle.pg_turns.specs.Tape.{OnKept, no_kept, kept_failure, kept_empty_ok, OnChain, OnLinks, OnFrame, on_parts, on_choice, on_rounds, on_first, on_separator, on_operand, on_rule, on_around, Tape, tape_at, tape_with, tape_endless, tape_leaf, joined_consumed, joined_why, joined_messages, tape_next_part, tape_to_parts, tape_settled, tape_next_alternative, kept_messages, kept_with_failure, kept_with_empty_ok, kept_held, tape_empty_ok, tape_to_choice, tape_to_rounds, tape_to_first, tape_ended, tape_to_separator, link_forest, tape_linked, tape_to_operand, tape_hand, tape_rule, tape_told, tape_enter, tape_enter_at, tape_turn}
+use Rattle.pg_turns.specs.Ready.{AroundFits, IsReady, AreReady, IsTapeReady}
 use Rattle.pg_turns.specs.Why.{held_at, why_behind, messages_behind}
 use Rattle.pg_turns.specs.declared.frame.Before as before
 use Rattle.pg_turns.specs.declared.frame.Reply.{Reply}
@@ -36,12 +38,8 @@ module _ (offer : Offer) where
   frame_more n m l (on_first ch slot a) r = r
   frame_more n m l (on_separator links) r = let h = r.0 in (omega arith, r.1)
   frame_more n m l (on_operand links b a) r = let h = r.0 in (omega arith, r.1)
-  frame_more n m l on_try r = tt
-  frame_more n m l (on_label message) r = tt
   frame_more n m l on_rule r = tt
-  frame_more n m l (on_text i a) r = tt
-  frame_more n m l (on_skip a) r = tt
-  frame_more n m l (on_build used symbol a) r = r
+  frame_more n m l (on_around around i a) r = r
 
   frames_more : (n m : ℕ) → n ≤ m → (fs : List OnFrame) → AreReady offer n fs → AreReady offer m fs
   frames_more n m l [] r = tt
@@ -127,7 +125,7 @@ module _ (offer : Offer) where
     operand_ready : (links : OnLinks) (b : before.Before) (a : ℕ) (reply : Reply) (fs : List OnFrame) (v : List Tree) (t : List TrailItem) (x : List Said) (T : Table) → suc links.count < n → BuilderFits offer links.chain.used → AreReady offer n fs →
         IsTapeReady offer n (tape_to_operand links b a reply fs v t x T)
     operand_ready links b a (Fine d j why) fs v t x T l h r =
-        linked_ready (b.consumed || d) links j a (held_at (length (messages_behind d b.held why x)) (why_behind d b.held why x)) fs (link_forest links.chain.fold links.chain.used.shape links.left v) t (messages_behind d b.held why x) T l h r
+        linked_ready (b.consumed || d) links j a (held_at (length (messages_behind d b.held why x)) (why_behind d b.held why x)) fs (link_forest links.chain.side links.chain.used.shape links.left v) t (messages_behind d b.held why x) T l h r
     operand_ready links b a (Failed d why) fs v t x T l h r = ended_ready links (b.consumed || d) (why_behind d b.held why x) fs v t (messages_behind d b.held why x) T r
     operand_ready links b a EmptyRound fs v t x T l h r = r
 
@@ -142,31 +140,25 @@ module _ (offer : Offer) where
     rule_ready None i fs v t x T r = tt
     rule_ready (Some named) i fs v t x T r = (tt, r)
 
-    word_ready : (G : Given) (item : Option WordItem) (i : ℕ) (fs : List OnFrame) (v : List Tree) (t : List TrailItem) (x : List Said) (T : Table) → AreReady offer n fs → IsTapeReady offer n (tape_word G item i fs v t x T)
-    word_ready G None i fs v t x T r = tt
-    word_ready G (Some item) i fs v t x T r = leaf_ready _ fs v t x T r
+    told_ready : (o : Option Outcome) (fs : List OnFrame) (v : List Tree) (t : List TrailItem) (x : List Said) (T : Table) → AreReady offer n fs → IsTapeReady offer n (tape_told o fs v t x T)
+    told_ready None fs v t x T r = tt
+    told_ready (Some o) fs v t x T r = leaf_ready o fs v t x T r
+
+    around_ready : (around : Around) (p : ℕ) → NodeFits offer (form.Around around p) → AroundFits offer around
+    around_ready (kind.Build used symbol) p h = h.1.0
+    around_ready _ p h = tt
 
     form_ready : (G : Given) (f : Node) (i : ℕ) (fs : List OnFrame) (v : List Tree) (t : List TrailItem) (x : List Said) (T : Table) → 1 < n → NodeFits offer f → AreReady offer n fs →
         IsTapeReady offer n (tape_enter G f i fs v t x T)
-    form_ready G (form.Satisfy class) i fs v t x T l h r = leaf_ready _ fs v t x T r
-    form_ready G (form.String s) i fs v t x T l h r = leaf_ready _ fs v t x T r
+    form_ready G (form.Leaf leaf) i fs v t x T l h r = told_ready _ fs v t x T r
     form_ready G (form.Seq []) i fs v t x T l h r = r
     form_ready G (form.Seq (p ∷ ps)) i fs v t x T l h r = (tt, r)
     form_ready G (form.Choice ps) i fs v t x T l h r = alternative_ready 1 ps i no_kept fs v t x T l r
     form_ready G (form.Many p) i fs v t x T l h r = (omega arith, r)
-    form_ready G (form.ChainLeft used p s) i fs v t x T l h r = (h.1.0, r)
-    form_ready G (form.ChainRight used p s) i fs v t x T l h r = (h.1.0, r)
-    form_ready G (form.Try p) i fs v t x T l h r = (tt, r)
-    form_ready G (form.NotFollowedBy class) i fs v t x T l h r = leaf_ready _ fs v t x T r
-    form_ready G form.EndOfText i fs v t x T l h r = leaf_ready _ fs v t x T r
-    form_ready G (form.Word w) i fs v t x T l h r = word_ready G (slice_get G.grammar.words w) i fs v t x T r
+    form_ready G (form.Chain side used p s) i fs v t x T l h r = (h.1.0, r)
     form_ready G (form.Rule k) i fs v t x T l h r = rule_ready (slice_get G.grammar.rules k) i fs v t x T r
     form_ready G (form.Expression builders p) i fs v t x T l h r = tt
-    form_ready G (form.Declare class) i fs v t x T l h r = tt
-    form_ready G (form.Text p) i fs v t x T l h r = (tt, r)
-    form_ready G (form.Skip p) i fs v t x T l h r = (tt, r)
-    form_ready G (form.Build used symbol p) i fs v t x T l h r = (h.1.0, r)
-    form_ready G (form.Label p message) i fs v t x T l h r = (tt, r)
+    form_ready G (form.Around around p) i fs v t x T l h r = (around_ready around p h, r)
 
     node_ready : (G : Given) (fits : Fits offer G.grammar) (p : ℕ) (f : Option Node) (i : ℕ) (fs : List OnFrame) (v : List Tree) (t : List TrailItem) (x : List Said) (T : Table) → slice_get G.grammar.nodes p ≡ f → 1 < n →
         AreReady offer n fs → IsTapeReady offer n (tape_enter_at G f i fs v t x T)
@@ -181,12 +173,8 @@ module _ (offer : Offer) where
   hand_ready n G (on_first ch slot a) reply fs v t x T z h r = let l : 0 < suc n = omega arith in first_ready (suc n) ch slot a reply fs v t x T l h r
   hand_ready n G (on_separator links) reply fs v t x T z h r = let k = h.0 in let l : links.count < suc n = omega arith in separator_ready (suc n) links reply fs v t x T (l, h.1) r
   hand_ready n G (on_operand links b a) reply fs v t x T z h r = let k = h.0 in let l : suc links.count < suc n = omega arith in operand_ready (suc n) links b a reply fs v t x T l h.1 r
-  hand_ready n G on_try reply fs v t x T z h r = r
-  hand_ready n G (on_label message) reply fs v t x T z h r = r
   hand_ready n G on_rule reply fs v t x T z h r = r
-  hand_ready n G (on_text i a) reply fs v t x T z h r = r
-  hand_ready n G (on_skip a) reply fs v t x T z h r = r
-  hand_ready n G (on_build used symbol a) reply fs v t x T z h r = r
+  hand_ready n G (on_around around i a) reply fs v t x T z h r = r
 
   pub turn_ready : (n : ℕ) (G : Given) (x : Tape) → Fits offer G.grammar → 0 < n → IsTapeReady offer n x → IsTapeReady offer (suc n) (tape_turn G x)
   turn_ready n G (tape_at p i fs v t x T) fits z r =

@@ -2,22 +2,22 @@
 use Rattle.std.proofs.Common.{◌≡◌, ℕ, zero, suc, ◌+◌, List, [], ◌∷◌, Bool, true, false, refl, subst, ap, arith}
 use Rattle.std.specs.Prelude.{Option, Some, None, slice_get, ◌||◌}
 use Rattle.pg_tree.specs.Trees.{Tree}
-use Rattle.pg_grammar.specs.declared.form.Node.{Node}
-use Rattle.pg_grammar.specs.declared.form.Node.TheVariants as form
+use Rattle.pg_grammar.specs.Forms.{Node}
+use Rattle.pg_grammar.specs.declared.form.Form.TheVariants as form
 use Rattle.pg_grammar.specs.declared.grammar.Rule as declared
-use Rattle.pg_grammar.specs.declared.word_item.WordItem.{WordItem}
 use Rattle.pg_grammar.specs.declared.trail.TrailItem.{TrailItem}
 use Rattle.pg_grammar.specs.declared.trail.TrailItem.TheVariants.{Alt, Rounds}
 use Rattle.pg_language.specs.Derives.{Spot}
 use Rattle.pg_language.specs.Answers.{Given, Answers, part_last, part_stuck, alternative_stuck, round_stuck, first_stuck, separator_stuck, operand_stuck}
 use Rattle.pg_language.specs.Errors.{Error}
+use Rattle.pg_language.specs.Leaves.{leaf_outcome}
 use Rattle.pg_language.specs.Outcomes.{Outcome, ok, failed, empty_round}
 use Rattle.pg_language.specs.Reactions.{noted}
 use Rattle.pg_language.specs.declared.reading.Reading.{Reading}
 use Rattle.pg_language.specs.declared.reading.Reading.TheVariants.{Library, Report}
-use Rattle.pg_turns.specs.Frames.{Before, Kept, none_kept, with_failure, with_empty_ok, Chain, Linked, Around, a_try, a_label, a_rule, a_text, a_skip, a_build, around, Frame, in_parts, in_choice, in_rounds, in_first, in_separator, in_operand, in_around}
-use Rattle.pg_turns.specs.Turns.{State, at_node, with_outcome, endless, next_alternative, enter_word, enter_rule, enter_node, hand_empty_ok, hand_to_choice, hand_to_parts, hand_to_rounds, with_link, hand_to_first, hand_to_separator, next_link, hand_to_operand, hand, turn}
-use Rattle.pg_turns.specs.Finishes.{gives_parts, gives_choice, gives_rounds, gives_first, gives_separator, gives_operand, gives_around, Returns, returned, Finishes, entering, handing}
+use Rattle.pg_turns.specs.Frames.{Before, Kept, none_kept, with_failure, with_empty_ok, Chain, Linked, Frame, in_parts, in_choice, in_rounds, in_first, in_separator, in_operand, in_rule, in_around}
+use Rattle.pg_turns.specs.Turns.{State, at_node, with_outcome, endless, next_alternative, told, enter_rule, enter_node, hand_empty_ok, hand_to_choice, hand_to_parts, hand_to_rounds, with_link, hand_to_first, hand_to_separator, next_link, hand_to_operand, hand, turn}
+use Rattle.pg_turns.specs.Finishes.{gives_parts, gives_choice, gives_rounds, gives_first, gives_separator, gives_operand, gives_rule, gives_around, Returns, returned, Finishes, entering, handing}
 use Rattle.std.proofs.Common.{length, ◌≤◌, ◌*◌}
 use Rattle.pg_turns.specs.Turns.{is_last}
 use Rattle.pg_turns.proofs.Joined.{stuck_parts, stuck_kept, stuck_links}
@@ -34,9 +34,9 @@ alternative_pending : (k : ℕ) (ps : List ℕ) (a : Spot) (kept : Kept) (fs : L
 alternative_pending k [] a kept fs = refl
 alternative_pending k (p ∷ ps) a kept fs = refl
 
-word_pending : (G : Given) (item : Option WordItem) (a : Spot) (fs : List Frame) → HasPending (enter_word G item a fs) (suc (length fs))
-word_pending G None a fs = tt
-word_pending G (Some item) a fs = refl
+told_pending : (o : Option Outcome) (fs : List Frame) → HasPending (told o fs) (suc (length fs))
+told_pending None fs = tt
+told_pending (Some o) fs = refl
 
 rule_pending : (named : Option declared.Rule) (a : Spot) (fs : List Frame) → HasPending (enter_rule named a fs) (suc (length fs))
 rule_pending None a fs = tt
@@ -44,25 +44,15 @@ rule_pending (Some named) a fs = refl
 
 enter_pending : (G : Given) (n : Option Node) (a : Spot) (fs : List Frame) → HasPending (enter_node G n a fs) (suc (length fs))
 enter_pending G None a fs = tt
-enter_pending G (Some (form.Satisfy class)) a fs = refl
-enter_pending G (Some (form.String s)) a fs = refl
+enter_pending G (Some (form.Leaf l)) a fs = told_pending (leaf_outcome G.grammar G.text l a) fs
 enter_pending G (Some (form.Seq [])) a fs = refl
 enter_pending G (Some (form.Seq (p ∷ ps))) a fs = refl
 enter_pending G (Some (form.Choice ps)) a fs = alternative_pending (suc zero) ps a none_kept fs
 enter_pending G (Some (form.Many p)) a fs = refl
-enter_pending G (Some (form.ChainLeft used p s)) a fs = refl
-enter_pending G (Some (form.ChainRight used p s)) a fs = refl
-enter_pending G (Some (form.Try p)) a fs = refl
-enter_pending G (Some (form.NotFollowedBy class)) a fs = refl
-enter_pending G (Some form.EndOfText) a fs = refl
-enter_pending G (Some (form.Word w)) a fs = word_pending G (slice_get G.grammar.words w) a fs
+enter_pending G (Some (form.Chain side used p s)) a fs = refl
 enter_pending G (Some (form.Rule r)) a fs = rule_pending (slice_get G.grammar.rules r) a fs
 enter_pending G (Some (form.Expression builders p)) a fs = tt
-enter_pending G (Some (form.Declare class)) a fs = tt
-enter_pending G (Some (form.Text p)) a fs = refl
-enter_pending G (Some (form.Skip p)) a fs = refl
-enter_pending G (Some (form.Build used symbol p)) a fs = refl
-enter_pending G (Some (form.Label p message)) a fs = refl
+enter_pending G (Some (form.Around around p)) a fs = refl
 
 parts_pending : (ps : List ℕ) (done : Before) (o : Outcome) (fs : List Frame) → HasPending (hand_to_parts ps done o fs) (suc (length fs))
 parts_pending [] done o fs = refl
@@ -116,7 +106,8 @@ hand_pending G (in_rounds p k c a v t) o fs = rounds_pending p k c a v t o fs
 hand_pending G (in_first ch) o fs = first_pending ch o fs
 hand_pending G (in_separator ch linked a) o fs = separator_pending ch linked a o fs
 hand_pending G (in_operand ch linked a c v t e) o fs = operand_pending ch linked a c v t e o fs
-hand_pending G (in_around w) o fs = refl
+hand_pending G in_rule o fs = refl
+hand_pending G (in_around around a) o fs = refl
 
 -- so many nodes more, and then the state comes to the outcome
 pub record Still (G : Given) (st : State) (out : Outcome) (entered m : ℕ) : Type 0 where
@@ -207,15 +198,8 @@ stuck_returns G (in_rounds p k c a v t ∷ fs) = over_same 0 (gives_rounds k c v
 stuck_returns G (in_first ch ∷ fs) = over_same 0 (gives_first first_stuck) refl (stuck_returns G fs) refl
 stuck_returns G (in_separator ch linked a ∷ fs) = over_same 0 (gives_separator linked separator_stuck) (ap (noted (Rounds (linked.count + 0))) (stuck_links ch linked)) (stuck_returns G fs) refl
 stuck_returns G (in_operand ch linked a c v t e ∷ fs) = over_same 0 (gives_operand linked operand_stuck) (ap (noted (Rounds (linked.count + 0))) (stuck_links ch linked)) (stuck_returns G fs) refl
-stuck_returns G (in_around w ∷ fs) = over_same 0 gives_around (stuck_around w) (stuck_returns G fs) refl
-  where
-    stuck_around : (w : Around) → around G.text w empty_round ≡ empty_round
-    stuck_around a_try = refl
-    stuck_around (a_label message) = refl
-    stuck_around a_rule = refl
-    stuck_around (a_text from) = refl
-    stuck_around a_skip = refl
-    stuck_around (a_build shape symbol) = refl
+stuck_returns G (in_rule ∷ fs) = over_same 0 gives_rule refl (stuck_returns G fs) refl
+stuck_returns G (in_around around a ∷ fs) = over_same 0 gives_around refl (stuck_returns G fs) refl
 
 -- an empty round is the outcome of the whole run
 pub record Stuck (G : Given) (p : ℕ) (a : Spot) : Type 0 where

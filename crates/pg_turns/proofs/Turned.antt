@@ -4,13 +4,13 @@ use Rattle.std.specs.Prelude.{Option, Some, None, slice_get, codes, ◌==◌, na
 use Rattle.std.specs.List.{list_any}
 use Rattle.std.specs.Str.{bytes_eq}
 use Rattle.pg_tree.specs.Trees.{Tree}
-use Rattle.pg_tree.specs.Built.{built}
-use Rattle.pg_tree.specs.declared.shape.Shape.{Shape}
 use Rattle.pg_grammar.specs.ClassItems.{has_character}
 use Rattle.pg_grammar.specs.Grammar.{Grammar}
 use Rattle.pg_grammar.specs.declared.class.ClassPart.{ClassPart}
-use Rattle.pg_grammar.specs.declared.form.Node.{Node}
-use Rattle.pg_grammar.specs.declared.form.Node.TheVariants as form
+use Rattle.pg_grammar.specs.Forms.{Node}
+use Rattle.pg_grammar.specs.declared.form.Form.TheVariants as form
+use Rattle.pg_grammar.specs.declared.form.Leaf.{Leaf}
+use Rattle.pg_grammar.specs.declared.form.Leaf.TheVariants as leaf
 use Rattle.pg_grammar.specs.declared.grammar.Rule as declared
 use Rattle.pg_grammar.specs.declared.trail.TrailItem.{TrailItem}
 use Rattle.pg_grammar.specs.declared.trail.TrailItem.TheVariants.{Rounds}
@@ -19,16 +19,16 @@ use Rattle.pg_language.specs.Runs.{run_at}
 use Rattle.pg_table.specs.Tables.{Table}
 use Rattle.pg_language.specs.Answers.{Given}
 use Rattle.pg_language.specs.Errors.{Error, quote, seen_at, stopped_by, stopped_before, refused, refused_before}
-use Rattle.pg_language.specs.Leaves.{taken, satisfy_next, word_read, word_next, not_followed_next, matched, string_outcome, end_outcome}
+use Rattle.pg_language.specs.Leaves.{taken, satisfy_next, word_read, word_next, not_followed_next, matched, string_outcome, end_outcome, some_word_outcome, leaf_outcome}
 use Rattle.pg_language.specs.Outcomes.{Outcome, ok, failed}
 use Rattle.pg_turns.specs.Frames.{Frame}
 use Rattle.pg_turns.specs.Messages.{Said, error_of}
-use Rattle.pg_turns.specs.Shows.{same_table, nothing_kept, Stands, no_frames, stands_parts, stands_choice, stands_rounds, stands_first, stands_separator, stands_operand, stands_try, stands_label, stands_rule, stands_text, stands_skip, stands_build, no_parts, Shows, shows_at, shows_fine, shows_failed, shows_stuck, shows_endless}
-use Rattle.pg_turns.specs.Tape.{spot_at, OnFrame, Tape, tape_leaf, listed, built_behind, tape_rule, tape_word, tape_enter, tape_enter_at, tape_turn, tape_is_last}
+use Rattle.pg_turns.specs.Shows.{same_table, nothing_kept, Stands, no_frames, stands_parts, stands_choice, stands_rounds, stands_first, stands_separator, stands_operand, stands_rule, stands_around, no_parts, Shows, shows_at, shows_fine, shows_failed, shows_stuck, shows_endless}
+use Rattle.pg_turns.specs.Tape.{spot_at, OnFrame, Tape, tape_leaf, listed, tape_rule, tape_told, tape_enter, tape_enter_at, tape_turn, tape_is_last}
 use Rattle.pg_turns.specs.Why.{why_at, Says}
-use Rattle.pg_turns.specs.Turns.{State, with_outcome, enter_word, enter_rule, enter_form, enter_node, turn, is_last}
+use Rattle.pg_turns.specs.Turns.{State, with_outcome, told, enter_rule, enter_form, enter_node, turn, is_last}
 use Rattle.pg_turns.proofs.ChainsShown.{first_fine, first_failed, separator_fine, ended_shown, operand_fine, operand_failed}
-use Rattle.pg_turns.proofs.Labels.{label_fine_says, label_failed_says}
+use Rattle.pg_turns.proofs.Labels.{around_fine_says, around_failed_says}
 use Rattle.pg_turns.proofs.Merged.{take_seam, drop_seam, nothing_says, just_says}
 use Rattle.pg_turns.proofs.Shown.{moved, parts_fine, parts_failed, next_shown, choice_fine, choice_failed, rounds_fine, rounds_failed}
 
@@ -87,9 +87,6 @@ end_leaf T text i = either (i == length text)
     either true = leaf_ok i refl
     either false = leaf_failed refl
 
-built_seam : (shape : Shape) (symbol : List ℕ) (v w : List Tree) → built_behind shape symbol (length v) (v ++ w) ≡ v ++ built shape symbol w ∷ []
-built_seam shape symbol v w = let a = take_seam v w in let b = drop_seam v w in cc
-
 module _ {T : Table} where
   leaf_shown : {fs : List Frame} {gs : List OnFrame} {v : List Tree} {t : List TrailItem} {x : List Said} {o : Outcome} → IsLeaf T o → Stands fs gs v t x T → Shows (with_outcome o fs) (tape_leaf o gs v t x T)
   leaf_shown {x = x} (leaf_ok {e = e} j is) h = shows_fine h (subst (λ (w : Error). Says x (why_at e.place (length x)) w (x ++ listed e.messages)) is (just_says x (listed e.messages) e.place)) same_table
@@ -103,32 +100,31 @@ module _ {T : Table} where
   rule_shown None i h = shows_endless
   rule_shown (Some named) i h = shows_at (stands_rule h)
 
-  word_shown : {fs : List Frame} {gs : List OnFrame} {v : List Tree} {t : List TrailItem} {x : List Said} (G : Given) (item : Option WordItem) (i : ℕ) → Stands fs gs v t x T →
-      Shows (enter_word G item (spot_at T i) fs) (tape_word G item i gs v t x T)
-  word_shown G None i h = shows_endless
-  word_shown G (Some item) i h = leaf_shown (word_leaf T G.grammar G.text item i (slice_get G.text i)) h
+  word_shown : {fs : List Frame} {gs : List OnFrame} {v : List Tree} {t : List TrailItem} {x : List Said} (g : Grammar) (text : List ℕ) (item : Option WordItem) (i : ℕ) → Stands fs gs v t x T →
+      Shows (told (some_word_outcome g text (spot_at T i) item) fs) (tape_told (some_word_outcome g text (spot_at T i) item) gs v t x T)
+  word_shown g text None i h = shows_endless
+  word_shown g text (Some item) i h = leaf_shown (word_leaf T g text item i (slice_get text i)) h
+
+  told_shown : {fs : List Frame} {gs : List OnFrame} {v : List Tree} {t : List TrailItem} {x : List Said} (g : Grammar) (text : List ℕ) (l : Leaf ℕ) (i : ℕ) → Stands fs gs v t x T →
+      Shows (told (leaf_outcome g text l (spot_at T i)) fs) (tape_told (leaf_outcome g text l (spot_at T i)) gs v t x T)
+  told_shown g text (leaf.Satisfy class) i h = leaf_shown (satisfy_leaf T g class i (slice_get text i)) h
+  told_shown g text (leaf.String s) i h = leaf_shown (string_leaf T text s i) h
+  told_shown g text (leaf.Word w) i h = word_shown g text (slice_get g.words w) i h
+  told_shown g text (leaf.NotFollowedBy class) i h = leaf_shown (not_followed_leaf T g class i (slice_get text i)) h
+  told_shown g text leaf.EndOfText i h = leaf_shown (end_leaf T text i) h
+  told_shown g text (leaf.Declare class) i h = shows_endless
 
   form_shown : {fs : List Frame} {gs : List OnFrame} {v : List Tree} {t : List TrailItem} {x : List Said} (G : Given) (f : Node) (i : ℕ) → Stands fs gs v t x T →
       Shows (enter_form G f (spot_at T i) fs) (tape_enter G f i gs v t x T)
-  form_shown G (form.Satisfy class) i h = leaf_shown (satisfy_leaf T G.grammar class i (slice_get G.text i)) h
-  form_shown G (form.String s) i h = leaf_shown (string_leaf T G.text s i) h
+  form_shown G (form.Leaf l) i h = told_shown G.grammar G.text l i h
   form_shown {v = v} {t = t} {x = x} G (form.Seq []) i h = let a = append-nil v in let d = append-nil t in moved (shows_fine h (nothing_says x i) same_table) cc
   form_shown {v = v} {t = t} G (form.Seq (p ∷ ps)) i h = let a = append-nil v in let d = append-nil t in moved (shows_at (stands_parts h no_parts)) cc
   form_shown G (form.Choice ps) i h = next_shown 1 ps i h nothing_kept
   form_shown {v = v} G (form.Many p) i h = let a = append-nil v in moved (shows_at (stands_rounds {w = []} {u = []} (Rounds 0) h same_table)) cc
-  form_shown G (form.ChainLeft used p s) i h = shows_at (stands_first (Rounds 0) h)
-  form_shown G (form.ChainRight used p s) i h = shows_at (stands_first (Rounds 0) h)
-  form_shown G (form.Try p) i h = shows_at (stands_try h)
-  form_shown G (form.NotFollowedBy class) i h = leaf_shown (not_followed_leaf T G.grammar class i (slice_get G.text i)) h
-  form_shown G form.EndOfText i h = leaf_shown (end_leaf T G.text i) h
-  form_shown G (form.Word w) i h = word_shown G (slice_get G.grammar.words w) i h
+  form_shown G (form.Chain side used p s) i h = shows_at (stands_first (Rounds 0) h)
   form_shown G (form.Rule r) i h = rule_shown (slice_get G.grammar.rules r) i h
   form_shown G (form.Expression builders p) i h = shows_endless
-  form_shown G (form.Declare class) i h = shows_endless
-  form_shown G (form.Text p) i h = shows_at (stands_text h)
-  form_shown G (form.Skip p) i h = shows_at (stands_skip h)
-  form_shown G (form.Build used symbol p) i h = shows_at (stands_build h)
-  form_shown G (form.Label p message) i h = shows_at (stands_label h)
+  form_shown G (form.Around around p) i h = shows_at (stands_around h)
 
   node_shown : {fs : List Frame} {gs : List OnFrame} {v : List Tree} {t : List TrailItem} {x : List Said} (G : Given) (f : Option Node) (i : ℕ) → Stands fs gs v t x T →
       Shows (enter_node G f (spot_at T i) fs) (tape_enter_at G f i gs v t x T)
@@ -146,12 +142,9 @@ turn_shown G (shows_fine {w = s} {u = r} {c = c} {j = j} (stands_rounds {w = w} 
 turn_shown G (shows_fine {w = s} {u = r} {c = c} {j = j} (stands_first {ch = ch} item h) o e) going = first_fine ch item c j s r h o e
 turn_shown G (shows_fine {w = s} {u = r} {c = c} {j = j} (stands_separator h k) o e) going = separator_fine c j s r h k o e
 turn_shown G (shows_fine {w = s} {u = r} {c = d} {j = j} (stands_operand {s = a} {r = q} {c = c} h k m l) o e) going = operand_fine a q c d j s r h k m l o e
-turn_shown G (shows_fine (stands_try h) o e) going = shows_fine h o e
-turn_shown G (shows_fine {c = c} (stands_label {message = message} h) o e) going = shows_fine h (label_fine_says c message o) e
 turn_shown G (shows_fine (stands_rule h) o e) going = shows_fine h o e
-turn_shown G (shows_fine {v = v} {w = s} (stands_text h) o e) going = let a = take_seam v s in moved (shows_fine h o e) cc
-turn_shown G (shows_fine {v = v} {w = s} (stands_skip h) o e) going = let a = take_seam v s in let d = append-nil v in moved (shows_fine h o e) cc
-turn_shown G (shows_fine {v = v} {w = s} (stands_build {used = used} {symbol = symbol} h) o e) going = let a = built_seam used.shape symbol v s in moved (shows_fine h o e) cc
+turn_shown G (shows_fine {v = v} {w = s} {c = c} {j = j} (stands_around {around = around} h) o e) going =
+    let a = take_seam v s in let b = drop_seam v s in moved (shows_fine h (around_fine_says around c j o) e) cc
 turn_shown G (shows_failed w u no_frames o e) going = cc
 turn_shown G (shows_failed {c = c} s r (stands_parts {ps = ps} h k) o e) going = parts_failed ps c s r h k o e
 turn_shown G (shows_failed {c = c} s r (stands_choice {ps = ps} {k = k} {i = i} h q) o e) going = choice_failed G.reading k ps i c s r h q o e
@@ -159,12 +152,8 @@ turn_shown G (shows_failed {c = c} s r (stands_rounds {w = w} {u = u} {p = p} {k
 turn_shown G (shows_failed {c = c} s r (stands_first {ch = ch} item h) o e) going = first_failed ch item c s r h o e
 turn_shown G (shows_failed {c = c} s r (stands_separator h k) o e) going = ended_shown c s r h k o e
 turn_shown G (shows_failed {c = d} s r (stands_operand {s = a} {r = q} {c = c} h k m l) o e) going = operand_failed a q c d s r h k m l o e
-turn_shown G (shows_failed s r (stands_try h) o e) going = shows_failed s r h o e
-turn_shown G (shows_failed {c = c} s r (stands_label {message = message} h) o e) going = shows_failed s r h (label_failed_says c message o) e
 turn_shown G (shows_failed s r (stands_rule h) o e) going = shows_failed s r h o e
-turn_shown G (shows_failed s r (stands_text h) o e) going = shows_failed s r h o e
-turn_shown G (shows_failed s r (stands_skip h) o e) going = shows_failed s r h o e
-turn_shown G (shows_failed s r (stands_build h) o e) going = shows_failed s r h o e
+turn_shown G (shows_failed {c = c} s r (stands_around {around = around} h) o e) going = shows_failed s r h (around_failed_says around c o) e
 turn_shown G shows_stuck going = cc
 turn_shown G shows_endless going = cc
 
@@ -173,29 +162,9 @@ pub last_shown : {st : State} {x : Tape} → Shows st x → is_last st ≡ tape_
 last_shown (shows_at h) = refl
 last_shown (shows_fine no_frames o e) = refl
 last_shown (shows_fine (stands_parts h k) o e) = refl
-last_shown (shows_fine (stands_choice h q) o e) = refl
-last_shown (shows_fine (stands_rounds item h l) o e) = refl
-last_shown (shows_fine (stands_first item h) o e) = refl
-last_shown (shows_fine (stands_separator h k) o e) = refl
-last_shown (shows_fine (stands_operand h k m l) o e) = refl
-last_shown (shows_fine (stands_try h) o e) = refl
-last_shown (shows_fine (stands_label h) o e) = refl
-last_shown (shows_fine (stands_rule h) o e) = refl
-last_shown (shows_fine (stands_text h) o e) = refl
-last_shown (shows_fine (stands_skip h) o e) = refl
-last_shown (shows_fine (stands_build h) o e) = refl
+last_shown (shows_fine _ o e) = refl
 last_shown (shows_failed s r no_frames o e) = refl
 last_shown (shows_failed s r (stands_parts h k) o e) = refl
-last_shown (shows_failed s r (stands_choice h q) o e) = refl
-last_shown (shows_failed s r (stands_rounds item h l) o e) = refl
-last_shown (shows_failed s r (stands_first item h) o e) = refl
-last_shown (shows_failed s r (stands_separator h k) o e) = refl
-last_shown (shows_failed s r (stands_operand h k m l) o e) = refl
-last_shown (shows_failed s r (stands_try h) o e) = refl
-last_shown (shows_failed s r (stands_label h) o e) = refl
-last_shown (shows_failed s r (stands_rule h) o e) = refl
-last_shown (shows_failed s r (stands_text h) o e) = refl
-last_shown (shows_failed s r (stands_skip h) o e) = refl
-last_shown (shows_failed s r (stands_build h) o e) = refl
+last_shown (shows_failed s r _ o e) = refl
 last_shown shows_stuck = refl
 last_shown shows_endless = refl

@@ -2,12 +2,13 @@
 use Rattle.std.specs.Prelude.{ℕ, List, [], ◌∷◌, ◌++◌, Bool, ◌||◌}
 use Rattle.pg_tree.specs.Trees.{Tree}
 use Rattle.pg_tree.specs.declared.shape.Shape.{Shape}
+use Rattle.pg_grammar.specs.declared.form.Around.{Around}
+use Rattle.pg_grammar.specs.declared.side.Side.{Side}
 use Rattle.pg_grammar.specs.declared.trail.TrailItem.{TrailItem}
 use Rattle.pg_language.specs.Derives.{Spot}
 use Rattle.pg_language.specs.Errors.{Error, merge}
 use Rattle.pg_language.specs.Outcomes.{Outcome, ok, failed, empty_round}
-use Rattle.pg_language.specs.Reactions.{error_behind, then_rest, after_failure, unless_consumed, tried, with_label, as_text, skipped, as_tree, as_finished}
-use Rattle.pg_language.specs.declared.fold.Fold.{Fold}
+use Rattle.pg_language.specs.Reactions.{error_behind, then_rest, after_failure, unless_consumed, as_finished}
 
 -- ---- sequences
 
@@ -63,7 +64,7 @@ behind_rounds c v t empty_round = empty_round
 -- ---- chains
 
 pub record Chain : Type 0 where
-  pub fold : Fold
+  pub side : Side
   pub shape : Shape
   pub operand : ℕ
   pub separator : ℕ
@@ -82,29 +83,11 @@ pub record Linked : Type 0 where
 -- the outcome, with all that waits folded around its forest
 abbrev pub folded : Chain → List (List Tree × List Tree) → Outcome → Outcome
 folded chain [] o = o
-folded chain (x ∷ waiting) o = folded chain waiting (as_finished chain.fold chain.shape x.0 x.1 o)
+folded chain (x ∷ waiting) o = folded chain waiting (as_finished chain.side chain.shape x.0 x.1 o)
 
 -- what the chain answers, but for its item, where the links from here on answer so
 abbrev pub behind_links : Chain → Linked → Outcome → Outcome
 behind_links chain linked o = then_rest linked.consumed [] linked.trail linked.error (folded chain linked.waiting o)
-
--- ---- forms around one part
-
-pub data Around : Type 0 where
-  a_try : Around
-  a_label : (message : List ℕ) → Around
-  a_rule : Around
-  a_text : (from : Spot) → Around
-  a_skip : Around
-  a_build : (shape : Shape) (symbol : List ℕ) → Around
-
-abbrev pub around : List ℕ → Around → Outcome → Outcome
-around text a_try o = tried o
-around text (a_label message) o = with_label message o
-around text a_rule o = o
-around text (a_text from) o = as_text text from o
-around text a_skip o = skipped o
-around text (a_build shape symbol) o = as_tree shape symbol o
 
 -- ---- frames
 
@@ -121,5 +104,7 @@ pub data Frame : Type 0 where
   in_separator : Chain → Linked → (start : Spot) → Frame
   -- the operand of a link that began at this spot runs, behind a separator that was ok with this
   in_operand : Chain → Linked → (start : Spot) (c : Bool) (v : List Tree) (t : List TrailItem) (e : Error) → Frame
-  -- the one part runs
-  in_around : Around → Frame
+  -- the body of a rule runs
+  in_rule : Frame
+  -- the part of a form around it runs, from this spot
+  in_around : (around : Around) (start : Spot) → Frame

@@ -2,7 +2,14 @@
 use Rattle.std.specs.Prelude.{◌<◌, ℕ, List, [], ◌∷◌}
 use Rattle.pg_pred.specs.Offer.{Offer}
 use Rattle.pg_grammar.specs.Fits.{BuilderFits}
-use Rattle.pg_turns.specs.Tape.{OnFrame, on_parts, on_choice, on_rounds, on_first, on_separator, on_operand, on_try, on_label, on_rule, on_text, on_skip, on_build, Tape, tape_at, tape_with, tape_endless}
+use Rattle.pg_grammar.specs.declared.form.Around.{Around}
+use Rattle.pg_grammar.specs.declared.form.Around.TheVariants as kind
+use Rattle.pg_turns.specs.Tape.{OnFrame, on_parts, on_choice, on_rounds, on_first, on_separator, on_operand, on_rule, on_around, Tape, tape_at, tape_with, tape_endless}
+
+-- the builder that stands around a part is offered, if one does
+abbrev pub AroundFits : Offer → Around → Type 0
+AroundFits offer (kind.Build used symbol) = BuilderFits offer used
+AroundFits offer _ = Unit {0}
 
 -- the counts of a frame can grow, and the builder that it names is offered
 abbrev pub IsReady : Offer → ℕ → OnFrame → Type 0
@@ -12,12 +19,8 @@ IsReady offer most (on_rounds p k c i slot n m o l) = k < most
 IsReady offer most (on_first chain slot n) = BuilderFits offer chain.used
 IsReady offer most (on_separator links) = (links.count < most) × BuilderFits offer links.chain.used
 IsReady offer most (on_operand links before n) = (links.count < most) × BuilderFits offer links.chain.used
-IsReady offer most on_try = Unit {0}
-IsReady offer most (on_label message) = Unit {0}
 IsReady offer most on_rule = Unit {0}
-IsReady offer most (on_text i n) = Unit {0}
-IsReady offer most (on_skip n) = Unit {0}
-IsReady offer most (on_build used symbol n) = BuilderFits offer used
+IsReady offer most (on_around around i n) = AroundFits offer around
 
 abbrev pub AreReady : Offer → ℕ → List OnFrame → Type 0
 AreReady offer most [] = Unit {0}

@@ -4,16 +4,16 @@
 use Rattle.std.specs.Prelude.{◌≡◌, ℕ, Bool, List, [], ◌∷◌, ◌++◌, true, length, Option, Some, None}
 use Rattle.pg_tree.specs.Trees.{Tree}
 use Rattle.pg_grammar.specs.Operators.{Operator}
-use Rattle.pg_grammar.specs.declared.used.BuilderUse.{BuilderUse}
+use Rattle.pg_grammar.specs.declared.form.Around.{Around}
+use Rattle.pg_grammar.specs.declared.side.Side.TheVariants.{Left, Right}
 use Rattle.pg_grammar.specs.declared.trail.TrailItem.{TrailItem}
 use Rattle.pg_grammar.specs.declared.trail.TrailItem.TheVariants.{Alt}
 use Rattle.pg_table.specs.Tables.{Table}
 use Rattle.pg_language.specs.Errors.{Error}
 use Rattle.pg_language.specs.Outcomes.{ok, failed, empty_round}
-use Rattle.pg_language.specs.declared.fold.Fold.TheVariants.{FromLeft, FromRight}
-use Rattle.pg_turns.specs.Frames.{Before, none_before, before, Kept, none_kept, failed_kept, ok_kept, Chain, Linked, a_try, a_label, a_rule, a_text, a_skip, a_build, Frame, in_parts, in_choice, in_rounds, in_first, in_separator, in_operand, in_around}
+use Rattle.pg_turns.specs.Frames.{Before, none_before, before, Kept, none_kept, failed_kept, ok_kept, Chain, Linked, Frame, in_parts, in_choice, in_rounds, in_first, in_separator, in_operand, in_rule, in_around}
 use Rattle.pg_turns.specs.Messages.{Said}
-use Rattle.pg_turns.specs.Tape.{spot_at, OnKept, no_kept, kept_failure, kept_empty_ok, OnChain, OnLinks, OnFrame, on_parts, on_choice, on_rounds, on_first, on_separator, on_operand, on_try, on_label, on_rule, on_text, on_skip, on_build, Tape, tape_at, tape_with, tape_endless}
+use Rattle.pg_turns.specs.Tape.{spot_at, OnKept, no_kept, kept_failure, kept_empty_ok, OnChain, OnLinks, OnFrame, on_parts, on_choice, on_rounds, on_first, on_separator, on_operand, on_rule, on_around, Tape, tape_at, tape_with, tape_endless}
 use Rattle.pg_turns.specs.Turns.{State, at_node, with_outcome, endless}
 use Rattle.pg_turns.specs.Why.{Says, Holds}
 use Rattle.pg_turns.specs.declared.frame.Before as declared
@@ -32,7 +32,7 @@ pub data Extends : Bool → Table → Table → Type 0 where
 
 -- a chain as the definitions have it
 abbrev pub plain : OnChain → Chain
-plain ch = record { fold = ch.fold; shape = ch.used.shape; operand = ch.operand; separator = ch.separator }
+plain ch = record { side = ch.side; shape = ch.used.shape; operand = ch.operand; separator = ch.separator }
 
 -- the parts before, with their forest, their trail, the list that ends with their messages and the table behind them, behind
 -- the first list and the first table
@@ -51,8 +51,8 @@ pub data ShowsKept (T : Table) : List Said → Kept → OnKept → List Said →
 -- the trees that wait to be folded lie behind the first list; from the left none do
 pub data Waits : OnChain → List Tree → List (List Tree × List Tree) → List ℕ → List Tree → Type 0 where
   none_wait : {ch : OnChain} {v : List Tree} → Waits ch v [] [] v
-  from_left : {ch : OnChain} {v : List Tree} {waiting : List (List Tree × List Tree)} → ch.fold ≡ FromLeft → Waits ch v waiting [] v
-  from_right : {ch : OnChain} {v y a s : List Tree} {waiting : List (List Tree × List Tree)} {ns : List ℕ} → ch.fold ≡ FromRight →
+  from_left : {ch : OnChain} {v : List Tree} {waiting : List (List Tree × List Tree)} → ch.side ≡ Left → Waits ch v waiting [] v
+  from_right : {ch : OnChain} {v y a s : List Tree} {waiting : List (List Tree × List Tree)} {ns : List ℕ} → ch.side ≡ Right →
       Waits ch v waiting ns y →
       Waits ch v ((a, s) ∷ waiting) (length y ∷ ns) (y ++ a ++ s)
 
@@ -107,20 +107,11 @@ pub data Stands : List Frame → List OnFrame → List Tree → List TrailItem �
       Stands fs gs v t x T → ShowsLinks v t x T linked i l w u y U → Holds y held e z → Extends c U W →
       Stands (in_operand (plain l.chain) linked (spot_at U i) c s r e ∷ fs) (on_operand l (record { consumed = c; held = held })
       (length (w ++ s)) ∷ gs) (w ++ s) (u ++ r) z W
-  stands_try : {fs : List Frame} {gs : List OnFrame} {v : List Tree} {t : List TrailItem} {x : List Said} {T : Table} →
-      Stands fs gs v t x T → Stands (in_around a_try ∷ fs) (on_try ∷ gs) v t x T
-  stands_label : {fs : List Frame} {gs : List OnFrame} {v : List Tree} {t : List TrailItem} {x : List Said} {T : Table}
-      {message : List ℕ} →
-      Stands fs gs v t x T → Stands (in_around (a_label message) ∷ fs) (on_label message ∷ gs) v t x T
   stands_rule : {fs : List Frame} {gs : List OnFrame} {v : List Tree} {t : List TrailItem} {x : List Said} {T : Table} →
-      Stands fs gs v t x T → Stands (in_around a_rule ∷ fs) (on_rule ∷ gs) v t x T
-  stands_text : {fs : List Frame} {gs : List OnFrame} {v : List Tree} {t : List TrailItem} {x : List Said} {T : Table} {i : ℕ} →
-      Stands fs gs v t x T → Stands (in_around (a_text (spot_at T i)) ∷ fs) (on_text i (length v) ∷ gs) v t x T
-  stands_skip : {fs : List Frame} {gs : List OnFrame} {v : List Tree} {t : List TrailItem} {x : List Said} {T : Table} →
-      Stands fs gs v t x T → Stands (in_around a_skip ∷ fs) (on_skip (length v) ∷ gs) v t x T
-  stands_build : {fs : List Frame} {gs : List OnFrame} {v : List Tree} {t : List TrailItem} {x : List Said} {T : Table}
-      {used : BuilderUse} {symbol : List ℕ} →
-      Stands fs gs v t x T → Stands (in_around (a_build used.shape symbol) ∷ fs) (on_build used symbol (length v) ∷ gs) v t x T
+      Stands fs gs v t x T → Stands (in_rule ∷ fs) (on_rule ∷ gs) v t x T
+  stands_around : {fs : List Frame} {gs : List OnFrame} {v : List Tree} {t : List TrailItem} {x : List Said} {T : Table}
+      {around : Around} {i : ℕ} →
+      Stands fs gs v t x T → Stands (in_around around (spot_at T i) ∷ fs) (on_around around i (length v) ∷ gs) v t x T
 
 -- the state of the one is the tape of the other: an ok outcome's trees, items, messages and operators stand last, and behind a
 -- failed one others may

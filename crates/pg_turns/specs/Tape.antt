@@ -7,21 +7,23 @@ use Rattle.pg_tree.specs.declared.shape.Shape.{Shape}
 use Rattle.pg_message.specs.Messages.{Text, Messages}
 use Rattle.pg_message.specs.declared.kind.MessageKind.{MessageKind}
 use Rattle.pg_message.specs.declared.kind.MessageKind.TheVariants.{SystemUnexpected, Unexpected, Expected, Plain}
-use Rattle.pg_grammar.specs.declared.form.Node.{Node}
-use Rattle.pg_grammar.specs.declared.form.Node.TheVariants as form
+use Rattle.pg_grammar.specs.Forms.{Node}
+use Rattle.pg_grammar.specs.declared.form.Form.TheVariants as form
+use Rattle.pg_grammar.specs.declared.form.Around.{Around}
+use Rattle.pg_grammar.specs.declared.form.Around.TheVariants as kind
+use Rattle.pg_grammar.specs.declared.side.Side.{Side}
+use Rattle.pg_grammar.specs.declared.side.Side.TheVariants.{Left, Right}
 use Rattle.pg_grammar.specs.declared.grammar.Rule as declared
 use Rattle.pg_grammar.specs.declared.trail.TrailItem.{TrailItem}
 use Rattle.pg_grammar.specs.declared.trail.TrailItem.TheVariants.{Alt, Rounds}
 use Rattle.pg_grammar.specs.declared.used.BuilderUse.{BuilderUse}
-use Rattle.pg_grammar.specs.declared.word_item.WordItem.{WordItem}
-use Rattle.pg_language.specs.Derives.{Spot, leaf_of, span}
+use Rattle.pg_language.specs.Derives.{Spot, made_by}
 use Rattle.pg_table.specs.Tables.{Table, first_operators}
 use Rattle.pg_language.specs.Answers.{Given}
-use Rattle.pg_language.specs.Leaves.{satisfy_outcome, string_outcome, word_outcome, not_followed_outcome, end_outcome}
+use Rattle.pg_language.specs.Leaves.{leaf_outcome}
 use Rattle.pg_language.specs.Outcomes as outcome
 use Rattle.pg_language.specs.Outcomes.{Outcome}
-use Rattle.pg_language.specs.declared.fold.Fold.{Fold}
-use Rattle.pg_language.specs.declared.fold.Fold.TheVariants.{FromLeft, FromRight}
+use Rattle.pg_language.specs.Reactions.{counted_by}
 use Rattle.pg_language.specs.declared.reading.Reading.{Reading}
 use Rattle.pg_language.specs.declared.reading.Reading.TheVariants.{Library, Report}
 use Rattle.pg_turns.specs.Messages.{Said, relabelled}
@@ -44,7 +46,7 @@ pub data OnKept : Type 0 where
   kept_empty_ok : (end : ℕ) (v : List Tree) (t : List TrailItem) (held : Held) → OnKept
 
 pub record OnChain : Type 0 where
-  pub fold : Fold
+  pub side : Side
   pub used : BuilderUse
   pub operand : ℕ
   pub separator : ℕ
@@ -76,12 +78,9 @@ pub data OnFrame : Type 0 where
   on_separator : OnLinks → OnFrame
   -- with how long the forest was before the operand
   on_operand : OnLinks → Before → (forest : ℕ) → OnFrame
-  on_try : OnFrame
-  on_label : (message : List ℕ) → OnFrame
   on_rule : OnFrame
-  on_text : (start forest : ℕ) → OnFrame
-  on_skip : (forest : ℕ) → OnFrame
-  on_build : (used : BuilderUse) (symbol : List ℕ) (forest : ℕ) → OnFrame
+  -- with how long the forest was
+  on_around : (around : Around) (start forest : ℕ) → OnFrame
 
 -- the topmost frame first, the forest, the trail, the messages, and the table in force
 pub data Tape : Type 0 where
@@ -272,17 +271,17 @@ tape_to_separator links (Failed c why) fs v t x T = tape_ended links c why fs v 
 tape_to_separator links EmptyRound fs v t x T = tape_with EmptyRound fs v t x T
 
 -- the forest behind a link: from the left it is one tree, and from the right the operand's trees stand alone
-abbrev pub link_forest : Fold → Shape → ℕ → List Tree → List Tree
-link_forest FromLeft shape n v = built_behind shape [] n v
-link_forest FromRight shape n v = v
+abbrev pub link_forest : Side → Shape → ℕ → List Tree → List Tree
+link_forest Left shape n v = built_behind shape [] n v
+link_forest Right shape n v = v
 
-abbrev pub link_waiting : Fold → ℕ → List ℕ → List ℕ
-link_waiting FromLeft n ns = ns
-link_waiting FromRight n ns = n ∷ ns
+abbrev pub link_waiting : Side → ℕ → List ℕ → List ℕ
+link_waiting Left n ns = ns
+link_waiting Right n ns = n ∷ ns
 
-abbrev pub link_left : Fold → ℕ → ℕ → ℕ
-link_left FromLeft n m = n
-link_left FromRight n m = m
+abbrev pub link_left : Side → ℕ → ℕ → ℕ
+link_left Left n m = n
+link_left Right n m = m
 
 -- one link more, with the place where its operand ended, where its trees began, its error, and the lengths of the lists
 abbrev pub more_links : OnLinks → ℕ → ℕ → Held → ℕ → ℕ → ℕ → OnLinks
@@ -292,8 +291,8 @@ more_links links j n held forest trail operators = record {
   count = suc links.count;
   consumed = true;
   held = held;
-  waiting = link_waiting links.chain.fold links.left links.waiting;
-  left = link_left links.chain.fold links.left n;
+  waiting = link_waiting links.chain.side links.left links.waiting;
+  left = link_left links.chain.side links.left n;
   start = j;
   forest = forest;
   trail = trail;
@@ -309,17 +308,24 @@ abbrev pub tape_to_operand : OnLinks → Before → ℕ → Reply → List OnFra
 tape_to_operand links before n (Fine d j why) fs v t x T =
     tape_linked (before.consumed || d) links j n (held_at (length (messages_behind d before.held why x))
     (why_behind d before.held why x)) fs
-    (link_forest links.chain.fold links.chain.used.shape links.left v) t (messages_behind d before.held why x) T
+    (link_forest links.chain.side links.chain.used.shape links.left v) t (messages_behind d before.held why x) T
 tape_to_operand links before n (Failed d why) fs v t x T =
     tape_ended links (before.consumed || d) (why_behind d before.held why x) fs v t (messages_behind d before.held why x) T
 tape_to_operand links before n EmptyRound fs v t x T = tape_with EmptyRound fs v t x T
 
 -- ---- forms around one part
 
-abbrev pub tape_tried : Reply → Reply
-tape_tried (Fine c j why) = Fine c j why
-tape_tried (Failed c why) = Failed false why
-tape_tried EmptyRound = EmptyRound
+-- the form's reply
+abbrev pub reply_around : Around → Reply → Reply
+reply_around around (Fine c j why) = Fine c j why
+reply_around around (Failed c why) = Failed (counted_by around c) why
+reply_around around EmptyRound = EmptyRound
+
+-- behind the first n trees stands what the form makes of the others, where the reply is ok
+abbrev pub forest_around : Around → List ℕ → ℕ → ℕ → Reply → List Tree → List Tree
+forest_around around text i n (Fine c j why) v = take n v ++ made_by around text i j (drop n v)
+forest_around around text i n (Failed c why) v = v
+forest_around around text i n EmptyRound v = v
 
 -- a name stands for what was expected, but an ok answer without messages gets none
 abbrev pub label_fine : Bool → List ℕ → Why → List Said → List Said
@@ -335,14 +341,16 @@ labelled_messages message (Fine c j why) x = label_fine c message why x
 labelled_messages message (Failed c why) x = label_failed c message why x
 labelled_messages message EmptyRound x = x
 
--- the forest is made anew where the reply is ok: all of it, up to the place where the part ended
-abbrev pub forest_around : (ℕ → List Tree → List Tree) → Reply → List Tree → List Tree
-forest_around made (Fine c j why) v = made j v
-forest_around made (Failed c why) v = v
-forest_around made EmptyRound v = v
+abbrev pub messages_around : Around → Reply → List Said → List Said
+messages_around kind.Try reply x = x
+messages_around kind.Text reply x = x
+messages_around kind.Skip reply x = x
+messages_around (kind.Build used symbol) reply x = x
+messages_around (kind.Label message) reply x = labelled_messages message reply x
 
-abbrev pub text_behind : List ℕ → ℕ → ℕ → ℕ → List Tree → List Tree
-text_behind text i n j v = take n v ++ leaf_of (span text i j) ∷ []
+abbrev pub tape_to_around : List ℕ → Around → ℕ → ℕ → Reply → List OnFrame → List Tree → List TrailItem → List Said → Table → Tape
+tape_to_around text around i n reply fs v t x T =
+    tape_with (reply_around around reply) fs (forest_around around text i n reply v) t (messages_around around reply x) T
 
 -- ---- turns
 
@@ -353,12 +361,8 @@ tape_hand G (on_rounds p k c i slot n m o l) reply fs v t x T = tape_to_rounds p
 tape_hand G (on_first chain slot n) reply fs v t x T = tape_to_first chain slot n reply fs v t x T
 tape_hand G (on_separator links) reply fs v t x T = tape_to_separator links reply fs v t x T
 tape_hand G (on_operand links before n) reply fs v t x T = tape_to_operand links before n reply fs v t x T
-tape_hand G on_try reply fs v t x T = tape_with (tape_tried reply) fs v t x T
-tape_hand G (on_label message) reply fs v t x T = tape_with reply fs v t (labelled_messages message reply x) T
 tape_hand G on_rule reply fs v t x T = tape_with reply fs v t x T
-tape_hand G (on_text i n) reply fs v t x T = tape_with reply fs (forest_around (text_behind G.text i n) reply v) t x T
-tape_hand G (on_skip n) reply fs v t x T = tape_with reply fs (forest_around (λ j. take n) reply v) t x T
-tape_hand G (on_build used symbol n) reply fs v t x T = tape_with reply fs (forest_around (λ j. built_behind used.shape symbol n) reply v) t x T
+tape_hand G (on_around around i n) reply fs v t x T = tape_to_around G.text around i n reply fs v t x T
 
 abbrev pub tape_seq : List ℕ → ℕ → List OnFrame → List Tree → List TrailItem → List Said → Table → Tape
 tape_seq [] i fs v t x T = tape_with (Fine false i (why_at i (length x))) fs v t x T
@@ -378,41 +382,21 @@ abbrev pub tape_rule : Option declared.Rule → ℕ → List OnFrame → List Tr
 tape_rule None i fs v t x T = tape_endless
 tape_rule (Some named) i fs v t x T = tape_at named.body i (on_rule ∷ fs) v t x T
 
-abbrev pub tape_word : Given → Option WordItem → ℕ → List OnFrame → List Tree → List TrailItem → List Said → Table → Tape
-tape_word G None i fs v t x T = tape_endless
-tape_word G (Some item) i fs v t x T = tape_leaf (word_outcome G.grammar G.text item (spot_at T i)) fs v t x T
+-- what a leaf came to, if it came to anything
+abbrev pub tape_told : Option Outcome → List OnFrame → List Tree → List TrailItem → List Said → Table → Tape
+tape_told None fs v t x T = tape_endless
+tape_told (Some o) fs v t x T = tape_leaf o fs v t x T
 
 -- the table matters to no form that is run yet
 abbrev pub tape_enter : Given → Node → ℕ → List OnFrame → List Tree → List TrailItem → List Said → Table → Tape
-tape_enter G (form.Satisfy class) i fs v t x T = tape_leaf (satisfy_outcome G.grammar G.text class (spot_at T i)) fs v t x T
-tape_enter G (form.String s) i fs v t x T = tape_leaf (string_outcome G.text s (spot_at T i)) fs v t x T
+tape_enter G (form.Leaf l) i fs v t x T = tape_told (leaf_outcome G.grammar G.text l (spot_at T i)) fs v t x T
 tape_enter G (form.Seq ps) i fs v t x T = tape_seq ps i fs v t x T
 tape_enter G (form.Choice ps) i fs v t x T = tape_next_alternative 1 ps i no_kept fs v t x T
 tape_enter G (form.Many p) i fs v t x T = tape_many p i fs v t x T
-tape_enter G (form.ChainLeft used p s) i fs v t x T = tape_chain (record {
-  fold = FromLeft;
-  used = used;
-  operand = p;
-  separator = s;
-}) i fs v t x T
-tape_enter G (form.ChainRight used p s) i fs v t x T = tape_chain (record {
-  fold = FromRight;
-  used = used;
-  operand = p;
-  separator = s;
-}) i fs v t x T
-tape_enter G (form.Try p) i fs v t x T = tape_at p i (on_try ∷ fs) v t x T
-tape_enter G (form.NotFollowedBy class) i fs v t x T = tape_leaf (not_followed_outcome G.grammar G.text class (spot_at T i)) fs v
-    t x T
-tape_enter G form.EndOfText i fs v t x T = tape_leaf (end_outcome G.text (spot_at T i)) fs v t x T
-tape_enter G (form.Word w) i fs v t x T = tape_word G (slice_get G.grammar.words w) i fs v t x T
+tape_enter G (form.Chain side used p s) i fs v t x T = tape_chain (record { side = side; used = used; operand = p; separator = s }) i fs v t x T
 tape_enter G (form.Rule r) i fs v t x T = tape_rule (slice_get G.grammar.rules r) i fs v t x T
 tape_enter G (form.Expression builders p) i fs v t x T = tape_endless
-tape_enter G (form.Declare class) i fs v t x T = tape_endless
-tape_enter G (form.Text p) i fs v t x T = tape_at p i (on_text i (length v) ∷ fs) v t x T
-tape_enter G (form.Skip p) i fs v t x T = tape_at p i (on_skip (length v) ∷ fs) v t x T
-tape_enter G (form.Build used symbol p) i fs v t x T = tape_at p i (on_build used symbol (length v) ∷ fs) v t x T
-tape_enter G (form.Label p message) i fs v t x T = tape_at p i (on_label message ∷ fs) v t x T
+tape_enter G (form.Around around p) i fs v t x T = tape_at p i (on_around around i (length v) ∷ fs) v t x T
 
 abbrev pub tape_enter_at : Given → Option Node → ℕ → List OnFrame → List Tree → List TrailItem → List Said → Table → Tape
 tape_enter_at G None i fs v t x T = tape_endless

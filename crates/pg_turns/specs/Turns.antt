@@ -1,22 +1,20 @@
 -- The machine on plain values: one turn enters a node, or hands an outcome to the topmost frame.
 use Rattle.std.specs.Prelude.{ℕ, zero, suc, List, [], ◌∷◌, ◌++◌, Bool, true, false, ◌||◌, Option, Some, None, slice_get}
 use Rattle.pg_tree.specs.Trees.{Tree}
-use Rattle.pg_grammar.specs.declared.form.Node.{Node}
-use Rattle.pg_grammar.specs.declared.form.Node.TheVariants as form
+use Rattle.pg_grammar.specs.Forms.{Node}
+use Rattle.pg_grammar.specs.declared.form.Form.TheVariants as form
 use Rattle.pg_grammar.specs.declared.grammar.Rule as declared
 use Rattle.pg_grammar.specs.declared.trail.TrailItem.{TrailItem}
 use Rattle.pg_grammar.specs.declared.trail.TrailItem.TheVariants.{Alt, Rounds}
-use Rattle.pg_grammar.specs.declared.word_item.WordItem.{WordItem}
-use Rattle.pg_language.specs.Derives.{Spot}
+use Rattle.pg_language.specs.Derives.{Spot, carried}
 use Rattle.pg_language.specs.Answers.{Given}
 use Rattle.pg_language.specs.Errors.{Error, nothing_said}
-use Rattle.pg_language.specs.Leaves.{satisfy_outcome, string_outcome, word_outcome, not_followed_outcome, end_outcome}
+use Rattle.pg_language.specs.Leaves.{leaf_outcome}
 use Rattle.pg_language.specs.Outcomes.{Outcome, ok, failed, empty_round}
-use Rattle.pg_language.specs.Reactions.{noted, error_behind, unless_begun, carried}
-use Rattle.pg_language.specs.declared.fold.Fold.TheVariants.{FromLeft, FromRight}
+use Rattle.pg_language.specs.Reactions.{noted, error_behind, unless_begun, surrounded}
 use Rattle.pg_language.specs.declared.reading.Reading.{Reading}
 use Rattle.pg_language.specs.declared.reading.Reading.TheVariants.{Library, Report}
-use Rattle.pg_turns.specs.Frames.{Before, none_before, behind_parts, with_part, Kept, none_kept, behind_kept, with_failure, with_empty_ok, Chain, Linked, behind_links, a_try, a_label, a_rule, a_text, a_skip, a_build, around, Frame, in_parts, in_choice, in_rounds, in_first, in_separator, in_operand, in_around}
+use Rattle.pg_turns.specs.Frames.{Before, none_before, behind_parts, with_part, Kept, none_kept, behind_kept, with_failure, with_empty_ok, Chain, Linked, behind_links, Frame, in_parts, in_choice, in_rounds, in_first, in_separator, in_operand, in_rule, in_around}
 
 -- a node is to be entered, or an outcome to be handed to the topmost frame, or there is no outcome: a chain goes on without
 -- an end, or the node has no form that is run
@@ -31,45 +29,30 @@ abbrev pub next_alternative : ℕ → List ℕ → Spot → Kept → List Frame 
 next_alternative k [] a kept fs = with_outcome (behind_kept kept (failed false (nothing_said a.place))) fs
 next_alternative k (p ∷ ps) a kept fs = at_node p a (in_choice k ps a kept ∷ fs)
 
-abbrev pub enter_word : Given → Option WordItem → Spot → List Frame → State
-enter_word G None a fs = endless
-enter_word G (Some item) a fs = with_outcome (word_outcome G.grammar G.text item a) fs
+-- an outcome is handed on, if there is one
+abbrev pub told : Option Outcome → List Frame → State
+told None fs = endless
+told (Some o) fs = with_outcome o fs
 
 abbrev pub enter_rule : Option declared.Rule → Spot → List Frame → State
 enter_rule None a fs = endless
-enter_rule (Some named) a fs = at_node named.body a (in_around a_rule ∷ fs)
+enter_rule (Some named) a fs = at_node named.body a (in_rule ∷ fs)
 
 abbrev pub enter_form : Given → Node → Spot → List Frame → State
-enter_form G (form.Satisfy class) a fs = with_outcome (satisfy_outcome G.grammar G.text class a) fs
-enter_form G (form.String s) a fs = with_outcome (string_outcome G.text s a) fs
+enter_form G (form.Leaf l) a fs = told (leaf_outcome G.grammar G.text l a) fs
 enter_form G (form.Seq []) a fs = with_outcome (ok false a [] [] (nothing_said a.place)) fs
 enter_form G (form.Seq (p ∷ ps)) a fs = at_node p a (in_parts ps none_before ∷ fs)
 enter_form G (form.Choice ps) a fs = next_alternative (suc zero) ps a none_kept fs
 enter_form G (form.Many p) a fs = at_node p a (in_rounds p zero false a [] [] ∷ fs)
-enter_form G (form.ChainLeft used p s) a fs = at_node p a (in_first (record {
-  fold = FromLeft;
-  shape = used.shape;
-  operand = p;
-  separator
-      = s;
-}) ∷ fs)
-enter_form G (form.ChainRight used p s) a fs = at_node p a (in_first (record {
-  fold = FromRight;
+enter_form G (form.Chain side used p s) a fs = at_node p a (in_first (record {
+  side = side;
   shape = used.shape;
   operand = p;
   separator = s;
 }) ∷ fs)
-enter_form G (form.Try p) a fs = at_node p a (in_around a_try ∷ fs)
-enter_form G (form.NotFollowedBy class) a fs = with_outcome (not_followed_outcome G.grammar G.text class a) fs
-enter_form G form.EndOfText a fs = with_outcome (end_outcome G.text a) fs
-enter_form G (form.Word w) a fs = enter_word G (slice_get G.grammar.words w) a fs
 enter_form G (form.Rule r) a fs = enter_rule (slice_get G.grammar.rules r) a fs
 enter_form G (form.Expression builders p) a fs = endless
-enter_form G (form.Declare class) a fs = endless
-enter_form G (form.Text p) a fs = at_node p a (in_around (a_text a) ∷ fs)
-enter_form G (form.Skip p) a fs = at_node p a (in_around a_skip ∷ fs)
-enter_form G (form.Build used symbol p) a fs = at_node p a (in_around (a_build used.shape symbol) ∷ fs)
-enter_form G (form.Label p message) a fs = at_node p a (in_around (a_label message) ∷ fs)
+enter_form G (form.Around around p) a fs = at_node p a (in_around around a ∷ fs)
 
 abbrev pub enter_node : Given → Option Node → Spot → List Frame → State
 enter_node G None a fs = endless
@@ -118,7 +101,7 @@ with_link chain linked v t e d w u f = record {
   trail = linked.trail ++ (t ++ u);
   error = error_behind d e f;
   waiting = (linked.left, v) ∷ linked.waiting;
-  left = carried chain.fold chain.shape linked.left v w;
+  left = carried chain.side chain.shape linked.left v w;
 }
 
 abbrev pub hand_to_first : Chain → Outcome → List Frame → State
@@ -149,7 +132,8 @@ hand G (in_rounds p k c a v t) o fs = hand_to_rounds p k c a v t o fs
 hand G (in_first chain) o fs = hand_to_first chain o fs
 hand G (in_separator chain linked a) o fs = hand_to_separator chain linked a o fs
 hand G (in_operand chain linked a c v t e) o fs = hand_to_operand chain linked a c v t e o fs
-hand G (in_around w) o fs = with_outcome (around G.text w o) fs
+hand G in_rule o fs = with_outcome o fs
+hand G (in_around around a) o fs = with_outcome (surrounded around G.text a o) fs
 
 -- ---- one turn
 

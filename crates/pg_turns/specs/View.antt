@@ -4,7 +4,7 @@ use Rattle.pg_tree.specs.Trees.{Tree}
 use Rattle.pg_grammar.specs.declared.trail.TrailItem.{TrailItem}
 use Rattle.pg_table.specs.Tables.{Table}
 use Rattle.pg_turns.specs.Messages.{Said}
-use Rattle.pg_turns.specs.Tape.{OnKept, no_kept, kept_failure, kept_empty_ok, OnChain, OnLinks, OnFrame, on_parts, on_choice, on_rounds, on_first, on_separator, on_operand, on_try, on_label, on_rule, on_text, on_skip, on_build, Tape, tape_at, tape_with, tape_endless}
+use Rattle.pg_turns.specs.Tape.{OnKept, no_kept, kept_failure, kept_empty_ok, OnChain, OnLinks, OnFrame, on_parts, on_choice, on_rounds, on_first, on_separator, on_operand, on_rule, on_around, Tape, tape_at, tape_with, tape_endless}
 use Rattle.pg_turns.specs.declared.frame.ChainFrame.{ChainFrame}
 use Rattle.pg_turns.specs.declared.frame.LinksFrame.{LinksFrame}
 use Rattle.pg_turns.specs.declared.frame.Kept.{Kept}
@@ -21,7 +21,7 @@ kept_of (kept.Failure held) = kept_failure held
 kept_of (kept.EmptyOk ok held) = kept_empty_ok ok.value.end ok.value.forest ok.value.trail.items held
 
 abbrev pub chain_of : ChainFrame → OnChain
-chain_of c = record { fold = c.fold; used = c.used.now; operand = c.operand; separator = c.separator }
+chain_of c = record { side = c.side; used = c.used.now; operand = c.operand; separator = c.separator }
 
 -- the last place that waits stands first
 abbrev pub links_of : LinksFrame → OnLinks
@@ -46,12 +46,8 @@ frame_of (frame.Rounds f) = on_rounds f.part f.count f.consumed f.start f.slot f
 frame_of (frame.First c) = on_first (chain_of c) c.slot c.forest
 frame_of (frame.Separator l) = on_separator (links_of l.value)
 frame_of (frame.Operand l before trees) = on_operand (links_of l.value) before trees
-frame_of frame.Try = on_try
-frame_of (frame.Label message) = on_label message.now
 frame_of frame.Rule = on_rule
-frame_of (frame.Text start forest) = on_text start forest
-frame_of (frame.Skip forest) = on_skip forest
-frame_of (frame.Build used symbol forest) = on_build used.now symbol.now forest
+frame_of (frame.Around around start forest) = on_around around.now start forest
 
 -- the topmost frame stands last in the machine
 abbrev pub stack_on : List OnFrame → List Frame → List OnFrame

@@ -1,36 +1,95 @@
 //! Forms around one part: what they make of its answer.
 
-ghost use Rattle.std.specs.Prelude.{◌≡◌, ◌∷◌, ◌++◌, [], take, IfOk, OnOk, Some};
-ghost use Rattle.pg_language.specs.Derives.{leaf_of, span};
-ghost use Rattle.pg_pred.specs.Offer.{offer_of, builder_shape};
-ghost use Rattle.pg_turns.specs.Tape.{tape_tried, labelled_messages, forest_around, text_behind, built_behind};
+ghost use Rattle.std.specs.Prelude.{◌≡◌, ◌∷◌, ◌++◌, [], take, drop, IfOk, OnOk};
+ghost use Rattle.pg_language.specs.Derives.{leaf_of, made_by, span};
+ghost use Rattle.pg_language.specs.Reactions.{counted_by};
+ghost use Rattle.pg_pred.specs.Offer.{offer_of};
+ghost use Rattle.pg_turns.specs.Ready.{AroundFits};
+ghost use Rattle.pg_turns.specs.Tape.{forest_around, labelled_messages, messages_around, reply_around, tape_to_around};
+ghost use Rattle.pg_turns.specs.View.{on_lists, tape_of};
 
-use crate::chains::made;
-use crate::frame::Reply;
+use crate::chains::build_behind;
+use crate::frame::{Mode, Reply};
+use crate::machine::Machine;
 use crate::message::utf8;
-use crate::message_tape::{MessageTape, Why};
-use pg_grammar::BuilderUse;
+use crate::message_tape::MessageTape;
+use pg_grammar::Around;
 use pg_pred::Registry;
 use pg_text::{Characters, Text};
-use pg_tree::{Forest, Label, Tree};
+use pg_tree::{Forest, Tree};
 use std::alloc::{AllocError, Global};
 
-/// A failure counts as if nothing had been consumed.
-pub(crate) fn tried(reply: Reply) -> Reply
-    ensures { result ≡ tape_tried reply }
+impl<'a> Machine<'a> {
+    /// An answer of the part, which began at the place, with so many trees before it.
+    pub(crate) fn hand_to_around(
+        &mut self,
+        alloc: Global,
+        registry: &Registry,
+        text: &Text,
+        around: &'a Around,
+        start: usize,
+        count: usize,
+        reply: Reply,
+    ) -> Result<Mode, AllocError>
+        requires { AroundFits (offer_of registry.now) around.now }
+        ensures { IfOk result (λ mode. tape_of mode self.new ≡
+            on_lists (tape_to_around text.now around.now start count reply) self.old) }
+    {
+        make(
+            alloc,
+            registry,
+            text,
+            around,
+            start,
+            count,
+            reply,
+            &mut self.forest,
+        )?;
+        say(&mut self.messages, around, reply)?;
+        Ok(Mode::With(answer(around, reply)))
+    }
+}
+
+/// The form's answer.
+pub(crate) fn answer(around: &Around, reply: Reply) -> Reply
+    ensures { result ≡ reply_around around.now reply }
 {
     match reply {
         Reply::Fine { consumed, end, why } => Reply::Fine { consumed, end, why },
-        Reply::Failed { consumed: _, why } => Reply::Failed {
-            consumed: false,
+        Reply::Failed { consumed, why } => Reply::Failed {
+            consumed: counted(around, consumed),
             why,
         },
         Reply::EmptyRound => Reply::EmptyRound,
     }
 }
 
+/// Whether the form's failure counts as consumed, where the part's does so or not.
+fn counted(around: &Around, consumed: bool) -> bool
+    ensures { result ≡ counted_by around.now consumed }
+{
+    match around {
+        Around::Try => false,
+        Around::Text | Around::Skip | Around::Build(_, _) | Around::Label(_) => consumed,
+    }
+}
+
+/// What the form says in place of the part.
+fn say<'a>(
+    messages: &mut MessageTape<'a>,
+    around: &'a Around,
+    reply: Reply,
+) -> Result<(), AllocError>
+    ensures { OnOk result (messages.new ≡ messages_around around.now reply messages.old) }
+{
+    match around {
+        Around::Label(name) => label(messages, name, reply),
+        Around::Try | Around::Text | Around::Skip | Around::Build(_, _) => Ok(()),
+    }
+}
+
 /// The name is what was expected where nothing was consumed, but not in an ok answer without messages.
-pub(crate) fn label<'a>(
+fn label<'a>(
     messages: &mut MessageTape<'a>,
     name: &'a Characters,
     reply: Reply,
@@ -58,30 +117,73 @@ pub(crate) fn label<'a>(
     }
 }
 
-/// One leaf with the text that was read from the place on stands for the trees behind the first.
-pub(crate) fn as_text(
+/// What the form makes of the trees behind the first, where the part is ok.
+fn make(
     alloc: Global,
+    registry: &Registry,
     text: &Text,
+    around: &Around,
     start: usize,
     count: usize,
     reply: Reply,
     forest: &mut Forest,
 ) -> Result<(), AllocError>
-    ensures { OnOk result (forest.new ≡ forest_around (text_behind text.now start count) reply forest.old) }
+    requires { AroundFits (offer_of registry.now) around.now }
+    ensures { OnOk result (forest.new ≡ forest_around around.now text.now start count reply forest.old) }
 {
     match reply {
         Reply::Fine {
             consumed: _,
             end,
             why: _,
-        } => {
-            cut(forest, count);
-            let content = utf8(alloc, between(text.characters(), start, end))?;
-            forest.push(Tree::leaf(alloc, content.as_str())?)
-        }
+        } => remake(alloc, registry, text, around, start, end, count, forest),
         Reply::Failed { .. } => Ok(()),
         Reply::EmptyRound => Ok(()),
     }
+}
+
+/// The same of a part that took the text from the one place to the other.
+fn remake(
+    alloc: Global,
+    registry: &Registry,
+    text: &Text,
+    around: &Around,
+    start: usize,
+    end: usize,
+    count: usize,
+    forest: &mut Forest,
+) -> Result<(), AllocError>
+    requires { AroundFits (offer_of registry.now) around.now }
+    ensures { OnOk result (forest.new ≡ take count forest.old ++ made_by around.now text.now start end (drop count forest.old)) }
+{
+    match around {
+        Around::Try => Ok(()),
+        Around::Text => as_text(alloc, text, start, end, count, forest),
+        Around::Skip => {
+            cut(forest, count);
+            Ok(())
+        }
+        Around::Build(used, symbol) => {
+            build_behind(alloc, registry, used, symbol.as_str(), count, forest)
+        }
+        Around::Label(_) => Ok(()),
+    }
+}
+
+/// One leaf with the text from the one place to the other stands for the trees behind the first.
+fn as_text(
+    alloc: Global,
+    text: &Text,
+    start: usize,
+    end: usize,
+    count: usize,
+    forest: &mut Forest,
+) -> Result<(), AllocError>
+    ensures { OnOk result (forest.new ≡ take count forest.old ++ leaf_of (span text.now start end) ∷ []) }
+{
+    cut(forest, count);
+    let content = utf8(alloc, between(text.characters(), start, end))?;
+    forest.push(Tree::leaf(alloc, content.as_str())?)
 }
 
 /// The characters from the one place up to the other.
@@ -93,45 +195,11 @@ fn between(characters: &[char], from: usize, upto: usize) -> &[char]
     &characters[from..upto]
 }
 
-/// The trees behind the first are dropped.
-pub(crate) fn skip(count: usize, reply: Reply, forest: &mut Forest)
-    ensures { forest.new ≡ forest_around (λ j. take count) reply forest.old }
-{
-    match reply {
-        Reply::Fine { .. } => cut(forest, count),
-        Reply::Failed { .. } => {}
-        Reply::EmptyRound => {}
-    }
-}
-
 /// The first trees stay.
 fn cut(forest: &mut Forest, count: usize)
     ensures { forest.new ≡ take count forest.old }
 {
     if count < forest.len() {
         forest.cut(count);
-    }
-}
-
-/// The trees behind the first are made into one, by the builder with the symbol.
-pub(crate) fn build(
-    alloc: Global,
-    registry: &Registry,
-    used: &BuilderUse,
-    symbol: &Label,
-    count: usize,
-    reply: Reply,
-    forest: &mut Forest,
-) -> Result<(), AllocError>
-    requires { builder_shape (offer_of registry.now) used.now.name ≡ Some used.now.shape }
-    ensures { OnOk result (forest.new ≡ forest_around (λ j. built_behind used.now.shape symbol.now count) reply forest.old) }
-{
-    match reply {
-        Reply::Fine { .. } => {
-            let kids = forest.split_off(count.min(forest.len()))?;
-            forest.push(made(alloc, registry, used, symbol.as_str(), kids)?)
-        }
-        Reply::Failed { .. } => Ok(()),
-        Reply::EmptyRound => Ok(()),
     }
 }

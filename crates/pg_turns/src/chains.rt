@@ -14,8 +14,7 @@ ghost use Rattle.pg_turns.specs.Why.{why_at, held_at, merged_why};
 use crate::frame::{Before, ChainFrame, Frame, LinksFrame, Mode, Reply};
 use crate::machine::Machine;
 use crate::message_tape::Why;
-use pg_grammar::{BuilderUse, TrailItem};
-use pg_language::Fold;
+use pg_grammar::{BuilderUse, Side, TrailItem};
 use pg_pred::Registry;
 use pg_tree::{Forest, Tree};
 use std::alloc::{AllocError, Global};
@@ -36,7 +35,7 @@ impl<'a> Machine<'a> {
                 let held = self.messages.held(why);
                 let marks = self.marks();
                 let ChainFrame {
-                    fold,
+                    side,
                     used,
                     operand,
                     separator,
@@ -45,7 +44,7 @@ impl<'a> Machine<'a> {
                 } = chain;
                 let links = LinksFrame {
                     chain: ChainFrame {
-                        fold,
+                        side,
                         used,
                         operand,
                         separator,
@@ -144,20 +143,21 @@ impl<'a> Machine<'a> {
         ensures { IfOk result (λ mode. tape_of mode self.new ≡
             tape_linked true (links_of links.entry.value) end trees (held_at (length self.old.messages) why)
             (stack_of self.old.frames.items)
-            (link_forest links.entry.value.chain.fold links.entry.value.chain.used.now.shape links.entry.value.left self.old.forest)
+            (link_forest links.entry.value.chain.side links.entry.value.chain.used.now.shape links.entry.value.left self.old.forest)
             self.old.trail.items self.old.messages self.old.table) }
     {
-        match links.chain.fold {
-            Fold::FromLeft => {
+        match links.chain.side {
+            Side::Left => {
                 build_behind(
                     alloc,
                     registry,
                     links.chain.used,
+                    "",
                     links.left,
                     &mut self.forest,
                 )?;
             }
-            Fold::FromRight => {
+            Side::Right => {
                 let left = links.left;
                 links.waiting.push(left)?;
                 links.left = trees;
@@ -210,19 +210,20 @@ impl<'a> Machine<'a> {
     }
 }
 
-/// Makes the trees behind the first into one, by the builder without a symbol.
-fn build_behind(
+/// Makes the trees behind the first into one, by the builder with the symbol.
+pub(crate) fn build_behind(
     alloc: Global,
     registry: &Registry,
     used: &BuilderUse,
+    symbol: &str,
     count: usize,
     forest: &mut Forest,
 ) -> Result<(), AllocError>
     requires { builder_shape (offer_of registry.now) used.now.name ≡ Some used.now.shape }
-    ensures { OnOk result (forest.new ≡ built_behind used.now.shape [] count forest.old) }
+    ensures { OnOk result (forest.new ≡ built_behind used.now.shape symbol.now count forest.old) }
 {
     let kids = forest.split_off(count.min(forest.len()))?;
-    forest.push(made(alloc, registry, used, "", kids)?)
+    forest.push(made(alloc, registry, used, symbol, kids)?)
 }
 
 /// Makes the trees behind each of these places into one, from the last place on.
@@ -237,13 +238,13 @@ fn build_waiting(
     ensures { OnOk result (forest.new ≡ all_built used.now.shape (reverse places.items) forest.old) }
 {
     while let Some(place) = places.pop() {
-        build_behind(alloc, registry, used, place, forest)?;
+        build_behind(alloc, registry, used, "", place, forest)?;
     }
     Ok(())
 }
 
 /// The tree that the registry's builder makes.
-pub(crate) fn made(
+fn made(
     alloc: Global,
     registry: &Registry,
     used: &BuilderUse,

@@ -1,18 +1,22 @@
 //! Nodes are entered: a leaf answers at once, and any other form runs its first part.
 
-ghost use Rattle.std.specs.Prelude.{◌≡◌, ◌∷◌, slice_get, option_copied, IfOk};
+ghost use Rattle.std.specs.Prelude.{◌≡◌, ◌∷◌, [], length, slice_get, option_copied, unwrap_or, IfOk};
 ghost use Rattle.pg_pred.specs.Offer.{offer_of};
-ghost use Rattle.pg_grammar.specs.Contents.{node_class};
+ghost use Rattle.pg_grammar.specs.Contents.{class_of, class_parts};
 ghost use Rattle.pg_grammar.specs.Fits.{Fits, IsClassIn};
+ghost use Rattle.pg_grammar.specs.declared.form.Leaf.TheVariants as leaf;
 ghost use Rattle.pg_language.specs.Answers.{given};
-ghost use Rattle.pg_turns.specs.Tape.{tape_at, tape_enter_at, tape_enter, tape_seq, tape_many, tape_chain, tape_rule, tape_word};
+ghost use Rattle.pg_language.specs.Leaves.{leaf_outcome};
+ghost use Rattle.pg_turns.specs.Tape.{tape_at, tape_enter_at, tape_enter, tape_seq, tape_many, tape_chain, tape_rule, tape_told, spot_at, on_around};
 ghost use Rattle.pg_turns.specs.View.{frame_of, on_lists, stack_of, tape_of};
 ghost use Rattle.pg_language.specs.declared.reading.Reading.{Reading};
 
 use crate::frame::{ChainFrame, Frame, Kept, Mode, PartsFrame, Reply, RoundsFrame};
 use crate::machine::Machine;
-use pg_grammar::{BuilderUse, Grammar, Node, NodeId, RuleId, TrailItem, WordId, WordItem};
-use pg_language::Fold;
+use pg_grammar::{
+    Around, BuilderUse, Form, Grammar, Leaf, Node, NodeId, RuleId, Side, TrailItem, WordId,
+    WordItem,
+};
 use pg_pred::Registry;
 use pg_text::Text;
 use std::alloc::{AllocError, Global};
@@ -49,63 +53,74 @@ impl<'a> Machine<'a> {
         place: usize,
     ) -> Result<Mode, AllocError>
         requires fits { Fits (offer_of registry.now) grammar.now }
-        requires class { IsClassIn grammar.now (node_class form.now) }
+        requires class { IsClassIn grammar.now (class_parts form.now) }
         ensures { IfOk result (λ mode. (reading : Reading) → tape_of mode self.new ≡
             on_lists (tape_enter (given reading grammar.now text.now) form.now place) self.old) }
     {
         match form {
-            Node::Satisfy(class) => self.satisfy(alloc, grammar, registry, text, class, place),
-            Node::String(characters) => self.string(alloc, text, characters.as_slice(), place),
-            Node::NotFollowedBy(class) => {
-                self.not_followed_by(grammar, registry, text, class, place)
+            Form::Leaf(leaf) => self.enter_leaf(alloc, grammar, registry, text, leaf, place),
+            Form::Seq(parts) => self.enter_parts(parts.as_slice(), place),
+            Form::Choice(parts) => self.next_alternative(1, parts.as_slice(), place, Kept::Nothing),
+            Form::Many(part) => self.enter_rounds(*part, place),
+            Form::Chain(side, used, operand, separator) => {
+                self.enter_chain(*side, used, *operand, *separator, place)
             }
-            Node::EndOfText => self.end_of_text(text, place),
-            Node::Word(word) => self.enter_word(alloc, grammar, registry, text, *word, place),
-            Node::Seq(parts) => self.enter_parts(parts.as_slice(), place),
-            Node::Choice(parts) => self.next_alternative(1, parts.as_slice(), place, Kept::Nothing),
-            Node::Many(part) => self.enter_rounds(*part, place),
-            Node::ChainLeft(used, operand, separator) => {
-                self.enter_chain(Fold::FromLeft, used, *operand, *separator, place)
-            }
-            Node::ChainRight(used, operand, separator) => {
-                self.enter_chain(Fold::FromRight, used, *operand, *separator, place)
-            }
-            Node::Try(part) => self.enter_part(Frame::Try, *part, place),
-            Node::Rule(rule) => self.enter_rule(grammar, *rule, place),
-            Node::Text(part) => {
-                let forest = self.forest.len();
-                self.enter_part(
-                    Frame::Text {
-                        start: place,
-                        forest,
-                    },
-                    *part,
-                    place,
-                )
-            }
-            Node::Skip(part) => {
-                let forest = self.forest.len();
-                self.enter_part(Frame::Skip { forest }, *part, place)
-            }
-            Node::Build(used, symbol, part) => {
-                let forest = self.forest.len();
-                self.enter_part(
-                    Frame::Build {
-                        used,
-                        symbol,
-                        forest,
-                    },
-                    *part,
-                    place,
-                )
-            }
-            Node::Label(part, message) => self.enter_part(Frame::Label(message), *part, place),
-            // They have no case in the relation yet.
-            Node::Expression(_, _) | Node::Declare(_) => Ok(Mode::Endless),
+            Form::Rule(rule) => self.enter_rule(grammar, *rule, place),
+            // It has no case in the relation yet.
+            Form::Expression(_, _) => Ok(Mode::Endless),
+            Form::Around(around, part) => self.enter_around(around, *part, place),
         }
     }
 
-    /// A form around one part runs it.
+    /// A leaf answers at once.
+    fn enter_leaf(
+        &mut self,
+        alloc: Global,
+        grammar: &'a Grammar,
+        registry: &Registry,
+        text: &'a Text,
+        leaf: &'a Leaf<WordId>,
+        place: usize,
+    ) -> Result<Mode, AllocError>
+        requires fits { Fits (offer_of registry.now) grammar.now }
+        requires class { IsClassIn grammar.now (unwrap_or (class_of leaf.now) []) }
+        ensures { IfOk result (λ mode. tape_of mode self.new ≡
+            on_lists (tape_told (leaf_outcome grammar.now text.now leaf.now (spot_at self.old.table place))) self.old) }
+    {
+        match leaf {
+            Leaf::Satisfy(class) => self.satisfy(alloc, grammar, registry, text, class, place),
+            Leaf::String(characters) => self.string(alloc, text, characters.as_slice(), place),
+            Leaf::Word(word) => self.enter_word(alloc, grammar, registry, text, *word, place),
+            Leaf::NotFollowedBy(class) => {
+                self.not_followed_by(grammar, registry, text, class, place)
+            }
+            Leaf::EndOfText => self.end_of_text(text, place),
+            // It has no answer in the relation yet.
+            Leaf::Declare(_) => Ok(Mode::Endless),
+        }
+    }
+
+    /// A form around a part runs it.
+    fn enter_around(
+        &mut self,
+        around: &'a Around,
+        part: NodeId,
+        place: usize,
+    ) -> Result<Mode, AllocError>
+        ensures { IfOk result (λ mode. tape_of mode self.new ≡
+            tape_at part place (on_around around.now place (length self.old.forest) ∷ stack_of self.old.frames.items)
+            self.old.forest self.old.trail.items self.old.messages self.old.table) }
+    {
+        let (start, forest) = (place, self.forest.len());
+        let frame = Frame::Around {
+            around,
+            start,
+            forest,
+        };
+        self.enter_part(frame, part, place)
+    }
+
+    /// A part runs, and the frame waits for it.
     fn enter_part(
         &mut self,
         frame: Frame<'a>,
@@ -162,19 +177,19 @@ impl<'a> Machine<'a> {
     /// A chain runs its first operand.
     fn enter_chain(
         &mut self,
-        fold: Fold,
+        side: Side,
         used: &'a BuilderUse,
         operand: NodeId,
         separator: NodeId,
         place: usize,
     ) -> Result<Mode, AllocError>
         ensures { IfOk result (λ mode. tape_of mode self.new ≡
-            on_lists (tape_chain (record { fold = fold; used = used.now; operand = operand; separator = separator }) place) self.old) }
+            on_lists (tape_chain (record { side = side; used = used.now; operand = operand; separator = separator }) place) self.old) }
     {
         let slot = self.trail.len();
         self.trail.push(TrailItem::Rounds(0))?;
         let chain = ChainFrame {
-            fold,
+            side,
             used,
             operand,
             separator,
@@ -200,7 +215,7 @@ impl<'a> Machine<'a> {
         }
     }
 
-    /// A word of the item that the form names.
+    /// A word of the item that the leaf names.
     fn enter_word(
         &mut self,
         alloc: Global,
@@ -211,8 +226,8 @@ impl<'a> Machine<'a> {
         place: usize,
     ) -> Result<Mode, AllocError>
         requires { Fits (offer_of registry.now) grammar.now }
-        ensures { IfOk result (λ mode. (reading : Reading) → tape_of mode self.new ≡
-            on_lists (tape_word (given reading grammar.now text.now) (slice_get grammar.now.words word) place) self.old) }
+        ensures { IfOk result (λ mode. tape_of mode self.new ≡
+            on_lists (tape_told (leaf_outcome grammar.now text.now (leaf.Word word) (spot_at self.old.table place))) self.old) }
     {
         match item_at(grammar.word_items(), word.index()) {
             Some(item) => self.word(alloc, grammar, registry, text, item, place),

@@ -5,10 +5,8 @@
 //! long the lists were, and how many operators there were, where it may cut them back.
 
 use crate::message_tape::{Held, Why};
-use pg_grammar::{BuilderUse, NodeId, TrailItem};
-use pg_language::Fold;
-use pg_text::Characters;
-use pg_tree::{Forest, Label};
+use pg_grammar::{Around, BuilderUse, NodeId, Side, TrailItem};
+use pg_tree::Forest;
 
 /// What a node answered. Its trees, its items and the messages of its error are the last ones on the lists; behind an
 /// error others may lie there, which whoever goes on cuts off.
@@ -119,7 +117,7 @@ pub struct RoundsFrame {
 /// A chain whose first operand runs.
 #[derive(Clone, Copy)]
 pub struct ChainFrame<'a> {
-    pub fold: Fold,
+    pub side: Side,
     pub used: &'a BuilderUse,
     pub operand: NodeId,
     pub separator: NodeId,
@@ -158,22 +156,11 @@ pub enum Frame<'a> {
     Separator(Box<LinksFrame<'a>>),
     /// An operand runs, behind a separator that was ok; so many trees were there before it.
     Operand(Box<LinksFrame<'a>>, Before, usize),
-    Try,
-    Label(&'a Characters),
     Rule,
-    /// The leaf of the text from the place on takes the place of the trees behind the first.
-    Text {
+    /// The part of a form around it runs, from the place on; so many trees were there before it.
+    Around {
+        around: &'a Around,
         start: usize,
-        forest: usize,
-    },
-    /// The trees behind the first are dropped.
-    Skip {
-        forest: usize,
-    },
-    /// The trees behind the first are made into one.
-    Build {
-        used: &'a BuilderUse,
-        symbol: &'a Label,
         forest: usize,
     },
 }

@@ -9,7 +9,6 @@ ghost use Rattle.pg_turns.specs.Tape.{tape_turn, tape_hand, tape_is_last};
 ghost use Rattle.pg_turns.specs.Ready.{IsReady, IsTapeReady};
 ghost use Rattle.pg_turns.specs.View.{frame_of, on_lists, stack_of, tape_of};
 
-use crate::around::{as_text, build, label, skip, tried};
 use crate::frame::{Frame, Mode, Reply};
 use crate::machine::Machine;
 use pg_grammar::Grammar;
@@ -69,36 +68,12 @@ impl<'a> Machine<'a> {
             Frame::Operand(links, before, trees) => {
                 self.hand_to_operand(alloc, registry, links, before, trees, reply)
             }
-            Frame::Try => Ok(Mode::With(tried(reply))),
-            Frame::Label(name) => {
-                label(&mut self.messages, name, reply)?;
-                Ok(Mode::With(reply))
-            }
             Frame::Rule => Ok(Mode::With(reply)),
-            Frame::Text { start, forest } => {
-                as_text(alloc, text, start, forest, reply, &mut self.forest)?;
-                Ok(Mode::With(reply))
-            }
-            Frame::Skip { forest } => {
-                skip(forest, reply, &mut self.forest);
-                Ok(Mode::With(reply))
-            }
-            Frame::Build {
-                used,
-                symbol,
+            Frame::Around {
+                around,
+                start,
                 forest,
-            } => {
-                build(
-                    alloc,
-                    registry,
-                    used,
-                    symbol,
-                    forest,
-                    reply,
-                    &mut self.forest,
-                )?;
-                Ok(Mode::With(reply))
-            }
+            } => self.hand_to_around(alloc, registry, text, around, start, forest, reply),
         }
     }
 

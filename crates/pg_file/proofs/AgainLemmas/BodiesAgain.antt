@@ -6,15 +6,20 @@ use Rattle.std.specs.Str.{chars, encode_utf8_all}
 use Rattle.pg_pred.specs.Offer.{Offer}
 use Rattle.pg_grammar.specs.Names as names
 use Rattle.pg_grammar.specs.Preorder.{SpellForms}
-use Rattle.pg_grammar.specs.Forms.{part_count, lacks_alternative}
+use Rattle.pg_grammar.specs.Forms.{BaseForm, part_count, lacks_alternative}
 use Rattle.pg_grammar.specs.declared.class.ClassPart.{ClassPart}
-use Rattle.pg_grammar.specs.declared.form.BaseForm.{BaseForm}
-use Rattle.pg_grammar.specs.declared.form.BaseForm.TheVariants as base
+use Rattle.pg_grammar.specs.declared.form.Form.TheVariants as form
+use Rattle.pg_grammar.specs.declared.form.Leaf.{Leaf}
+use Rattle.pg_grammar.specs.declared.form.Leaf.TheVariants as leaf
+use Rattle.pg_grammar.specs.declared.form.Around.{Around}
+use Rattle.pg_grammar.specs.declared.form.Around.TheVariants as around
+use Rattle.pg_grammar.specs.declared.side.Side.{Side}
+use Rattle.pg_grammar.specs.declared.side.Side.TheVariants as side
 use Rattle.pg_grammar.specs.declared.used.BuilderUse.{BuilderUse}
 use Rattle.pg_items.specs.Tree.{Value}
 use Rattle.pg_meaning.specs.Names.{builder_named}
-use Rattle.pg_meaning.specs.Meaning.{Body, joined, meant, all_meant}
-use Rattle.pg_print.specs.Canonical.{values_from, choice_from, build_from, value_at, value_of_form, values_of}
+use Rattle.pg_meaning.specs.Meaning.{Body, joined, side_of, meant, all_meant}
+use Rattle.pg_print.specs.Canonical.{values_from, choice_from, build_from, value_at, leaf_value, around_value, chain_form_of, value_of_form, values_of}
 use Rattle.pg_file.proofs.AgainLemmas.PrintedNames.{IsNamedForm, IsNamedBuilder}
 use Rattle.pg_print.proofs.PrinterLemmas.Bodies.{values_counted, no_one}
 use Rattle.pg_file.proofs.AgainLemmas.ClassesAgain.{class_again, joined_both}
@@ -24,18 +29,18 @@ all_again offer above [] = refl
 all_again offer above (v ∷ vs) = ap (λ (l : List Body). meant offer above v ∷ l) (all_again offer above vs)
 
 seq_again : (offer : Offer) (items above : List names.Name) (n : ℕ) (vs : List Value) → length vs ≡ n
-    → meant offer above (value_of_form items (base.Seq n) vs) ≡ base.Seq n ∷ joined (map (meant offer above) vs)
+    → meant offer above (value_of_form items (form.Seq n) vs) ≡ form.Seq n ∷ joined (map (meant offer above) vs)
 seq_again offer items above n vs e =
-    ap (λ (l : List Body). base.Seq (length l) ∷ joined l) (all_again offer above vs)
-    ∙ ap (λ (m : ℕ). base.Seq m ∷ joined (map (meant offer above) vs)) (length-map vs (meant offer above) ∙ e)
+    ap (λ (l : List Body). form.Seq (length l) ∷ joined l) (all_again offer above vs)
+    ∙ ap (λ (m : ℕ). form.Seq m ∷ joined (map (meant offer above) vs)) (length-map vs (meant offer above) ∙ e)
 
-choice_again : (offer : Offer) (above : List names.Name) (n : ℕ) (vs : List Value) → length vs ≡ n → lacks_alternative (base.Choice n) ≡ false
-    → meant offer above (choice_from vs) ≡ base.Choice n ∷ joined (map (meant offer above) vs)
+choice_again : (offer : Offer) (above : List names.Name) (n : ℕ) (vs : List Value) → length vs ≡ n → lacks_alternative (form.Choice n) ≡ false
+    → meant offer above (choice_from vs) ≡ form.Choice n ∷ joined (map (meant offer above) vs)
 choice_again offer above zero [] e k = absurd cc
 choice_again offer above (suc n) [] e k = absurd (omega (arith, e))
 choice_again offer above n (v ∷ vs) e k =
-    ap (λ (l : List Body). base.Choice (suc (length l)) ∷ (meant offer above v ++ joined l)) (all_again offer above vs)
-    ∙ ap (λ (m : ℕ). base.Choice m ∷ joined (map (meant offer above) (v ∷ vs))) (ap suc (length-map vs (meant offer above)) ∙ e)
+    ap (λ (l : List Body). form.Choice (suc (length l)) ∷ (meant offer above v ++ joined l)) (all_again offer above vs)
+    ∙ ap (λ (m : ℕ). form.Choice m ∷ joined (map (meant offer above) (v ∷ vs))) (ap suc (length-map vs (meant offer above)) ∙ e)
 
 -- a base form in front of the first value
 one_again : (offer : Offer) (above : List names.Name) (form : BaseForm) (vs : List Value) → length vs ≡ 1
@@ -53,9 +58,28 @@ two_again offer above form (v ∷ w ∷ []) e = ap (λ (l : Body). form ∷ (mea
 two_again offer above form (v ∷ w ∷ x ∷ vs) e = absurd (omega (arith, e))
 
 build_again : (offer : Offer) (above : List names.Name) (used : BuilderUse) (symbol s : List ℕ) (v : Value) → IsNamedBuilder offer used → encode_utf8_all s ≡ symbol
-    → meant offer above (build_from (chars used.name) s v) ≡ base.Build used symbol ∷ meant offer above v
-build_again offer above used symbol [] v h e = ap (λ (u : BuilderUse). base.Build u [] ∷ meant offer above v) h ∙ ap (λ (t : List ℕ). base.Build used t ∷ meant offer above v) e
-build_again offer above used symbol (c ∷ s) v h e = ap (λ (u : BuilderUse). base.Build u (encode_utf8_all (c ∷ s)) ∷ meant offer above v) h ∙ ap (λ (t : List ℕ). base.Build used t ∷ meant offer above v) e
+    → meant offer above (build_from (chars used.name) s v) ≡ form.Around (around.Build used symbol) (record {}) ∷ meant offer above v
+build_again offer above used symbol [] v h e =
+    ap (λ (u : BuilderUse). form.Around (around.Build u []) (record {}) ∷ meant offer above v) h
+    ∙ ap (λ (t : List ℕ). form.Around (around.Build used t) (record {}) ∷ meant offer above v) e
+build_again offer above used symbol (c ∷ s) v h e =
+    ap (λ (u : BuilderUse). form.Around (around.Build u (encode_utf8_all (c ∷ s))) (record {}) ∷ meant offer above v) h
+    ∙ ap (λ (t : List ℕ). form.Around (around.Build used t) (record {}) ∷ meant offer above v) e
+
+leaf_again : (offer : Offer) (items above : List names.Name) (l : Leaf names.Name) → IsNamedForm offer items above (form.Leaf l) → meant offer above (leaf_value items l) ≡ form.Leaf l ∷ []
+leaf_again offer items above (leaf.Satisfy class) h = ap (λ (c : List ClassPart). form.Leaf (leaf.Satisfy c) ∷ []) (class_again offer items above class h.whole h.named)
+leaf_again offer items above (leaf.NotFollowedBy class) h = ap (λ (c : List ClassPart). form.Leaf (leaf.NotFollowedBy c) ∷ []) (class_again offer items above class h.whole h.named)
+leaf_again offer items above (leaf.Declare class) h = ap (λ (c : List ClassPart). form.Leaf (leaf.Declare c) ∷ []) (class_again offer items above class h.whole h.named)
+leaf_again offer items above _ h = refl
+
+around_again : (offer : Offer) (items above : List names.Name) (k : Around) (v : Value) → IsNamedForm offer items above (form.Around k (record {}))
+    → meant offer above (around_value k v) ≡ form.Around k (record {}) ∷ meant offer above v
+around_again offer items above (around.Build used symbol) v h = build_again offer above used symbol (chars symbol) v h.0 h.1
+around_again offer items above _ v h = refl
+
+side_again : (side : Side) → side_of (chain_form_of side) ≡ side
+side_again side.Left = refl
+side_again _ = refl
 
 -- a base form without parts
 none_again : (offer : Offer) (above : List names.Name) (form : BaseForm) (vs : List Value) → length vs ≡ 0 → form ∷ [] ≡ form ∷ joined (map (meant offer above) vs)
@@ -64,31 +88,24 @@ none_again offer above form (v ∷ vs) e = absurd (omega (arith, e))
 
 form_again : (offer : Offer) (items above : List names.Name) (form : BaseForm) (vs : List Value) → length vs ≡ part_count form → lacks_alternative form ≡ false → IsNamedForm offer items above form
     → meant offer above (value_of_form items form vs) ≡ form ∷ joined (map (meant offer above) vs)
-form_again offer items above (base.Satisfy class) vs e k h = ap (λ (c : List ClassPart). base.Satisfy c ∷ []) (class_again offer items above class h.whole h.named) ∙ none_again offer above (base.Satisfy class) vs e
-form_again offer items above (base.String s) vs e k h = none_again offer above (base.String s) vs e
-form_again offer items above (base.Seq n) vs e k h = seq_again offer items above n vs e
-form_again offer items above (base.Choice n) vs e k h = choice_again offer above n vs e k
-form_again offer items above base.Many vs e k h = one_again offer above base.Many vs e
-form_again offer items above (base.ChainLeft used) vs e k h =
-    ap (λ (u : BuilderUse). base.ChainLeft u ∷ (meant offer above (value_at 0 vs) ++ meant offer above (value_at 1 vs))) h ∙ two_again offer above (base.ChainLeft used) vs e
-form_again offer items above (base.ChainRight used) vs e k h =
-    ap (λ (u : BuilderUse). base.ChainRight u ∷ (meant offer above (value_at 0 vs) ++ meant offer above (value_at 1 vs))) h ∙ two_again offer above (base.ChainRight used) vs e
-form_again offer items above base.Try vs e k h = one_again offer above base.Try vs e
-form_again offer items above (base.NotFollowedBy class) vs e k h =
-    ap (λ (c : List ClassPart). base.NotFollowedBy c ∷ []) (class_again offer items above class h.whole h.named) ∙ none_again offer above (base.NotFollowedBy class) vs e
-form_again offer items above base.EndOfText vs e k h = none_again offer above base.EndOfText vs e
-form_again offer items above (base.Word s) vs e k h = none_again offer above (base.Word s) vs e
-form_again offer items above (base.Rule s) vs e k h = none_again offer above (base.Rule s) vs e
-form_again offer items above (base.Expression builders) vs e k h =
-    ap (λ (u : BuilderUse). base.Expression (record { «infix» = u; prefix = builder_named offer (chars builders.prefix.name); postfix = builder_named offer (chars builders.postfix.name) }) ∷ meant offer above (value_at 0 vs)) h.0
-    ∙ ap (λ (u : BuilderUse). base.Expression (record { «infix» = builders.«infix»; prefix = u; postfix = builder_named offer (chars builders.postfix.name) }) ∷ meant offer above (value_at 0 vs)) h.1
-    ∙ ap (λ (u : BuilderUse). base.Expression (record { «infix» = builders.«infix»; prefix = builders.prefix; postfix = u }) ∷ meant offer above (value_at 0 vs)) h.2
-    ∙ one_again offer above (base.Expression builders) vs e
-form_again offer items above (base.Declare class) vs e k h = ap (λ (c : List ClassPart). base.Declare c ∷ []) (class_again offer items above class h.whole h.named) ∙ none_again offer above (base.Declare class) vs e
-form_again offer items above base.Text vs e k h = one_again offer above base.Text vs e
-form_again offer items above base.Skip vs e k h = one_again offer above base.Skip vs e
-form_again offer items above (base.Build used symbol) vs e k h = build_again offer above used symbol (chars symbol) (value_at 0 vs) h.0 h.1 ∙ one_again offer above (base.Build used symbol) vs e
-form_again offer items above (base.Label message) vs e k h = one_again offer above (base.Label message) vs e
+form_again offer items above (form.Leaf l) vs e k h = leaf_again offer items above l h ∙ none_again offer above (form.Leaf l) vs e
+form_again offer items above (form.Seq n) vs e k h = seq_again offer items above n vs e
+form_again offer items above (form.Choice n) vs e k h = choice_again offer above n vs e k
+form_again offer items above (form.Many part) vs e k h = one_again offer above (form.Many (record {})) vs e
+form_again offer items above (form.Chain s used operand separator) vs e k h =
+    let parts = meant offer above (value_at 0 vs) ++ meant offer above (value_at 1 vs) in
+    ap (λ (t : Side). form.Chain t (builder_named offer (chars used.name)) (record {}) (record {}) ∷ parts) (side_again s)
+    ∙ ap (λ (u : BuilderUse). form.Chain s u (record {}) (record {}) ∷ parts) h
+    ∙ two_again offer above (form.Chain s used (record {}) (record {})) vs e
+form_again offer items above (form.Rule s) vs e k h = none_again offer above (form.Rule s) vs e
+form_again offer items above (form.Expression builders part) vs e k h =
+    let term = meant offer above (value_at 0 vs) in
+    let postfixes = builder_named offer (chars builders.postfix.name) in
+    ap (λ (u : BuilderUse). form.Expression (record { «infix» = u; prefix = builder_named offer (chars builders.prefix.name); postfix = postfixes }) (record {}) ∷ term) h.0
+    ∙ ap (λ (u : BuilderUse). form.Expression (record { «infix» = builders.«infix»; prefix = u; postfix = postfixes }) (record {}) ∷ term) h.1
+    ∙ ap (λ (u : BuilderUse). form.Expression (record { «infix» = builders.«infix»; prefix = builders.prefix; postfix = u }) (record {}) ∷ term) h.2
+    ∙ one_again offer above (form.Expression builders (record {})) vs e
+form_again offer items above (form.Around a part) vs e k h = around_again offer items above a (value_at 0 vs) h ∙ one_again offer above (form.Around a (record {})) vs e
 
 split_again : (offer : Offer) (above : List names.Name) (n : ℕ) (vs : List Value)
     → joined (map (meant offer above) (take n vs)) ++ joined (map (meant offer above) (drop n vs)) ≡ joined (map (meant offer above) vs)

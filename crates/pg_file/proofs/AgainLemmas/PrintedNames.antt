@@ -6,7 +6,7 @@ use Rattle.pg_pred.specs.Offer.{Offer}
 use Rattle.pg_grammar.specs.Names as names
 use Rattle.pg_grammar.specs.Names.{name_at}
 use Rattle.pg_grammar.specs.Preorder.{SpellForms}
-use Rattle.pg_grammar.specs.Forms.{part_count, lacks_alternative}
+use Rattle.pg_grammar.specs.Forms.{BaseForm, part_count, lacks_alternative}
 use Rattle.pg_grammar.specs.Classes.{IsExpression}
 use Rattle.pg_grammar.specs.Grammar.{Grammar, IsGrammar, forms_of}
 use Rattle.pg_grammar.specs.declared.class_item.ClassItem.{ClassItem}
@@ -14,8 +14,9 @@ use Rattle.pg_grammar.specs.declared.word_item.WordItem.{WordItem}
 use Rattle.pg_grammar.specs.declared.operators_item.OperatorsItem.{OperatorsItem}
 use Rattle.pg_grammar.specs.declared.class.ClassPart.{ClassPart}
 use Rattle.pg_grammar.specs.declared.class.ClassPart.TheVariants as part
-use Rattle.pg_grammar.specs.declared.form.BaseForm.{BaseForm}
-use Rattle.pg_grammar.specs.declared.form.BaseForm.TheVariants as base
+use Rattle.pg_grammar.specs.declared.form.Form.TheVariants as form
+use Rattle.pg_grammar.specs.declared.form.Leaf.TheVariants as leaf
+use Rattle.pg_grammar.specs.declared.form.Around.TheVariants as around
 use Rattle.pg_grammar.specs.declared.used.BuilderUse.{BuilderUse}
 use Rattle.pg_print.specs.Canonical.{class_names}
 use Rattle.pg_meaning.specs.Names.{class_named, builder_named}
@@ -40,24 +41,13 @@ IsNamedBuilder offer used = builder_named offer (chars used.name) ≡ used
 
 -- the names in a base form do, and a symbol is the text of its characters
 abbrev pub IsNamedForm : Offer → (items above : List names.Name) → BaseForm → Type 0
-IsNamedForm offer items above (base.Satisfy class) = IsNamedClass offer items above class
-IsNamedForm offer items above (base.String s) = Unit {0}
-IsNamedForm offer items above (base.Seq n) = Unit {0}
-IsNamedForm offer items above (base.Choice n) = Unit {0}
-IsNamedForm offer items above base.Many = Unit {0}
-IsNamedForm offer items above (base.ChainLeft used) = IsNamedBuilder offer used
-IsNamedForm offer items above (base.ChainRight used) = IsNamedBuilder offer used
-IsNamedForm offer items above base.Try = Unit {0}
-IsNamedForm offer items above (base.NotFollowedBy class) = IsNamedClass offer items above class
-IsNamedForm offer items above base.EndOfText = Unit {0}
-IsNamedForm offer items above (base.Word s) = Unit {0}
-IsNamedForm offer items above (base.Rule s) = Unit {0}
-IsNamedForm offer items above (base.Expression builders) = IsNamedBuilder offer builders.«infix» × IsNamedBuilder offer builders.prefix × IsNamedBuilder offer builders.postfix
-IsNamedForm offer items above (base.Declare class) = IsNamedClass offer items above class
-IsNamedForm offer items above base.Text = Unit {0}
-IsNamedForm offer items above base.Skip = Unit {0}
-IsNamedForm offer items above (base.Build used symbol) = IsNamedBuilder offer used × (encode_utf8_all (chars symbol) ≡ symbol)
-IsNamedForm offer items above (base.Label message) = Unit {0}
+IsNamedForm offer items above (form.Leaf (leaf.Satisfy class)) = IsNamedClass offer items above class
+IsNamedForm offer items above (form.Leaf (leaf.NotFollowedBy class)) = IsNamedClass offer items above class
+IsNamedForm offer items above (form.Leaf (leaf.Declare class)) = IsNamedClass offer items above class
+IsNamedForm offer items above (form.Chain side used operand separator) = IsNamedBuilder offer used
+IsNamedForm offer items above (form.Expression builders part) = IsNamedBuilder offer builders.«infix» × IsNamedBuilder offer builders.prefix × IsNamedBuilder offer builders.postfix
+IsNamedForm offer items above (form.Around (around.Build used symbol) part) = IsNamedBuilder offer used × (encode_utf8_all (chars symbol) ≡ symbol)
+IsNamedForm offer items above _ = Unit {0}
 
 -- base forms of so many whole bodies, whose choices have an alternative and whose names do
 pub record AreNamedBodies (offer : Offer) (items above : List names.Name) (count : ℕ) (forms : List BaseForm) : Type 0 where

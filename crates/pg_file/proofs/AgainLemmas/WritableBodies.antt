@@ -5,13 +5,15 @@ use Rattle.std.specs.Str.{chars, encode_utf8_all}
 use Rattle.pg_pred.specs.Offer.{Offer}
 use Rattle.pg_grammar.specs.Names as names
 use Rattle.pg_grammar.specs.declared.class.ClassPart.{ClassPart}
-use Rattle.pg_grammar.specs.declared.form.BaseForm.{BaseForm}
-use Rattle.pg_grammar.specs.declared.form.BaseForm.TheVariants as base
+use Rattle.pg_grammar.specs.Forms.{BaseForm}
+use Rattle.pg_grammar.specs.declared.form.Form.TheVariants as form
+use Rattle.pg_grammar.specs.declared.form.Leaf.TheVariants as leaf
+use Rattle.pg_grammar.specs.declared.form.Around.{Around}
+use Rattle.pg_grammar.specs.declared.form.Around.TheVariants as around
 use Rattle.pg_grammar.specs.declared.used.BuilderUse.{BuilderUse}
 use Rattle.pg_items.specs.declared.words.ClassForm.{ClassForm}
 use Rattle.pg_items.specs.declared.words.ClassForm.TheVariants as class_form
 use Rattle.pg_items.specs.declared.words.ChainForm.{ChainForm}
-use Rattle.pg_items.specs.declared.words.ChainForm.TheVariants as chain_form
 use Rattle.pg_tokens.specs.declared.token.Mark.TheVariants.{Comma, Close}
 use Rattle.pg_tokens.specs.Tokens.{Token, mark, literal}
 use Rattle.pg_tokens.specs.Lexical.{passes, is_name, is_scalar}
@@ -24,7 +26,7 @@ use Rattle.pg_meaning.specs.Meaning.{Body, joined, class_of, chain_of, meant, al
 use Rattle.pg_file.proofs.AgainLemmas.Printable.{ArePrintable}
 use Rattle.pg_file.proofs.AgainLemmas.PrintedNames.{IsNamedBuilder, IsNamedForm}
 use Rattle.pg_tokens.proofs.Encoded.{chars_encoded}
-use Rattle.pg_meaning.proofs.MeaningLemmas.Kept.{IsKept, kept_some, kept_one, kept_two, kept_between}
+use Rattle.pg_meaning.proofs.MeaningLemmas.Kept.{IsBare, IsKept, kept_some, kept_one, kept_two, kept_between}
 use Rattle.pg_file.proofs.AgainLemmas.Found.{AreFoundAgain}
 use Rattle.pg_file.proofs.AgainLemmas.WritableClasses.{each_both, each_first, each_second, IsWritableExpression, class_writable, class_is_named}
 
@@ -74,24 +76,17 @@ no_symbol = symbol_writable [] (omega arith) refl
 
 -- a base form that a file may have, where the class items have these names
 abbrev pub IsWritableForm : Offer → (items : List names.Name) → BaseForm → Type 0
-IsWritableForm offer items (base.Satisfy class) = IsWritableExpression offer items items class
-IsWritableForm offer items (base.String s) = IsFilled s × (passes is_scalar s ≡ true)
-IsWritableForm offer items (base.Seq n) = Unit {0}
-IsWritableForm offer items (base.Choice n) = Unit {0}
-IsWritableForm offer items base.Many = Unit {0}
-IsWritableForm offer items (base.ChainLeft used) = IsWritableBuilder offer used
-IsWritableForm offer items (base.ChainRight used) = IsWritableBuilder offer used
-IsWritableForm offer items base.Try = Unit {0}
-IsWritableForm offer items (base.NotFollowedBy class) = IsWritableExpression offer items items class
-IsWritableForm offer items base.EndOfText = Unit {0}
-IsWritableForm offer items (base.Word s) = IsWritableName s
-IsWritableForm offer items (base.Rule s) = IsWritableName s
-IsWritableForm offer items (base.Expression builders) = IsWritableBuilder offer builders.«infix» × IsWritableBuilder offer builders.prefix × IsWritableBuilder offer builders.postfix
-IsWritableForm offer items (base.Declare class) = IsWritableExpression offer items items class
-IsWritableForm offer items base.Text = Unit {0}
-IsWritableForm offer items base.Skip = Unit {0}
-IsWritableForm offer items (base.Build used symbol) = IsWritableBuilder offer used × IsWritableSymbol symbol
-IsWritableForm offer items (base.Label message) = IsLiteral message × (passes is_scalar message ≡ true)
+IsWritableForm offer items (form.Leaf (leaf.Satisfy class)) = IsWritableExpression offer items items class
+IsWritableForm offer items (form.Leaf (leaf.String s)) = IsFilled s × (passes is_scalar s ≡ true)
+IsWritableForm offer items (form.Leaf (leaf.Word s)) = IsWritableName s
+IsWritableForm offer items (form.Leaf (leaf.NotFollowedBy class)) = IsWritableExpression offer items items class
+IsWritableForm offer items (form.Leaf (leaf.Declare class)) = IsWritableExpression offer items items class
+IsWritableForm offer items (form.Chain side used operand separator) = IsWritableBuilder offer used
+IsWritableForm offer items (form.Rule s) = IsWritableName s
+IsWritableForm offer items (form.Expression builders part) = IsWritableBuilder offer builders.«infix» × IsWritableBuilder offer builders.prefix × IsWritableBuilder offer builders.postfix
+IsWritableForm offer items (form.Around (around.Build used symbol) part) = IsWritableBuilder offer used × IsWritableSymbol symbol
+IsWritableForm offer items (form.Around (around.Label message) part) = IsLiteral message × (passes is_scalar message ≡ true)
+IsWritableForm offer items _ = Unit {0}
 
 abbrev pub IsWritableBody : Offer → (items : List names.Name) → Body → Type 0
 IsWritableBody offer items body = AllByRecursion (IsWritableForm offer items) body
@@ -100,14 +95,17 @@ joined_writable : (offer : Offer) (items : List names.Name) (bodies : List Body)
 joined_writable offer items [] h = tt
 joined_writable offer items (body ∷ bodies) h = each_both (IsWritableForm offer items) body (joined bodies) h.0 (joined_writable offer items bodies h.1)
 
+bare_writable : (offer : Offer) (items : List names.Name) (k : Around) → IsBare k → IsWritableForm offer items (form.Around k (record {}))
+bare_writable offer items (around.Build used symbol) bare = absurd bare
+bare_writable offer items (around.Label message) bare = absurd bare
+bare_writable offer items _ bare = tt
+
 writable_kept : (offer : Offer) (items : List names.Name) → IsKept (IsWritableBody offer items)
 writable_kept offer items = record {
   seq = λ bodies h. (tt, joined_writable offer items bodies h);
   choice = λ body bodies h. (tt, joined_writable offer items (body ∷ bodies) h);
   many = λ body h. (tt, h);
-  attempt = λ body h. (tt, h);
-  text = λ body h. (tt, h);
-  skip = λ body h. (tt, h);
+  around = λ k bare body h. (bare_writable offer items k bare, h);
 }
 
 of_class_writable : (offer : Offer) (items : List names.Name) (form : ClassForm) (parts : List ClassPart) → IsWritableExpression offer items items parts → IsWritableForm offer items (class_of form parts)
@@ -116,8 +114,7 @@ of_class_writable offer items class_form.NotFollowedBy parts h = h
 of_class_writable offer items class_form.Declare parts h = h
 
 chain_writable : (offer : Offer) (items : List names.Name) (form : ChainForm) (used : BuilderUse) → IsWritableBuilder offer used → IsWritableForm offer items (chain_of form used)
-chain_writable offer items chain_form.Left used h = h
-chain_writable offer items chain_form.Right used h = h
+chain_writable offer items form used h = h
 
 -- ---- what a value means
 
@@ -190,24 +187,13 @@ mutual
 -- ---- its names
 
 form_named : (offer : Offer) (items : List names.Name) (form : BaseForm) → IsWritableForm offer items form → IsNamedForm offer items items form
-form_named offer items (base.Satisfy class) h = class_is_named offer items items class h
-form_named offer items (base.String s) h = tt
-form_named offer items (base.Seq n) h = tt
-form_named offer items (base.Choice n) h = tt
-form_named offer items base.Many h = tt
-form_named offer items (base.ChainLeft used) h = h.named
-form_named offer items (base.ChainRight used) h = h.named
-form_named offer items base.Try h = tt
-form_named offer items (base.NotFollowedBy class) h = class_is_named offer items items class h
-form_named offer items base.EndOfText h = tt
-form_named offer items (base.Word s) h = tt
-form_named offer items (base.Rule s) h = tt
-form_named offer items (base.Expression builders) h = (h.0.named, h.1.named, h.2.named)
-form_named offer items (base.Declare class) h = class_is_named offer items items class h
-form_named offer items base.Text h = tt
-form_named offer items base.Skip h = tt
-form_named offer items (base.Build used symbol) h = (h.0.named, h.1.encoded)
-form_named offer items (base.Label message) h = tt
+form_named offer items (form.Leaf (leaf.Satisfy class)) h = class_is_named offer items items class h
+form_named offer items (form.Leaf (leaf.NotFollowedBy class)) h = class_is_named offer items items class h
+form_named offer items (form.Leaf (leaf.Declare class)) h = class_is_named offer items items class h
+form_named offer items (form.Chain side used operand separator) h = h.named
+form_named offer items (form.Expression builders part) h = (h.0.named, h.1.named, h.2.named)
+form_named offer items (form.Around (around.Build used symbol) part) h = (h.0.named, h.1.encoded)
+form_named offer items _ h = tt
 
 pub forms_named : (offer : Offer) (items : List names.Name) (forms : List BaseForm) → IsWritableBody offer items forms → AllByRecursion (IsNamedForm offer items items) forms
 forms_named offer items [] h = tt

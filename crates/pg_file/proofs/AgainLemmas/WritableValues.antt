@@ -4,11 +4,14 @@ use Rattle.std.specs.List.{AllByRecursion}
 use Rattle.std.specs.Str.{chars}
 use Rattle.pg_pred.specs.Offer.{Offer}
 use Rattle.pg_grammar.specs.Names as names
-use Rattle.pg_grammar.specs.Forms.{part_count}
+use Rattle.pg_grammar.specs.Forms.{BaseForm, part_count}
 use Rattle.pg_grammar.proofs.Each.{all-take, all-drop}
 use Rattle.pg_grammar.specs.declared.class.ClassPart.{ClassPart}
-use Rattle.pg_grammar.specs.declared.form.BaseForm.{BaseForm}
-use Rattle.pg_grammar.specs.declared.form.BaseForm.TheVariants as base
+use Rattle.pg_grammar.specs.declared.form.Form.TheVariants as form
+use Rattle.pg_grammar.specs.declared.form.Leaf.{Leaf}
+use Rattle.pg_grammar.specs.declared.form.Leaf.TheVariants as leaf
+use Rattle.pg_grammar.specs.declared.form.Around.{Around}
+use Rattle.pg_grammar.specs.declared.form.Around.TheVariants as around
 use Rattle.pg_grammar.specs.declared.used.BuilderUse.{BuilderUse}
 use Rattle.pg_items.specs.declared.words.ClassForm.{ClassForm}
 use Rattle.pg_items.specs.declared.words.ClassForm.TheVariants as class_form
@@ -26,7 +29,7 @@ use Rattle.pg_items.specs.Syntax.{class_word, some_word, one_word, chain_word, w
 use Rattle.pg_items.specs.Proper.{IsLiteral, IsProper, AreProper}
 use Rattle.pg_items.specs.Heads.{heads, all_heads}
 use Rattle.pg_meaning.specs.Names.{FormIsKnown}
-use Rattle.pg_print.specs.Canonical.{class_from, values_from, value_at, choice_from, build_from, value_of_form, values_of}
+use Rattle.pg_print.specs.Canonical.{class_from, values_from, value_at, choice_from, build_from, leaf_value, around_value, chain_form_of, value_of_form, values_of}
 use Rattle.pg_file.proofs.AgainLemmas.Printable.{ArePrintable}
 use Rattle.pg_file.proofs.AgainLemmas.WritableClasses.{each_both, IsWritableExpression, printed_class_writable, IsWritableClass}
 use Rattle.pg_file.proofs.AgainLemmas.WritableBodies.{IsWritableBuilder, IsWritableForm, IsWritableBody}
@@ -137,37 +140,43 @@ build_writable offer items used (c ∷ symbol) v b short scalars h = record {
   known = (b.known, h.known);
 }
 
+leaf_value_writable : (offer : Offer) (items : List names.Name) (l : Leaf names.Name) → IsWritableForm offer items (form.Leaf l) → IsWritableValue offer items (leaf_value items l)
+leaf_value_writable offer items (leaf.Satisfy class) h = class_value_writable offer items class_form.Satisfy class h
+leaf_value_writable offer items (leaf.String s) h = record { proper = h.0; printable = λ rest p. (refl, (tt, (h.1, (tt, p)))); known = (tt, tt) }
+leaf_value_writable offer items (leaf.Word s) h = record { proper = h.free; printable = λ rest p. (refl, (tt, (h.name, (tt, p)))); known = (tt, tt) }
+leaf_value_writable offer items (leaf.NotFollowedBy class) h = class_value_writable offer items class_form.NotFollowedBy class h
+leaf_value_writable offer items leaf.EndOfText h = record { proper = tt; printable = λ rest p. (refl, p); known = (tt, tt) }
+leaf_value_writable offer items (leaf.Declare class) h = class_value_writable offer items class_form.Declare class h
+
+around_value_writable : (offer : Offer) (items : List names.Name) (k : Around) (v : Value) → IsWritableForm offer items (form.Around k (record {})) → IsWritableValue offer items v
+    → IsWritableValue offer items (around_value k v)
+around_value_writable offer items around.Try v h e = some_writable offer items some_form.Try v [] e tt
+around_value_writable offer items around.Text v h e = one_writable offer items one_form.Text v e
+around_value_writable offer items around.Skip v h e = one_writable offer items one_form.Skip v e
+around_value_writable offer items (around.Build used symbol) v h e = build_writable offer items used (chars symbol) v h.0 h.1.short h.1.scalars e
+around_value_writable offer items (around.Label message) v h e = record {
+  proper = (e.proper, h.0);
+  printable = λ rest p. (refl, (tt, e.printable (mark Comma ∷ literal message ∷ mark Close ∷ rest) (tt, (h.1, (tt, p)))));
+  known = (tt, e.known);
+}
+
 form_value_writable : (offer : Offer) (items : List names.Name) (form : BaseForm) (values : List Value) → IsWritableForm offer items form → AreWritable offer items values
     → IsWritableValue offer items (value_of_form items form values)
-form_value_writable offer items (base.Satisfy class) values h e = class_value_writable offer items class_form.Satisfy class h
-form_value_writable offer items (base.String s) values h e = record { proper = h.0; printable = λ rest p. (refl, (tt, (h.1, (tt, p)))); known = (tt, tt) }
-form_value_writable offer items (base.Seq n) values h e = seq_writable offer items values e
-form_value_writable offer items (base.Choice n) values h e = choice_writable offer items values e
-form_value_writable offer items base.Many values h e = one_writable offer items one_form.Many _ (value_at_writable offer items 0 values e)
-form_value_writable offer items (base.ChainLeft used) values h e =
-    chain_value_writable offer items chain_form.Left used _ _ h (value_at_writable offer items 0 values e) (value_at_writable offer items 1 values e)
-form_value_writable offer items (base.ChainRight used) values h e =
-    chain_value_writable offer items chain_form.Right used _ _ h (value_at_writable offer items 0 values e) (value_at_writable offer items 1 values e)
-form_value_writable offer items base.Try values h e = some_writable offer items some_form.Try _ [] (value_at_writable offer items 0 values e) tt
-form_value_writable offer items (base.NotFollowedBy class) values h e = class_value_writable offer items class_form.NotFollowedBy class h
-form_value_writable offer items base.EndOfText values h e = record { proper = tt; printable = λ rest p. (refl, p); known = (tt, tt) }
-form_value_writable offer items (base.Word s) values h e = record { proper = h.free; printable = λ rest p. (refl, (tt, (h.name, (tt, p)))); known = (tt, tt) }
-form_value_writable offer items (base.Rule s) values h e = record { proper = h.free; printable = λ rest p. (h.name, p); known = (tt, tt) }
-form_value_writable offer items (base.Expression builders) values h e =
+form_value_writable offer items (form.Leaf l) values h e = leaf_value_writable offer items l h
+form_value_writable offer items (form.Seq n) values h e = seq_writable offer items values e
+form_value_writable offer items (form.Choice n) values h e = choice_writable offer items values e
+form_value_writable offer items (form.Many part) values h e = one_writable offer items one_form.Many _ (value_at_writable offer items 0 values e)
+form_value_writable offer items (form.Chain side used operand separator) values h e =
+    chain_value_writable offer items (chain_form_of side) used _ _ h (value_at_writable offer items 0 values e) (value_at_writable offer items 1 values e)
+form_value_writable offer items (form.Rule s) values h e = record { proper = h.free; printable = λ rest p. (h.name, p); known = (tt, tt) }
+form_value_writable offer items (form.Expression builders part) values h e =
     let term = value_at_writable offer items 0 values e in
     record {
       proper = (h.0.short, h.1.short, h.2.short, term.proper);
       printable = λ rest p. (refl, (tt, (h.0.name, (tt, (h.1.name, (tt, (h.2.name, (tt, term.printable (mark Close ∷ rest) (tt, p)))))))));
       known = ((h.0.known, h.1.known, h.2.known), term.known);
     }
-form_value_writable offer items (base.Declare class) values h e = class_value_writable offer items class_form.Declare class h
-form_value_writable offer items base.Text values h e = one_writable offer items one_form.Text _ (value_at_writable offer items 0 values e)
-form_value_writable offer items base.Skip values h e = one_writable offer items one_form.Skip _ (value_at_writable offer items 0 values e)
-form_value_writable offer items (base.Build used symbol) values h e =
-    build_writable offer items used (chars symbol) _ h.0 h.1.short h.1.scalars (value_at_writable offer items 0 values e)
-form_value_writable offer items (base.Label message) values h e =
-    let v = value_at_writable offer items 0 values e in
-    record { proper = (v.proper, h.0); printable = λ rest p. (refl, (tt, v.printable (mark Comma ∷ literal message ∷ mark Close ∷ rest) (tt, (h.1, (tt, p))))); known = (tt, v.known) }
+form_value_writable offer items (form.Around k part) values h e = around_value_writable offer items k _ h (value_at_writable offer items 0 values e)
 
 -- what is printed of such a body
 pub printed_values_writable : (offer : Offer) (items : List names.Name) (forms : List BaseForm) → IsWritableBody offer items forms → AllByRecursion (IsWritableValue offer items) (values_of items forms)

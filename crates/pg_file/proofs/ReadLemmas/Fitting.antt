@@ -4,40 +4,36 @@ use Rattle.std.specs.List.{AllByRecursion}
 use Rattle.std.specs.Option.{is_some}
 use Rattle.std.specs.Str.{encode_utf8_all}
 use Rattle.pg_pred.specs.Offer.{Offer, predicate_class, builder_shape}
-use Rattle.pg_grammar.specs.Contents.{class_in, builders_in}
+use Rattle.pg_grammar.specs.Contents.{class_parts, builders_in}
 use Rattle.pg_grammar.specs.Fits.{PartFits, ClassFits, BuilderFits, BuildersFit, NodeFits, ItemsFit, WordFits, WordsFit, OperatorsFit, NodesFit, Fits}
-use Rattle.pg_grammar.specs.Forms.{form_of}
+use Rattle.pg_grammar.specs.Forms.{BaseForm, Node, form_of}
 use Rattle.pg_grammar.specs.Grammar.{Grammar, rule_names, word_names}
 use Rattle.pg_grammar.specs.ClassItems.{item_class}
 use Rattle.pg_grammar.specs.Made.{Made, nothing_made}
 use Rattle.pg_grammar.specs.Names as names
 use Rattle.pg_grammar.specs.Names.{place_of_name, has_name}
-use Rattle.pg_grammar.specs.declared.form.BaseForm.{BaseForm}
-use Rattle.pg_grammar.specs.declared.form.BaseForm.TheVariants as base
-use Rattle.pg_grammar.specs.declared.form.Node.{Node}
-use Rattle.pg_grammar.specs.declared.form.Node.TheVariants as node
+use Rattle.pg_grammar.specs.declared.form.Form.TheVariants as form
+use Rattle.pg_grammar.specs.declared.form.Around.{Around}
+use Rattle.pg_grammar.specs.declared.form.Around.TheVariants as around
+use Rattle.pg_grammar.specs.declared.form.Leaf.TheVariants as leaf
 use Rattle.pg_items.specs.declared.written.WrittenPart.{WrittenPart}
 use Rattle.pg_items.specs.declared.written.WrittenPart.TheVariants as part
 use Rattle.pg_items.specs.declared.written.WrittenForm.{WrittenForm}
 use Rattle.pg_items.specs.declared.written.WrittenForm.TheVariants as written
 use Rattle.pg_items.specs.declared.words.ClassForm.{ClassForm}
-use Rattle.pg_items.specs.declared.words.ClassForm.TheVariants.{Satisfy, NotFollowedBy, Declare}
+use Rattle.pg_items.specs.declared.words.ClassForm.TheVariants.{Satisfy}
 use Rattle.pg_items.specs.declared.words.SomeForm.{SomeForm}
 use Rattle.pg_items.specs.declared.words.SomeForm.TheVariants.{Choice, Try}
-use Rattle.pg_items.specs.declared.words.OneForm.{OneForm}
-use Rattle.pg_items.specs.declared.words.OneForm.TheVariants as one
-use Rattle.pg_items.specs.declared.words.TwoForm.{TwoForm}
-use Rattle.pg_items.specs.declared.words.TwoForm.TheVariants.{SepBy, SepBy1, EndBy}
 use Rattle.pg_items.specs.declared.words.ChainForm.{ChainForm}
-use Rattle.pg_items.specs.declared.words.ChainForm.TheVariants as chain
 use Rattle.pg_meaning.specs.Names.{builder_named, item_or_predicate, PartIsKnown, ClassIsKnown, BuilderIsKnown, FormIsKnown}
-use Rattle.pg_meaning.specs.Meaning.{Body, joined, seq_of, choice_of, some_of, one_of, two_of, between_of, class_of, chain_of, separated, optional}
+use Rattle.pg_meaning.specs.Meaning.{Body, joined, some_of, class_of, chain_of}
 use Rattle.pg_meaning.specs.Bodies.{part_meant, parts_meant, body_at, body_of_form, bodies, body_meant}
 use Rattle.pg_items.specs.Sizes.{part_count}
 use Rattle.pg_items.specs.Entries as entry
 use Rattle.pg_items.specs.Entries.{Entry}
 use Rattle.pg_making.specs.Spells.{made_classes}
 use Rattle.pg_making.specs.Making.{with_entry, with_entries, EntriesAreInOrder, IsGrammarOfEntries}
+use Rattle.pg_meaning.proofs.MeaningLemmas.Kept.{IsBare, IsKept, kept_some, kept_one, kept_two, kept_between}
 use Rattle.pg_meaning.proofs.MeaningLemmas.Lookup.{none_is_absent}
 
 -- ---- what is offered
@@ -71,7 +67,7 @@ builder_fits offer s h = is_there (builder_shape offer (encode_utf8_all s)) _ h
 
 -- the predicates and the builders that a base form names are offered
 abbrev FormFits : Offer → BaseForm → Type 0
-FormFits offer f = ClassFits offer (class_in f) × BuildersFit offer (builders_in f)
+FormFits offer f = ClassFits offer (class_parts f) × BuildersFit offer (builders_in f)
 
 abbrev BodyFits : Offer → Body → Type 0
 BodyFits offer body = AllByRecursion (FormFits offer) body
@@ -106,59 +102,39 @@ body_fits offer (suc k) (b ∷ bs) h = body_fits offer k bs h.1
 plain : Unit {0} × Unit {0}
 plain = (tt, tt)
 
-seq_fits : (offer : Offer) (bs : List Body) → BodiesFit offer bs → BodyFits offer (seq_of bs)
-seq_fits offer bs h = (plain, joined_fit offer bs h)
+bare_fits : (offer : Offer) (k : Around) → IsBare k → FormFits offer (form.Around k (record {}))
+bare_fits offer (around.Build used symbol) bare = absurd bare
+bare_fits offer _ bare = plain
 
-choice_fits : (offer : Offer) (bs : List Body) → BodiesFit offer bs → BodyFits offer (choice_of bs)
-choice_fits offer bs h = (plain, joined_fit offer bs h)
+fits_kept : (offer : Offer) → IsKept (BodyFits offer)
+fits_kept offer = record {
+  seq = λ bodies h. (plain, joined_fit offer bodies h);
+  choice = λ body bodies h. (plain, joined_fit offer (body ∷ bodies) h);
+  many = λ body h. (plain, h);
+  around = λ k bare body h. (bare_fits offer k bare, h);
+}
 
 some_fits : (offer : Offer) (form : SomeForm) (bs : List Body) → BodiesFit offer bs → BodyFits offer (some_of form bs)
-some_fits offer Choice bs h = choice_fits offer bs h
-some_fits offer Try [] h = (plain, seq_fits offer [] tt)
-some_fits offer Try (b ∷ []) h = (plain, h.0)
-some_fits offer Try (b ∷ c ∷ bs) h = (plain, seq_fits offer (b ∷ c ∷ bs) h)
-
-optional_fits : (offer : Offer) (b : Body) → BodyFits offer b → BodyFits offer (optional b)
-optional_fits offer b h = choice_fits offer (b ∷ seq_of [] ∷ []) (h, (seq_fits offer [] tt, tt))
-
-separated_fits : (offer : Offer) (b s : Body) → BodyFits offer b → BodyFits offer s → BodyFits offer (separated b s)
-separated_fits offer b s h e =
-    let rounds : BodyFits offer (base.Many ∷ seq_of ((base.Skip ∷ s) ∷ b ∷ [])) = (plain, seq_fits offer ((base.Skip ∷ s) ∷ b ∷ []) ((plain, e), (h, tt))) in
-    seq_fits offer (b ∷ (base.Many ∷ seq_of ((base.Skip ∷ s) ∷ b ∷ [])) ∷ []) (h, (rounds, tt))
-
-one_fits : (offer : Offer) (form : OneForm) (b : Body) → BodyFits offer b → BodyFits offer (one_of form b)
-one_fits offer one.Many b h = (plain, h)
-one_fits offer one.Many1 b h = seq_fits offer (b ∷ (base.Many ∷ b) ∷ []) (h, ((plain, h), tt))
-one_fits offer one.Option b h = optional_fits offer b h
-one_fits offer one.Text b h = (plain, h)
-one_fits offer one.Skip b h = (plain, h)
-
-two_fits : (offer : Offer) (form : TwoForm) (b s : Body) → BodyFits offer b → BodyFits offer s → BodyFits offer (two_of form b s)
-two_fits offer SepBy b s h e = optional_fits offer (separated b s) (separated_fits offer b s h e)
-two_fits offer SepBy1 b s h e = separated_fits offer b s h e
-two_fits offer EndBy b s h e = (plain, seq_fits offer (b ∷ (base.Skip ∷ s) ∷ []) (h, ((plain, e), tt)))
-
-between_fits : (offer : Offer) (before behind inner : Body) → BodyFits offer before → BodyFits offer behind → BodyFits offer inner → BodyFits offer (between_of before behind inner)
-between_fits offer before behind inner h e d = seq_fits offer ((base.Skip ∷ before) ∷ inner ∷ (base.Skip ∷ behind) ∷ []) ((plain, h), (d, ((plain, e), tt)))
+some_fits offer Choice [] h = (plain, tt)
+some_fits offer Try [] h = (plain, (plain, tt))
+some_fits offer form (b ∷ bs) h = kept_some (BodyFits offer) (fits_kept offer) form b bs h
 
 of_class_fits : (offer : Offer) (classes : List names.Name) (form : ClassForm) (parts : List WrittenPart) → ClassIsKnown offer classes parts → FormFits offer (class_of form (parts_meant offer classes parts))
 of_class_fits offer classes Satisfy parts h = (class_fits offer classes parts h, tt)
-of_class_fits offer classes NotFollowedBy parts h = (class_fits offer classes parts h, tt)
-of_class_fits offer classes Declare parts h = (class_fits offer classes parts h, tt)
+of_class_fits offer classes _ parts h = (class_fits offer classes parts h, tt)
 
 chain_fits : (offer : Offer) (form : ChainForm) (s : names.Name) → BuilderIsKnown offer s → FormFits offer (chain_of form (builder_named offer s))
-chain_fits offer chain.Left s h = (tt, (builder_fits offer s h, tt))
-chain_fits offer chain.Right s h = (tt, (builder_fits offer s h, tt))
+chain_fits offer form s h = (tt, (builder_fits offer s h, tt))
 
 form_fits : (offer : Offer) (classes : List names.Name) (form : WrittenForm) (bs : List Body) → FormIsKnown offer classes form → BodiesFit offer bs → BodyFits offer (body_of_form offer classes form bs)
 form_fits offer classes (written.OfClass form parts) bs h e = (of_class_fits offer classes form parts h, tt)
 form_fits offer classes (written.String s) bs h e = (plain, tt)
-form_fits offer classes (written.Seq n) bs h e = seq_fits offer bs e
+form_fits offer classes (written.Seq n) bs h e = (plain, joined_fit offer bs e)
 form_fits offer classes (written.OfSome form n) bs h e = some_fits offer form bs e
-form_fits offer classes (written.OfOne form) bs h e = one_fits offer form (body_at 0 bs) (body_fits offer 0 bs e)
-form_fits offer classes (written.OfTwo form) bs h e = two_fits offer form (body_at 0 bs) (body_at 1 bs) (body_fits offer 0 bs e) (body_fits offer 1 bs e)
+form_fits offer classes (written.OfOne form) bs h e = kept_one (BodyFits offer) (fits_kept offer) form (body_at 0 bs) (body_fits offer 0 bs e)
+form_fits offer classes (written.OfTwo form) bs h e = kept_two (BodyFits offer) (fits_kept offer) form (body_at 0 bs) (body_at 1 bs) (body_fits offer 0 bs e) (body_fits offer 1 bs e)
 form_fits offer classes written.Between bs h e =
-    between_fits offer (body_at 0 bs) (body_at 1 bs) (body_at 2 bs) (body_fits offer 0 bs e) (body_fits offer 1 bs e) (body_fits offer 2 bs e)
+    kept_between (BodyFits offer) (fits_kept offer) (body_at 0 bs) (body_at 1 bs) (body_at 2 bs) (body_fits offer 0 bs e) (body_fits offer 1 bs e) (body_fits offer 2 bs e)
 form_fits offer classes (written.Chain form builder) bs h e =
     (chain_fits offer form builder h, both (FormFits offer) (body_at 0 bs) (body_at 1 bs) (body_fits offer 0 bs e) (body_fits offer 1 bs e))
 form_fits offer classes (written.Expression infixes prefixes postfixes) bs h e =
@@ -212,24 +188,9 @@ entries_fit offer made (e ∷ entries) m h = entries_fit offer (with_entry offer
 -- ---- grammars
 
 node_fits : (offer : Offer) (rules words : List names.Name) (n : Node) → FormFits offer (form_of rules words n) → NodeFits offer n
-node_fits offer rules words (node.Satisfy class) h = h
-node_fits offer rules words (node.String s) h = h
-node_fits offer rules words (node.Seq parts) h = h
-node_fits offer rules words (node.Choice parts) h = h
-node_fits offer rules words (node.Many p) h = h
-node_fits offer rules words (node.ChainLeft used p q) h = h
-node_fits offer rules words (node.ChainRight used p q) h = h
-node_fits offer rules words (node.Try p) h = h
-node_fits offer rules words (node.NotFollowedBy class) h = h
-node_fits offer rules words node.EndOfText h = h
-node_fits offer rules words (node.Word w) h = h
-node_fits offer rules words (node.Rule r) h = h
-node_fits offer rules words (node.Expression used p) h = h
-node_fits offer rules words (node.Declare class) h = h
-node_fits offer rules words (node.Text p) h = h
-node_fits offer rules words (node.Skip p) h = h
-node_fits offer rules words (node.Build used symbol p) h = h
-node_fits offer rules words (node.Label p message) h = h
+node_fits offer rules words (form.Leaf (leaf.Word word)) h = h
+node_fits offer rules words (form.Around around.Try part) h = h
+node_fits offer rules words _ h = h
 
 nodes_fit : (offer : Offer) (rules words : List names.Name) (nodes : List Node) → BodyFits offer (map (form_of rules words) nodes) → NodesFit offer nodes
 nodes_fit offer rules words [] h = tt

@@ -6,11 +6,11 @@ use Rattle.std.specs.List.{AllByRecursion, list_any}
 use Rattle.std.specs.Str.{bytes_eq}
 use Rattle.pg_grammar.specs.Names.{Name, has_name, name_at}
 use Rattle.pg_grammar.specs.WordItems.{word_name}
-use Rattle.pg_grammar.specs.Forms.{form_of, has_unknown_name, NamesRule, NamesWord}
+use Rattle.pg_grammar.specs.Forms.{Node, form_of, has_unknown_name, NamesRule, NamesWord}
 use Rattle.pg_grammar.specs.Grammar.{Grammar, rule_name, rule_names, word_names}
 use Rattle.pg_grammar.specs.Made.{Made, Says, finish_fault}
-use Rattle.pg_grammar.specs.declared.form.Node.{Node}
-use Rattle.pg_grammar.specs.declared.form.Node.TheVariants as node
+use Rattle.pg_grammar.specs.declared.form.Form.TheVariants as form
+use Rattle.pg_grammar.specs.declared.form.Leaf.TheVariants as leaf
 
 -- the name with a number is among the names
 has_name_at : (names : List Name) (r : ℕ) → r < length names → has_name names (name_at names r) ≡ true
@@ -27,24 +27,9 @@ has_name_at (name ∷ names) (suc r) below =
 -- a node whose numbers name something names nothing that isn't there
 node_is_known : (rules words : List Name) (n : Node) → NamesRule (length rules) n → NamesWord (length words) n
     → has_unknown_name rules words (form_of rules words n) ≡ false
-node_is_known rules words (node.Satisfy class) h k = refl
-node_is_known rules words (node.String text) h k = refl
-node_is_known rules words (node.Seq parts) h k = refl
-node_is_known rules words (node.Choice parts) h k = refl
-node_is_known rules words (node.Many part) h k = refl
-node_is_known rules words (node.ChainLeft used operand separator) h k = refl
-node_is_known rules words (node.ChainRight used operand separator) h k = refl
-node_is_known rules words (node.Try part) h k = refl
-node_is_known rules words (node.NotFollowedBy class) h k = refl
-node_is_known rules words node.EndOfText h k = refl
-node_is_known rules words (node.Word r) h k = rw (has_name_at words r k) refl
-node_is_known rules words (node.Rule r) h k = rw (has_name_at rules r h) refl
-node_is_known rules words (node.Expression builders term) h k = refl
-node_is_known rules words (node.Declare class) h k = refl
-node_is_known rules words (node.Text part) h k = refl
-node_is_known rules words (node.Skip part) h k = refl
-node_is_known rules words (node.Build used symbol part) h k = refl
-node_is_known rules words (node.Label part message) h k = refl
+node_is_known rules words (form.Leaf (leaf.Word r)) h k = rw (has_name_at words r k) refl
+node_is_known rules words (form.Rule r) h k = rw (has_name_at rules r h) refl
+node_is_known rules words _ h k = refl
 
 nodes_are_known : (rules words : List Name) (nodes : List Node) → AllByRecursion (NamesRule (length rules)) nodes → AllByRecursion (NamesWord (length words)) nodes
     → list_any (has_unknown_name rules words) (map (form_of rules words) nodes) ≡ false

@@ -12,11 +12,10 @@ use Rattle.pg_grammar.specs.Literals.{is_empty_literal, is_long_literal}
 use Rattle.pg_grammar.specs.Classes.{descends, is_long, lacks_item}
 use Rattle.pg_grammar.specs.ClassItems.{item_name, has_item}
 use Rattle.pg_grammar.specs.WordItems.{word_name, has_word}
-use Rattle.pg_grammar.specs.Forms.{has_unknown_class}
+use Rattle.pg_grammar.specs.Forms.{BaseForm, has_unknown_class}
 use Rattle.pg_grammar.specs.Grammar.{Grammar}
 use Rattle.pg_grammar.specs.Made.{Made, Says, IsBody, made_words, class_fault, word_fault, operators_fault, rule_fault}
 use Rattle.pg_grammar.specs.declared.class.ClassPart.{ClassPart}
-use Rattle.pg_grammar.specs.declared.form.BaseForm.{BaseForm}
 use Rattle.pg_grammar.specs.declared.operators_item.OperatorsItem.{OperatorsItem}
 use Rattle.pg_grammar.specs.declared.word_item.WordItem.{WordItem}
 use Rattle.pg_grammar.specs.declared.fault.MakerFault.{MakerFault}

@@ -3,9 +3,10 @@ use Rattle.std.proofs.Common.{◌≡◌, ℕ, suc, Bool, false, List, [], ◌∷
 use Rattle.std.proofs.lemmas.List.Folds.{list_any-append}
 use Rattle.std.specs.List.{list_any, AllByRecursion}
 use Rattle.pg_grammar.specs.Preorder.{SpellForms}
-use Rattle.pg_grammar.specs.Forms.{part_count}
-use Rattle.pg_grammar.specs.declared.form.BaseForm.{BaseForm}
-use Rattle.pg_grammar.specs.declared.form.BaseForm.TheVariants as base
+use Rattle.pg_grammar.specs.Forms.{BaseForm, part_count}
+use Rattle.pg_grammar.specs.declared.form.Form.TheVariants as form
+use Rattle.pg_grammar.specs.declared.form.Around.{Around}
+use Rattle.pg_grammar.specs.declared.form.Around.TheVariants as around
 use Rattle.pg_items.specs.declared.words.SomeForm.{SomeForm}
 use Rattle.pg_items.specs.declared.words.SomeForm.TheVariants as some_form
 use Rattle.pg_items.specs.declared.words.OneForm.{OneForm}
@@ -15,42 +16,46 @@ use Rattle.pg_items.specs.declared.words.TwoForm.TheVariants as two_form
 use Rattle.pg_meaning.specs.Meaning.{Body, joined, seq_of, choice_of, some_of, skipped, repeated, optional, separated, one_of, two_of, between_of}
 use Rattle.pg_items.proofs.ItemLemmas.Whole.{spell_first, spell_parts}
 
+-- a form around a part in which no name and no text stands
+abbrev pub IsBare : Around → Type 0
+IsBare (around.Build used symbol) = ⊥
+IsBare (around.Label message) = ⊥
+IsBare _ = Unit {0}
+
 -- a fact of bodies that holds of what base forms make of bodies
 pub record IsKept (P : Body → Type 0) : Type 0 where
   pub seq : (bodies : List Body) → AllByRecursion P bodies → P (seq_of bodies)
   pub choice : (body : Body) (bodies : List Body) → AllByRecursion P (body ∷ bodies) → P (choice_of (body ∷ bodies))
-  pub many : (body : Body) → P body → P (base.Many ∷ body)
-  pub attempt : (body : Body) → P body → P (base.Try ∷ body)
-  pub text : (body : Body) → P body → P (base.Text ∷ body)
-  pub skip : (body : Body) → P body → P (base.Skip ∷ body)
+  pub many : (body : Body) → P body → P (form.Many (record {}) ∷ body)
+  pub around : (k : Around) → IsBare k → (body : Body) → P body → P (form.Around k (record {}) ∷ body)
 
 pub kept_some : (P : Body → Type 0) → IsKept P → (form : SomeForm) (body : Body) (bodies : List Body) → AllByRecursion P (body ∷ bodies) → P (some_of form (body ∷ bodies))
 kept_some P k some_form.Choice body bodies h = k.choice body bodies h
-kept_some P k some_form.Try body [] h = k.attempt body h.0
-kept_some P k some_form.Try body (other ∷ bodies) h = k.attempt _ (k.seq (body ∷ other ∷ bodies) h)
+kept_some P k some_form.Try body [] h = k.around around.Try tt body h.0
+kept_some P k some_form.Try body (other ∷ bodies) h = k.around around.Try tt _ (k.seq (body ∷ other ∷ bodies) h)
 
 kept_optional : (P : Body → Type 0) → IsKept P → (body : Body) → P body → P (optional body)
 kept_optional P k body h = k.choice body (seq_of [] ∷ []) (h, (k.seq [] tt, tt))
 
 kept_separated : (P : Body → Type 0) → IsKept P → (body separator : Body) → P body → P separator → P (separated body separator)
 kept_separated P k body separator h e =
-    let round = k.seq (skipped separator ∷ body ∷ []) (k.skip separator e, (h, tt)) in
+    let round = k.seq (skipped separator ∷ body ∷ []) (k.around around.Skip tt separator e, (h, tt)) in
     k.seq (body ∷ repeated (seq_of (skipped separator ∷ body ∷ [])) ∷ []) (h, (k.many _ round, tt))
 
 pub kept_one : (P : Body → Type 0) → IsKept P → (form : OneForm) (body : Body) → P body → P (one_of form body)
 kept_one P k one_form.Many body h = k.many body h
 kept_one P k one_form.Many1 body h = k.seq (body ∷ repeated body ∷ []) (h, (k.many body h, tt))
 kept_one P k one_form.Option body h = kept_optional P k body h
-kept_one P k one_form.Text body h = k.text body h
-kept_one P k one_form.Skip body h = k.skip body h
+kept_one P k one_form.Text body h = k.around around.Text tt body h
+kept_one P k one_form.Skip body h = k.around around.Skip tt body h
 
 pub kept_two : (P : Body → Type 0) → IsKept P → (form : TwoForm) (body separator : Body) → P body → P separator → P (two_of form body separator)
 kept_two P k two_form.SepBy body separator h e = kept_optional P k (separated body separator) (kept_separated P k body separator h e)
 kept_two P k two_form.SepBy1 body separator h e = kept_separated P k body separator h e
-kept_two P k two_form.EndBy body separator h e = k.many _ (k.seq (body ∷ skipped separator ∷ []) (h, (k.skip separator e, tt)))
+kept_two P k two_form.EndBy body separator h e = k.many _ (k.seq (body ∷ skipped separator ∷ []) (h, (k.around around.Skip tt separator e, tt)))
 
 pub kept_between : (P : Body → Type 0) → IsKept P → (before after inner : Body) → P before → P after → P inner → P (between_of before after inner)
-kept_between P k before after inner h e f = k.seq (skipped before ∷ inner ∷ skipped after ∷ []) (k.skip before h, (f, (k.skip after e, tt)))
+kept_between P k before after inner h e f = k.seq (skipped before ∷ inner ∷ skipped after ∷ []) (k.around around.Skip tt before h, (f, (k.around around.Skip tt after e, tt)))
 
 -- ---- one whole form
 
@@ -66,9 +71,7 @@ whole_kept = record {
   seq = λ bodies h. record { whole = spell_parts part_count (length bodies) (joined bodies) (whole_joined bodies h) };
   choice = λ body bodies h. record { whole = spell_parts part_count (length (body ∷ bodies)) (joined (body ∷ bodies)) (whole_joined (body ∷ bodies) h) };
   many = λ body h. record { whole = h.whole };
-  attempt = λ body h. record { whole = h.whole };
-  text = λ body h. record { whole = h.whole };
-  skip = λ body h. record { whole = h.whole };
+  around = λ k bare body h. record { whole = h.whole };
 }
 
 -- two, one behind the other
@@ -82,12 +85,10 @@ pub record IsFree (p : BaseForm → Bool) (body : Body) : Type 0 where
 
 -- what is not so of the forms that short ones stand for
 pub record IsFreeOfShort (p : BaseForm → Bool) : Type 0 where
-  pub seq : (n : ℕ) → p (base.Seq n) ≡ false
-  pub choice : (n : ℕ) → p (base.Choice (suc n)) ≡ false
-  pub many : p base.Many ≡ false
-  pub attempt : p base.Try ≡ false
-  pub text : p base.Text ≡ false
-  pub skip : p base.Skip ≡ false
+  pub seq : (n : ℕ) → p (form.Seq n) ≡ false
+  pub choice : (n : ℕ) → p (form.Choice (suc n)) ≡ false
+  pub many : p (form.Many (record {})) ≡ false
+  pub around : (k : Around) → IsBare k → p (form.Around k (record {})) ≡ false
 
 pub free_front : (p : BaseForm → Bool) (form : BaseForm) (body : Body) → p form ≡ false → IsFree p body → IsFree p (form ∷ body)
 free_front p form body h e = record { free = rw (h, e.free) refl }
@@ -107,7 +108,5 @@ free_kept p k = record {
   seq = λ bodies h. free_front p _ (joined bodies) (k.seq (length bodies)) (free_joined p bodies h);
   choice = λ body bodies h. free_front p _ (joined (body ∷ bodies)) (k.choice (length bodies)) (free_joined p (body ∷ bodies) h);
   many = λ body h. free_front p _ body k.many h;
-  attempt = λ body h. free_front p _ body k.attempt h;
-  text = λ body h. free_front p _ body k.text h;
-  skip = λ body h. free_front p _ body k.skip h;
+  around = λ a bare body h. free_front p _ body (k.around a bare) h;
 }

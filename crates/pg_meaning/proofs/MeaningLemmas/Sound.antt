@@ -8,15 +8,13 @@ use Rattle.pg_grammar.proofs.Each.{all-weaker}
 use Rattle.pg_grammar.specs.Names as names
 use Rattle.pg_grammar.specs.Preorder.{SpellForms}
 use Rattle.pg_grammar.specs.Classes.{lacks_item}
-use Rattle.pg_grammar.specs.Forms.{part_count, lacks_alternative, has_unknown_class}
+use Rattle.pg_grammar.specs.Forms.{BaseForm, part_count, lacks_alternative, has_unknown_class}
 use Rattle.pg_grammar.specs.declared.class.ClassPart.{ClassPart}
-use Rattle.pg_grammar.specs.declared.form.BaseForm.{BaseForm}
-use Rattle.pg_grammar.specs.declared.form.BaseForm.TheVariants as base
+use Rattle.pg_grammar.specs.declared.form.Form.TheVariants as form
 use Rattle.pg_grammar.specs.declared.used.BuilderUse.{BuilderUse}
 use Rattle.pg_items.specs.declared.words.ClassForm.{ClassForm}
 use Rattle.pg_items.specs.declared.words.ClassForm.TheVariants as class_form
 use Rattle.pg_items.specs.declared.words.ChainForm.{ChainForm}
-use Rattle.pg_items.specs.declared.words.ChainForm.TheVariants as chain_form
 use Rattle.pg_items.specs.Tree.{Value, Of_class, String, Seq, Of_some, Of_one, Of_two, Between, Chain, Expression, Build, Build_symbol, Label, End_of_text, Word, Rule, Values, No_value, And}
 use Rattle.pg_meaning.specs.Names.{builder_named}
 use Rattle.pg_meaning.specs.Meaning.{Body, class_of, chain_of, class_meant, meant, all_meant}
@@ -34,8 +32,8 @@ record IsSoundForm (count n : ℕ) (form : BaseForm) : Type 0 where
   alternatives : lacks_alternative form ≡ false
   known : has_unknown_class count form ≡ false
 
-leaf : (count : ℕ) (form : BaseForm) → IsSoundForm count 0 form → IsSound count (form ∷ [])
-leaf count form h = record {
+alone : (count : ℕ) (form : BaseForm) → IsSoundForm count 0 form → IsSound count (form ∷ [])
+alone count form h = record {
   whole = record { whole = let none = h.parts in omega arith };
   alternatives = free_front _ form [] h.alternatives (free_none _);
   known = free_front _ form [] h.known (free_none _);
@@ -59,10 +57,10 @@ some_alternative : (n : ℕ) → (suc n == 0) ≡ false
 some_alternative n = grind (arith, nat_tests)
 
 choices_kept : IsKept (IsFree lacks_alternative)
-choices_kept = free_kept lacks_alternative (record { seq = λ n. refl; choice = some_alternative; many = refl; attempt = refl; text = refl; skip = refl })
+choices_kept = free_kept lacks_alternative (record { seq = λ n. refl; choice = some_alternative; many = refl; around = λ k bare. refl })
 
 known_kept : (count : ℕ) → IsKept (IsFree (has_unknown_class count))
-known_kept count = free_kept (has_unknown_class count) (record { seq = λ n. refl; choice = λ n. refl; many = refl; attempt = refl; text = refl; skip = refl })
+known_kept count = free_kept (has_unknown_class count) (record { seq = λ n. refl; choice = λ n. refl; many = refl; around = λ k bare. refl })
 
 sound_kept : (count : ℕ) → IsKept (IsSound count)
 sound_kept count = record {
@@ -76,10 +74,8 @@ sound_kept count = record {
     alternatives = choices_kept.choice body bodies (all-weaker (IsSound count) (IsFree lacks_alternative) (λ b e. e.alternatives) (body ∷ bodies) h);
     known = (known_kept count).choice body bodies (all-weaker (IsSound count) (IsFree (has_unknown_class count)) (λ b e. e.known) (body ∷ bodies) h);
   };
-  many = λ body h. wrap count base.Many body (record { parts = refl; alternatives = refl; known = refl }) h;
-  attempt = λ body h. wrap count base.Try body (record { parts = refl; alternatives = refl; known = refl }) h;
-  text = λ body h. wrap count base.Text body (record { parts = refl; alternatives = refl; known = refl }) h;
-  skip = λ body h. wrap count base.Skip body (record { parts = refl; alternatives = refl; known = refl }) h;
+  many = λ body h. wrap count (form.Many (record {})) body (record { parts = refl; alternatives = refl; known = refl }) h;
+  around = λ k bare body h. wrap count (form.Around k (record {})) body (record { parts = refl; alternatives = refl; known = refl }) h;
 }
 
 class_form_sound : (count : ℕ) (form : ClassForm) (parts : List ClassPart) → list_any (lacks_item count) parts ≡ false → IsSoundForm count 0 (class_of form parts)
@@ -88,13 +84,12 @@ class_form_sound count class_form.NotFollowedBy parts h = record { parts = refl;
 class_form_sound count class_form.Declare parts h = record { parts = refl; alternatives = refl; known = h }
 
 chain_form_sound : (count : ℕ) (form : ChainForm) (used : BuilderUse) → IsSoundForm count 2 (chain_of form used)
-chain_form_sound count chain_form.Left used = record { parts = refl; alternatives = refl; known = refl }
-chain_form_sound count chain_form.Right used = record { parts = refl; alternatives = refl; known = refl }
+chain_form_sound count form used = record { parts = refl; alternatives = refl; known = refl }
 
 mutual
   pub sound_value : (offer : Offer) (items : List names.Name) (v : Value) → IsSound (length items) (meant offer items v)
-  sound_value offer items (Of_class form c) = leaf _ _ (class_form_sound (length items) form (class_meant offer items c) (known offer items c))
-  sound_value offer items (String s) = leaf _ _ (record { parts = refl; alternatives = refl; known = refl })
+  sound_value offer items (Of_class form c) = alone _ _ (class_form_sound (length items) form (class_meant offer items c) (known offer items c))
+  sound_value offer items (String s) = alone _ _ (record { parts = refl; alternatives = refl; known = refl })
   sound_value offer items (Seq vs) = (sound_kept (length items)).seq _ (sound_values offer items vs)
   sound_value offer items (Of_some form v vs) = kept_some (IsSound (length items)) (sound_kept (length items)) form _ _ (sound_value offer items v, sound_values offer items vs)
   sound_value offer items (Of_one form v) = kept_one (IsSound (length items)) (sound_kept (length items)) form _ (sound_value offer items v)
@@ -107,9 +102,9 @@ mutual
   sound_value offer items (Build builder v) = wrap _ _ _ (record { parts = refl; alternatives = refl; known = refl }) (sound_value offer items v)
   sound_value offer items (Build_symbol builder symbol v) = wrap _ _ _ (record { parts = refl; alternatives = refl; known = refl }) (sound_value offer items v)
   sound_value offer items (Label v message) = wrap _ _ _ (record { parts = refl; alternatives = refl; known = refl }) (sound_value offer items v)
-  sound_value offer items End_of_text = leaf _ _ (record { parts = refl; alternatives = refl; known = refl })
-  sound_value offer items (Word s) = leaf _ _ (record { parts = refl; alternatives = refl; known = refl })
-  sound_value offer items (Rule s) = leaf _ _ (record { parts = refl; alternatives = refl; known = refl })
+  sound_value offer items End_of_text = alone _ _ (record { parts = refl; alternatives = refl; known = refl })
+  sound_value offer items (Word s) = alone _ _ (record { parts = refl; alternatives = refl; known = refl })
+  sound_value offer items (Rule s) = alone _ _ (record { parts = refl; alternatives = refl; known = refl })
 
   sound_values : (offer : Offer) (items : List names.Name) (vs : Values) → AllByRecursion (IsSound (length items)) (all_meant offer items vs)
   sound_values offer items No_value = tt

@@ -5,12 +5,12 @@ use Rattle.std.specs.List.{list_any}
 use Rattle.std.specs.Str.{chars}
 use Rattle.pg_grammar.specs.Names as names
 use Rattle.pg_grammar.specs.Preorder.{SpellForms}
-use Rattle.pg_grammar.specs.Forms.{part_count, lacks_alternative, form_of}
+use Rattle.pg_grammar.specs.Forms.{BaseForm, Node, part_count, lacks_alternative, form_of}
 use Rattle.pg_grammar.specs.Grammar.{Grammar, rule_names, word_names}
 use Rattle.pg_grammar.specs.declared.class.ClassPart.{ClassPart}
-use Rattle.pg_grammar.specs.declared.form.BaseForm.{BaseForm}
-use Rattle.pg_grammar.specs.declared.form.BaseForm.TheVariants as base
-use Rattle.pg_grammar.specs.declared.form.Node.{Node}
+use Rattle.pg_grammar.specs.declared.form.Form.TheVariants as form
+use Rattle.pg_grammar.specs.declared.form.Leaf.TheVariants as leaf
+use Rattle.pg_grammar.specs.declared.form.Around.TheVariants as around
 use Rattle.pg_items.specs.declared.words.ClassForm.{ClassForm}
 use Rattle.pg_items.specs.declared.words.ClassForm.TheVariants as class_form
 use Rattle.pg_tokens.specs.declared.token.Mark.TheVariants.{Close, Comma}
@@ -34,11 +34,11 @@ list_written : (vs : List Value) (rest : List Token) → written_list (values_fr
 list_written [] rest = refl
 list_written (v ∷ vs) rest = ap (written v) (more_written vs rest)
 
-seq_written : (items : List names.Name) (n : ℕ) (vs : List Value) → IsWrittenBy written (base_piece items (base.Seq n)) (value_of_form items (base.Seq n) (take n vs)) vs
+seq_written : (items : List names.Name) (n : ℕ) (vs : List Value) → IsWrittenBy written (base_piece items (form.Seq n)) (value_of_form items (form.Seq n) (take n vs)) vs
 seq_written items n vs rest = ap (opened (codes "seq")) (list_written (take n vs) rest)
 
-choice_written : (items : List names.Name) (n : ℕ) (vs : List Value) → n ≤ length vs → lacks_alternative (base.Choice n) ≡ false
-    → IsWrittenBy written (base_piece items (base.Choice n)) (choice_from (take n vs)) vs
+choice_written : (items : List names.Name) (n : ℕ) (vs : List Value) → n ≤ length vs → lacks_alternative (form.Choice n) ≡ false
+    → IsWrittenBy written (base_piece items (form.Choice n)) (choice_from (take n vs)) vs
 choice_written items zero vs h e rest = absurd cc
 choice_written items (suc n) [] h e rest = absurd (omega (arith, h))
 choice_written items (suc n) (v ∷ vs) h e rest = ap (λ (ts : List Token). opened (codes "choice") (written v ts)) (more_written (take n vs) rest)
@@ -52,55 +52,23 @@ build_written builder (c ∷ symbol) v rest = refl
 
 form_written : (items : List names.Name) (form : BaseForm) (vs : List Value) → part_count form ≤ length vs → lacks_alternative form ≡ false
     → IsWrittenBy written (base_piece items form) (value_of_form items form (take (part_count form) vs)) vs
-form_written items (base.Satisfy class) vs h e rest = class_of_form class_form.Satisfy items class vs rest
-form_written items (base.String s) vs h e rest = refl
-form_written items (base.Seq n) vs h e rest = seq_written items n vs rest
-form_written items (base.Choice n) vs h e rest = choice_written items n vs h e rest
-form_written items base.Many [] h e rest = absurd (omega (arith, h))
-form_written items base.Many (v ∷ vs) h e rest = refl
-form_written items (base.ChainLeft used) [] h e rest = absurd (omega (arith, h))
-form_written items (base.ChainLeft used) (v ∷ []) h e rest = absurd (omega (arith, h))
-form_written items (base.ChainLeft used) (v ∷ w ∷ vs) h e rest = refl
-form_written items (base.ChainRight used) [] h e rest = absurd (omega (arith, h))
-form_written items (base.ChainRight used) (v ∷ []) h e rest = absurd (omega (arith, h))
-form_written items (base.ChainRight used) (v ∷ w ∷ vs) h e rest = refl
-form_written items base.Try [] h e rest = absurd (omega (arith, h))
-form_written items base.Try (v ∷ vs) h e rest = refl
-form_written items (base.NotFollowedBy class) vs h e rest = class_of_form class_form.NotFollowedBy items class vs rest
-form_written items base.EndOfText vs h e rest = refl
-form_written items (base.Word s) vs h e rest = refl
-form_written items (base.Rule s) vs h e rest = refl
-form_written items (base.Expression builders) [] h e rest = absurd (omega (arith, h))
-form_written items (base.Expression builders) (v ∷ vs) h e rest = refl
-form_written items (base.Declare class) vs h e rest = class_of_form class_form.Declare items class vs rest
-form_written items base.Text [] h e rest = absurd (omega (arith, h))
-form_written items base.Text (v ∷ vs) h e rest = refl
-form_written items base.Skip [] h e rest = absurd (omega (arith, h))
-form_written items base.Skip (v ∷ vs) h e rest = refl
-form_written items (base.Build used symbol) [] h e rest = absurd (omega (arith, h))
-form_written items (base.Build used symbol) (v ∷ vs) h e rest = build_written (chars used.name) (chars symbol) v rest
-form_written items (base.Label message) [] h e rest = absurd (omega (arith, h))
-form_written items (base.Label message) (v ∷ vs) h e rest = refl
+form_written items (form.Leaf (leaf.Satisfy class)) vs h e rest = class_of_form class_form.Satisfy items class vs rest
+form_written items (form.Leaf (leaf.NotFollowedBy class)) vs h e rest = class_of_form class_form.NotFollowedBy items class vs rest
+form_written items (form.Leaf (leaf.Declare class)) vs h e rest = class_of_form class_form.Declare items class vs rest
+form_written items (form.Leaf _) vs h e rest = refl
+form_written items (form.Seq n) vs h e rest = seq_written items n vs rest
+form_written items (form.Choice n) vs h e rest = choice_written items n vs h e rest
+form_written items (form.Rule s) vs h e rest = refl
+form_written items _ [] h e rest = absurd (omega (arith, h))
+form_written items (form.Chain side used operand separator) (v ∷ []) h e rest = absurd (omega (arith, h))
+form_written items (form.Chain side used operand separator) (v ∷ w ∷ vs) h e rest = refl
+form_written items (form.Around (around.Build used symbol) part) (v ∷ vs) h e rest = build_written (chars used.name) (chars symbol) v rest
+form_written items _ (v ∷ vs) h e rest = refl
 
 count_is : (items : List names.Name) (form : BaseForm) → (base_piece items form).count ≡ part_count form
-count_is items (base.Satisfy class) = refl
-count_is items (base.String s) = refl
-count_is items (base.Seq n) = refl
-count_is items (base.Choice n) = refl
-count_is items base.Many = refl
-count_is items (base.ChainLeft used) = refl
-count_is items (base.ChainRight used) = refl
-count_is items base.Try = refl
-count_is items (base.NotFollowedBy class) = refl
-count_is items base.EndOfText = refl
-count_is items (base.Word s) = refl
-count_is items (base.Rule s) = refl
-count_is items (base.Expression builders) = refl
-count_is items (base.Declare class) = refl
-count_is items base.Text = refl
-count_is items base.Skip = refl
-count_is items (base.Build used symbol) = refl
-count_is items (base.Label message) = refl
+count_is items (form.Leaf (leaf.Satisfy class)) = refl
+count_is items (form.Around around.Try part) = refl
+count_is items _ = refl
 
 -- ---- a form in front of others
 

@@ -3,34 +3,16 @@ use Rattle.std.proofs.Common.{◌≡◌, ◌<◌, ℕ, suc, ◌+◌, List, [], �
 use Rattle.std.proofs.lemmas.List.{length-drop, length-take, length-map}
 use Rattle.pg_grammar.specs.Names as names
 use Rattle.pg_grammar.specs.Preorder.{SpellForms, roots}
-use Rattle.pg_grammar.specs.Forms.{part_count, node_part_count, form_of, InPreorder}
+use Rattle.pg_grammar.specs.Forms.{BaseForm, Node, part_count, node_part_count, form_of, InPreorder}
 use Rattle.pg_grammar.specs.Grammar.{Grammar, IsGrammar, rule_body, rule_names, word_names}
-use Rattle.pg_grammar.specs.declared.form.BaseForm.{BaseForm}
-use Rattle.pg_grammar.specs.declared.form.Node.{Node}
-use Rattle.pg_grammar.specs.declared.form.Node.TheVariants as node
+use Rattle.pg_grammar.specs.declared.form.Form.TheVariants as form
 use Rattle.pg_items.specs.Tree.{Value}
 use Rattle.pg_print.specs.Canonical.{class_names, value_at, values_of}
 use Rattle.pg_print.specs.Levels.{node_forms, node_values, AreBodies}
 
 counted : (rules words : List names.Name) (n : Node) → part_count (form_of rules words n) ≡ node_part_count n
-counted rules words (node.Satisfy class) = refl
-counted rules words (node.String text) = refl
-counted rules words (node.Seq parts) = refl
-counted rules words (node.Choice parts) = refl
-counted rules words (node.Many part) = refl
-counted rules words (node.ChainLeft used operand separator) = refl
-counted rules words (node.ChainRight used operand separator) = refl
-counted rules words (node.Try part) = refl
-counted rules words (node.NotFollowedBy class) = refl
-counted rules words node.EndOfText = refl
-counted rules words (node.Word word) = refl
-counted rules words (node.Rule rule) = refl
-counted rules words (node.Expression builders term) = refl
-counted rules words (node.Declare class) = refl
-counted rules words (node.Text part) = refl
-counted rules words (node.Skip part) = refl
-counted rules words (node.Build used symbol part) = refl
-counted rules words (node.Label part message) = refl
+counted rules words (form.Leaf leaf) = refl
+counted rules words _ = refl
 
 all_counted : (rules words : List names.Name) (nodes : List Node) → map part_count (map (form_of rules words) nodes) ≡ map node_part_count nodes
 all_counted rules words [] = refl

@@ -2,13 +2,15 @@ use Rattle.std.proofs.Common.{◌≡◌, ℕ, List, Some, slice_get, refl, sym}
 use Rattle.std.proofs.lemmas.Bool.{true≢false}
 use Rattle.pg_grammar.specs.Grammar.{Grammar}
 use Rattle.pg_grammar.specs.declared.class.ClassPart.{ClassPart}
-use Rattle.pg_grammar.specs.declared.form.Node.TheVariants as form
+use Rattle.pg_grammar.specs.declared.form.Form.TheVariants as form
+use Rattle.pg_grammar.specs.declared.form.Leaf.TheVariants as leaf
+use Rattle.pg_grammar.specs.declared.form.Around.TheVariants as around
 use Rattle.pg_sets.specs.OwnStarts.{IsKeyTry, IsKeyed}
 use Rattle.pg_sets.specs.OwnStarts as own
 use Rattle.pg_sets.proofs.keys.gives_key.Goals as goal
 
-no_key : {g : Grammar} {part : ℕ} → ((text : List ℕ) → slice_get g.nodes part ≡ Some (form.String text) → ⊥)
-    → ((text : List ℕ) (excluded : List ClassPart) → IsKeyed g part text excluded → ⊥) → IsKeyTry g (form.Try part) → ⊥
+no_key : {g : Grammar} {part : ℕ} → ((text : List ℕ) → slice_get g.nodes part ≡ Some (form.Leaf (leaf.String text)) → ⊥)
+    → ((text : List ℕ) (excluded : List ClassPart) → IsKeyed g part text excluded → ⊥) → IsKeyTry g (form.Around around.Try part) → ⊥
 no_key no_string no_keyword (own.string {characters = text} at) = no_string text at
 no_key no_string no_keyword (own.keyed {characters = text} {excluded = excluded} is) = no_keyword text excluded is
 

@@ -1,6 +1,6 @@
 use Rattle.std.proofs.Common.{◌≡◌, ◌<◌, ℕ, true, Some, slice_get, length}
 use Rattle.std.specs.Prelude.{◌↔◌}
-use Rattle.pg_grammar.specs.declared.form.Node.{Node}
+use Rattle.pg_grammar.specs.Forms.{Node}
 use Rattle.pg_sets.specs.Marks.{is_marked}
 use Rattle.pg_sets.specs.OwnStarts.{IsKeyTry}
 use Rattle.pg_sets.proofs.keys.key_tries.Given as goal

@@ -1,6 +1,6 @@
 use Rattle.std.proofs.Common.{◌≡◌, ◌<◌, ◌≤◌, ℕ, true, false, not, count_by, slice_get, Some}
 use Rattle.std.specs.Bool.{OnTrue}
-use Rattle.pg_grammar.specs.declared.form.Node.{Node}
+use Rattle.pg_grammar.specs.Forms.{Node}
 use Rattle.pg_sets.specs.Marks.{is_marked, looks_nullable}
 use Rattle.pg_sets.proofs.NullableMarks.{OnNullable}
 use Rattle.pg_sets.proofs.nullable.mark_round.Given as goal

@@ -1,6 +1,6 @@
 use Rattle.std.proofs.Common.{◌≡◌, ◌⊎◌, inl, inr, length, sym, ap, subst, ◌∙◌}
 use Rattle.std.specs.Prelude.{◌↔◌}
-use Rattle.pg_grammar.specs.declared.form.Node.TheVariants as form
+use Rattle.pg_grammar.specs.declared.form.Form.TheVariants as form
 use Rattle.pg_sets.specs.Flows.{follow_of}
 use Rattle.pg_sets.specs.Origins.{HoldsIt, SourceAt}
 use Rattle.pg_sets.specs.Listed.{IsListed}

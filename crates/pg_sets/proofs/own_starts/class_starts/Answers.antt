@@ -1,6 +1,7 @@
 use Rattle.std.proofs.Common.{◌∷◌, [], sym, ap, subst, ◌∙◌}
 use Rattle.std.proofs.lemmas.Result.{IfOk-weaker}
-use Rattle.pg_grammar.specs.declared.form.Node.TheVariants as form
+use Rattle.pg_grammar.specs.declared.form.Form.TheVariants as form
+use Rattle.pg_grammar.specs.declared.form.Leaf.TheVariants as leaf
 use Rattle.pg_sets.specs.Own.{AreOwn}
 use Rattle.pg_sets.proofs.Owned.{satisfy_own}
 use Rattle.pg_sets.proofs.own_starts.class_starts.Goals as goal
@@ -10,5 +11,5 @@ returns c =
     let g = c.args.grammar.now in
     let expression = c.args.expression.now in
     IfOk-weaker c.one.result _ _
-    (λ own items. subst (AreOwn g (form.Satisfy expression)) (sym (items ∙ ap (λ x. record { start = x; word = 0 } ∷ []) c.in_ok-start.ensures)) (satisfy_own c.in_ok-class.class c.in_ok-class.ensures))
+    (λ own items. subst (AreOwn g (form.Leaf (leaf.Satisfy expression))) (sym (items ∙ ap (λ x. record { start = x; word = 0 } ∷ []) c.in_ok-start.ensures)) (satisfy_own c.in_ok-class.class c.in_ok-class.ensures))
     c.one.ensures

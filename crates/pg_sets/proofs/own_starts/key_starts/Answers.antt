@@ -1,6 +1,7 @@
 use Rattle.std.proofs.Common.{◌≡◌, ◌<◌, ◌∷◌, [], length, sym, ap, subst, ◌∙◌}
 use Rattle.std.proofs.lemmas.Result.{IfOk-weaker}
-use Rattle.pg_grammar.specs.declared.form.Node.TheVariants as form
+use Rattle.pg_grammar.specs.declared.form.Form.TheVariants as form
+use Rattle.pg_grammar.specs.declared.form.Around.TheVariants as around
 use Rattle.pg_start.specs.declared.kind.StartKind.TheVariants.{Key}
 use Rattle.pg_sets.specs.Own.{AreOwn}
 use Rattle.pg_sets.proofs.Owned.{key_own, keyword_own, no_key_own, spelled}
@@ -15,7 +16,7 @@ returns-in-Some c =
     let g = c.args.grammar.now in
     let text = c.in-Some.text.now in
     IfOk-weaker c.key_start.result _ _
-    (λ own items. subst (AreOwn g (form.Try c.args.part))
+    (λ own items. subst (AreOwn g (form.Around around.Try c.args.part))
     (sym (items ∙ (ap (λ t. record { start = Key t c.in_ok-none.none; word = 0 } ∷ []) c.as_slice.ensures ∙ ap (λ x. record { start = Key text x; word = 0 } ∷ []) c.in_ok-none.ensures)))
     (key_own text c.in-Some.ensures))
     c.key_start.ensures
@@ -33,9 +34,9 @@ returns-in-Some-tried_keyword c =
     let class = c.in_ok-excluded.excluded in
     let same : c.as_slice-in-Some-tried_keyword.result.now ≡ text = c.as_slice-in-Some-tried_keyword.ensures in
     IfOk-weaker c.key_start-in-Some-tried_keyword.result _ _
-    (λ own items. subst (AreOwn g (form.Try c.args.part)) (sym (items ∙ ap (λ t. record { start = Key t class; word = 0 } ∷ []) same))
+    (λ own items. subst (AreOwn g (form.Around around.Try c.args.part)) (sym (items ∙ ap (λ t. record { start = Key t class; word = 0 } ∷ []) same))
     (keyword_own text c.in-Some-tried_keyword.excluded.now class c.in-Some-tried_keyword.ensures c.in_ok-excluded.ensures))
     c.key_start-in-Some-tried_keyword.ensures
 
 pub returns : goal.returns
-returns c = subst (AreOwn c.args.grammar.now (form.Try c.args.part)) (sym c.new.ensures.items) (no_key_own c.in_default.ensures c.in_default-tried_keyword.ensures)
+returns c = subst (AreOwn c.args.grammar.now (form.Around around.Try c.args.part)) (sym c.new.ensures.items) (no_key_own c.in_default.ensures c.in_default-tried_keyword.ensures)

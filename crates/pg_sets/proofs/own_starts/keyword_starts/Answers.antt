@@ -1,6 +1,7 @@
 use Rattle.std.proofs.Common.{◌||◌, sym, ap, subst, ◌∙◌}
 use Rattle.pg_class.specs.Ranges.{has}
-use Rattle.pg_grammar.specs.declared.form.Node.TheVariants as form
+use Rattle.pg_grammar.specs.declared.form.Form.TheVariants as form
+use Rattle.pg_grammar.specs.declared.form.Leaf.TheVariants as leaf
 use Rattle.pg_grammar.specs.ClassItems.{has_character}
 use Rattle.pg_sets.specs.Own.{AreOwn}
 use Rattle.pg_sets.specs.OwnStarts.{IsExcludedBy}
@@ -19,4 +20,4 @@ returns c =
           c.in_ok-excluded.ensures.members x scalar
           ∙ (ap (λ b. b || has letters x) (c.in_ok-class.ensures.members x scalar) ∙ ap (λ b. has_character g.classes c.args.excluded.now x || b) (c.in_ok-letters.ensures x scalar));
     } in
-    subst (AreOwn g (form.Declare c.args.excluded.now)) (sym c.in_ok-own.ensures) (declare_own excluded is)
+    subst (AreOwn g (form.Leaf (leaf.Declare c.args.excluded.now))) (sym c.in_ok-own.ensures) (declare_own excluded is)

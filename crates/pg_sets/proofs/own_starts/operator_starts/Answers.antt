@@ -1,6 +1,6 @@
 use Rattle.std.proofs.Common.{sym, subst}
 use Rattle.std.proofs.lemmas.Result.{IfOk-weaker}
-use Rattle.pg_grammar.specs.declared.form.Node.TheVariants as form
+use Rattle.pg_grammar.specs.declared.form.Form.TheVariants as form
 use Rattle.pg_sets.specs.Own.{AreOwn}
 use Rattle.pg_sets.proofs.Owned.{operator_own, no_operator_own}
 use Rattle.pg_sets.proofs.own_starts.operator_starts.Goals as goal
