@@ -7,7 +7,7 @@ use Rattle.pg_bench.specs.Texts.{fault_text}
 use Rattle.pg_bench.specs.declared.fault.BenchFault.{BenchFault}
 use Rattle.pg_bench.specs.declared.fault.BenchFault.TheVariants.{File, NotRun, Refused, Reader, NotUtf8, TooLong, ParseError, Writer, Memory}
 
--- what stands in front of a fault: the grammar file's name, the text's name, or nothing
+-- what stands before a fault: the grammar file's name, the text's name, or nothing
 abbrev pub front_of : BenchFault → List ℕ → List ℕ → List ℕ
 front_of (File fault) grammar text = grammar ++ codes ":"
 front_of NotRun grammar text = grammar ++ codes ": "

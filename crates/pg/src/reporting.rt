@@ -86,7 +86,7 @@ fn status(fault: &BenchFault) -> u8
     }
 }
 
-/// The fault behind the name of the file that it is about, if it is about one.
+/// The fault after the name of the file that it is about, if it is about one.
 fn line(alloc: Global, fault: &BenchFault, grammar: &str, text: &str) -> Result<String, AllocError>
     ensures { IfOk result (λ line. string_bytes line ≡ line_of fault.now grammar.now text.now) }
 {
@@ -95,7 +95,7 @@ fn line(alloc: Global, fault: &BenchFault, grammar: &str, text: &str) -> Result<
     Ok(line)
 }
 
-/// The name of the file that a fault is about, and the mark behind it; both are empty where it is about none.
+/// The name of the file that a fault is about, and the mark after it; both are empty where it is about none.
 fn front<'a>(fault: &BenchFault, grammar: &'a str, text: &'a str) -> (&'a str, &'static str)
     ensures { result.0.now ++ result.1.now ≡ front_of fault.now grammar.now text.now }
 {

@@ -1,4 +1,4 @@
-pub mod Fronts
+pub mod Prefixes
 pub mod Shown
 pub mod Parses
 pub mod Results

@@ -1,5 +1,5 @@
 -- What is printed of the machine's outcome is what the relation shows.
-use Rattle.std.proofs.Common.{◌≡◌, ℕ, List, Bool, false, Option, Some, None, refl, sym, subst, subst₂}
+use Rattle.std.proofs.Common.{◌≡◌, ◌≤◌, ◌+◌, ◌*◌, ℕ, List, Bool, false, Option, Some, None, arith, refl, sym, subst, subst₂}
 use Rattle.pg_text.specs.Position.{position_of}
 use Rattle.pg_message.specs.Printed.{printed}
 use Rattle.pg_message.specs.declared.error.ParseError.{ParseError}
@@ -20,16 +20,19 @@ stands text e at = subst (λ p. record { place = e.place; position = p; messages
 
 answered : (G : Given) (table : Table) (name : List ℕ) (most : ℕ) (c : Bool) (e : ParseError) (s : Option Success)
     → e.position ≡ position_of G.text e.place → (m : ℕ) → AnswersStart G table (outcome_with c (without_position e) s) m
-    → Shows G table name most (is_some s) (answer_text c e s name)
-answered G table name most c e None at m h =
-    subst (λ x. Shows G table name most false (error_text c (printed x name))) (stands G.text e at) (is_error h)
-answered G table name most c e (Some s) at m h = is_ok h
+    → 2 * m ≤ most + 1 → Shows G table name most (is_some s) (answer_text c e s name)
+answered G table name most c e None at m h within =
+    subst (λ x. Shows G table name most false (error_text c (printed x name))) (stands G.text e at) (is_error h within)
+answered G table name most c e (Some s) at m h within = is_ok h within
 
 pub shows : (G : Given) (table : Table) (name : List ℕ) (most : ℕ) (o : ended.Outcome) → IsOutcome G table most o
     → Shows G table name most (is_ok_outcome o) (outcome_text o name)
-shows G table name most (Answered a) h = answered G table name most a.consumed a.error a.success h.0.position h.0.entered h.0.answers
+shows G table name most (Answered a) h =
+    let steps = h.0.steps in
+    let few = h.1 in
+    answered G table name most a.consumed a.error a.success h.0.position h.0.entered h.0.answers (omega arith)
 shows G table name most StepsUsed h = is_used_up h
-shows G table name most EmptyRound h = is_stuck h.1
+shows G table name most EmptyRound h = is_stuck h.1 h.2
 
 -- so it is of a run on a text
 pub shown_text : (g : Grammar) (name : List ℕ) (most : ℕ) (reading : Reading) (text : List ℕ) (table : Table) (o : ended.Outcome) (accepted : Bool)

@@ -3,7 +3,7 @@ use Rattle.std.specs.Prelude.{◌<◌, ℕ, List, [], ◌∷◌, ◌++◌, Bool,
 use Rattle.std.specs.Io.KnownBytes.{Appends}
 use Rattle.std.specs.List.{flat_map}
 use Rattle.std.specs.String.{string_bytes}
-use Rattle.pg_tree.specs.Bytes.{AppendsFront}
+use Rattle.pg_tree.specs.Bytes.{AppendsPrefix}
 use Rattle.pg_pred.specs.Offer.{Offer}
 use Rattle.pg_grammar.specs.Grammar.{Grammar}
 use Rattle.pg_making.specs.Spells.{SpellsWithinLimits}
@@ -11,8 +11,6 @@ use Rattle.pg_predict.specs.Conditions.{IsFaultless}
 use Rattle.pg_predict.specs.Findings.{AreFindings}
 use Rattle.pg_predict.specs.Operators.{HasNoOperators}
 use Rattle.pg_predict.specs.declared.finding.Finding.{Finding}
-use Rattle.pg_bench.specs.declared.fault.BenchFault.{BenchFault}
-use Rattle.pg_bench.specs.declared.fault.BenchFault.TheVariants.{File, NotRun, Refused, Reader, NotUtf8, TooLong, ParseError, Writer, Memory}
 
 -- a finding's line
 abbrev pub line_of : Finding → List ℕ
@@ -40,21 +38,9 @@ pub record IsChecked (offer : Offer) (file : List ℕ) (writer held : Option (Li
   pub judged : IsJudgedFile offer file accepted said
   pub written : Appends writer held said
 
--- or a front of it
+-- or a prefix of it
 pub record IsPartlyChecked (offer : Offer) (file : List ℕ) (writer held : Option (List ℕ)) : Type 0 where
   pub accepted : Bool
   pub said : List ℕ
   pub judged : IsJudgedFile offer file accepted said
-  pub written : AppendsFront writer held said
-
--- what checking refuses with
-abbrev pub IsCheckRefusal : BenchFault → Type 0
-IsCheckRefusal (File fault) = Unit {0}
-IsCheckRefusal NotRun = Unit {0}
-IsCheckRefusal (Refused findings) = ⊥
-IsCheckRefusal Reader = ⊥
-IsCheckRefusal NotUtf8 = ⊥
-IsCheckRefusal TooLong = ⊥
-IsCheckRefusal (ParseError error) = ⊥
-IsCheckRefusal Writer = Unit {0}
-IsCheckRefusal Memory = Unit {0}
+  pub written : AppendsPrefix writer held said

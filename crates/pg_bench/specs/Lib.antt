@@ -1,5 +1,6 @@
 pub mod Promise
 pub mod Parsed
+pub mod Faults
 pub mod Printing
 pub mod Texts
 pub mod Checking

@@ -1,13 +1,11 @@
 -- What is told by printing a grammar file, with a registry that offers predicates and builders.
 use Rattle.std.specs.Prelude.{ℕ, List, Option}
 use Rattle.std.specs.Io.KnownBytes.{Appends}
-use Rattle.pg_tree.specs.Bytes.{AppendsFront}
+use Rattle.pg_tree.specs.Bytes.{AppendsPrefix}
 use Rattle.pg_pred.specs.Offer.{Offer}
 use Rattle.pg_grammar.specs.Grammar.{Grammar}
 use Rattle.pg_making.specs.Spells.{Spells, SpellsWithinLimits}
 use Rattle.pg_print.specs.Printed.{printed}
-use Rattle.pg_bench.specs.declared.fault.BenchFault.{BenchFault}
-use Rattle.pg_bench.specs.declared.fault.BenchFault.TheVariants.{File, NotRun, Refused, Reader, NotUtf8, TooLong, ParseError, Writer, Memory}
 
 -- the canonical form of the grammar that the file spells was written, and spells that grammar again
 pub record IsPrinted (offer : Offer) (file : List ℕ) (writer held : Option (List ℕ)) : Type 0 where
@@ -16,20 +14,8 @@ pub record IsPrinted (offer : Offer) (file : List ℕ) (writer held : Option (Li
   pub again : Spells offer (printed grammar) grammar
   pub written : Appends writer held (printed grammar)
 
--- or a front of it
+-- or a prefix of it
 pub record IsPartlyPrinted (offer : Offer) (file : List ℕ) (writer held : Option (List ℕ)) : Type 0 where
   pub grammar : Grammar
   pub spelled : SpellsWithinLimits offer file grammar
-  pub written : AppendsFront writer held (printed grammar)
-
--- what printing refuses with
-abbrev pub IsPrintRefusal : BenchFault → Type 0
-IsPrintRefusal (File fault) = Unit {0}
-IsPrintRefusal NotRun = ⊥
-IsPrintRefusal (Refused findings) = ⊥
-IsPrintRefusal Reader = ⊥
-IsPrintRefusal NotUtf8 = ⊥
-IsPrintRefusal TooLong = ⊥
-IsPrintRefusal (ParseError error) = ⊥
-IsPrintRefusal Writer = Unit {0}
-IsPrintRefusal Memory = Unit {0}
+  pub written : AppendsPrefix writer held (printed grammar)

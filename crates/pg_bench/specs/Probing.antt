@@ -6,7 +6,7 @@ use Rattle.std.specs.Str.{chars, IsUtf8}
 use Rattle.pg_text.specs.declared.text.TheConstants.{LIMIT}
 use Rattle.pg_message.specs.Printed.{printed}
 use Rattle.pg_message.specs.declared.error.ParseError.{ParseError}
-use Rattle.pg_tree.specs.Bytes.{AppendsFront}
+use Rattle.pg_tree.specs.Bytes.{AppendsPrefix}
 use Rattle.pg_tree.specs.Json.{json}
 use Rattle.pg_tree.specs.Trees.{Tree}
 use Rattle.pg_pred.specs.Offer.{Offer}
@@ -42,15 +42,15 @@ steps_used_text = codes "P5 steps used up\n"
 abbrev pub empty_round_text : List ℕ
 empty_round_text = codes "P6 empty repetition\n"
 
--- what is printed of a run within so many steps on a text of this name, and whether its answer is ok
+-- what is printed of a run within so many steps on a text of this name, and whether its answer is ok: m nodes take 2m - 1 steps
 pub data Shows (G : Given) (table : Table) (name : List ℕ) (most : ℕ) : Bool → List ℕ → Type 0 where
   is_ok : {c : Bool} {end : Spot} {forest : List Tree} {trail : List TrailItem} {e : Error} {m : ℕ} →
-      AnswersStart G table (ok c end forest trail e) m → Shows G table name most true (ok_text c end.place forest)
+      AnswersStart G table (ok c end forest trail e) m → 2 * m ≤ most + 1 → Shows G table name most true (ok_text c end.place forest)
   is_error : {c : Bool} {e : Error} {m : ℕ} →
-      AnswersStart G table (failed c e) m → Shows G table name most false (error_text c (printed (in_text G.text e) name))
-  is_stuck : {m : ℕ} → AnswersStart G table empty_round m → Shows G table name most false empty_round_text
-  -- only where no outcome takes so few steps
-  is_used_up : ((o : Outcome) (m : ℕ) → AnswersStart G table o m → most < 2 * m + 8) → Shows G table name most false steps_used_text
+      AnswersStart G table (failed c e) m → 2 * m ≤ most + 1 → Shows G table name most false (error_text c (printed (in_text G.text e) name))
+  is_stuck : {m : ℕ} → AnswersStart G table empty_round m → 2 * m ≤ most + 1 → Shows G table name most false empty_round_text
+  -- exactly where no outcome takes so few steps
+  is_used_up : ((o : Outcome) (m : ℕ) → AnswersStart G table o m → most + 1 < 2 * m) → Shows G table name most false steps_used_text
 
 -- this is printed of the grammar's run on a text under its initial table
 pub record IsShownOfText (g : Grammar) (name : List ℕ) (most : ℕ) (reading : Reading) (text : List ℕ) (accepted : Bool) (said : List ℕ) : Type 0 where
@@ -85,13 +85,13 @@ pub record IsProbed (offer : Offer) (file : List ℕ) (reader left : Option (Lis
   pub shown : IsShown offer file reader left name most reading accepted said
   pub written : Appends writer held said
 
--- or a front of it
+-- or a prefix of it
 pub record IsPartlyProbed (offer : Offer) (file : List ℕ) (reader left : Option (List ℕ)) (name : List ℕ) (most : ℕ) (reading : Reading)
     (writer held : Option (List ℕ)) : Type 0 where
   pub accepted : Bool
   pub said : List ℕ
   pub shown : IsShown offer file reader left name most reading accepted said
-  pub written : AppendsFront writer held said
+  pub written : AppendsPrefix writer held said
 
 -- ---- the page of an outcome of the machine
 

@@ -1,7 +1,7 @@
 -- What is told by printing the sets of a grammar file, with a registry that offers predicates and builders.
 use Rattle.std.specs.Prelude.{ℕ, List, Option}
 use Rattle.std.specs.Io.KnownBytes.{Appends}
-use Rattle.pg_tree.specs.Bytes.{AppendsFront}
+use Rattle.pg_tree.specs.Bytes.{AppendsPrefix}
 use Rattle.pg_pred.specs.Offer.{Offer}
 use Rattle.pg_grammar.specs.Grammar.{Grammar}
 use Rattle.pg_making.specs.Spells.{SpellsWithinLimits}
@@ -15,10 +15,10 @@ pub record IsShownFile (offer : Offer) (file : List ℕ) (writer held : Option (
   pub shown : IsSetsPage grammar page
   pub written : Appends writer held page
 
--- or a front of it
+-- or a prefix of it
 pub record IsPartlyShownFile (offer : Offer) (file : List ℕ) (writer held : Option (List ℕ)) : Type 0 where
   pub grammar : Grammar
   pub spelled : SpellsWithinLimits offer file grammar
   pub page : List ℕ
   pub shown : IsSetsPage grammar page
-  pub written : AppendsFront writer held page
+  pub written : AppendsPrefix writer held page

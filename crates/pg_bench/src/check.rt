@@ -3,8 +3,9 @@
 ghost use Rattle.std.specs.Prelude.{◌≡◌, ◌++◌, false, true, codes, IfOk, IfErr, OnOk, IsErrOf};
 ghost use Rattle.pg_pred.specs.Offer.{offer_of};
 ghost use Rattle.pg_predict.specs.Operators.{HasNoOperators};
-ghost use Rattle.pg_bench.specs.Checking.{IsChecked, IsPartlyChecked, IsCheckRefusal, IsJudged, line_of, lines_of};
-ghost use Rattle.pg_bench.specs.Parsed.{IsFileFault, IsMemory, SpellsNone, SpellsSome, SpellsOther, IsBehindFile, ComesBeforeWriting};
+ghost use Rattle.pg_bench.specs.Checking.{IsChecked, IsPartlyChecked, IsJudged, line_of, lines_of};
+ghost use Rattle.pg_bench.specs.Parsed.{SpellsNone, SpellsSome, SpellsOther};
+ghost use Rattle.pg_bench.specs.Faults.{IsCheckRefusal, IsFileFault, IsMemory, IsAfterFile, IsBeforeWriting};
 
 use crate::fault::BenchFault;
 use crate::grammar_file::plain_grammar_of;
@@ -34,15 +35,15 @@ pub fn check_bytes<W: Write>(
     ensures ok { IfOk result (IsChecked (offer_of registry.now) grammar.now (W.contents writer.old.inner) (W.contents writer.new.inner)) }
     ensures stays { OnOk result (writer.new.failed ≡ false) }
 
-    // The file spells no grammar, or one that reads or declares operators; or the writer failed behind a front of what it was
+    // The file spells no grammar, or one that reads or declares operators; or the writer failed after a prefix of what it was
     // to be given; or memory ran out.
     ensures err { IfErr result IsCheckRefusal }
     ensures file { IfErr result (λ fault. IsFileFault fault → SpellsNone (offer_of registry.now) grammar.now) }
     ensures not_run { IsErrOf result BenchFault.NotRun → SpellsOther HasNoOperators (offer_of registry.now) grammar.now }
-    ensures runnable { IfErr result (λ fault. IsBehindFile fault → SpellsSome HasNoOperators (offer_of registry.now) grammar.now) }
-    ensures unwritten { IfErr result (λ fault. ComesBeforeWriting fault → writer.new ≡ writer.old) }
+    ensures runnable { IfErr result (λ fault. IsAfterFile fault → SpellsSome HasNoOperators (offer_of registry.now) grammar.now) }
+    ensures unwritten { IfErr result (λ fault. IsBeforeWriting fault → writer.new ≡ writer.old) }
     ensures writer { IsErrOf result BenchFault.Writer → writer.new.failed ≡ true }
-    ensures front { IsErrOf result BenchFault.Writer →
+    ensures prefix { IsErrOf result BenchFault.Writer →
         IsPartlyChecked (offer_of registry.now) grammar.now (W.contents writer.old.inner) (W.contents writer.new.inner) }
 {
     let grammar = plain_grammar_of(alloc, grammar, registry)?;

@@ -32,9 +32,9 @@ pub enum BenchFault {
     NotUtf8,
     /// The text has over 4,096 characters.
     TooLong,
-    /// The grammar doesn't derive the text; this is the error of its start rule, or of the end that was to come behind it.
+    /// The grammar doesn't derive the text; this is the error of its start rule, or of the end that was to come after it.
     ParseError(ParseError),
-    /// The writer answered an error or took nothing. A front of the result may have been written.
+    /// The writer answered an error or took nothing. A prefix of the result may have been written.
     Writer,
     /// Memory ran out.
     Memory,

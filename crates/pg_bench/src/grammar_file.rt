@@ -5,7 +5,8 @@ ghost use Rattle.pg_pred.specs.Offer.{offer_of};
 ghost use Rattle.pg_grammar.specs.Fits.{Fits};
 ghost use Rattle.pg_making.specs.Spells.{SpellsWithinLimits};
 ghost use Rattle.pg_predict.specs.Operators.{HasNoOperators};
-ghost use Rattle.pg_bench.specs.Parsed.{IsFileFault, IsFileRefusal, IsFindingRefusal, IsGrammarRefusal, IsPlainRefusal, SpellsNone, SpellsOther, IfRefused, AreFindingsOf};
+ghost use Rattle.pg_bench.specs.Parsed.{SpellsNone, SpellsOther, AreFindingsOf};
+ghost use Rattle.pg_bench.specs.Faults.{IsFileFault, IsFileRefusal, IsFindingRefusal, IsGrammarRefusal, IsPlainRefusal, IfRefused};
 ghost use Rattle.pg_bench.specs.Promise.{IsAccepted};
 
 use crate::fault::BenchFault;

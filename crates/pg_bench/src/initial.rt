@@ -3,7 +3,7 @@
 ghost use Rattle.std.specs.Prelude.{◌≡◌, IfOk, IfErr};
 ghost use Rattle.pg_table.specs.Tables.{initial, whole, ComesFrom};
 ghost use Rattle.pg_making.specs.Spells.{HasInitialTable};
-ghost use Rattle.pg_bench.specs.Parsed.{IsMemory};
+ghost use Rattle.pg_bench.specs.Faults.{IsMemory};
 
 use crate::fault::BenchFault;
 use pg_grammar::Grammar;

@@ -4,7 +4,8 @@ ghost use Rattle.std.specs.Prelude.{◌≡◌, ◌≤◌, ◌<◌, ◌+◌, ◌*
 ghost use Rattle.std.specs.Io.KnownBytes.{Consumes, IsAtEnd};
 ghost use Rattle.std.specs.Str.{chars, IsUtf8};
 ghost use Rattle.pg_tree.specs.Meter.{saturating_sum};
-ghost use Rattle.pg_bench.specs.Parsed.{IsReadRefusal, IsTextRefusal, IsSpelledBy};
+ghost use Rattle.pg_bench.specs.Parsed.{IsSpelledBy};
+ghost use Rattle.pg_bench.specs.Faults.{IsReadRefusal, IsTextRefusal};
 
 use crate::fault::BenchFault;
 use pg_text::{LIMIT, Text, TextFault};
@@ -21,6 +22,7 @@ pub fn read_text<R: Read>(alloc: Global, reader: &mut Meter<R>) -> Result<Vec<u8
     ensures ok { IfOk result (λ read. Consumes (R.remaining reader.old.inner) (R.remaining reader.new.inner) read.items) }
     ensures end { OnOk result (IsAtEnd (R.remaining reader.new.inner)) }
     ensures stays { OnOk result (reader.new.failed ≡ false) }
+    ensures short { OnOk result (reader.new.bytes ≤ saturating_sum reader.old.bytes (4 * LIMIT)) }
     ensures err { IfErr result IsReadRefusal }
     ensures reader { IsErrOf result BenchFault.Reader →
         (reader.new.failed ≡ true) ⊎ (saturating_sum reader.old.bytes (4 * LIMIT + 1) ≤ reader.new.bytes) }

@@ -2,7 +2,7 @@
 
 ghost use Rattle.std.specs.Prelude.{◌≡◌, false, true, OnErr, OnOk, IsErrOf};
 ghost use Rattle.std.specs.Io.KnownBytes.{Appends};
-ghost use Rattle.pg_tree.specs.Bytes.{AppendsFront};
+ghost use Rattle.pg_tree.specs.Bytes.{AppendsPrefix};
 
 use crate::fault::BenchFault;
 use pg_tree::{Meter, write_bytes};
@@ -15,7 +15,7 @@ pub fn write_page<W: Write>(page: &[u8], writer: &mut Meter<W>) -> Result<(), Be
     ensures stays { OnOk result (writer.new.failed ≡ false) }
     ensures only { OnErr result (IsErrOf result BenchFault.Writer) }
     ensures failed { OnErr result (writer.new.failed ≡ true) }
-    ensures front { OnErr result (AppendsFront (W.contents writer.old.inner) (W.contents writer.new.inner) page.now) }
+    ensures prefix { OnErr result (AppendsPrefix (W.contents writer.old.inner) (W.contents writer.new.inner) page.now) }
 {
     match write_bytes(page, writer) {
         Ok(()) => Ok(()),

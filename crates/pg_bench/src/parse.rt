@@ -11,11 +11,12 @@ ghost use Rattle.pg_pred.specs.Offer.{offer_of};
 ghost use Rattle.pg_grammar.specs.Fits.{Fits};
 ghost use Rattle.pg_tree.specs.Json.{json};
 ghost use Rattle.pg_tree.specs.Meter.{saturating_sum};
-ghost use Rattle.pg_tree.specs.Bytes.{AppendsFront};
+ghost use Rattle.pg_tree.specs.Bytes.{AppendsPrefix};
 ghost use Rattle.pg_making.specs.Spells.{HasInitialTable};
 ghost use Rattle.pg_predict.specs.Operators.{HasNoOperators};
 ghost use Rattle.pg_bench.specs.Promise.{IsAccepted, IsForestOfText};
-ghost use Rattle.pg_bench.specs.Parsed.{IsParsed, IsForestOf, IsForestOfBytes, IsErrorOf, IsForestRefusal, IsReadingRefusal, AreFindingsOf, IfRefused, IfParseError, ComesBeforeReading, SpellsNone, SpellsSome, SpellsOther, ReadsText, IsParseRefusal, IsRunRefusal, IsWriteRefusal, IsBehindFile, IsBehindReader, IsFileFault, IsPartlyWritten, ComesBeforeWriting};
+ghost use Rattle.pg_bench.specs.Parsed.{IsParsed, IsForestOf, IsForestOfBytes, IsErrorOf, AreFindingsOf, SpellsNone, SpellsSome, SpellsOther, ReadsText, IsPartlyWritten};
+ghost use Rattle.pg_bench.specs.Faults.{IsForestRefusal, IsReadingRefusal, IfRefused, IfParseError, IsBeforeReading, IsParseRefusal, IsRunRefusal, IsWriteRefusal, IsAfterFile, IsAfterReading, IsFileFault, IsBeforeWriting};
 
 use crate::fault::BenchFault;
 use crate::grammar_file::checked_of;
@@ -59,8 +60,8 @@ pub fn parse_bytes<R: Read, W: Write>(
     ensures file { IfErr result (λ fault. IsFileFault fault → SpellsNone (offer_of registry.now) grammar.now) }
     ensures not_run { IsErrOf result BenchFault.NotRun → SpellsOther HasNoOperators (offer_of registry.now) grammar.now }
     ensures refused { IfErr result (IfRefused (AreFindingsOf (offer_of registry.now) grammar.now)) }
-    ensures unread { IfErr result (λ fault. ComesBeforeReading fault → reader.new ≡ reader.old) }
-    ensures accepted { IfErr result (λ fault. IsBehindFile fault → SpellsSome IsAccepted (offer_of registry.now) grammar.now) }
+    ensures unread { IfErr result (λ fault. IsBeforeReading fault → reader.new ≡ reader.old) }
+    ensures accepted { IfErr result (λ fault. IsAfterFile fault → SpellsSome IsAccepted (offer_of registry.now) grammar.now) }
 
     // The reader failed, or gave more than the limit.
     ensures reader { IsErrOf result BenchFault.Reader →
@@ -72,20 +73,22 @@ pub fn parse_bytes<R: Read, W: Write>(
     ensures too_long { IsErrOf result BenchFault.TooLong →
         ReadsText (R.remaining reader.old.inner) (R.remaining reader.new.inner) (λ bytes. IsUtf8 bytes × (LIMIT < length (chars bytes))) }
 
-    // Nothing derives the text, and the error is the start rule's, or that of the end behind it.
+    // Nothing derives the text, and the error is the start rule's, or that of the end after it.
     ensures parse_error { IfErr result (IfParseError (IsErrorOf (offer_of registry.now) grammar.now
         (R.remaining reader.old.inner) (R.remaining reader.new.inner))) }
 
-    // In every other case the reader didn't fail.
+    // In every other case the reader didn't fail, and didn't give more.
     ensures reader_stays { OnOk result (reader.new.failed ≡ false) }
-    ensures reader_well { IfErr result (λ fault. IsBehindReader fault → reader.new.failed ≡ false) }
+    ensures reader_well { IfErr result (λ fault. IsAfterReading fault → reader.new.failed ≡ false) }
+    ensures short { OnOk result (reader.new.bytes ≤ saturating_sum reader.old.bytes (4 * LIMIT)) }
+    ensures short_too { IfErr result (λ fault. IsAfterReading fault → reader.new.bytes ≤ saturating_sum reader.old.bytes (4 * LIMIT)) }
 
-    // The writer failed behind a front of what it was to be given, and in every other case was given nothing.
+    // The writer failed after a prefix of what it was to be given, and in every other case was given nothing.
     ensures writer { IsErrOf result BenchFault.Writer → writer.new.failed ≡ true }
-    ensures front { IsErrOf result BenchFault.Writer → IsPartlyWritten (offer_of registry.now) grammar.now (R.remaining reader.old.inner) (R.remaining reader.new.inner)
+    ensures prefix { IsErrOf result BenchFault.Writer → IsPartlyWritten (offer_of registry.now) grammar.now (R.remaining reader.old.inner) (R.remaining reader.new.inner)
         (W.contents writer.old.inner) (W.contents writer.new.inner) }
     ensures writer_stays { OnOk result (writer.new.failed ≡ false) }
-    ensures unwritten { IfErr result (λ fault. ComesBeforeWriting fault → writer.new ≡ writer.old) }
+    ensures unwritten { IfErr result (λ fault. IsBeforeWriting fault → writer.new ≡ writer.old) }
 
     ensures asked { reader.new.calls ≤ saturating_sum reader.old.calls (4 * LIMIT + 1) }
 {
@@ -104,11 +107,13 @@ fn forest_of_files<R: Read>(
     requires { reader.old.failed ≡ false }
     ensures ok { IfOk result (IsForestOf (offer_of registry.now) grammar.now (R.remaining reader.old.inner) (R.remaining reader.new.inner)) }
     ensures err { IfErr result (IsForestRefusal (offer_of registry.now) grammar.now (R.remaining reader.old.inner) (R.remaining reader.new.inner)) }
-    ensures unread { IfErr result (λ fault. ComesBeforeReading fault → reader.new ≡ reader.old) }
+    ensures unread { IfErr result (λ fault. IsBeforeReading fault → reader.new ≡ reader.old) }
     ensures reader { IsErrOf result BenchFault.Reader →
         (reader.new.failed ≡ true) ⊎ (saturating_sum reader.old.bytes (4 * LIMIT + 1) ≤ reader.new.bytes) }
     ensures stays { OnOk result (reader.new.failed ≡ false) }
-    ensures well { IfErr result (λ fault. IsBehindReader fault → reader.new.failed ≡ false) }
+    ensures well { IfErr result (λ fault. IsAfterReading fault → reader.new.failed ≡ false) }
+    ensures short { OnOk result (reader.new.bytes ≤ saturating_sum reader.old.bytes (4 * LIMIT)) }
+    ensures short_too { IfErr result (λ fault. IsAfterReading fault → reader.new.bytes ≤ saturating_sum reader.old.bytes (4 * LIMIT)) }
     ensures asked { reader.new.calls ≤ saturating_sum reader.old.calls (4 * LIMIT + 1) }
 {
     let checked = checked_of(alloc, grammar, registry)?;
@@ -135,7 +140,9 @@ fn forest_of_reader<R: Read>(
     ensures reader { IsErrOf result BenchFault.Reader →
         (reader.new.failed ≡ true) ⊎ (saturating_sum reader.old.bytes (4 * LIMIT + 1) ≤ reader.new.bytes) }
     ensures stays { OnOk result (reader.new.failed ≡ false) }
-    ensures well { IfErr result (λ fault. IsBehindReader fault → reader.new.failed ≡ false) }
+    ensures well { IfErr result (λ fault. IsAfterReading fault → reader.new.failed ≡ false) }
+    ensures short { OnOk result (reader.new.bytes ≤ saturating_sum reader.old.bytes (4 * LIMIT)) }
+    ensures short_too { IfErr result (λ fault. IsAfterReading fault → reader.new.bytes ≤ saturating_sum reader.old.bytes (4 * LIMIT)) }
     ensures asked { reader.new.calls ≤ saturating_sum reader.old.calls (4 * LIMIT + 1) }
 {
     let bytes = read_text(alloc, reader)?;
@@ -194,8 +201,8 @@ fn write_line<W: Write>(
     ensures stays { OnOk result (writer.new.failed ≡ false) }
     ensures err { IfErr result IsWriteRefusal }
     ensures failed { IsErrOf result BenchFault.Writer → writer.new.failed ≡ true }
-    ensures front { IsErrOf result BenchFault.Writer →
-        AppendsFront (W.contents writer.old.inner) (W.contents writer.new.inner) (json forest.now ++ 10 ∷ []) }
+    ensures prefix { IsErrOf result BenchFault.Writer →
+        AppendsPrefix (W.contents writer.old.inner) (W.contents writer.new.inner) (json forest.now ++ 10 ∷ []) }
     ensures memory { IsErrOf result BenchFault.Memory → writer.new ≡ writer.old }
 {
     match write_json(alloc, forest, writer) {

@@ -8,7 +8,8 @@ ghost use Rattle.pg_making.specs.Spells.{HasInitialTable};
 ghost use Rattle.pg_table.specs.Tables.{initial, whole};
 ghost use Rattle.pg_tree.specs.Meter.{saturating_sum};
 ghost use Rattle.pg_predict.specs.Operators.{HasNoOperators};
-ghost use Rattle.pg_bench.specs.Parsed.{SpellsNone, SpellsSome, SpellsOther, ReadsText, IsBehindFile, IsBehindReader, IsFileFault, IfParseError, IfRefused, IsTextRefusal, IsProbeRefusal, IsMemory, ComesBeforeWriting};
+ghost use Rattle.pg_bench.specs.Parsed.{SpellsNone, SpellsSome, SpellsOther, ReadsText};
+ghost use Rattle.pg_bench.specs.Faults.{IsAfterFile, IsAfterReading, IsFileFault, IfParseError, IfRefused, IsTextRefusal, IsProbeRefusal, IsMemory, IsBeforeWriting};
 ghost use Rattle.pg_bench.specs.Probing.{IsProbed, IsPartlyProbed, IsShownOf, IsShownOfText, is_ok_outcome, outcome_text};
 
 use crate::fault::BenchFault;
@@ -56,7 +57,7 @@ pub fn probe_bytes<R: Read, W: Write>(
     // A fault of the file comes first, and every other one only where the file spells a grammar that is run.
     ensures file { IfErr result (λ fault. IsFileFault fault → SpellsNone (offer_of registry.now) grammar.now) }
     ensures unread { IfErr result (λ fault. IsFileFault fault → reader.new ≡ reader.old) }
-    ensures runnable { IfErr result (λ fault. IsBehindFile fault → SpellsSome HasNoOperators (offer_of registry.now) grammar.now) }
+    ensures runnable { IfErr result (λ fault. IsAfterFile fault → SpellsSome HasNoOperators (offer_of registry.now) grammar.now) }
 
     // The file spells a grammar that reads or declares operators.
     ensures not_run { IsErrOf result BenchFault.NotRun → SpellsOther HasNoOperators (offer_of registry.now) grammar.now }
@@ -74,16 +75,18 @@ pub fn probe_bytes<R: Read, W: Write>(
     ensures parsed { IfErr result (IfParseError (λ error. ⊥)) }
     ensures unchecked { IfErr result (IfRefused (λ findings. ⊥)) }
 
-    // In every other case the reader didn't fail.
+    // In every other case the reader didn't fail, and didn't give more.
     ensures reader_stays { OnOk result (reader.new.failed ≡ false) }
-    ensures reader_well { IfErr result (λ fault. IsBehindReader fault → reader.new.failed ≡ false) }
+    ensures reader_well { IfErr result (λ fault. IsAfterReading fault → reader.new.failed ≡ false) }
+    ensures short { OnOk result (reader.new.bytes ≤ saturating_sum reader.old.bytes (4 * LIMIT)) }
+    ensures short_too { IfErr result (λ fault. IsAfterReading fault → reader.new.bytes ≤ saturating_sum reader.old.bytes (4 * LIMIT)) }
 
-    // The writer failed behind a front of what it was to be given, and in every other case was given nothing.
+    // The writer failed after a prefix of what it was to be given, and in every other case was given nothing.
     ensures writer { IsErrOf result BenchFault.Writer → writer.new.failed ≡ true }
-    ensures front { IsErrOf result BenchFault.Writer → IsPartlyProbed (offer_of registry.now) grammar.now (R.remaining reader.old.inner)
+    ensures prefix { IsErrOf result BenchFault.Writer → IsPartlyProbed (offer_of registry.now) grammar.now (R.remaining reader.old.inner)
         (R.remaining reader.new.inner) name.now max_steps reading (W.contents writer.old.inner) (W.contents writer.new.inner) }
     ensures writer_stays { OnOk result (writer.new.failed ≡ false) }
-    ensures unwritten { IfErr result (λ fault. ComesBeforeWriting fault → writer.new ≡ writer.old) }
+    ensures unwritten { IfErr result (λ fault. IsBeforeWriting fault → writer.new ≡ writer.old) }
 
     ensures asked { reader.new.calls ≤ saturating_sum reader.old.calls (4 * LIMIT + 1) }
 {
@@ -120,7 +123,9 @@ fn shown_of_reader<R: Read>(
     ensures reader { IsErrOf result BenchFault.Reader →
         (reader.new.failed ≡ true) ⊎ (saturating_sum reader.old.bytes (4 * LIMIT + 1) ≤ reader.new.bytes) }
     ensures stays { OnOk result (reader.new.failed ≡ false) }
-    ensures well { IfErr result (λ fault. IsBehindReader fault → reader.new.failed ≡ false) }
+    ensures well { IfErr result (λ fault. IsAfterReading fault → reader.new.failed ≡ false) }
+    ensures short { OnOk result (reader.new.bytes ≤ saturating_sum reader.old.bytes (4 * LIMIT)) }
+    ensures short_too { IfErr result (λ fault. IsAfterReading fault → reader.new.bytes ≤ saturating_sum reader.old.bytes (4 * LIMIT)) }
     ensures asked { reader.new.calls ≤ saturating_sum reader.old.calls (4 * LIMIT + 1) }
 {
     let bytes = read_text(alloc, reader)?;

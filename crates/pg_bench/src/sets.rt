@@ -2,8 +2,8 @@
 
 ghost use Rattle.std.specs.Prelude.{◌≡◌, false, true, IfErr, OnOk, IsErrOf};
 ghost use Rattle.pg_pred.specs.Offer.{offer_of};
-ghost use Rattle.pg_bench.specs.Parsed.{IsFileFault, SpellsNone, ComesBeforeWriting};
-ghost use Rattle.pg_bench.specs.Printing.{IsPrintRefusal};
+ghost use Rattle.pg_bench.specs.Parsed.{SpellsNone};
+ghost use Rattle.pg_bench.specs.Faults.{IsFileFault, IsBeforeWriting, IsPrintRefusal};
 ghost use Rattle.pg_bench.specs.Showing.{IsShownFile, IsPartlyShownFile};
 
 use crate::fault::BenchFault;
@@ -33,12 +33,12 @@ pub fn sets_bytes<W: Write>(
     ensures ok { OnOk result (IsShownFile (offer_of registry.now) grammar.now (W.contents writer.old.inner) (W.contents writer.new.inner)) }
     ensures stays { OnOk result (writer.new.failed ≡ false) }
 
-    // The file spells no grammar; or the writer failed behind a front of what it was to be given; or memory ran out.
+    // The file spells no grammar; or the writer failed after a prefix of what it was to be given; or memory ran out.
     ensures err { IfErr result IsPrintRefusal }
     ensures file { IfErr result (λ fault. IsFileFault fault → SpellsNone (offer_of registry.now) grammar.now) }
-    ensures unwritten { IfErr result (λ fault. ComesBeforeWriting fault → writer.new ≡ writer.old) }
+    ensures unwritten { IfErr result (λ fault. IsBeforeWriting fault → writer.new ≡ writer.old) }
     ensures writer { IsErrOf result BenchFault.Writer → writer.new.failed ≡ true }
-    ensures front { IsErrOf result BenchFault.Writer →
+    ensures prefix { IsErrOf result BenchFault.Writer →
         IsPartlyShownFile (offer_of registry.now) grammar.now (W.contents writer.old.inner) (W.contents writer.new.inner) }
 {
     let grammar = grammar_of(alloc, grammar, registry)?;

@@ -183,7 +183,7 @@ fn writes_nothing_where_the_reader_fails(rt: HostRuntime) -> Result<(), Fail> {
 }
 
 #[test]
-fn writes_a_front_where_the_writer_fails(rt: HostRuntime) -> Result<(), Fail> {
+fn writes_a_prefix_where_the_writer_fails(rt: HostRuntime) -> Result<(), Fail> {
     for most in 0..15 {
         for errs in [false, true] {
             let mut reader = Meter::new(b"(7)".as_slice());

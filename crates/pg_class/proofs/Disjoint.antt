@@ -1,21 +1,18 @@
--- Two classes from whose fronts ranges are left behind.
+-- Two classes from whose fronts ranges are left after.
 use Rattle.std.proofs.Common.{◌≡◌, ◌↔◌, ℕ, ◌<◌, ◌≤◌, Bool, true, false, ◌||◌, List, ◌∷◌, arith, refl, ap, ◌∙◌, sym, subst}
+use Rattle.std.proofs.lemmas.Bool.{or_right}
 use Rattle.pg_class.specs.Ranges.{Range, AreDisjoint, IsClass, in_range, has}
 use Rattle.pg_class.proofs.Unique.{first_least, to_last}
 
--- what stands behind the first range of a class is a class
+-- what stands after the first range of a class is a class
 pub IsClass-rest : (xs rs : List Range) (r : Range) → xs ≡ r ∷ rs → IsClass xs → IsClass rs
 IsClass-rest xs rs r e h = let k : IsClass (r ∷ rs) = subst IsClass e h in k.2
 
 -- its characters are the class's
-or_right : (b d : Bool) → d ≡ true → (b || d) ≡ true
-or_right true d e = refl
-or_right false d e = e
-
 pub has-rest : (xs rs : List Range) (r : Range) (c : ℕ) → xs ≡ r ∷ rs → has rs c ≡ true → has xs c ≡ true
 has-rest xs rs r c e h = ap (λ l. has l c) e ∙ or_right (in_range c r) (has rs c) h
 
--- a character of a class is in its first range or behind it
+-- a character of a class is in its first range or after it
 pub has_split : (r : Range) (rs : List Range) (c : ℕ) (P : Type 0) → has (r ∷ rs) c ≡ true → (in_range c r ≡ true → P) → (has rs c ≡ true → P) → P
 has_split r rs c P h first rest = by_case (in_range c r) refl h
   where
@@ -27,7 +24,7 @@ has_split r rs c P h first rest = by_case (in_range c r) refl h
 pub low_first : (ys ss : List Range) (s : Range) (c : ℕ) → ys ≡ s ∷ ss → IsClass ys → has ys c ≡ true → s.0 ≤ c
 low_first ys ss s c e k h = first_least s ss c (subst IsClass e k) (sym (ap (λ l. has l c) e) ∙ h)
 
--- a range that ends below the first of the other class is left behind
+-- a range that ends below the first of the other class is left after
 pub leave_first : (xs rs ys ss : List Range) (r s : Range) → xs ≡ r ∷ rs → ys ≡ s ∷ ss → IsClass ys → r.1 < s.0
     → (AreDisjoint rs ys ↔ AreDisjoint xs ys)
 leave_first xs rs ys ss r s e f k l = (
@@ -39,6 +36,7 @@ leave_first xs rs ys ss r s e f k l = (
   λ apart c sc p q. apart c sc (has-rest xs rs r c e p) q,
 )
 
+-- being disjoint knows no order
 pub AreDisjoint-swap : (xs ys : List Range) → AreDisjoint xs ys → AreDisjoint ys xs
 AreDisjoint-swap xs ys h c sc p q = h c sc q p
 

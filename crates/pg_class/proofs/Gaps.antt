@@ -37,7 +37,7 @@ IsBefore-before c h l = record {
   next = grind (arith, leb_tells);
 }
 
--- the characters at or behind the one after b are those above b
+-- the characters at or after the one after b are those above b
 pub above_after : (b c : ℕ) → IsScalar b → IsScalar c → nat_le (after b) c ≡ nat_lt b c
 above_after b c h k = grind (arith, leb_tells)
 
@@ -45,7 +45,7 @@ above_after b c h k = grind (arith, leb_tells)
 pub below_before : (a c : ℕ) → IsScalar a → IsScalar c → 0 < a → nat_le c (before a) ≡ nat_lt c a
 below_before a c h k l = grind (arith, leb_tells)
 
--- a character in a gap, in a range, or behind it
+-- a character in a gap, in a range, or after it
 with_gap : (low a b c : ℕ) (p : Bool) → low < a → a ≤ b → (c ≤ b → p ≡ false)
     → ((nat_le low c && nat_lt c a) || (nat_lt b c && not p)) ≡ (nat_le low c && not ((nat_le a c && nat_le c b) || p))
 with_gap low a b c true l m h = grind (arith, leb_tells, h)
@@ -82,7 +82,7 @@ has_step low r rs c h k sc l ih false e =
     ∙ ap (λ t. t && not (has rs c)) (above_after r.1 c h.last sc)
     ∙ without_gap low r.0 r.1 c (has rs c) l above h.ascends (λ m. has-apart r rs c k m (has rs c) refl)
 
--- no range is left: every character from one on is in the gap behind them
+-- no range is left: every character from one on is in the gap after them
 has_last : (low c : ℕ) → IsScalar c → (b : Bool) → nat_lt low 0x110000 ≡ b
     → has (cond b ((low, 0x10FFFF) ∷ []) []) c ≡ (nat_le low c && true)
 has_last low c sc true e = grind (arith, leb_tells)

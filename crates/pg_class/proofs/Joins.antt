@@ -1,5 +1,6 @@
 -- What a list of ranges has once one more is joined to it.
 use Rattle.std.proofs.Common.{◌≡◌, ℕ, ◌+◌, ◌<◌, ◌≤◌, Bool, true, false, ◌&&◌, ◌||◌, nat_lt, nat_le, cond, min, max, List, [], ◌∷◌, arith, refl, ap, ◌∙◌}
+use Rattle.std.proofs.Math.Bool.{or_assoc}
 use Rattle.std.proofs.lemmas.Bool.Decides.{leb_tells}
 use Rattle.std.specs.Char.{IsScalar, scalar_index}
 use Rattle.pg_class.specs.Ranges.{Range, IsRange, AllApart, in_range, has, apart, IsClass, with_range}
@@ -13,15 +14,11 @@ joined_same a b x y c ab xy h k = grind (arith, leb_tells, h, k)
 pub no_gap : (b c x : ℕ) → IsScalar b → IsScalar c → IsScalar x → nat_lt (scalar_index b + 1) (scalar_index x) ≡ false → b < c → c < x → ⊥
 no_gap b c x sb sc sx e h k = grind (arith, leb_tells)
 
--- laws of `or`
+-- of three, the second may stand first
 pub or_swap : (p q r : Bool) → (p || (q || r)) ≡ (q || (p || r))
 or_swap true true r = refl
 or_swap true false r = refl
 or_swap false q r = refl
-
-pub or_assoc : (p q r : Bool) → ((p || q) || r) ≡ (p || (q || r))
-or_assoc true q r = refl
-or_assoc false q r = refl
 
 -- the lower and the higher of two characters are characters
 pub scalar_min : (a b : ℕ) → IsScalar a → IsScalar b → IsScalar (min a b)

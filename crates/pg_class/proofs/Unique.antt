@@ -92,7 +92,7 @@ beyond_step r rs n h l i false e f = let a = above r rs n h f in omega arith
 pub first_ends : (r : Range) (rs : List Range) (n : ℕ) → AllApart r rs → r.1 < n → scalar_index n ≡ scalar_index r.1 + 1 → has (r ∷ rs) n ≡ true → ⊥
 first_ends r rs n h l i e = beyond_step r rs n h l i (in_range n r) refl e
 
--- nor does it end below it, since the class has the character right behind
+-- nor does it end below it, since the class has the character right after
 pub last_not_lt : (r s : Range) (rs ss : List Range) → IsClass (r ∷ rs) → IsClass (s ∷ ss) → SameCharacters (r ∷ rs) (s ∷ ss) → r.1 < s.1 → ⊥
 last_not_lt r s rs ss h k same l =
     let next = IsNext-next_character r.1 s.1 h.0.last k.0.last l in
@@ -121,7 +121,7 @@ rest_step r rs ss c h k true e f =
     has-apart r rs c h (to_last r c e) (has rs c) refl ∙ sym (has-apart r ss c k (to_last r c e) (has ss c) refl)
 rest_step r rs ss c h k false e f = f
 
--- two classes with the same characters and the same first range have the same characters behind it
+-- two classes with the same characters and the same first range have the same characters after it
 pub same_rest : (r s : Range) (rs ss : List Range) → r ≡ s → IsClass (r ∷ rs) → IsClass (s ∷ ss) → SameCharacters (r ∷ rs) (s ∷ ss) → SameCharacters rs ss
 same_rest r s rs ss e h k same = λ c sc.
     let apart_ss : AllApart r ss = subst (λ t. AllApart t ss) (sym e) k.1 in

@@ -1,11 +1,11 @@
--- A class within another, from whose fronts ranges are left behind.
+-- A class within another, from whose fronts ranges are left after.
 use Rattle.std.proofs.Common.{◌≡◌, ◌↔◌, ℕ, ◌<◌, ◌≤◌, true, List, [], ◌∷◌, arith, ap, ◌∙◌, sym, subst}
 use Rattle.std.proofs.lemmas.Bool.{false≢true}
 use Rattle.pg_class.specs.Ranges.{Range, IsWithin, IsClass, in_range, has}
 use Rattle.pg_class.proofs.Disjoint.{has-rest, has_split, low_first}
 use Rattle.pg_class.proofs.Unique.{IsNext-next_character, next_character, first_ends, from_first, has-first, to_last}
 
--- a range that ends below the last character of the first of the class within is left behind: a character stands behind
+-- a range that ends below the last character of the first of the class within is left after: a character stands after
 -- it that its class leaves out
 pub leave_low : (xs rs ys ss : List Range) (r s : Range) → xs ≡ r ∷ rs → ys ≡ s ∷ ss → IsClass xs → IsClass ys → s.1 < r.1
     → (IsWithin xs ss ↔ IsWithin xs ys)
@@ -23,7 +23,7 @@ leave_low xs rs ys ss r s e f h k l = (
     other : IsClass (s ∷ ss)
     other = subst IsClass f k
 
-    -- a character of the range would be in the first of the class within, and so would the next one behind the range
+    -- a character of the range would be in the first of the class within, and so would the next one after the range
     cut : IsWithin xs ys → (c : ℕ) → has xs c ≡ true → in_range c s ≡ true → ⊥
     cut within c p m =
         let next = IsNext-next_character s.1 r.1 other.0.last class.0.last l in
@@ -35,7 +35,7 @@ leave_low xs rs ys ss r s e f h k l = (
         let there = within n next.scalar (ap (λ t. has t n) e ∙ has-first r rs n rises next.within) in
         first_ends s ss n other.1 next.above next.index (sym (ap (λ t. has t n) f) ∙ there)
 
--- a range of the class within that lies in the first of the other is left behind
+-- a range of the class within that lies in the first of the other is left after
 pub leave_covered : (xs rs ys ss : List Range) (r s : Range) → xs ≡ r ∷ rs → ys ≡ s ∷ ss → s.0 ≤ r.0 → r.1 ≤ s.1
     → (IsWithin rs ys ↔ IsWithin xs ys)
 leave_covered xs rs ys ss r s e f low high = (

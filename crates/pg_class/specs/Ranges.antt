@@ -37,7 +37,7 @@ pub record IsRange (r : Range) : Type 0 where
   pub first : IsScalar r.0
   pub last : IsScalar r.1
 
--- a character stands between a range and each of those behind it
+-- a character stands between a range and each of those after it
 abbrev pub AllApart : Range → List Range → Type 0
 AllApart r [] = Unit {0}
 AllApart r (s ∷ rs) = (apart r s ≡ true) × AllApart r rs

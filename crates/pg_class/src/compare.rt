@@ -1,7 +1,7 @@
 //! What the characters of two classes have to do with each other.
 //!
 //! Both lists ascend, so they are gone through side by side: whichever range can't matter any more for the
-//! ranges to come of the other list is left behind. Only `class.rt` calls this.
+//! ranges to come of the other list is left after. Only `class.rt` calls this.
 ghost use Rattle.std.specs.Prelude.{◌↔◌, IsTrue};
 ghost use Rattle.pg_class.specs.Ranges.{AreDisjoint, IsClass, IsWithin};
 

@@ -1,6 +1,6 @@
 //! The characters that a class leaves out, as a class.
 //!
-//! A gap is a range of characters between two neighbours of a class, before its first range or behind
+//! A gap is a range of characters between two neighbours of a class, before its first range or after
 //! its last. Gaps ascend as the ranges do, and a whole range parts each two of them, so they are a class
 //! too; only `class.rt` calls this.
 ghost use Rattle.std.specs.Prelude.{◌≡◌, ◌<◌, ℕ, not, unwrap_or, IfOk};

@@ -7,7 +7,7 @@ use Rattle.std.proofs.lemmas.Bool.Decides.{leb_tells}
 use Rattle.std.proofs.lemmas.Option.{same_Some, none-some}
 use Rattle.pg_class.specs.Ranges.{Range, AreDisjoint, IsWithin, has}
 use Rattle.pg_start.specs.Apart.{Apart, KeysApart, differ, other_goes_on, key_goes_on, KeyWordApart, begins_outside, goes_on, ends}
-use Rattle.pg_start.specs.Fronts.{begins_in, IsFront, word_front, is_reserved}
+use Rattle.pg_start.specs.Prefixes.{begins_in, IsPrefix, word_prefix, is_reserved}
 use Rattle.pg_start.specs.Starts.{HasAt}
 use Rattle.pg_start.specs.declared.kind.StartKind.{StartKind}
 use Rattle.pg_start.specs.declared.kind.StartKind.TheVariants.{Class, Key, Word, End}
@@ -51,25 +51,25 @@ has_at_decided text place class = go (slice_get text place) refl
         (λ h. let same = same_Some h.character c (sym h.there ∙ e) in ap (has class) (sym same) ∙ h.member)
         (decided_true (has class c))
 
-front_decided : (front text : List ℕ) → Decided (IsFront front text)
-front_decided front text = decided_same (take (length front) text) front
+prefix_decided : (prefix text : List ℕ) → Decided (IsPrefix prefix text)
+prefix_decided prefix text = decided_same (take (length prefix) text) prefix
 
 keys_decided : (key : List ℕ) (excluded : List Range) (other : List ℕ) (other_excluded : List Range) → Decided (KeysApart key excluded other other_excluded)
 keys_decided key excluded other other_excluded =
     decided_as there back (
-    decided_either (decided_both (decided_not (front_decided key other)) (decided_not (front_decided other key)))
-    (decided_either (decided_both (front_decided key other) (has_at_decided other (length key) excluded))
-    (decided_both (front_decided other key) (has_at_decided key (length other) other_excluded)))
+    decided_either (decided_both (decided_not (prefix_decided key other)) (decided_not (prefix_decided other key)))
+    (decided_either (decided_both (prefix_decided key other) (has_at_decided other (length key) excluded))
+    (decided_both (prefix_decided other key) (has_at_decided key (length other) other_excluded)))
     )
   where
-    there : ((IsFront key other → ⊥) × (IsFront other key → ⊥)) ⊎ ((IsFront key other × HasAt other (length key) excluded) ⊎ (IsFront other key × HasAt key (length other) other_excluded)) →
+    there : ((IsPrefix key other → ⊥) × (IsPrefix other key → ⊥)) ⊎ ((IsPrefix key other × HasAt other (length key) excluded) ⊎ (IsPrefix other key × HasAt key (length other) other_excluded)) →
         KeysApart key excluded other other_excluded
     there (inl h) = differ h.0 h.1
     there (inr (inl h)) = other_goes_on h.0 h.1
     there (inr (inr h)) = key_goes_on h.0 h.1
 
     back : KeysApart key excluded other other_excluded →
-        ((IsFront key other → ⊥) × (IsFront other key → ⊥)) ⊎ ((IsFront key other × HasAt other (length key) excluded) ⊎ (IsFront other key × HasAt key (length other) other_excluded))
+        ((IsPrefix key other → ⊥) × (IsPrefix other key → ⊥)) ⊎ ((IsPrefix key other × HasAt other (length key) excluded) ⊎ (IsPrefix other key × HasAt key (length other) other_excluded))
     back (differ n m) = inl (n, m)
     back (other_goes_on f h) = inr (inl (f, h))
     back (key_goes_on f h) = inr (inr (f, h))
@@ -80,17 +80,17 @@ key_word_decided : (key : List ℕ) (excluded heads rest : List Range) (reserved
 key_word_decided key excluded heads rest reserved =
     decided_as there back (
     decided_either (decided_false (begins_in heads key))
-    (decided_both (decided_true (is_reserved reserved (word_front rest key)))
-    (decided_either (decided_not (decided_same (word_front rest key) key)) (within_decided rest excluded)))
+    (decided_both (decided_true (is_reserved reserved (word_prefix rest key)))
+    (decided_either (decided_not (decided_same (word_prefix rest key) key)) (within_decided rest excluded)))
     )
   where
-    there : (begins_in heads key ≡ false) ⊎ ((is_reserved reserved (word_front rest key) ≡ true) × (((word_front rest key ≡ key) → ⊥) ⊎ IsWithin rest excluded)) →
+    there : (begins_in heads key ≡ false) ⊎ ((is_reserved reserved (word_prefix rest key) ≡ true) × (((word_prefix rest key ≡ key) → ⊥) ⊎ IsWithin rest excluded)) →
         KeyWordApart key excluded heads rest reserved
     there (inl h) = begins_outside h
     there (inr h) = elim h.1 [ inl n ↦ goes_on h.0 n | inr w ↦ ends h.0 w ]
 
     back : KeyWordApart key excluded heads rest reserved →
-        (begins_in heads key ≡ false) ⊎ ((is_reserved reserved (word_front rest key) ≡ true) × (((word_front rest key ≡ key) → ⊥) ⊎ IsWithin rest excluded))
+        (begins_in heads key ≡ false) ⊎ ((is_reserved reserved (word_prefix rest key) ≡ true) × (((word_prefix rest key ≡ key) → ⊥) ⊎ IsWithin rest excluded))
     back (begins_outside h) = inl h
     back (goes_on h n) = inr (h, inl n)
     back (ends h w) = inr (h, inr w)

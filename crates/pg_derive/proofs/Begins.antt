@@ -16,7 +16,7 @@ use Rattle.pg_table.specs.Tables.{ComesFrom}
 use Rattle.pg_language.specs.Derives as derives
 use Rattle.pg_language.specs.Derives.{Spot, Link, Derives, at_node, DerivesForm, Reads, satisfy, string, word, not_followed_by, end_of_text, declare, seq, choice, many, rule, expression, DerivesParts, no_part, first_part, DerivesRounds, no_round, first_round, DerivesLinks, no_link, first_link}
 use Rattle.pg_derive.specs.ClosedSets.{NodeSets, SomeMatches, AllNullable, BeginsParts}
-use Rattle.pg_derive.specs.Predictive.{PartFits, TryFits, of_part, of_string, of_key, AlternativesFit, ManyFits, ChainFits, LeafFits, AroundFits, Fits}
+use Rattle.pg_derive.specs.Predictive.{PartIsPredictive, TryIsPredictive, of_part, of_string, of_key, AlternativesArePredictive, ManyIsPredictive, ChainIsPredictive, LeafIsPredictive, AroundIsPredictive, IsPredictiveAt}
 use Rattle.pg_derive.proofs.Inverted.{form_at, spans_string, spans_key, first_stands, forward, forward_parts, forward_rounds, forward_links}
 
 -- one of these starts matches at the place
@@ -66,12 +66,12 @@ pub consumes : (g : Grammar) (sets : NodeSets) (text : List ℕ) (p : ℕ) {a b 
 consumes g sets text p full (still e n) = absurd (cc)
 consumes g sets text p full (moves l h) = l
 
-a_round : {g : Grammar} {sets : NodeSets} {text : List ℕ} {p q : ℕ} {a b c : Spot} → ManyFits sets p q → b.place ≤ c.place → BeginsNode g sets text q a b → BeginsNode g sets text p a c
+a_round : {g : Grammar} {sets : NodeSets} {text : List ℕ} {p q : ℕ} {a b c : Spot} → ManyIsPredictive sets p q → b.place ≤ c.place → BeginsNode g sets text q a b → BeginsNode g sets text p a c
 a_round f l (still e n) = let full = f.full in absurd (cc)
 a_round f l (moves m h) = moves (omega arith) (more_begun _ _ _ _ _ f.first h)
 
 -- an operand, and then nothing or a round
-a_chain : {g : Grammar} {sets : NodeSets} {text : List ℕ} {p q r : ℕ} {a b c : Spot} → ChainFits sets p q r → b.place ≤ c.place → BeginsNode g sets text q a b →
+a_chain : {g : Grammar} {sets : NodeSets} {text : List ℕ} {p q r : ℕ} {a b c : Spot} → ChainIsPredictive sets p q r → b.place ≤ c.place → BeginsNode g sets text q a b →
     (b ≡ c) ⊎ BeginsList g sets text (r ∷ q ∷ []) b c → BeginsNode g sets text p a c
 a_chain f l (moves m h) rest = moves (omega arith) (more_begun _ _ _ _ _ f.first h)
 a_chain f l (still e n) (inl x) = still (e ∙ x) (f.empty n)
@@ -83,16 +83,16 @@ longer : (g : Grammar) (sets : NodeSets) (text : List ℕ) (ps : List ℕ) {a b 
 longer g sets text ps l full (still e n) = absurd (full n)
 longer g sets text ps l full (moves m h) = moves (omega arith) h
 
-pub alternative_fits : (sets : NodeSets) (p : ℕ) (ps : List ℕ) → AlternativesFit sets p ps → (k q : ℕ) → slice_get ps k ≡ Some q → PartFits sets p q
+pub alternative_fits : (sets : NodeSets) (p : ℕ) (ps : List ℕ) → AlternativesArePredictive sets p ps → (k q : ℕ) → slice_get ps k ≡ Some q → PartIsPredictive sets p q
 alternative_fits sets p [] f k q e = absurd (cc)
-alternative_fits sets p (r ∷ ps) f zero q e = let same : r ≡ q = cc in subst (PartFits sets p) same f.0
+alternative_fits sets p (r ∷ ps) f zero q e = let same : r ≡ q = cc in subst (PartIsPredictive sets p) same f.0
 alternative_fits sets p (r ∷ ps) f (suc k) q e = alternative_fits sets p ps f.2 k q e
 
-module _ (g : Grammar) (s : List ℕ) (scalars : all_scalars s ≡ true) (sets : NodeSets) (good : (p : ℕ) (n : Node) → slice_get g.nodes p ≡ Some n → Fits g sets p n) where
-  in_part : {p q : ℕ} {a b : Spot} → PartFits sets p q → BeginsNode g sets s q a b → BeginsNode g sets s p a b
+module _ (g : Grammar) (s : List ℕ) (scalars : all_scalars s ≡ true) (sets : NodeSets) (good : (p : ℕ) (n : Node) → slice_get g.nodes p ≡ Some n → IsPredictiveAt g sets p n) where
+  in_part : {p q : ℕ} {a b : Spot} → PartIsPredictive sets p q → BeginsNode g sets s q a b → BeginsNode g sets s p a b
   in_part f d = widened f.empty f.first d
 
-  in_try : {p q : ℕ} {a b : Spot} {v : List Tree} {t : List TrailItem} → Derives g s q a b v t → BeginsNode g sets s q a b → TryFits g sets p q → BeginsNode g sets s p a b
+  in_try : {p q : ℕ} {a b : Spot} {v : List Tree} {t : List TrailItem} → Derives g s q a b v t → BeginsNode g sets s q a b → TryIsPredictive g sets p q → BeginsNode g sets s p a b
   in_try d h (of_part f) = in_part f h
   in_try {p = p} {a = a} {b = b} d h (of_string {s = cs} e l falls m) =
       let spans = spans_string (form_at d e) in
@@ -103,7 +103,7 @@ module _ (g : Grammar) (s : List ℕ) (scalars : all_scalars s ≡ true) (sets :
       let ends = ap (λ (x : Spot). x.place) spans.end in
       by_matching g sets s p (omega arith) (m s scalars a.place (spans.stands, spans.bare))
 
-  begins_leaf : {l : Leaf ℕ} {a b : Spot} {v : List Tree} → Reads g s l a b v → (p : ℕ) → LeafFits g sets p l → BeginsNode g sets s p a b
+  begins_leaf : {l : Leaf ℕ} {a b : Spot} {v : List Tree} → Reads g s l a b v → (p : ℕ) → LeafIsPredictive g sets p l → BeginsNode g sets s p a b
   begins_leaf (satisfy {a = a} has) p f = by_matching g sets s p (omega arith) (f s scalars a.place has)
   begins_leaf (string {characters = cs} {a = a} h) p f =
       let l = f.spelled in by_matching g sets s p (omega arith) (f.first s scalars a.place (first_stands s cs a.place f.spelled h))
@@ -114,7 +114,7 @@ module _ (g : Grammar) (s : List ℕ) (scalars : all_scalars s ≡ true) (sets :
   begins_leaf (end_of_text h) p f = still refl f
   begins_leaf (declare e x d) p f = absurd f
 
-  begins_around : (k : Around) {p q : ℕ} {a b : Spot} {v : List Tree} {t : List TrailItem} → Derives g s q a b v t → BeginsNode g sets s q a b → AroundFits g sets p k q → BeginsNode g sets s p a b
+  begins_around : (k : Around) {p q : ℕ} {a b : Spot} {v : List Tree} {t : List TrailItem} → Derives g s q a b v t → BeginsNode g sets s q a b → AroundIsPredictive g sets p k q → BeginsNode g sets s p a b
   begins_around kind.Try d h f = in_try d h f
   begins_around _ d h f = in_part f h
 
@@ -122,7 +122,7 @@ module _ (g : Grammar) (s : List ℕ) (scalars : all_scalars s ≡ true) (sets :
     pub begins : {p : ℕ} {a b : Spot} {v : List Tree} {t : List TrailItem} → Derives g s p a b v t → BeginsNode g sets s p a b
     begins (at_node {p = p} {n = n} e d) = begins_form d p (good p n e)
 
-    begins_form : {n : Node} {a b : Spot} {v : List Tree} {t : List TrailItem} → DerivesForm g s n a b v t → (p : ℕ) → Fits g sets p n → BeginsNode g sets s p a b
+    begins_form : {n : Node} {a b : Spot} {v : List Tree} {t : List TrailItem} → DerivesForm g s n a b v t → (p : ℕ) → IsPredictiveAt g sets p n → BeginsNode g sets s p a b
     begins_form (derives.leaf h) p f = begins_leaf h p f
     begins_form (seq d) p f = widened f.empty f.first (begins_parts d)
     begins_form (choice {parts = ps} {k = k} {p = q} e d) p f = in_part (alternative_fits sets p ps f k q e) (begins d)
@@ -136,11 +136,11 @@ module _ (g : Grammar) (s : List ℕ) (scalars : all_scalars s ≡ true) (sets :
     begins_parts no_part = still refl tt
     begins_parts (first_part {p = p} {parts = ps} d ds) = joined g sets s p ps (forward_parts ds) (begins d) (begins_parts ds)
 
-    pub begins_rounds : {q n : ℕ} {a b : Spot} {v : List Tree} {t : List TrailItem} → DerivesRounds g s q n a b v t → (p : ℕ) → ManyFits sets p q → BeginsNode g sets s p a b
+    pub begins_rounds : {q n : ℕ} {a b : Spot} {v : List Tree} {t : List TrailItem} → DerivesRounds g s q n a b v t → (p : ℕ) → ManyIsPredictive sets p q → BeginsNode g sets s p a b
     begins_rounds no_round p f = still refl f.empty
     begins_rounds (first_round d ds) p f = a_round f (forward_rounds ds) (begins d)
 
-    pub begins_links : {q r n : ℕ} {a b : Spot} {links : List Link} {t : List TrailItem} → DerivesLinks g s q r n a b links t → (p : ℕ) → ChainFits sets p q r →
+    pub begins_links : {q r n : ℕ} {a b : Spot} {links : List Link} {t : List TrailItem} → DerivesLinks g s q r n a b links t → (p : ℕ) → ChainIsPredictive sets p q r →
         (a ≡ b) ⊎ BeginsList g sets s (r ∷ q ∷ []) a b
     begins_links no_link p f = inl refl
     begins_links (first_link {p = q} {s = r} d e ds) p f =

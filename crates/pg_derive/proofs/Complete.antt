@@ -16,7 +16,7 @@ use Rattle.pg_grammar.specs.declared.trail.TrailItem.{TrailItem}
 use Rattle.pg_grammar.specs.declared.trail.TrailItem.TheVariants.{Alt}
 use Rattle.pg_start.specs.declared.kind.StartKind.{StartKind}
 use Rattle.pg_start.proofs.Meeting.{never_meet}
-use Rattle.pg_language.specs.Derives.{Spot, behind, leaf_of, Link, carried, finished, folded, made_by, Reads, Derives, DerivesForm, DerivesParts, DerivesRounds, DerivesLinks}
+use Rattle.pg_language.specs.Derives.{Spot, after, leaf_of, Link, carried, finished, folded, made_by, Reads, Derives, DerivesForm, DerivesParts, DerivesRounds, DerivesLinks}
 use Rattle.pg_language.specs.Derives as derives
 use Rattle.pg_table.specs.Tables.{ComesFrom}
 use Rattle.pg_language.specs.Runs.{HasAt, StandsAt}
@@ -30,7 +30,7 @@ use Rattle.pg_grammar.specs.declared.side.Side.{Side}
 use Rattle.pg_language.specs.declared.reading.Reading.{Reading}
 use Rattle.pg_language.specs.declared.reading.Reading.TheVariants.{Library, Report}
 use Rattle.pg_derive.specs.ClosedSets.{NodeSets, SomeMatches, Within, AllApart, PartsFollowed}
-use Rattle.pg_derive.specs.Predictive.{PartFits, LeafFits, AroundFits, TryFits, of_part, of_string, of_key, ComesBefore, AlternativesFit, ManyFits, ChainFits, Fits}
+use Rattle.pg_derive.specs.Predictive.{PartIsPredictive, LeafIsPredictive, AroundIsPredictive, TryIsPredictive, of_part, of_string, of_key, ComesBefore, AlternativesArePredictive, ManyIsPredictive, ChainIsPredictive, IsPredictiveAt}
 use Rattle.pg_derive.proofs.Begins.{Begun, still, moves, BeginsNode, BeginsList, alternative_fits, consumes, begins, begins_parts, begins_links}
 use Rattle.pg_language.proofs.Flags.{moved, stayed, both_moved}
 use Rattle.pg_derive.proofs.Inverted.{form_at, spans_string, spans_key, forward, comes_on, forward_parts, forward_rounds, forward_links}
@@ -78,7 +78,7 @@ all_got P (r ∷ ps) h zero q e = let same : r ≡ q = cc in subst P same h.0
 all_got P (r ∷ ps) h (suc k) q e = all_got P ps h.1 k q e
 
 module _ (G : Given) (scalars : all_scalars G.text ≡ true) (whole : IsWhole G.grammar) (sets : NodeSets)
-    (good : (p : ℕ) (n : Node) → slice_get G.grammar.nodes p ≡ Some n → Fits G.grammar sets p n) where
+    (good : (p : ℕ) (n : Node) → slice_get G.grammar.nodes p ≡ Some n → IsPredictiveAt G.grammar sets p n) where
   abbrev IsNode : ℕ → Type 0
   IsNode q = q < length G.grammar.nodes
 
@@ -100,10 +100,10 @@ module _ (G : Given) (scalars : all_scalars G.text ≡ true) (whole : IsWhole G.
 
   -- ---- sequences
 
-  part_behind : (q : ℕ) (b c : Spot) → Comes b → (qs : List ℕ) (follow : List StartKind) → PartsFollowed sets follow (q ∷ qs) → BeginsList G.grammar sets G.text qs b c →
+  part_after : (q : ℕ) (b c : Spot) → Comes b → (qs : List ℕ) (follow : List StartKind) → PartsFollowed sets follow (q ∷ qs) → BeginsList G.grammar sets G.text qs b c →
       SomeMatches G.text follow c.place → SomeMatches G.text (sets.follow q) b.place
-  part_behind q b c from qs follow f (still e ns) m = elsewhere G.text (sets.follow q) e (widen (f.1 ns) m)
-  part_behind q b c from qs follow f (moves l h) m = let s = h from in record { start = s.start; among = f.0 s.start s.among; there = s.there }
+  part_after q b c from qs follow f (still e ns) m = elsewhere G.text (sets.follow q) e (widen (f.1 ns) m)
+  part_after q b c from qs follow f (moves l h) m = let s = h from in record { start = s.start; among = f.0 s.start s.among; there = s.there }
 
   -- ---- choices
 
@@ -113,7 +113,7 @@ module _ (G : Given) (scalars : all_scalars G.text ≡ true) (whole : IsWhole G.
   alternative_refused p q r a b from f (moves l h) m = kept_out a.place (sets.first q) (sets.first r) f.first (matching (h from))
 
   -- the alternative that is taken
-  taken_here : (p q n : ℕ) (a b : Spot) (v : List Tree) (t : List TrailItem) (qs : List ℕ) → AlternativesFit sets p (q ∷ qs) → BeginsNode G.grammar sets G.text q a b → IsOk (Answers G q a) a b v t →
+  taken_here : (p q n : ℕ) (a b : Spot) (v : List Tree) (t : List TrailItem) (qs : List ℕ) → AlternativesArePredictive sets p (q ∷ qs) → BeginsNode G.grammar sets G.text q a b → IsOk (Answers G q a) a b v t →
       IsOk (AnswersAlternatives G n (q ∷ qs) a) a b v (Alt n ∷ t)
   taken_here p q n a b v t qs f (moves l h) r =
       ok_moved _ a b v (Alt n ∷ t) r.error _ l (alternative (subst (λ c. Answers G q a (ok c b v t r.error) r.count) (moved l) r.run) alternative_consumed)
@@ -132,7 +132,7 @@ module _ (G : Given) (scalars : all_scalars G.text ≡ true) (whole : IsWhole G.
       let full = (f.1 other (zero, omega arith, refl)).full in absurd (cc)
 
   reached : (p q : ℕ) (a b : Spot) (v : List Tree) (t : List TrailItem) → Comes a → BeginsNode G.grammar sets G.text q a b → SomeMatches G.text (sets.follow p) b.place → IsOk (Answers G q a) a b v t →
-      (ps : List ℕ) (n k : ℕ) → AlternativesFit sets p ps → AllByRecursion IsNode ps → slice_get ps k ≡ Some q → IsOk (AnswersAlternatives G n ps a) a b v (Alt (n + k) ∷ t)
+      (ps : List ℕ) (n k : ℕ) → AlternativesArePredictive sets p ps → AllByRecursion IsNode ps → slice_get ps k ≡ Some q → IsOk (AnswersAlternatives G n ps a) a b v (Alt (n + k) ∷ t)
   reached p q a b v t from h m r [] n k f there e = absurd (cc)
   reached p q a b v t from h m r (x ∷ ps) n zero f there e =
       let same : x ≡ q = cc in
@@ -148,10 +148,10 @@ module _ (G : Given) (scalars : all_scalars G.text ≡ true) (whole : IsWhole G.
 
   -- ---- repetitions
 
-  round_behind : (p : ℕ) {q n : ℕ} {b c : Spot} {v : List Tree} {t : List TrailItem} → DerivesRounds G.grammar G.text q n b c v t → Comes b → ManyFits sets p q →
+  round_after : (p : ℕ) {q n : ℕ} {b c : Spot} {v : List Tree} {t : List TrailItem} → DerivesRounds G.grammar G.text q n b c v t → Comes b → ManyIsPredictive sets p q →
       SomeMatches G.text (sets.follow p) c.place → SomeMatches G.text (sets.follow q) b.place
-  round_behind p derives.no_round from f m = widen f.follow m
-  round_behind p (derives.first_round {p = q} {a = b} {b = c} d ds) from f m = go (begun d)
+  round_after p derives.no_round from f m = widen f.follow m
+  round_after p (derives.first_round {p = q} {a = b} {b = c} d ds) from f m = go (begun d)
     where
       go : BeginsNode G.grammar sets G.text q b c → SomeMatches G.text (sets.follow q) b.place
       go (still e n) = let full = f.full in absurd (cc)
@@ -159,31 +159,31 @@ module _ (G : Given) (scalars : all_scalars G.text ≡ true) (whole : IsWhole G.
 
   -- ---- chains
 
-  -- behind an operand
-  link_behind : (p q r : ℕ) (b c : Spot) → Comes b → ChainFits sets p q r → (b ≡ c) ⊎ BeginsList G.grammar sets G.text (r ∷ q ∷ []) b c → SomeMatches G.text (sets.follow p) c.place →
+  -- after an operand
+  link_after : (p q r : ℕ) (b c : Spot) → Comes b → ChainIsPredictive sets p q r → (b ≡ c) ⊎ BeginsList G.grammar sets G.text (r ∷ q ∷ []) b c → SomeMatches G.text (sets.follow p) c.place →
       SomeMatches G.text (sets.follow q) b.place
-  link_behind p q r b c from f (inl e) m = elsewhere G.text (sets.follow q) e (widen f.follow m)
-  link_behind p q r b c from f (inr (still e n)) m = absurd (f.full n)
-  link_behind p q r b c from f (inr (moves l h)) m = let s = h from in record { start = s.start; among = f.again s.start s.among; there = s.there }
+  link_after p q r b c from f (inl e) m = elsewhere G.text (sets.follow q) e (widen f.follow m)
+  link_after p q r b c from f (inr (still e n)) m = absurd (f.full n)
+  link_after p q r b c from f (inr (moves l h)) m = let s = h from in record { start = s.start; among = f.again s.start s.among; there = s.there }
 
-  -- behind a separator
-  operand_behind : (p q r : ℕ) (b c z : Spot) → Comes b → ChainFits sets p q r → BeginsNode G.grammar sets G.text q b c → (c ≡ z) ⊎ BeginsList G.grammar sets G.text (r ∷ q ∷ []) c z →
+  -- after a separator
+  operand_after : (p q r : ℕ) (b c z : Spot) → Comes b → ChainIsPredictive sets p q r → BeginsNode G.grammar sets G.text q b c → (c ≡ z) ⊎ BeginsList G.grammar sets G.text (r ∷ q ∷ []) c z →
       SomeMatches G.text (sets.follow p) z.place → SomeMatches G.text (sets.follow r) b.place
-  operand_behind p q r b c z from f (moves l h) rest m = let s = h from in record { start = s.start; among = f.between s.start s.among; there = s.there }
-  operand_behind p q r b c z from f (still e n) (inl d) m = elsewhere G.text (sets.follow r) (e ∙ d) (widen (f.over_last n) m)
-  operand_behind p q r b c z from f (still e n) (inr (still d o)) m = absurd (f.full o)
-  operand_behind p q r b c z from f (still e n) (inr (moves l h)) m =
+  operand_after p q r b c z from f (moves l h) rest m = let s = h from in record { start = s.start; among = f.between s.start s.among; there = s.there }
+  operand_after p q r b c z from f (still e n) (inl d) m = elsewhere G.text (sets.follow r) (e ∙ d) (widen (f.over_last n) m)
+  operand_after p q r b c z from f (still e n) (inr (still d o)) m = absurd (f.full o)
+  operand_after p q r b c z from f (still e n) (inr (moves l h)) m =
       let s = h (subst (λ (x : Spot). Comes x) e from) in
       elsewhere G.text (sets.follow r) e (record { start = s.start; among = f.over_next n s.start s.among; there = s.there })
 
   -- a link consumes
-  pub link_moves : (p q r : ℕ) (a b c : Spot) → ChainFits sets p q r → b.place ≤ c.place → BeginsNode G.grammar sets G.text r a b → BeginsNode G.grammar sets G.text q b c → a.place < c.place
+  pub link_moves : (p q r : ℕ) (a b c : Spot) → ChainIsPredictive sets p q r → b.place ≤ c.place → BeginsNode G.grammar sets G.text r a b → BeginsNode G.grammar sets G.text q b c → a.place < c.place
   link_moves p q r a b c f l (moves m h) second = omega arith
   link_moves p q r a b c f l (still e n) (moves m h) = let same = ap (λ (z : Spot). z.place) e in omega arith
   link_moves p q r a b c f l (still e n) (still d o) = absurd (f.full (n, (o, tt)))
 
   -- no link comes any more
-  no_more : (side : Side) (shape : Shape) (p q r : ℕ) (left : List Tree) (a : Spot) → Comes a → IsNode q → IsNode r → ChainFits sets p q r → SomeMatches G.text (sets.follow p) a.place →
+  no_more : (side : Side) (shape : Shape) (p q r : ℕ) (left : List Tree) (a : Spot) → Comes a → IsNode q → IsNode r → ChainIsPredictive sets p q r → SomeMatches G.text (sets.follow p) a.place →
       IsOk (AnswersLinks G side shape q r left zero a) a a left []
   no_more side shape p q r left a from is_q is_r f m =
       go (quiet G scalars whole sets good r a from is_r (λ s b x. never_meet s m.start (f.apart s m.start (inl b) m.among) G.text scalars a.place x m.there))
@@ -191,18 +191,18 @@ module _ (G : Given) (scalars : all_scalars G.text ≡ true) (whole : IsWhole G.
       Result : Type 0
       Result = IsOk (AnswersLinks G side shape q r left zero a) a a left []
 
-      behind_separator : sets.nullable r ≡ true → (w : List Tree) (u : List TrailItem) (e : Error) (i : ℕ) → Answers G r a (ok false a w u e) i →
+      past_separator : sets.nullable r ≡ true → (w : List Tree) (u : List TrailItem) (e : Error) (i : ℕ) → Answers G r a (ok false a w u e) i →
           QuietNode G scalars whole sets q a → Result
-      behind_separator er w u e i separator (refuses g j operand) = ok_stayed _ a left [] _ _ (link separator (separator_ok operand operand_failed))
-      behind_separator er w u e i separator (skips en y z g j operand) = absurd (f.full (er, (en, tt)))
+      past_separator er w u e i separator (refuses g j operand) = ok_stayed _ a left [] _ _ (link separator (separator_ok operand operand_failed))
+      past_separator er w u e i separator (skips en y z g j operand) = absurd (f.full (er, (en, tt)))
 
       go : QuietNode G scalars whole sets r a → Result
       go (refuses e i separator) = ok_stayed _ a left [] _ _ (link separator separator_failed)
       go (skips er w u e i separator) =
-          behind_separator er w u e i separator
+          past_separator er w u e i separator
           (quiet G scalars whole sets good q a from is_q (λ s b x. never_meet s m.start (f.apart s m.start (inr (er, inl b)) m.among) G.text scalars a.place x m.there))
 
-  -- a link more, between an operand and the links behind it
+  -- a link more, between an operand and the links after it
   one_more : (side : Side) (shape : Shape) (q r n : ℕ) (left v w : List Tree) (links : List Link) (a b c d : Spot) (t u items : List TrailItem) →
       a.place ≤ b.place → b.place ≤ c.place → c.place ≤ d.place → a.place < c.place →
       IsOk (Answers G r a) a b v t → IsOk (Answers G q b) b c w u → IsOk (AnswersLinks G side shape q r (carried side shape left v w) n c) c d (folded side shape (carried side shape left v w) links) items →
@@ -217,7 +217,7 @@ module _ (G : Given) (scalars : all_scalars G.text ≡ true) (whole : IsWhole G.
       let made = ok_flag _ a d _ (finished side shape left v (folded side shape (carried side shape left v w) links)) (t ++ (u ++ items)) _ _ flag run in
       subst (λ x. IsOk (AnswersLinks G side shape q r left (suc n) a) a d (folded side shape left ((v, w) ∷ links)) x) (sym (append_assoc t u items)) made
 
-  -- an operand, and the links behind it
+  -- an operand, and the links after it
   chained : (side : Side) (shape : Shape) (q r n : ℕ) (v w : List Tree) (a b c : Spot) (t u : List TrailItem) → a.place ≤ b.place → b.place ≤ c.place →
       IsOk (Answers G q a) a b v t → IsOk (AnswersLinks G side shape q r v n b) b c w u → IsOk (AnswersChain G side shape q r n a) a c w (t ++ u)
   chained side shape q r n v w a b c t u l k operand links =
@@ -226,28 +226,28 @@ module _ (G : Given) (scalars : all_scalars G.text ≡ true) (whole : IsWhole G.
   -- ---- `try`
 
   string_tried : (q : ℕ) (s : List ℕ) (a : Spot) → slice_get G.grammar.nodes q ≡ Some (form.Leaf (leaf.String s)) → 0 < length s → StandsAt G.text a.place s →
-      IsOk (AnswersForm G (form.Around kind.Try q) a) a (behind a (length s)) (leaf_of s ∷ []) []
+      IsOk (AnswersForm G (form.Around kind.Try q) a) a (after a (length s)) (leaf_of s ∷ []) []
   string_tried q s a e spelled h =
-      ok_moved _ a (behind a (length s)) (leaf_of s ∷ []) [] _ _ (omega arith)
+      ok_moved _ a (after a (length s)) (leaf_of s ∷ []) [] _ _ (omega arith)
       (answers.around (entered e (answers.leaf (ap Some (string_ok G.text s a h)))))
 
   key_tried : (q x y : ℕ) (s : List ℕ) (class : List ClassPart) (a : Spot) → slice_get G.grammar.nodes q ≡ Some (form.Seq (x ∷ y ∷ [])) →
       slice_get G.grammar.nodes x ≡ Some (form.Leaf (leaf.String s)) → slice_get G.grammar.nodes y ≡ Some (form.Leaf (leaf.NotFollowedBy class)) → 0 < length s →
       StandsAt G.text a.place s → (HasAt G.grammar G.text class (a.place + length s) → ⊥) →
-      IsOk (AnswersForm G (form.Around kind.Try q) a) a (behind a (length s)) (leaf_of s ∷ []) []
+      IsOk (AnswersForm G (form.Around kind.Try q) a) a (after a (length s)) (leaf_of s ∷ []) []
   key_tried q x y s class a e first second spelled h bare =
-      let b : Spot = behind a (length s) in
+      let b : Spot = after a (length s) in
       let ends = not_followed_ok G.grammar G.text class b bare in
       let read = entered first (answers.leaf (ap Some (string_ok G.text s a h))) in
       let seen = entered second (answers.leaf (ap Some ends.is)) in
       ok_moved _ a b (leaf_of s ∷ []) [] _ _ (omega arith) (answers.around (entered e (seq (part read (part_ok (part seen part_last))))))
 
   -- a form that makes something of a part that fits
-  around_part : (k : Around) (p q : ℕ) {a b : Spot} {v : List Tree} {t : List TrailItem} → PartFits sets p q → Derives G.grammar G.text q a b v t → (SomeMatches G.text (sets.follow q) b.place → IsOk (Answers G q a) a b v t) →
+  around_part : (k : Around) (p q : ℕ) {a b : Spot} {v : List Tree} {t : List TrailItem} → PartIsPredictive sets p q → Derives G.grammar G.text q a b v t → (SomeMatches G.text (sets.follow q) b.place → IsOk (Answers G q a) a b v t) →
       SomeMatches G.text (sets.follow p) b.place → IsOk (AnswersForm G (form.Around k q) a) a b (made_by k G.text a.place b.place v) t
   around_part k p q f d answered m = let r = answered (widen f.follow m) in record { error = _; count = r.count; run = answers.around r.run }
 
-  complete_try : {q : ℕ} {a b : Spot} {v : List Tree} {t : List TrailItem} → Derives G.grammar G.text q a b v t → (SomeMatches G.text (sets.follow q) b.place → IsOk (Answers G q a) a b v t) → (p : ℕ) → TryFits G.grammar sets p q →
+  complete_try : {q : ℕ} {a b : Spot} {v : List Tree} {t : List TrailItem} → Derives G.grammar G.text q a b v t → (SomeMatches G.text (sets.follow q) b.place → IsOk (Answers G q a) a b v t) → (p : ℕ) → TryIsPredictive G.grammar sets p q →
       SomeMatches G.text (sets.follow p) b.place → IsOk (AnswersForm G (form.Around kind.Try q) a) a b v t
   complete_try {q = q} d answered p (of_part f) m = around_part kind.Try p q f d answered m
   complete_try {q = q} {a = a} d answered p (of_string {s = s} e spelled falls f) m =
@@ -255,12 +255,12 @@ module _ (G : Given) (scalars : all_scalars G.text ≡ true) (whole : IsWhole G.
   complete_try {q = q} {a = a} d answered p (of_key {x = x} {y = y} {s = s} {class = class} e first second spelled falls f) m =
       let h = spans_key (form_at d e) first second in renamed _ a h.end h.forest h.trail (key_tried q x y s class a e first second spelled h.stands h.bare)
 
-  complete_around : (k : Around) (p q : ℕ) {a b : Spot} {v : List Tree} {t : List TrailItem} → AroundFits G.grammar sets p k q → Derives G.grammar G.text q a b v t →
+  complete_around : (k : Around) (p q : ℕ) {a b : Spot} {v : List Tree} {t : List TrailItem} → AroundIsPredictive G.grammar sets p k q → Derives G.grammar G.text q a b v t →
       (SomeMatches G.text (sets.follow q) b.place → IsOk (Answers G q a) a b v t) → SomeMatches G.text (sets.follow p) b.place → IsOk (AnswersForm G (form.Around k q) a) a b (made_by k G.text a.place b.place v) t
   complete_around kind.Try p q f d answered m = complete_try d answered p f m
   complete_around k p q f d answered m = around_part k p q f d answered m
 
-  complete_leaf : {l : Leaf ℕ} {a b : Spot} {v : List Tree} → Reads G.grammar G.text l a b v → (p : ℕ) → LeafFits G.grammar sets p l → IsOk (AnswersForm G (form.Leaf l) a) a b v []
+  complete_leaf : {l : Leaf ℕ} {a b : Spot} {v : List Tree} → Reads G.grammar G.text l a b v → (p : ℕ) → LeafIsPredictive G.grammar sets p l → IsOk (AnswersForm G (form.Leaf l) a) a b v []
   complete_leaf (derives.satisfy {class = class} {a = a} has) p f = ok_moved _ a _ _ [] _ _ (omega arith) (answers.leaf (ap Some (satisfy_ok G.grammar G.text class a has)))
   complete_leaf (derives.string {characters = s} {a = a} h) p f =
       let spelled = f.spelled in ok_moved _ a _ _ [] _ _ (omega arith) (answers.leaf (ap Some (string_ok G.text s a h)))
@@ -277,7 +277,7 @@ module _ (G : Given) (scalars : all_scalars G.text ≡ true) (whole : IsWhole G.
         let r = complete_form d from p e (good p n e) m in record { error = r.error; count = _; run = entered e r.run }
 
     complete_form : {n : Node} {a b : Spot} {v : List Tree} {t : List TrailItem} → DerivesForm G.grammar G.text n a b v t → Comes a → (p : ℕ) → slice_get G.grammar.nodes p ≡ Some n →
-        Fits G.grammar sets p n → SomeMatches G.text (sets.follow p) b.place → IsOk (AnswersForm G n a) a b v t
+        IsPredictiveAt G.grammar sets p n → SomeMatches G.text (sets.follow p) b.place → IsOk (AnswersForm G n a) a b v t
     complete_form (derives.leaf h) from p e f m = complete_leaf h p f
     complete_form (derives.seq {parts = []} derives.no_part) from p e f m = ok_stayed _ _ [] [] _ _ nothing
     complete_form (derives.seq {parts = q ∷ qs} d) from p e f m =
@@ -291,7 +291,7 @@ module _ (G : Given) (scalars : all_scalars G.text ≡ true) (whole : IsWhole G.
         let r = complete_rounds d from p (whole.parts p _ e).0 f m in record { error = r.error; count = r.count; run = many r.run }
     complete_form (derives.chain {side = side} {used = used} {p = q} {s = r} {a = a} {b = b} {c = c} {trail = t} {items = u} d ds) from p e f m =
         let there = whole.parts p _ e in
-        let operand = complete d from (link_behind p q r b c (comes_on d from) f (begins_links G.grammar G.text scalars sets good ds p f) m) in
+        let operand = complete d from (link_after p q r b c (comes_on d from) f (begins_links G.grammar G.text scalars sets good ds p f) m) in
         let links = complete_links side used.shape ds (comes_on d from) p there.0 there.1.0 f _ m in
         let r = chained side used.shape q r _ _ _ a b c t u (forward d) (forward_links ds) operand links in
         record { error = r.error; count = r.count; run = answers.chain r.run }
@@ -302,20 +302,20 @@ module _ (G : Given) (scalars : all_scalars G.text ≡ true) (whole : IsWhole G.
     complete_parts : {q : ℕ} {qs : List ℕ} {a b : Spot} {v : List Tree} {t : List TrailItem} → DerivesParts G.grammar G.text (q ∷ qs) a b v t → Comes a → (follow : List StartKind) →
         PartsFollowed sets follow (q ∷ qs) → SomeMatches G.text follow b.place → IsOk (AnswersParts G q qs a) a b v t
     complete_parts (derives.first_part {p = q} {parts = []} {a = a} {b = b} {forest = v} {trail = t} d derives.no_part) from follow f m =
-        let r = complete d from (part_behind q b b (comes_on d from) [] follow f (still refl tt) m) in
+        let r = complete d from (part_after q b b (comes_on d from) [] follow f (still refl tt) m) in
         renamed _ a refl (append-nil v) (append-nil t) (record { error = r.error; count = _; run = part r.run part_last })
     complete_parts (derives.first_part {p = q} {parts = x ∷ xs} {a = a} {b = b} {c = c} {forest = v} {others = w} {trail = t} {items = u} d ds) from follow f m =
-        let first = complete d from (part_behind q b c (comes_on d from) (x ∷ xs) follow f (begins_parts G.grammar G.text scalars sets good ds) m) in
+        let first = complete d from (part_after q b c (comes_on d from) (x ∷ xs) follow f (begins_parts G.grammar G.text scalars sets good ds) m) in
         let rest = complete_parts ds (comes_on d from) follow f.2 m in
         ok_flag _ a c _ (v ++ w) (t ++ u) _ _ (both_moved (forward d) (forward_parts ds)) (part first.run (part_ok rest.run))
 
-    complete_rounds : {q n : ℕ} {a b : Spot} {v : List Tree} {t : List TrailItem} → DerivesRounds G.grammar G.text q n a b v t → Comes a → (p : ℕ) → IsNode q → ManyFits sets p q →
+    complete_rounds : {q n : ℕ} {a b : Spot} {v : List Tree} {t : List TrailItem} → DerivesRounds G.grammar G.text q n a b v t → Comes a → (p : ℕ) → IsNode q → ManyIsPredictive sets p q →
         SomeMatches G.text (sets.follow p) b.place → IsOk (AnswersRounds G q n a) a b v t
     complete_rounds (derives.no_round {p = q} {a = a}) from p there f m =
         let fails = passes q a from there f.full (kept_out a.place (sets.first q) (sets.follow p) f.apart m) in
         ok_stayed _ a [] [] _ _ (round fails.2 round_ended)
     complete_rounds (derives.first_round {p = q} {a = a} {b = b} {c = c} {forest = v} {others = w} {trail = t} {items = u} d ds) from p there f m =
-        let first = complete d from (round_behind p ds (comes_on d from) f m) in
+        let first = complete d from (round_after p ds (comes_on d from) f m) in
         let rest = complete_rounds ds (comes_on d from) p there f m in
         let l : a.place < b.place = consumes G.grammar sets G.text q f.full (begun d) in
         let onward = forward_rounds ds in
@@ -323,14 +323,14 @@ module _ (G : Given) (scalars : all_scalars G.text ≡ true) (whole : IsWhole G.
         ok_moved _ a c (v ++ w) (t ++ u) _ _ (omega arith) (round consumed (round_ok rest.run))
 
     complete_links : (side : Side) (shape : Shape) {q r n : ℕ} {a b : Spot} {links : List Link} {t : List TrailItem} → DerivesLinks G.grammar G.text q r n a b links t → Comes a → (p : ℕ) → IsNode q → IsNode r →
-        ChainFits sets p q r → (left : List Tree) → SomeMatches G.text (sets.follow p) b.place → IsOk (AnswersLinks G side shape q r left n a) a b (folded side shape left links) t
+        ChainIsPredictive sets p q r → (left : List Tree) → SomeMatches G.text (sets.follow p) b.place → IsOk (AnswersLinks G side shape q r left n a) a b (folded side shape left links) t
     complete_links side shape (derives.no_link {p = q} {s = r} {a = a}) from p is_q is_r f left m =
         no_more side shape p q r left a from is_q is_r f m
     complete_links side shape (derives.first_link {p = q} {s = r} {n = n} {a = a} {b = b} {c = c} {d = z} {separator = v} {operand = w} {links = links} {trail = t} {items = u} {others = o} d e ds) from p is_q is_r f left m =
         let middle = comes_on d from in
         let last = comes_on e middle in
         let onward = begins_links G.grammar G.text scalars sets good ds p f in
-        let separator = complete d from (operand_behind p q r b c z middle f (begun e) onward m) in
-        let operand = complete e middle (link_behind p q r c z last f onward m) in
+        let separator = complete d from (operand_after p q r b c z middle f (begun e) onward m) in
+        let operand = complete e middle (link_after p q r c z last f onward m) in
         let rest = complete_links side shape ds last p is_q is_r f (carried side shape left v w) m in
         one_more side shape q r n left v w links a b c z t u o (forward d) (forward e) (forward_links ds) (link_moves p q r a b c f (forward e) (begun d) (begun e)) separator operand rest

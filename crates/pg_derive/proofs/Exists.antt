@@ -34,7 +34,7 @@ use Rattle.pg_language.specs.declared.reading.Reading.{Reading}
 use Rattle.pg_language.specs.declared.reading.Reading.TheVariants.{Library, Report}
 use Rattle.pg_language.proofs.Sound.{sound}
 use Rattle.pg_derive.specs.ClosedSets.{NodeSets, PartsFall}
-use Rattle.pg_derive.specs.Predictive.{PartFits, TryFits, of_part, of_string, of_key, AlternativesFit, ManyFits, ChainFits, LeafFits, AroundFits, Fits}
+use Rattle.pg_derive.specs.Predictive.{PartIsPredictive, TryIsPredictive, of_part, of_string, of_key, AlternativesArePredictive, ManyIsPredictive, ChainIsPredictive, LeafIsPredictive, AroundIsPredictive, IsPredictiveAt}
 use Rattle.pg_derive.proofs.Begins.{still, moves, BeginsNode}
 use Rattle.pg_derive.proofs.Complete.{begun, link_moves}
 use Rattle.pg_language.proofs.Flags.{moved, both_moved}
@@ -96,7 +96,7 @@ end_answers : (text : List ℕ) (a : Spot) → IsAnswer (end_outcome text a)
 end_answers text a = answers_if (a.place == length text) _ _ tt tt
 
 module _ (G : Given) (scalars : all_scalars G.text ≡ true) (whole : IsWhole G.grammar) (sets : NodeSets)
-    (good : (p : ℕ) (n : Node) → slice_get G.grammar.nodes p ≡ Some n → Fits G.grammar sets p n)
+    (good : (p : ℕ) (n : Node) → slice_get G.grammar.nodes p ≡ Some n → IsPredictiveAt G.grammar sets p n)
     (spelled : (p : ℕ) (s : List ℕ) → slice_get G.grammar.nodes p ≡ Some (form.Leaf (leaf.String s)) → 0 < length s) where
   -- a place in the text, under a table of the grammar
   abbrev IsSpot : Spot → Type 0
@@ -131,7 +131,7 @@ module _ (G : Given) (scalars : all_scalars G.text ≡ true) (whole : IsWhole G.
   begins_at : {q : ℕ} {a b : Spot} {c : Bool} {v : List Tree} {t : List TrailItem} {e : Error} {m : ℕ} → Answers G q a (ok c b v t e) m → BeginsNode G.grammar sets G.text q a b
   begins_at d = begun G scalars whole sets good (derived d)
 
-  -- the parts behind one that was ok
+  -- the parts after one that was ok
   rest_ahead : {p : ℕ} {a b z : Spot} {q : ℕ} {qs : List ℕ} {c : Bool} {v : List Tree} {t : List TrailItem} {e : Error} {m : ℕ} → Ahead p a b (q ∷ qs) → Answers G q b (ok c z v t e) m → Ahead p a z qs
   rest_ahead {b = b} {z = z} {q = q} h run = go h (begins_at run)
     where
@@ -157,7 +157,7 @@ module _ (G : Given) (scalars : all_scalars G.text ≡ true) (whole : IsWhole G.
       go (settles_ok c z v t e m run) rest = more run (rest z (ends_at_spot run within) (rest_ahead h run))
       go (settles_failed c e m run) rest = settles_failed c e _ (part run part_failed)
 
-  settle_alternatives : (p : ℕ) (a : Spot) → Nearby p a → IsSpot a → (k : ℕ) (qs : List ℕ) → AlternativesFit sets p qs → AreNodes qs → Settles (AnswersAlternatives G k qs a)
+  settle_alternatives : (p : ℕ) (a : Spot) → Nearby p a → IsSpot a → (k : ℕ) (qs : List ℕ) → AlternativesArePredictive sets p qs → AreNodes qs → Settles (AnswersAlternatives G k qs a)
   settle_alternatives p a near within k [] f there = settles_failed _ _ _ no_alternative
   settle_alternatives p a near within k (q ∷ qs) f there =
       go (near q there.0 a within (lower refl f.0.falls)) (settle_alternatives p a near within (suc k) qs f.2 there.1)
@@ -192,7 +192,7 @@ module _ (G : Given) (scalars : all_scalars G.text ≡ true) (whole : IsWhole G.
   abbrev SomeRounds : ℕ → Spot → Outcome → ℕ → Type 0
   SomeRounds q b o m = (k : ℕ) × AnswersRounds G q k b o m
 
-  settle_rounds : (p : ℕ) (a : Spot) → Nearby p a → (q : ℕ) → q < length G.grammar.nodes → ManyFits sets p q → (n : ℕ) (b : Spot) → IsSpot b → length G.text < n + b.place → Ahead p a b (q ∷ []) →
+  settle_rounds : (p : ℕ) (a : Spot) → Nearby p a → (q : ℕ) → q < length G.grammar.nodes → ManyIsPredictive sets p q → (n : ℕ) (b : Spot) → IsSpot b → length G.text < n + b.place → Ahead p a b (q ∷ []) →
       Settles (SomeRounds q b)
   settle_rounds p a near q there f zero b within l h = let inside = within.0 in absurd (omega arith)
   settle_rounds p a near q there f (suc n) b within l h = go (near q there b within (first_ahead h)) (λ z x y k. settle_rounds p a near q there f n z x y k)
@@ -225,7 +225,7 @@ module _ (G : Given) (scalars : all_scalars G.text ≡ true) (whole : IsWhole G.
   abbrev SomeLinks : Side → Shape → ℕ → ℕ → List Tree → Spot → Outcome → ℕ → Type 0
   SomeLinks side shape q r left b o m = (k : ℕ) × AnswersLinks G side shape q r left k b o m
 
-  settle_links : (p : ℕ) (a : Spot) → Nearby p a → (side : Side) (shape : Shape) (q r : ℕ) → q < length G.grammar.nodes → r < length G.grammar.nodes → ChainFits sets p q r →
+  settle_links : (p : ℕ) (a : Spot) → Nearby p a → (side : Side) (shape : Shape) (q r : ℕ) → q < length G.grammar.nodes → r < length G.grammar.nodes → ChainIsPredictive sets p q r →
       (n : ℕ) (left : List Tree) (b : Spot) → IsSpot b → length G.text < n + b.place → Ahead p a b (r ∷ q ∷ []) → Settles (SomeLinks side shape q r left b)
   settle_links p a near side shape q r is_q is_r f zero left b within l h = let inside = within.0 in absurd (omega arith)
   settle_links p a near side shape q r is_q is_r f (suc n) left b within l h =
@@ -260,7 +260,7 @@ module _ (G : Given) (scalars : all_scalars G.text ≡ true) (whole : IsWhole G.
       go (settles_ok c z v t e m run) again = linked run (near q is_q z (ends_at_spot run within) (first_ahead (rest_ahead h run))) again
       go (settles_failed c e m run) again = settles_begun _ c b left e _ (zero, link run separator_failed)
 
-  settle_chain : (p : ℕ) (a : Spot) → Nearby p a → IsSpot a → (side : Side) (shape : Shape) (q r : ℕ) → q < length G.grammar.nodes → r < length G.grammar.nodes → ChainFits sets p q r →
+  settle_chain : (p : ℕ) (a : Spot) → Nearby p a → IsSpot a → (side : Side) (shape : Shape) (q r : ℕ) → q < length G.grammar.nodes → r < length G.grammar.nodes → ChainIsPredictive sets p q r →
       Settles (λ o m. (k : ℕ) × AnswersChain G side shape q r k a o m)
   settle_chain p a near within side shape q r is_q is_r f = go (near q is_q a within (lower refl f.falls.0))
     where
@@ -284,15 +284,15 @@ module _ (G : Given) (scalars : all_scalars G.text ≡ true) (whole : IsWhole G.
   by_outcome n a empty_round m run h = absurd h
 
   module _ (p : ℕ) (a : Spot) (near : Nearby p a) (within : IsSpot a) where
-    at_part : (q : ℕ) → PartFits sets p q → q < length G.grammar.nodes → Settles (Answers G q a)
+    at_part : (q : ℕ) → PartIsPredictive sets p q → q < length G.grammar.nodes → Settles (Answers G q a)
     at_part q f there = near q there a within (lower refl f.falls)
 
-    falls_to : {q : ℕ} → TryFits G.grammar sets p q → sets.level q < sets.level p
+    falls_to : {q : ℕ} → TryIsPredictive G.grammar sets p q → sets.level q < sets.level p
     falls_to (of_part f) = f.falls
     falls_to (of_string e spelled falls f) = falls
     falls_to (of_key e first second spelled falls f) = falls
 
-    settle_leaf : (l : Leaf ℕ) → slice_get G.grammar.nodes p ≡ Some (form.Leaf l) → LeafFits G.grammar sets p l → Settles (AnswersForm G (form.Leaf l) a)
+    settle_leaf : (l : Leaf ℕ) → slice_get G.grammar.nodes p ≡ Some (form.Leaf l) → LeafIsPredictive G.grammar sets p l → Settles (AnswersForm G (form.Leaf l) a)
     settle_leaf (leaf.Satisfy class) e f = by_outcome _ a _ _ (answers.leaf refl) (satisfy_answers G.grammar G.text class a)
     settle_leaf (leaf.String s) e f = by_outcome _ a _ _ (answers.leaf refl) (string_answers G.text s a)
     settle_leaf (leaf.Word w) e f =
@@ -302,7 +302,7 @@ module _ (G : Given) (scalars : all_scalars G.text ≡ true) (whole : IsWhole G.
     settle_leaf (leaf.Declare class) e f = absurd f
 
     -- what stands around a part falls to it
-    around_falls : (k : Around) (q : ℕ) → AroundFits G.grammar sets p k q → sets.level q < sets.level p
+    around_falls : (k : Around) (q : ℕ) → AroundIsPredictive G.grammar sets p k q → sets.level q < sets.level p
     around_falls kind.Try q f = falls_to f
     around_falls _ q f = f.falls
 
@@ -310,7 +310,7 @@ module _ (G : Given) (scalars : all_scalars G.text ≡ true) (whole : IsWhole G.
     settle_around k q (settles_ok c b v t e m run) = settles_ok c b _ t _ _ (answers.around run)
     settle_around k q (settles_failed c e m run) = settles_failed _ _ _ (answers.around run)
 
-    settle_form : (n : Node) → slice_get G.grammar.nodes p ≡ Some n → Fits G.grammar sets p n → Settles (AnswersForm G n a)
+    settle_form : (n : Node) → slice_get G.grammar.nodes p ≡ Some n → IsPredictiveAt G.grammar sets p n → Settles (AnswersForm G n a)
     settle_form (form.Leaf l) e f = settle_leaf l e f
     settle_form (form.Seq []) e f = settles_ok false a [] [] _ _ nothing
     settle_form (form.Seq (q ∷ qs)) e f = go (settle_parts p a near q qs a within (whole.parts p _ e) (beside refl f.falls))

@@ -27,7 +27,7 @@ use Rattle.pg_predict.specs.Conditions as lexeme
 use Rattle.pg_predict.specs.Operators.{HasNoOperators}
 use Rattle.pg_derive.specs.Accepted.{AcceptedGrammarsArePredictive}
 use Rattle.pg_derive.specs.LeastSets.{node_sets}
-use Rattle.pg_derive.specs.Predictive.{PartFits, TryFits, of_part, RuleFits, LeafFits, AroundFits, Fits}
+use Rattle.pg_derive.specs.Predictive.{PartIsPredictive, TryIsPredictive, of_part, RuleIsPredictive, LeafIsPredictive, AroundIsPredictive, IsPredictiveAt}
 use Rattle.pg_derive.proofs.FormsFit.{choice_fits, many_fits, links_fit}
 use Rattle.pg_derive.proofs.LeastSets.{first_is, first_in, follow_is, follow_in}
 use Rattle.pg_derive.proofs.LeavesFit.{satisfy_meets, string_fits, word_meets, string_try, key_try}
@@ -58,20 +58,20 @@ module _ (g : Grammar) (sets : Sets) (are : AreSets g sets) (grammar : IsGrammar
   none_on_cycle : (r : ℕ) → Chain g r r → ⊥
   none_on_cycle = acyclic g faultless
 
-  try_part : (p q : ℕ) → slice_get g.nodes p ≡ Some (form.Around kind.Try q) → (IsKeyTry g (form.Around kind.Try q) → ⊥) → TryFits g (node_sets g sets) p q
+  try_part : (p q : ℕ) → slice_get g.nodes p ≡ Some (form.Around kind.Try q) → (IsKeyTry g (form.Around kind.Try q) → ⊥) → TryIsPredictive g (node_sets g sets) p q
   try_part p q e no_key =
       of_part (part_fits g sets are none_on_cycle p q (form.Around kind.Try q) e (are_parts g grammar p (form.Around kind.Try q) e).0 no_key reached.around (λ n. null.around n) (λ s h. follow.only e follow.around h))
 
   try_falls : (p q : ℕ) → slice_get g.nodes p ≡ Some (form.Around kind.Try q) → (node_sets g sets).level q < (node_sets g sets).level p
   try_falls p q e = in_falls g sets are none_on_cycle p q (form.Around kind.Try q) e (are_parts g grammar p (form.Around kind.Try q) e).0 reached.around
 
-  lexeme_fits : (p q : ℕ) → slice_get g.nodes p ≡ Some (form.Around kind.Try q) → IsLexeme g q → TryFits g (node_sets g sets) p q
+  lexeme_fits : (p q : ℕ) → slice_get g.nodes p ≡ Some (form.Around kind.Try q) → IsLexeme g q → TryIsPredictive g (node_sets g sets) p q
   lexeme_fits p q e (lexeme.string {text = s} f) = string_try g grammar sets are p q s e f (try_falls p q e)
   lexeme_fits p q e (lexeme.keyed {text = s} {excluded = class} f) = key_try g grammar sets are p q s class e f (try_falls p q e)
   lexeme_fits p q e (lexeme.satisfy f) = try_part p q e (no_key_class f)
   lexeme_fits p q e (lexeme.word f) = try_part p q e (no_key_word f)
 
-  try_fits : (p q : ℕ) → slice_get g.nodes p ≡ Some (form.Around kind.Try q) → TryFits g (node_sets g sets) p q
+  try_fits : (p q : ℕ) → slice_get g.nodes p ≡ Some (form.Around kind.Try q) → TryIsPredictive g (node_sets g sets) p q
   try_fits p q e =
       let part = (are_parts g grammar p (form.Around kind.Try q) e).0 in
       let there = found g.nodes q part.inside in
@@ -82,10 +82,10 @@ module _ (g : Grammar) (sets : Sets) (are : AreSets g sets) (grammar : IsGrammar
       let is = (is_whole g grammar).rules p r e in
       subst (λ (rule : declared.Rule). rule.body < length g.nodes) (same_Some is.0 named (sym is.1 ∙ at)) is.2
 
-  rule_fits : (p r : ℕ) → slice_get g.nodes p ≡ Some (form.Rule r) → RuleFits g (node_sets g sets) p r
+  rule_fits : (p r : ℕ) → slice_get g.nodes p ≡ Some (form.Rule r) → RuleIsPredictive g (node_sets g sets) p r
   rule_fits p r e = record { body = λ named at. fits named at (body_inside p r e named at) }
     where
-      fits : (named : declared.Rule) → slice_get g.rules r ≡ Some named → named.body < length g.nodes → PartFits (node_sets g sets) p named.body
+      fits : (named : declared.Rule) → slice_get g.rules r ≡ Some named → named.body < length g.nodes → PartIsPredictive (node_sets g sets) p named.body
       fits named at inside =
           let below = slice_get_within g.nodes p (form.Rule r) e in
           record {
@@ -95,7 +95,7 @@ module _ (g : Grammar) (sets : Sets) (are : AreSets g sets) (grammar : IsGrammar
             falls = rule_falls g sets are none_on_cycle p r named e at;
           }
 
-  leaf_fits : (p : ℕ) (l : Leaf ℕ) → slice_get g.nodes p ≡ Some (form.Leaf l) → LeafFits g (node_sets g sets) p l
+  leaf_fits : (p : ℕ) (l : Leaf ℕ) → slice_get g.nodes p ≡ Some (form.Leaf l) → LeafIsPredictive g (node_sets g sets) p l
   leaf_fits p (leaf.Satisfy class) e = satisfy_meets g grammar sets are p class e
   leaf_fits p (leaf.String s) e = string_fits g grammar sets are p s e
   leaf_fits p (leaf.Word w) e = word_meets g grammar sets are p w e
@@ -103,15 +103,15 @@ module _ (g : Grammar) (sets : Sets) (are : AreSets g sets) (grammar : IsGrammar
   leaf_fits p leaf.EndOfText e = (are.nullable p).1 (null.at_node e null.end_of_text)
   leaf_fits p (leaf.Declare class) e = bare p (form.Leaf (leaf.Declare class)) e
 
-  around_part : (p q : ℕ) (k : Around) → slice_get g.nodes p ≡ Some (form.Around k q) → (IsKeyTry g (form.Around k q) → ⊥) → PartFits (node_sets g sets) p q
+  around_part : (p q : ℕ) (k : Around) → slice_get g.nodes p ≡ Some (form.Around k q) → (IsKeyTry g (form.Around k q) → ⊥) → PartIsPredictive (node_sets g sets) p q
   around_part p q k e no_key =
       part_fits g sets are none_on_cycle p q (form.Around k q) e (are_parts g grammar p (form.Around k q) e).0 no_key reached.around (λ n. null.around n) (λ s h. follow.only e follow.around h)
 
-  around_fits : (p q : ℕ) (k : Around) → slice_get g.nodes p ≡ Some (form.Around k q) → AroundFits g (node_sets g sets) p k q
+  around_fits : (p q : ℕ) (k : Around) → slice_get g.nodes p ≡ Some (form.Around k q) → AroundIsPredictive g (node_sets g sets) p k q
   around_fits p q kind.Try e = try_fits p q e
   around_fits p q k e = around_part p q k e (λ h. elim h [ ])
 
-  fits : (p : ℕ) (n : Node) → slice_get g.nodes p ≡ Some n → Fits g (node_sets g sets) p n
+  fits : (p : ℕ) (n : Node) → slice_get g.nodes p ≡ Some n → IsPredictiveAt g (node_sets g sets) p n
   fits p (form.Leaf l) e = leaf_fits p l e
   fits p (form.Seq parts) e = seq_fits g sets are none_on_cycle grammar p parts e
   fits p (form.Choice parts) e = choice_fits g sets are none_on_cycle grammar faultless p parts e

@@ -20,7 +20,7 @@ use Rattle.pg_sets.specs.Sets.{Sets, AreSets}
 use Rattle.pg_predict.specs.Conditions.{IsFaultless, EndsNullable, empty_round, empty_link, empty_alternative, alternatives_meet, alternative_meets_follow, round_meets_follow, link_meets_follow}
 use Rattle.pg_derive.specs.ClosedSets.{NodeSets}
 use Rattle.pg_derive.specs.LeastSets.{node_sets}
-use Rattle.pg_derive.specs.Predictive.{PartFits, AlternativesFit, ComesBefore, ManyFits, ChainFits}
+use Rattle.pg_derive.specs.Predictive.{PartIsPredictive, AlternativesArePredictive, ComesBefore, ManyIsPredictive, ChainIsPredictive}
 use Rattle.pg_derive.proofs.LeastSets.{first_is, follow_is, follow_in, full, firsts_apart, follow_apart, rounds_apart}
 use Rattle.pg_derive.proofs.PartsFit.{IsPart, AreNodes, are_parts, reached_is, begins_first, first_reached, parts_fall, in_falls, part_first, part_fits}
 
@@ -36,17 +36,17 @@ part_at P (r ∷ rs) h zero q e = let same : r ≡ q = cc in subst P same h.0
 part_at P (r ∷ rs) h (suc k) q e = part_at P rs h.1 k q e
 
 -- alternatives fit where each does, and each two
-alternatives_fit : (sets : NodeSets) (p : ℕ) (parts : List ℕ) → ((k q : ℕ) → slice_get parts k ≡ Some q → PartFits sets p q) →
-    ((j k q r : ℕ) → j < k → slice_get parts j ≡ Some q → slice_get parts k ≡ Some r → ComesBefore sets p q r) → AlternativesFit sets p parts
+alternatives_fit : (sets : NodeSets) (p : ℕ) (parts : List ℕ) → ((k q : ℕ) → slice_get parts k ≡ Some q → PartIsPredictive sets p q) →
+    ((j k q r : ℕ) → j < k → slice_get parts j ≡ Some q → slice_get parts k ≡ Some r → ComesBefore sets p q r) → AlternativesArePredictive sets p parts
 alternatives_fit sets p [] fits before = tt
 alternatives_fit sets p (q ∷ qs) fits before = (
   fits zero q refl,
-  λ other h. behind other h,
+  λ other h. after other h,
   alternatives_fit sets p qs (λ k r e. fits (suc k) r e) (λ j k r s l e f. before (suc j) (suc k) r s (omega arith) e f),
 )
   where
-    behind : (other : ℕ) → Contains qs other → ComesBefore sets p q other
-    behind other (k, l, e) = before zero (suc k) q other (omega arith) refl (slice_get-get_or qs k other l ∙ ap Some e)
+    after : (other : ℕ) → Contains qs other → ComesBefore sets p q other
+    after other (k, l, e) = before zero (suc k) q other (omega arith) refl (slice_get-get_or qs k other l ∙ ap Some e)
 
 -- what a chain has in either direction
 record IsLinked (g : Grammar) (q r : ℕ) (n : Node) : Type 0 where
@@ -64,7 +64,7 @@ linked side used q r = record { chain = follow.chain; bare = no_key_chain; reach
 module _ (g : Grammar) (sets : Sets) (are : AreSets g sets) (acyclic : (r : ℕ) → Chain g r r → ⊥) (grammar : IsGrammar g) (faultless : IsFaultless g) where
   -- ---- choices
 
-  alternative_fits : (p : ℕ) (parts : List ℕ) → slice_get g.nodes p ≡ Some (form.Choice parts) → (k q : ℕ) → slice_get parts k ≡ Some q → PartFits (node_sets g sets) p q
+  alternative_fits : (p : ℕ) (parts : List ℕ) → slice_get g.nodes p ≡ Some (form.Choice parts) → (k q : ℕ) → slice_get parts k ≡ Some q → PartIsPredictive (node_sets g sets) p q
   alternative_fits p parts e k q at =
       let part = part_at (IsPart g p) parts (are_parts g grammar p (form.Choice parts) e) k q at in
       part_fits g sets are acyclic p q (form.Choice parts) e part no_key_choice (reached.choice k at) (λ n. null.choice k at n) (λ s h. follow.alternative k e at h)
@@ -105,13 +105,13 @@ module _ (g : Grammar) (sets : Sets) (are : AreSets g sets) (acyclic : (r : ℕ)
             (first_is g sets are q one.inside s h) (follow_is g sets are p below t m);
       }
 
-  pub choice_fits : (p : ℕ) (parts : List ℕ) → slice_get g.nodes p ≡ Some (form.Choice parts) → AlternativesFit (node_sets g sets) p parts
+  pub choice_fits : (p : ℕ) (parts : List ℕ) → slice_get g.nodes p ≡ Some (form.Choice parts) → AlternativesArePredictive (node_sets g sets) p parts
   choice_fits p parts e =
       alternatives_fit (node_sets g sets) p parts (λ k q at. alternative_fits p parts e k q at) (λ j k q r l at_q at_r. comes_before p parts e j k q r l at_q at_r)
 
   -- ---- repetitions
 
-  pub many_fits : (p q : ℕ) → slice_get g.nodes p ≡ Some (form.Many q) → ManyFits (node_sets g sets) p q
+  pub many_fits : (p q : ℕ) → slice_get g.nodes p ≡ Some (form.Many q) → ManyIsPredictive (node_sets g sets) p q
   many_fits p q e =
       let part = (are_parts g grammar p (form.Many q) e).0 in
       let below = slice_get_within g.nodes p (form.Many q) e in
@@ -129,7 +129,7 @@ module _ (g : Grammar) (sets : Sets) (are : AreSets g sets) (acyclic : (r : ℕ)
 
   -- ---- chains
 
-  chain_fits : (p q r : ℕ) (n : Node) → slice_get g.nodes p ≡ Some n → IsLinked g q r n → IsPart g p q → IsPart g p r → ChainFits (node_sets g sets) p q r
+  chain_fits : (p q r : ℕ) (n : Node) → slice_get g.nodes p ≡ Some n → IsLinked g q r n → IsPart g p q → IsPart g p r → ChainIsPredictive (node_sets g sets) p q r
   chain_fits p q r n e linked operand separator =
       let below = slice_get_within g.nodes p n e in
       let round : AreNodes g (r ∷ q ∷ []) = (separator.inside, (operand.inside, tt)) in
@@ -153,5 +153,5 @@ module _ (g : Grammar) (sets : Sets) (are : AreSets g sets) (acyclic : (r : ℕ)
         falls = parts_fall g sets are acyclic ((node_sets g sets).level p) (q ∷ r ∷ q ∷ []) (λ x is. in_falls g sets are acyclic p x n e (reached_is (IsPart g p) parts is) (linked.reached x is));
       }
 
-  pub links_fit : (p : ℕ) (side : Side) (used : BuilderUse) (q r : ℕ) → slice_get g.nodes p ≡ Some (form.Chain side used q r) → ChainFits (node_sets g sets) p q r
+  pub links_fit : (p : ℕ) (side : Side) (used : BuilderUse) (q r : ℕ) → slice_get g.nodes p ≡ Some (form.Chain side used q r) → ChainIsPredictive (node_sets g sets) p q r
   links_fit p side used q r e = let parts = are_parts g grammar p (form.Chain side used q r) e in chain_fits p q r (form.Chain side used q r) e (linked side used q r) parts.0 parts.1.0

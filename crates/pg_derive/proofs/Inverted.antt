@@ -8,7 +8,7 @@ use Rattle.pg_grammar.specs.declared.form.Form.TheVariants as form
 use Rattle.pg_grammar.specs.declared.form.Leaf.TheVariants as leaf
 use Rattle.pg_grammar.specs.declared.trail.TrailItem.{TrailItem}
 use Rattle.pg_language.specs.Derives as derives
-use Rattle.pg_language.specs.Derives.{Spot, behind, leaf_of, Link, Derives, at_node, DerivesForm, string, not_followed_by, seq, DerivesParts, no_part, first_part, DerivesRounds, no_round, first_round, DerivesLinks, no_link, first_link}
+use Rattle.pg_language.specs.Derives.{Spot, after, leaf_of, Link, Derives, at_node, DerivesForm, string, not_followed_by, seq, DerivesParts, no_part, first_part, DerivesRounds, no_round, first_round, DerivesLinks, no_link, first_link}
 use Rattle.pg_language.specs.Runs.{HasAt, StandsAt}
 use Rattle.pg_table.specs.Tables.{ComesFrom}
 use Rattle.pg_table.proofs.Added.{still_comes}
@@ -25,7 +25,7 @@ form_at {g = g} {text = text} {n = n} {a = a} {b = b} {v = v} {t = t} (at_node {
 
 pub record SpansString (text s : List ℕ) (a b : Spot) (v : List Tree) (t : List TrailItem) : Type 0 where
   pub stands : StandsAt text a.place s
-  pub end : b ≡ behind a (length s)
+  pub end : b ≡ after a (length s)
   pub forest : v ≡ leaf_of s ∷ []
   pub trail : t ≡ []
 
@@ -46,7 +46,7 @@ spans_nothing (derives.leaf (not_followed_by h)) = record { bare = h; end = refl
 pub record SpansKey (g : Grammar) (text s : List ℕ) (class : List ClassPart) (a b : Spot) (v : List Tree) (t : List TrailItem) : Type 0 where
   pub stands : StandsAt text a.place s
   pub bare : HasAt g text class (a.place + length s) → ⊥
-  pub end : b ≡ behind a (length s)
+  pub end : b ≡ after a (length s)
   pub forest : v ≡ leaf_of s ∷ []
   pub trail : t ≡ []
 

@@ -8,7 +8,7 @@ use Rattle.pg_start.specs.declared.kind.StartKind.{StartKind}
 use Rattle.pg_sets.specs.First.{IsFirst, IsFirstOf}
 use Rattle.pg_sets.specs.First as of
 use Rattle.pg_sets.specs.Follow.{IsFollow}
-use Rattle.pg_numbers.specs.Numbers.{contains, set_at}
+use Rattle.pg_bit_set.specs.Numbers.{contains, set_at}
 use Rattle.pg_sets.specs.Marks.{is_marked}
 use Rattle.pg_sets.specs.Nullable.{Nullable}
 use Rattle.pg_sets.specs.Sets.{Sets, AreSets, HasStart}
@@ -74,12 +74,12 @@ module _ (g : Grammar) (sets : Sets) (are : AreSets g sets) where
 
   round_cases : {s : StartKind} {separator operand : ℕ} → BeginsLink g operand separator s → IsFirst g s separator ⊎ (Nullable g separator × IsFirst g s operand)
   round_cases (of.here h) = inl h
-  round_cases (of.behind n (of.here h)) = inr (n, h)
-  round_cases (of.behind n (of.behind m none)) = elim none [ ]
+  round_cases (of.after n (of.here h)) = inr (n, h)
+  round_cases (of.after n (of.after m none)) = elim none [ ]
 
   round_from : {s : StartKind} {separator operand : ℕ} → IsFirst g s separator ⊎ (Nullable g separator × IsFirst g s operand) → BeginsLink g operand separator s
   round_from (inl h) = of.here h
-  round_from (inr h) = of.behind h.0 (of.here h.1)
+  round_from (inr h) = of.after h.0 (of.here h.1)
 
   rounds_listable : (separator operand : ℕ) → separator < length g.nodes → operand < length g.nodes → IsListable sets.starts (BeginsLink g operand separator)
   rounds_listable separator operand l m =

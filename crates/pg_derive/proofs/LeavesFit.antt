@@ -16,7 +16,7 @@ use Rattle.pg_grammar.specs.declared.form.Form.TheVariants as form
 use Rattle.pg_grammar.specs.declared.form.Leaf.TheVariants as leaf
 use Rattle.pg_grammar.specs.declared.form.Around.TheVariants as around
 use Rattle.pg_grammar.specs.declared.word_item.WordItem.{WordItem}
-use Rattle.pg_start.specs.Fronts.{run, is_reserved}
+use Rattle.pg_start.specs.Prefixes.{run, is_reserved}
 use Rattle.pg_start.specs.Starts.{MatchesAt}
 use Rattle.pg_start.specs.declared.kind.StartKind.{StartKind}
 use Rattle.pg_start.specs.declared.kind.StartKind.TheVariants.{Class, Key, Word}
@@ -30,7 +30,7 @@ use Rattle.pg_sets.specs.Sets.{Sets, AreSets}
 use Rattle.pg_language.specs.Runs.{HasAt, StandsAt, run_at}
 use Rattle.pg_derive.specs.ClosedSets.{SomeMatches}
 use Rattle.pg_derive.specs.LeastSets.{node_sets}
-use Rattle.pg_derive.specs.Predictive.{Meets, BeginsAt, IsSomeWordAt, StringFits, TryFits, of_string, of_key}
+use Rattle.pg_derive.specs.Predictive.{Meets, BeginsAt, IsSomeWordAt, StringIsPredictive, TryIsPredictive, of_string, of_key}
 use Rattle.pg_derive.proofs.LeastSets.{first_in}
 
 -- ---- characters of a text
@@ -40,10 +40,10 @@ scalar_at [] i c s e = cc
 scalar_at (x ∷ xs) zero c s e = let same : x ≡ c = cc in subst IsScalar same (and_parts _ _ s).0
 scalar_at (x ∷ xs) (suc i) c s e = scalar_at xs i c (and_parts _ _ s).1 e
 
-scalars_behind : (text : List ℕ) (i : ℕ) → all_scalars text ≡ true → all_scalars (drop i text) ≡ true
-scalars_behind text zero s = s
-scalars_behind [] (suc i) s = s
-scalars_behind (x ∷ xs) (suc i) s = scalars_behind xs i (and_parts _ _ s).1
+scalars_after : (text : List ℕ) (i : ℕ) → all_scalars text ≡ true → all_scalars (drop i text) ≡ true
+scalars_after text zero s = s
+scalars_after [] (suc i) s = s
+scalars_after (x ∷ xs) (suc i) s = scalars_after xs i (and_parts _ _ s).1
 
 -- two tests that agree on characters have the same run
 same_run : (f h : ℕ → Bool) (text : List ℕ) → all_scalars text ≡ true → ((c : ℕ) → IsScalar c → f c ≡ h c) → take_while f text ≡ take_while h text
@@ -78,7 +78,7 @@ module _ (g : Grammar) (grammar : IsGrammar g) (sets : Sets) (are : AreSets g se
           (record { character = h.character; there = h.there; member = is.members h.character (scalar_at text place h.character scalars h.there) ∙ h.member })
 
   -- a string
-  pub string_fits : (p : ℕ) (s : List ℕ) → slice_get g.nodes p ≡ Some (form.Leaf (leaf.String s)) → StringFits (node_sets g sets) p s
+  pub string_fits : (p : ℕ) (s : List ℕ) → slice_get g.nodes p ≡ Some (form.Leaf (leaf.String s)) → StringIsPredictive (node_sets g sets) p s
   string_fits p s e = record { spelled = spelled g p s grammar e; first = λ text scalars place h. go s e text place h }
     where
       go : (s : List ℕ) → slice_get g.nodes p ≡ Some (form.Leaf (leaf.String s)) → (text : List ℕ) (place : ℕ) → BeginsAt text place s → SomeMatches text ((node_sets g sets).first p) place
@@ -100,7 +100,7 @@ module _ (g : Grammar) (grammar : IsGrammar g) (sets : Sets) (are : AreSets g se
           let scalar = scalar_at text place there.head scalars there.there in
           let member : has_character g.classes also.head there.head ≡ true = ap (λ (i : WordItem). has_character g.classes i.head there.head) one ∙ there.member in
           let runs : run rest (drop (suc place) text) ≡ run_at g text also.rest (suc place) =
-          same_run (has rest) (has_character g.classes also.rest) (drop (suc place) text) (scalars_behind text (suc place) scalars) goes.members in
+          same_run (has rest) (has_character g.classes also.rest) (drop (suc place) text) (scalars_after text (suc place) scalars) goes.members in
           let whole : there.head ∷ run rest (drop (suc place) text) ≡ h.word =
           ap (λ t. there.head ∷ t) (runs ∙ ap (λ (i : WordItem). run_at g text i.rest (suc place)) one) ∙ sym there.whole in
           let free : is_reserved also.reserved h.word ≡ false = ap (λ (i : WordItem). is_reserved i.reserved h.word) one ∙ there.free in
@@ -114,7 +114,7 @@ module _ (g : Grammar) (grammar : IsGrammar g) (sets : Sets) (are : AreSets g se
   -- ---- tries that give keys
 
   pub string_try : (p q : ℕ) (s : List ℕ) → slice_get g.nodes p ≡ Some (form.Around around.Try q) → slice_get g.nodes q ≡ Some (form.Leaf (leaf.String s)) →
-      (node_sets g sets).level q < (node_sets g sets).level p → TryFits g (node_sets g sets) p q
+      (node_sets g sets).level q < (node_sets g sets).level p → TryIsPredictive g (node_sets g sets) p q
   string_try p q s e f falls = of_string f (spelled g q s grammar f) falls meets
     where
       meets : Meets ((node_sets g sets).first p) (λ text place. StandsAt text place s)
@@ -133,10 +133,10 @@ module _ (g : Grammar) (grammar : IsGrammar g) (sets : Sets) (are : AreSets g se
           ]
 
   pub key_try : (p q : ℕ) (s : List ℕ) (excluded : List ClassPart) → slice_get g.nodes p ≡ Some (form.Around around.Try q) → IsKeyed g q s excluded →
-      (node_sets g sets).level q < (node_sets g sets).level p → TryFits g (node_sets g sets) p q
+      (node_sets g sets).level q < (node_sets g sets).level p → TryIsPredictive g (node_sets g sets) p q
   key_try p q s excluded e keyed falls = let own_start = are.start_sets.plain p (form.Around around.Try q) e (plain.key (own.keyed keyed)) in go own_start.0 own_start.1
     where
-      go : (start : StartKind) → OwnStart g (form.Around around.Try q) start → TryFits g (node_sets g sets) p q
+      go : (start : StartKind) → OwnStart g (form.Around around.Try q) start → TryIsPredictive g (node_sets g sets) p q
       go start (own.key {characters = text} at) = absurd (no_string_is_seq (same_Some (form.Leaf (leaf.String text)) (form.Seq (keyed.first ∷ keyed.second ∷ [])) (sym at ∙ keyed.both)))
       go start (own.key_that_ends {characters = key} {excluded = class} {class = ranges} is members) =
           let long = spelled g is.first key grammar is.string in

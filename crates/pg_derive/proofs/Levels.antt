@@ -9,7 +9,7 @@ use Rattle.pg_grammar.specs.Forms.{Node}
 use Rattle.pg_grammar.specs.declared.form.Form.TheVariants as form
 use Rattle.pg_grammar.specs.declared.grammar.Rule as declared
 use Rattle.pg_sets.proofs.Heading.{part_shown, part_noted}
-use Rattle.pg_sets.proofs.Lists.{has_first, has_cases, has_behind}
+use Rattle.pg_sets.proofs.Lists.{has_first, has_cases, has_after}
 use Rattle.pg_sets.specs.Graphs.{has}
 use Rattle.pg_sets.specs.Parts.{reached_parts, used_rules}
 use Rattle.pg_sets.specs.Ranks.{IsRank, no_heads, above, RankUpTo, up_to, Chain, ReachesCycle, on_cycle, leads_to, rank_at}
@@ -24,14 +24,14 @@ at_most_greatest f [] n h = absurd (true≢false (sym h))
 at_most_greatest f (m ∷ ms) n h =
     elim (has_cases ms m n h) [
       | inl same ↦ let e : f m ≡ f n = ap f same in omega arith
-      | inr behind ↦ let l = at_most_greatest f ms n behind in omega arith
+      | inr after ↦ let l = at_most_greatest f ms n after in omega arith
     ]
 
 greatest_at_most : (f : ℕ → ℕ) (ns : List ℕ) (k : ℕ) → ((n : ℕ) → has ns n ≡ true → f n ≤ k) → greatest f ns ≤ k
 greatest_at_most f [] k h = omega arith
 greatest_at_most f (m ∷ ms) k h =
     let first = h m (has_first ms m) in
-    let rest = greatest_at_most f ms k (λ n is. h n (has_behind ms m n is)) in
+    let rest = greatest_at_most f ms k (λ n is. h n (has_after ms m n is)) in
     omega arith
 
 greatest_grows : (f h : ℕ → ℕ) (ns : List ℕ) → ((n : ℕ) → f n ≤ h n) → greatest f ns ≤ greatest h ns

@@ -4,7 +4,7 @@ use Rattle.pg_grammar.specs.Grammar.{Grammar}
 use Rattle.pg_grammar.specs.declared.class.ClassPart.{ClassPart}
 use Rattle.pg_grammar.specs.declared.form.Form.TheVariants as form
 use Rattle.pg_grammar.specs.declared.form.Leaf.TheVariants as leaf
-use Rattle.pg_language.specs.Derives.{Spot, behind, DerivesForm}
+use Rattle.pg_language.specs.Derives.{Spot, after, DerivesForm}
 use Rattle.pg_language.specs.Runs.{HasAt, StandsAt}
 use Rattle.pg_language.specs.Answers as answers
 use Rattle.pg_language.specs.Answers.{Given, Answers, entered, AnswersForm, seq, part, part_last, part_failed, part_ok}
@@ -55,14 +55,14 @@ module _ (G : Given) (q x y : ℕ) (s : List ℕ) (class : List ClassPart) (a : 
   string_at : (o : Outcome) → string_outcome G.text s a ≡ o → Answers G x a o 1
   string_at o is = entered first (answers.leaf (ap Some is))
 
-  bare_at : (o : Outcome) → not_followed_outcome G.grammar G.text class (behind a (length s)) ≡ o → Answers G y (behind a (length s)) o 1
+  bare_at : (o : Outcome) → not_followed_outcome G.grammar G.text class (after a (length s)) ≡ o → Answers G y (after a (length s)) o 1
   bare_at o is = entered second (answers.leaf (ap Some is))
 
   -- the string doesn't stand there, or a character of the class follows it
   pub key_node_fails : (StandsAt G.text a.place s × (HasAt G.grammar G.text class (a.place + length s) → ⊥) → ⊥) → NodeFails G q a
   key_node_fails bare = go (string_decided G.grammar G.text s a)
     where
-      followed : StandsAt G.text a.place s → string_outcome G.text s a ≡ taken a s → FailsEmpty (not_followed_outcome G.grammar G.text class (behind a (length s))) → NodeFails G q a
+      followed : StandsAt G.text a.place s → string_outcome G.text s a ≡ taken a s → FailsEmpty (not_followed_outcome G.grammar G.text class (after a (length s))) → NodeFails G q a
       followed h is f = record {
         consumed = _;
         error = _;
@@ -70,16 +70,16 @@ module _ (G : Given) (q x y : ℕ) (s : List ℕ) (class : List ClassPart) (a : 
         answers = entered e (seq (part (string_at _ is) (part_ok (part (bare_at _ f.is) part_last))));
       }
 
-      alone : StandsAt G.text a.place s → StaysOk (behind a (length s)) (not_followed_outcome G.grammar G.text class (behind a (length s))) → NodeFails G q a
+      alone : StandsAt G.text a.place s → StaysOk (after a (length s)) (not_followed_outcome G.grammar G.text class (after a (length s))) → NodeFails G q a
       alone h f =
-          let derived = subst (WhereOk (DerivesForm G.grammar G.text (form.Leaf (leaf.NotFollowedBy class)) (behind a (length s)))) f.is (not_followed_derived G.grammar G.text class (behind a (length s))) in
+          let derived = subst (WhereOk (DerivesForm G.grammar G.text (form.Leaf (leaf.NotFollowedBy class)) (after a (length s)))) f.is (not_followed_derived G.grammar G.text class (after a (length s))) in
           absurd (bare (h, (spans_nothing derived).bare))
 
       either : StandsAt G.text a.place s → string_outcome G.text s a ≡ taken a s →
-          FailsEmpty (not_followed_outcome G.grammar G.text class (behind a (length s))) ⊎ StaysOk (behind a (length s)) (not_followed_outcome G.grammar G.text class (behind a (length s))) → NodeFails G q a
+          FailsEmpty (not_followed_outcome G.grammar G.text class (after a (length s))) ⊎ StaysOk (after a (length s)) (not_followed_outcome G.grammar G.text class (after a (length s))) → NodeFails G q a
       either h is (inl f) = followed h is f
       either h is (inr f) = alone h f
 
       go : (StandsAt G.text a.place s × (string_outcome G.text s a ≡ taken a s)) ⊎ Fails (string_outcome G.text s a) → NodeFails G q a
-      go (inl h) = either h.0 h.1 (not_followed_decided G.grammar G.text class (behind a (length s)))
+      go (inl h) = either h.0 h.1 (not_followed_decided G.grammar G.text class (after a (length s)))
       go (inr h) = record { consumed = _; error = _; count = _; answers = entered e (seq (part (string_at _ h.is) part_failed)) }

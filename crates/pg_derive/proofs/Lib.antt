@@ -10,7 +10,7 @@ pub mod Exists
 pub mod Predicted
 pub mod PredictiveExample
 pub mod WholeTexts
-pub mod Later
+pub mod ErrorPlaces
 pub mod Readings
 pub mod Least
 pub mod ApartDecided

@@ -1,8 +1,8 @@
--- The least sets are closed at the parts of a node, one behind another.
+-- The least sets are closed at the parts of a node, one after another.
 use Rattle.std.proofs.Common.{◌≡◌, ◌<◌, inl, inr, ℕ, List, [], ◌∷◌, Some, slice_get, length}
 use Rattle.std.specs.List.{Contains, AllByRecursion}
 use Rattle.std.proofs.lemmas.Option.{slice_get_within}
-use Rattle.pg_grammar.proofs.Numbers.{parts_are_behind}
+use Rattle.pg_grammar.proofs.Numbers.{parts_are_after}
 use Rattle.pg_grammar.specs.Forms.{Node, parts_of}
 use Rattle.pg_grammar.specs.Grammar.{Grammar, IsGrammar}
 use Rattle.pg_grammar.specs.declared.form.Form.TheVariants as form
@@ -20,7 +20,7 @@ use Rattle.pg_sets.specs.Reached as reached
 use Rattle.pg_sets.specs.Sets.{Sets, AreSets}
 use Rattle.pg_derive.specs.ClosedSets.{AllNullable, BeginsParts, PartsFollowed, PartsFall}
 use Rattle.pg_derive.specs.LeastSets.{node_sets}
-use Rattle.pg_derive.specs.Predictive.{PartFits, SeqFits}
+use Rattle.pg_derive.specs.Predictive.{PartIsPredictive, SeqIsPredictive}
 use Rattle.pg_derive.proofs.LeastSets.{first_is, first_in, follow_is, follow_in}
 use Rattle.pg_derive.proofs.Levels.{part_falls}
 
@@ -31,17 +31,17 @@ no_key_seq h = elim h [ ]
 abbrev pub AreNodes : Grammar → List ℕ → Type 0
 AreNodes g parts = AllByRecursion (λ q. q < length g.nodes) parts
 
--- a part of a node stands behind it
+-- a part of a node stands after it
 pub record IsPart (g : Grammar) (p q : ℕ) : Type 0 where
-  pub behind : p < q
+  pub after : p < q
   pub inside : q < length g.nodes
 
 all_parts : (g : Grammar) (p : ℕ) (parts : List ℕ) → AllByRecursion (λ q. (p < q) × (q < length g.nodes)) parts → AllByRecursion (IsPart g p) parts
 all_parts g p [] h = tt
-all_parts g p (q ∷ qs) h = (record { behind = h.0.0; inside = h.0.1 }, all_parts g p qs h.1)
+all_parts g p (q ∷ qs) h = (record { after = h.0.0; inside = h.0.1 }, all_parts g p qs h.1)
 
 pub are_parts : (g : Grammar) → IsGrammar g → (p : ℕ) (n : Node) → slice_get g.nodes p ≡ Some n → AllByRecursion (IsPart g p) (parts_of n)
-are_parts g grammar p n e = all_parts g p (parts_of n) (parts_are_behind g.nodes p n grammar.preorder e)
+are_parts g grammar p n e = all_parts g p (parts_of n) (parts_are_after g.nodes p n grammar.preorder e)
 
 pub are_nodes : (g : Grammar) (p : ℕ) (parts : List ℕ) → AllByRecursion (IsPart g p) parts → AreNodes g parts
 are_nodes g p [] h = tt
@@ -62,7 +62,7 @@ module _ (g : Grammar) (sets : Sets) (are : AreSets g sets) (acyclic : (r : ℕ)
   pub begins_first : (parts : List ℕ) → AreNodes g parts → (s : StartKind) → BeginsParts (node_sets g sets) parts s → IsFirstOf g s parts
   begins_first [] h s b = absurd b
   begins_first (q ∷ qs) h s (inl b) = of.here (first_is g sets are q h.0 s b)
-  begins_first (q ∷ qs) h s (inr b) = of.behind ((are.nullable q).0 b.0) (begins_first qs h.1 s b.1)
+  begins_first (q ∷ qs) h s (inr b) = of.after ((are.nullable q).0 b.0) (begins_first qs h.1 s b.1)
 
   -- the part whose first the start is
   pub record FirstReached (parts : List ℕ) (s : StartKind) : Type 0 where
@@ -72,7 +72,7 @@ module _ (g : Grammar) (sets : Sets) (are : AreSets g sets) (acyclic : (r : ℕ)
 
   pub first_reached : {s : StartKind} {parts : List ℕ} → IsFirstOf g s parts → FirstReached parts s
   first_reached (of.here h) = record { part = _; reached = reached.first; first = h }
-  first_reached (of.behind n h) = let rest = first_reached h in record { part = rest.part; reached = reached.later n rest.reached; first = rest.first }
+  first_reached (of.after n h) = let rest = first_reached h in record { part = rest.part; reached = reached.later n rest.reached; first = rest.first }
 
   pub parts_fall : (level : ℕ) (parts : List ℕ) → ((q : ℕ) → ReachedIn g parts q → (node_sets g sets).level q < level) → PartsFall (node_sets g sets) level parts
   parts_fall level [] h = tt
@@ -81,13 +81,13 @@ module _ (g : Grammar) (sets : Sets) (are : AreSets g sets) (acyclic : (r : ℕ)
   -- ---- one part
 
   pub in_falls : (p q : ℕ) (n : Node) → slice_get g.nodes p ≡ Some n → IsPart g p q → ReachedPart g n q → (node_sets g sets).level q < (node_sets g sets).level p
-  in_falls p q n e part is = part_falls g sets are acyclic p q n e is part.behind part.inside
+  in_falls p q n e part is = part_falls g sets are acyclic p q n e is part.after part.inside
 
   pub part_first : (p q : ℕ) (n : Node) → slice_get g.nodes p ≡ Some n → (IsKeyTry g n → ⊥) → ReachedPart g n q → (s : StartKind) → IsFirst g s q → Contains ((node_sets g sets).first p) s
   part_first p q n e bare is s h = first_in g sets are p (slice_get_within g.nodes p n e) s (of.part e bare is h)
 
   pub part_fits : (p q : ℕ) (n : Node) → slice_get g.nodes p ≡ Some n → IsPart g p q → (IsKeyTry g n → ⊥) → ReachedPart g n q → (Nullable g q → NullableForm g n) →
-      ((s : StartKind) → IsFollow g s p → IsFollow g s q) → PartFits (node_sets g sets) p q
+      ((s : StartKind) → IsFollow g s p → IsFollow g s q) → PartIsPredictive (node_sets g sets) p q
   part_fits p q n e part bare is empty follow =
       let below = slice_get_within g.nodes p n e in
       record {
@@ -108,7 +108,7 @@ module _ (g : Grammar) (sets : Sets) (are : AreSets g sets) (acyclic : (r : ℕ)
     followed p parts e qs h.1 (λ r rest is. among r rest (stands.further is)),
   )
 
-  pub seq_fits : IsGrammar g → (p : ℕ) (parts : List ℕ) → slice_get g.nodes p ≡ Some (form.Seq parts) → SeqFits (node_sets g sets) p parts
+  pub seq_fits : IsGrammar g → (p : ℕ) (parts : List ℕ) → slice_get g.nodes p ≡ Some (form.Seq parts) → SeqIsPredictive (node_sets g sets) p parts
   seq_fits grammar p parts e =
       let all = are_parts g grammar p (form.Seq parts) e in
       let nodes = are_nodes g p parts all in

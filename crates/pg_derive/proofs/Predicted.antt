@@ -11,7 +11,7 @@ use Rattle.pg_language.specs.Errors.{Error}
 use Rattle.pg_language.specs.Outcomes.{ok, failed}
 use Rattle.pg_language.proofs.Unique.{same}
 use Rattle.pg_derive.specs.PredictiveLaws.{Predicts, DerivationsAreAnswers, DerivationsAreUnique, HasAnswer, is_ok, has_failed, AnswersExist, NoAlternativeIsLost, RoundsConsume, LinksConsume}
-use Rattle.pg_derive.specs.Predictive.{StringFits, AlternativesFit, ComesBefore, ManyFits, ChainFits}
+use Rattle.pg_derive.specs.Predictive.{StringIsPredictive, AlternativesArePredictive, ComesBefore, ManyIsPredictive, ChainIsPredictive}
 use Rattle.pg_derive.specs.ClosedSets.{NodeSets}
 use Rattle.pg_derive.proofs.Begins.{consumes}
 use Rattle.pg_derive.proofs.Complete.{complete, begun, passes, alternative_refused, link_moves, contains_got, all_got}
@@ -34,7 +34,7 @@ unique G sets h p a b c forest others trail items from d m e n =
     ok_ends (same first.answers second.answers).outcome
 
 pub spelled : (G : Given) (sets : NodeSets) → Predicts G sets → (p : ℕ) (s : List ℕ) → slice_get G.grammar.nodes p ≡ Some (form.Leaf (leaf.String s)) → 0 < length s
-spelled G sets h p s e = let f : StringFits sets p s = h.predictive.nodes p (form.Leaf (leaf.String s)) e in f.spelled
+spelled G sets h p s e = let f : StringIsPredictive sets p s = h.predictive.nodes p (form.Leaf (leaf.String s)) e in f.spelled
 
 pub exist : AnswersExist
 exist G sets h p there a from within = go (settle G h.text (is_whole G.grammar h.grammar) sets h.predictive.nodes (spelled G sets h) p there a (within, from))
@@ -44,7 +44,7 @@ exist G sets h p there a from within = go (settle G h.text (is_whole G.grammar h
     go (settles_failed c e m run) = has_failed c e m run
 
 -- of two alternatives
-before_at : (sets : NodeSets) (p : ℕ) (ps : List ℕ) → AlternativesFit sets p ps → (j k q r : ℕ) → j < k → slice_get ps j ≡ Some q → slice_get ps k ≡ Some r → ComesBefore sets p q r
+before_at : (sets : NodeSets) (p : ℕ) (ps : List ℕ) → AlternativesArePredictive sets p ps → (j k q r : ℕ) → j < k → slice_get ps j ≡ Some q → slice_get ps k ≡ Some r → ComesBefore sets p q r
 before_at sets p [] f j k q r l d e = absurd (cc)
 before_at sets p (x ∷ ps) f zero zero q r l d e = absurd (omega arith)
 before_at sets p (x ∷ ps) f zero (suc k) q r l d e = let same : x ≡ q = cc in subst (λ y. ComesBefore sets p y r) same (f.1 r (contains_got ps k r e))
@@ -66,17 +66,17 @@ not_lost G sets h p parts x j k q r l first second a b e m forest trail from fai
 
 pub rounds_consume : RoundsConsume
 rounds_consume G sets h p q x a b forest trail d =
-    let f : ManyFits sets p q = h.predictive.nodes p (form.Many q) x in
+    let f : ManyIsPredictive sets p q = h.predictive.nodes p (form.Many q) x in
     consumes G.grammar sets G.text q f.full (begun G h.text (is_whole G.grammar h.grammar) sets h.predictive.nodes d)
 
 pub links_consume : LinksConsume
 links_consume G sets h p q r used x a b c forest others trail items d e = go (fits x)
   where
-    fits : (slice_get G.grammar.nodes p ≡ Some (form.Chain side.Left used q r)) ⊎ (slice_get G.grammar.nodes p ≡ Some (form.Chain side.Right used q r)) → ChainFits sets p q r
+    fits : (slice_get G.grammar.nodes p ≡ Some (form.Chain side.Left used q r)) ⊎ (slice_get G.grammar.nodes p ≡ Some (form.Chain side.Right used q r)) → ChainIsPredictive sets p q r
     fits (inl x) = h.predictive.nodes p (form.Chain side.Left used q r) x
     fits (inr x) = h.predictive.nodes p (form.Chain side.Right used q r) x
 
-    go : ChainFits sets p q r → a.place < c.place
+    go : ChainIsPredictive sets p q r → a.place < c.place
     go f =
         let whole = is_whole G.grammar h.grammar in
         link_moves G h.text whole sets h.predictive.nodes p q r a b c f (forward e) (begun G h.text whole sets h.predictive.nodes d) (begun G h.text whole sets h.predictive.nodes e)

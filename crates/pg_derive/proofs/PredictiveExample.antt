@@ -11,7 +11,7 @@ use Rattle.pg_start.specs.Apart.{Apart}
 use Rattle.pg_start.specs.declared.kind.StartKind.{StartKind}
 use Rattle.pg_start.specs.declared.kind.StartKind.TheVariants.{Class, End}
 use Rattle.pg_derive.specs.ClosedSets.{NodeSets, BeginsParts}
-use Rattle.pg_derive.specs.Predictive.{BeginsAt, StringFits, PartFits, ComesBefore, SeqFits, RuleFits, Fits, IsPredictive}
+use Rattle.pg_derive.specs.Predictive.{BeginsAt, StringIsPredictive, PartIsPredictive, ComesBefore, SeqIsPredictive, RuleIsPredictive, IsPredictiveAt, IsPredictive}
 
 abbrev nodes : List Node
 nodes = form.Choice (1 ∷ 4 ∷ []) ∷ form.Seq (2 ∷ 3 ∷ []) ∷ form.Leaf (leaf.String (codes "x")) ∷ form.Rule 0 ∷ (form.Seq []) ∷ []
@@ -53,7 +53,7 @@ first_there t ts = (zero, omega arith, refl)
 second_there : (s t : StartKind) → Contains (s ∷ t ∷ []) t
 second_there s t = (suc zero, omega arith, refl)
 
-choice_fits : Fits g sets 0 (form.Choice (1 ∷ 4 ∷ []))
+choice_fits : IsPredictiveAt g sets 0 (form.Choice (1 ∷ 4 ∷ []))
 choice_fits = (
   record { empty = λ e. refl; first = λ s h. h; follow = λ s h. h; falls = omega arith },
   (λ other h. before other h),
@@ -71,27 +71,27 @@ choice_fits = (
     })
     before other (suc k, l, e) = absurd (omega arith)
 
-seq_fits : SeqFits sets 1 (2 ∷ 3 ∷ [])
+seq_fits : SeqIsPredictive sets 1 (2 ∷ 3 ∷ [])
 seq_fits = record {
   empty = λ h. let e : false ≡ true = h.0 in absurd (cc);
   first = λ s h. begun s h;
   follow = (
-    (λ s h. behind s h),
+    (λ s h. after s h),
     (λ n s h. subst (Contains (x ∷ End ∷ [])) (only End s h) (second_there x End)),
     ((λ s h. absurd h), (λ n s h. h), tt),
   );
   falls = (omega arith, λ e. absurd (cc));
 }
   where
-    behind : (s : StartKind) → BeginsParts sets (3 ∷ []) s → Contains (x ∷ End ∷ []) s
-    behind s (inl h) = subst (Contains (x ∷ End ∷ [])) (only x s h) (first_there x (End ∷ []))
-    behind s (inr h) = absurd h.1
+    after : (s : StartKind) → BeginsParts sets (3 ∷ []) s → Contains (x ∷ End ∷ []) s
+    after s (inl h) = subst (Contains (x ∷ End ∷ [])) (only x s h) (first_there x (End ∷ []))
+    after s (inr h) = absurd h.1
 
     begun : (s : StartKind) → BeginsParts sets (2 ∷ 3 ∷ []) s → Contains (x ∷ []) s
     begun s (inl h) = h
     begun s (inr h) = let e : false ≡ true = h.0 in absurd (cc)
 
-string_fits : StringFits sets 2 (codes "x")
+string_fits : StringIsPredictive sets 2 (codes "x")
 string_fits = record {
   spelled = omega arith;
   first = λ text scalars place h. record {
@@ -104,23 +104,23 @@ string_fits = record {
     at : (text : List ℕ) (place : ℕ) → BeginsAt text place (codes "x") → slice_get text place ≡ Some 120
     at text place h = let first = h.first in let there = h.there in cc
 
-rule_fits : RuleFits g sets 3 0
+rule_fits : RuleIsPredictive g sets 3 0
 rule_fits = record { body = λ named e. fits named e }
   where
-    fits : (named : declared.Rule) → slice_get (a ∷ []) 0 ≡ Some named → PartFits sets 3 named.body
+    fits : (named : declared.Rule) → slice_get (a ∷ []) 0 ≡ Some named → PartIsPredictive sets 3 named.body
     fits named e =
         let same : a ≡ named = cc in
-        subst (λ (z : declared.Rule). PartFits sets 3 z.body) same (record { empty = λ n. refl; first = λ s h. h; follow = λ s h. h; falls = omega arith })
+        subst (λ (z : declared.Rule). PartIsPredictive sets 3 z.body) same (record { empty = λ n. refl; first = λ s h. h; follow = λ s h. h; falls = omega arith })
 
-nothing_fits : SeqFits sets 4 []
+nothing_fits : SeqIsPredictive sets 4 []
 nothing_fits = record { empty = λ h. refl; first = λ s h. absurd h; follow = tt; falls = tt }
 
-fits_at : (p : ℕ) (n : Node) → slice_get nodes p ≡ Some n → Fits g sets p n
-fits_at zero n e = let same : form.Choice (1 ∷ 4 ∷ []) ≡ n = cc in subst (Fits g sets 0) same choice_fits
-fits_at (suc zero) n e = let same : form.Seq (2 ∷ 3 ∷ []) ≡ n = cc in subst (Fits g sets 1) same seq_fits
-fits_at (suc (suc zero)) n e = let same : form.Leaf (leaf.String (codes "x")) ≡ n = cc in subst (Fits g sets 2) same string_fits
-fits_at (suc (suc (suc zero))) n e = let same : form.Rule 0 ≡ n = cc in subst (Fits g sets 3) same rule_fits
-fits_at (suc (suc (suc (suc zero)))) n e = let same : (form.Seq []) ≡ n = cc in subst (Fits g sets 4) same nothing_fits
+fits_at : (p : ℕ) (n : Node) → slice_get nodes p ≡ Some n → IsPredictiveAt g sets p n
+fits_at zero n e = let same : form.Choice (1 ∷ 4 ∷ []) ≡ n = cc in subst (IsPredictiveAt g sets 0) same choice_fits
+fits_at (suc zero) n e = let same : form.Seq (2 ∷ 3 ∷ []) ≡ n = cc in subst (IsPredictiveAt g sets 1) same seq_fits
+fits_at (suc (suc zero)) n e = let same : form.Leaf (leaf.String (codes "x")) ≡ n = cc in subst (IsPredictiveAt g sets 2) same string_fits
+fits_at (suc (suc (suc zero))) n e = let same : form.Rule 0 ≡ n = cc in subst (IsPredictiveAt g sets 3) same rule_fits
+fits_at (suc (suc (suc (suc zero)))) n e = let same : (form.Seq []) ≡ n = cc in subst (IsPredictiveAt g sets 4) same nothing_fits
 fits_at (suc (suc (suc (suc (suc k))))) n e = absurd (cc)
 
 is_predictive : IsPredictive g sets

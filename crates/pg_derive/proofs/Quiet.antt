@@ -23,7 +23,7 @@ use Rattle.pg_language.specs.Answers as answers
 use Rattle.pg_language.specs.Answers.{Given, Answers, entered, AnswersForm, nothing, seq, choice, many, rule, AnswersParts, part, part_last, part_failed, part_ok, AnswersAlternatives, no_alternative, alternative, alternative_stands, alternative_waits, alternative_failed, round, round_ended, AnswersChain, first_operand, first_failed, first_ok, link, separator_failed, separator_ok, operand_failed}
 use Rattle.pg_language.specs.Errors.{Error}
 use Rattle.pg_language.specs.Leaves.{some_word_outcome}
-use Rattle.pg_language.specs.Reactions.{error_kind, counted_by, said_by}
+use Rattle.pg_language.specs.Reactions.{error_kind, counted_by, labelled_by}
 use Rattle.pg_language.specs.Outcomes.{Outcome, ok, failed}
 use Rattle.pg_grammar.specs.declared.side.Side.{Side}
 use Rattle.pg_grammar.specs.declared.used.BuilderUse.{BuilderUse}
@@ -31,7 +31,7 @@ use Rattle.pg_language.specs.declared.reading.Reading.{Reading}
 use Rattle.pg_language.specs.declared.reading.Reading.TheVariants.{Library, Report}
 use Rattle.pg_tree.specs.declared.shape.Shape.{Shape}
 use Rattle.pg_derive.specs.ClosedSets.{NodeSets, SomeMatches, AllNullable, BeginsParts, PartsFall}
-use Rattle.pg_derive.specs.Predictive.{PartFits, TryFits, of_part, of_string, of_key, AlternativesFit, ChainFits, LeafFits, AroundFits, Fits}
+use Rattle.pg_derive.specs.Predictive.{PartIsPredictive, TryIsPredictive, of_part, of_string, of_key, AlternativesArePredictive, ChainIsPredictive, LeafIsPredictive, AroundIsPredictive, IsPredictiveAt}
 use Rattle.pg_derive.proofs.LeavesAnswered.{FailsEmpty, StaysOk, satisfy_fails, string_fails, word_fails, not_followed_decided, end_decided}
 use Rattle.pg_derive.proofs.Lexemes.{NodeFails, string_node_fails, key_node_fails}
 
@@ -107,7 +107,7 @@ module _ (G : Given) (scalars : all_scalars G.text ≡ true) (whole : IsWhole G.
       go (refuses e m run) rest = refuses e _ (part run part_failed)
       go (skips x v t e m run) rest = more x v t e m run (rest x)
 
-  quiet_alternatives : (n : ℕ) (a : Spot) → Lower n a → (p k : ℕ) (qs : List ℕ) → AlternativesFit sets p qs → sets.level p < suc n → AllByRecursion (λ r. r < length G.grammar.nodes) qs →
+  quiet_alternatives : (n : ℕ) (a : Spot) → Lower n a → (p k : ℕ) (qs : List ℕ) → AlternativesArePredictive sets p qs → sets.level p < suc n → AllByRecursion (λ r. r < length G.grammar.nodes) qs →
       NoStart G.text (Contains (sets.first p)) a.place → Quietly (AnswersAlternatives G k qs a) (sets.nullable p ≡ true) a
   quiet_alternatives n a lower p k [] f l there bare = refuses _ _ no_alternative
   quiet_alternatives n a lower p k (q ∷ qs) f l there bare =
@@ -133,7 +133,7 @@ module _ (G : Given) (scalars : all_scalars G.text ≡ true) (whole : IsWhole G.
       go (skips x v t e m run) rest Report r = waiting (f.0.empty x) v t e m run r rest
 
   -- a chain, by what its first operand does, and then its separator, and then its operand again
-  quiet_chain : (n : ℕ) (a : Spot) → Lower n a → (side : Side) (shape : Shape) (p q r : ℕ) → ChainFits sets p q r → sets.level p < suc n → q < length G.grammar.nodes → r < length G.grammar.nodes →
+  quiet_chain : (n : ℕ) (a : Spot) → Lower n a → (side : Side) (shape : Shape) (p q r : ℕ) → ChainIsPredictive sets p q r → sets.level p < suc n → q < length G.grammar.nodes → r < length G.grammar.nodes →
       NoStart G.text (Contains (sets.first p)) a.place → Quietly (AnswersChain G side shape q r zero a) (sets.nullable p ≡ true) a
   quiet_chain n a lower side shape p q r f l is_q is_r bare = go (quiet_operand (let falls = f.falls.0 in omega arith))
     where
@@ -167,27 +167,27 @@ module _ (G : Given) (scalars : all_scalars G.text ≡ true) (whole : IsWhole G.
   by_failing a p q h = refuses h.error _ (answers.around h.answers)
 
   module _ (n : ℕ) (a : Spot) (from : ComesFrom G.grammar a.table) (lower : Lower n a) (p : ℕ) (l : sets.level p < suc n) (bare : NoStart G.text (Contains (sets.first p)) a.place) where
-    quiet_part : (q : ℕ) → PartFits sets p q → q < length G.grammar.nodes → QuietNode q a
+    quiet_part : (q : ℕ) → PartIsPredictive sets p q → q < length G.grammar.nodes → QuietNode q a
     quiet_part q f there = lower q (let falls = f.falls in omega arith) there (λ s b. bare s (f.first s b))
 
     -- a form that makes something of a part that fits
-    of_quiet : (k : Around) (q : ℕ) → PartFits sets p q → QuietNode q a → QuietForm (form.Around k q) p a
+    of_quiet : (k : Around) (q : ℕ) → PartIsPredictive sets p q → QuietNode q a → QuietForm (form.Around k q) p a
     of_quiet k q f (refuses e m run) =
-        let said : Error = said_by k (error_kind false) e in refuses said m (subst (λ c. AnswersForm G (form.Around k q) a (failed c said) m) (not_counted k) (answers.around run))
+        let said : Error = labelled_by k (error_kind false) e in refuses said m (subst (λ c. AnswersForm G (form.Around k q) a (failed c said) m) (not_counted k) (answers.around run))
     of_quiet k q f (skips x v t e m run) = skips (f.empty x) _ t _ _ (answers.around run)
 
-    quiet_try : (q : ℕ) → TryFits G.grammar sets p q → q < length G.grammar.nodes → QuietForm (form.Around kind.Try q) p a
+    quiet_try : (q : ℕ) → TryIsPredictive G.grammar sets p q → q < length G.grammar.nodes → QuietForm (form.Around kind.Try q) p a
     quiet_try q (of_part f) there = of_quiet kind.Try q f (quiet_part q f there)
     quiet_try q (of_string {s = s} e spelled falls f) there =
         by_failing a p q (string_node_fails G q s a e (λ h. unmatched G.text (sets.first p) a.place bare (f G.text scalars a.place h)))
     quiet_try q (of_key {x = x} {y = y} {s = s} {class = class} e first second spelled falls f) there =
         by_failing a p q (key_node_fails G q x y s class a e first second (λ h. unmatched G.text (sets.first p) a.place bare (f G.text scalars a.place h)))
 
-    quiet_around : (k : Around) (q : ℕ) → AroundFits G.grammar sets p k q → q < length G.grammar.nodes → QuietForm (form.Around k q) p a
+    quiet_around : (k : Around) (q : ℕ) → AroundIsPredictive G.grammar sets p k q → q < length G.grammar.nodes → QuietForm (form.Around k q) p a
     quiet_around kind.Try q f there = quiet_try q f there
     quiet_around k q f there = of_quiet k q f (quiet_part q f there)
 
-    quiet_leaf : (l : Leaf ℕ) → slice_get G.grammar.nodes p ≡ Some (form.Leaf l) → LeafFits G.grammar sets p l → QuietForm (form.Leaf l) p a
+    quiet_leaf : (l : Leaf ℕ) → slice_get G.grammar.nodes p ≡ Some (form.Leaf l) → LeafIsPredictive G.grammar sets p l → QuietForm (form.Leaf l) p a
     quiet_leaf (leaf.Satisfy class) e f =
         refused (AnswersForm G (form.Leaf (leaf.Satisfy class)) a) _ a _ _ (answers.leaf refl)
         (satisfy_fails G.grammar G.text class a (λ h. unmatched G.text (sets.first p) a.place bare (f G.text scalars a.place h)))
@@ -203,7 +203,7 @@ module _ (G : Given) (scalars : all_scalars G.text ≡ true) (whole : IsWhole G.
     quiet_leaf leaf.EndOfText e f = decided (AnswersForm G (form.Leaf leaf.EndOfText) a) _ a _ _ (answers.leaf refl) f (end_decided G.text a)
     quiet_leaf (leaf.Declare class) e f = absurd f
 
-    quiet_form : (f : Node) → slice_get G.grammar.nodes p ≡ Some f → Fits G.grammar sets p f → QuietForm f p a
+    quiet_form : (f : Node) → slice_get G.grammar.nodes p ≡ Some f → IsPredictiveAt G.grammar sets p f → QuietForm f p a
     quiet_form (form.Leaf l) e f = quiet_leaf l e f
     quiet_form (form.Seq []) e f = skips (f.empty tt) [] [] _ _ nothing
     quiet_form (form.Seq (q ∷ qs)) e f = go (quiet_parts n a lower q qs (falls_further sets (sets.level p) n (q ∷ qs) (omega arith) f.falls) (whole.parts p _ e) (λ s b. bare s (f.first s b)))
@@ -233,7 +233,7 @@ module _ (G : Given) (scalars : all_scalars G.text ≡ true) (whole : IsWhole G.
     quiet_form (form.Expression builders q) e f = absurd f
     quiet_form (form.Around k q) e f = quiet_around k q f (whole.parts p _ e).0
 
-  module _ (good : (p : ℕ) (n : Node) → slice_get G.grammar.nodes p ≡ Some n → Fits G.grammar sets p n) where
+  module _ (good : (p : ℕ) (n : Node) → slice_get G.grammar.nodes p ≡ Some n → IsPredictiveAt G.grammar sets p n) where
     quiet_at : (n : ℕ) (a : Spot) → ComesFrom G.grammar a.table → Lower n a → (p : ℕ) → sets.level p < suc n → NoStart G.text (Contains (sets.first p)) a.place →
         (f : Node) → slice_get G.grammar.nodes p ≡ Some f → QuietNode p a
     quiet_at n a from lower p l bare f e = go (quiet_form n a from lower p l bare f e (good p f e))

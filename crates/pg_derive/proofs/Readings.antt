@@ -17,9 +17,9 @@ use Rattle.pg_table.specs.Tables.{ComesFrom}
 use Rattle.pg_language.specs.Answers as answers
 use Rattle.pg_language.specs.Answers.{Given, Answers, entered, AnswersForm, nothing, seq, choice, many, rule, AnswersParts, part, AfterPart, part_last, part_failed, part_stuck, part_ok, AnswersAlternatives, no_alternative, alternative, AfterAlternative, alternative_consumed, alternative_stands, alternative_waits, alternative_commits, alternative_failed, alternative_stuck, AnswersRounds, round, AfterRound, round_ended, round_failed, round_empty, round_stuck, round_ok, AnswersChain, first_operand, AfterFirst, first_failed, first_stuck, first_ok, AnswersLinks, link, AfterSeparator, separator_failed, separator_stuck, separator_ok, AfterOperand, operand_failed, operand_stuck, operand_ok}
 use Rattle.pg_derive.specs.ClosedSets.{NodeSets}
-use Rattle.pg_language.specs.Errors.{Error, with_position, without_position, merge, nothing_said}
+use Rattle.pg_language.specs.Errors.{Error, with_position, without_position, merge, no_messages_at}
 use Rattle.pg_language.specs.Outcomes.{Outcome, ok}
-use Rattle.pg_derive.specs.Predictive.{AlternativesFit, Fits}
+use Rattle.pg_derive.specs.Predictive.{AlternativesArePredictive, IsPredictiveAt}
 use Rattle.pg_derive.specs.PredictiveLaws.{as_read, ReadingsAgree}
 use Rattle.pg_grammar.specs.declared.side.Side.{Side}
 use Rattle.pg_language.specs.declared.reading.Reading.{Reading}
@@ -28,7 +28,7 @@ use Rattle.pg_derive.proofs.Begins.{still, moves, BeginsNode}
 use Rattle.pg_derive.proofs.Complete.{begun}
 use Rattle.pg_derive.proofs.Exists.{Settles, settles_ok, settles_failed, settle}
 use Rattle.pg_language.proofs.Flags.{moved}
-use Rattle.pg_derive.proofs.Later.{later}
+use Rattle.pg_derive.proofs.ErrorPlaces.{no_earlier}
 use Rattle.pg_language.proofs.Moves.{tells}
 use Rattle.pg_derive.proofs.Predicted.{spelled}
 use Rattle.pg_derive.proofs.Quiet.{IsWhole}
@@ -37,11 +37,11 @@ use Rattle.pg_language.proofs.Unique.{same}
 use Rattle.pg_derive.proofs.Whole.{is_whole}
 
 -- what says nothing, at an earlier place, adds nothing
-nothing_added : (e : Error) (i : ℕ) → i ≤ e.place → merge e (nothing_said i) ≡ e
-nothing_added e i l = ap without_position (merged-nothing (with_position start e) (with_position start (nothing_said i)) refl l)
+nothing_added : (e : Error) (i : ℕ) → i ≤ e.place → merge e (no_messages_at i) ≡ e
+nothing_added e i l = ap without_position (merged-nothing (with_position start e) (with_position start (no_messages_at i)) refl l)
 
 module _ (G : Given) (scalars : all_scalars G.text ≡ true) (whole : IsWhole G.grammar) (sets : NodeSets)
-    (good : (p : ℕ) (n : Node) → slice_get G.grammar.nodes p ≡ Some n → Fits G.grammar sets p n)
+    (good : (p : ℕ) (n : Node) → slice_get G.grammar.nodes p ≡ Some n → IsPredictiveAt G.grammar sets p n)
     (spells : (p : ℕ) (s : List ℕ) → slice_get G.grammar.nodes p ≡ Some (form.Leaf (leaf.String s)) → 0 < length s) where
   abbrev L : Given
   L = as_read Library G
@@ -61,7 +61,7 @@ module _ (G : Given) (scalars : all_scalars G.text ≡ true) (whole : IsWhole G.
     report : {p : ℕ} {a : Spot} {o : Outcome} {m : ℕ} → Answers L p a o m → Answers R p a o m
     report (entered {p = p} {n = n} e d) = entered e (report_form d p (good p n e))
 
-    report_form : {n : Node} {a : Spot} {o : Outcome} {m : ℕ} → AnswersForm L n a o m → (p : ℕ) → Fits G.grammar sets p n → AnswersForm R n a o m
+    report_form : {n : Node} {a : Spot} {o : Outcome} {m : ℕ} → AnswersForm L n a o m → (p : ℕ) → IsPredictiveAt G.grammar sets p n → AnswersForm R n a o m
     report_form (answers.leaf e) p f = answers.leaf e
     report_form nothing p f = nothing
     report_form (seq d) p f = seq (report_parts d)
@@ -80,15 +80,15 @@ module _ (G : Given) (scalars : all_scalars G.text ≡ true) (whole : IsWhole G.
     report_after_part part_stuck = part_stuck
     report_after_part (part_ok d) = part_ok (report_parts d)
 
-    report_alternatives : {k : ℕ} {qs : List ℕ} {a : Spot} {o : Outcome} {m : ℕ} → AnswersAlternatives L k qs a o m → (p : ℕ) → AlternativesFit sets p qs → AnswersAlternatives R k qs a o m
+    report_alternatives : {k : ℕ} {qs : List ℕ} {a : Spot} {o : Outcome} {m : ℕ} → AnswersAlternatives L k qs a o m → (p : ℕ) → AlternativesArePredictive sets p qs → AnswersAlternatives R k qs a o m
     report_alternatives no_alternative p f = no_alternative
     report_alternatives (alternative {p = q} d r) p f = alternative (report d) (report_after_alternative r p q f d)
 
-    report_after_alternative : {k : ℕ} {qs : List ℕ} {a : Spot} {x o : Outcome} {m n : ℕ} → AfterAlternative L k qs a x o n → (p q : ℕ) → AlternativesFit sets p (q ∷ qs) → Answers L q a x m →
+    report_after_alternative : {k : ℕ} {qs : List ℕ} {a : Spot} {x o : Outcome} {m n : ℕ} → AfterAlternative L k qs a x o n → (p q : ℕ) → AlternativesArePredictive sets p (q ∷ qs) → Answers L q a x m →
         AfterAlternative R k qs a x o n
     report_after_alternative alternative_consumed p q f x = alternative_consumed
     report_after_alternative (alternative_stands {k = k} {ps = []} {a = a} {b = b} {v = v} {t = t} {e = e} is) p q f x =
-        subst (λ z. AfterAlternative R k [] a (ok false b v t e) (ok false b v (Alt k ∷ t) z) zero) (nothing_added e a.place (later L x).1) (alternative_waits refl no_alternative)
+        subst (λ z. AfterAlternative R k [] a (ok false b v t e) (ok false b v (Alt k ∷ t) z) zero) (nothing_added e a.place (no_earlier L x).1) (alternative_waits refl no_alternative)
     report_after_alternative (alternative_stands {ps = other ∷ qs} is) p q f x =
         let empty = empty_nullable x in let full = (f.1 other (zero, omega arith, refl)).full in absurd (cc)
     report_after_alternative (alternative_waits is d) p q f x = absurd (cc)

@@ -2,7 +2,7 @@
 use Rattle.std.proofs.Common.{◌≡◌, ◌+◌, ◌⊎◌, inl, inr, ℕ, zero, suc, List, [], ◌∷◌, Bool, true, false, cond, Some, slice_get, refl, sym, ap, ◌∙◌, subst, arith}
 use Rattle.std.specs.List.{Contains}
 use Rattle.pg_start.specs.declared.kind.StartKind.{StartKind}
-use Rattle.pg_numbers.specs.Numbers.{contains}
+use Rattle.pg_bit_set.specs.Numbers.{contains}
 use Rattle.pg_sets.specs.Sets.{HasStart}
 use Rattle.pg_sets.specs.declared.listed.ListedStart.{ListedStart}
 use Rattle.pg_derive.specs.LeastSets.{numbered_in}
@@ -10,8 +10,8 @@ use Rattle.pg_derive.specs.LeastSets.{numbered_in}
 pub contains_first : {X : Type 0} (x : X) (xs : List X) → Contains (x ∷ xs) x
 contains_first x xs = (zero, omega arith, refl)
 
-pub contains_behind : {X : Type 0} (x y : X) (xs : List X) → Contains xs y → Contains (x ∷ xs) y
-contains_behind x y xs (k, l, e) = (suc k, omega arith, e)
+pub contains_after : {X : Type 0} (x y : X) (xs : List X) → Contains xs y → Contains (x ∷ xs) y
+contains_after x y xs (k, l, e) = (suc k, omega arith, e)
 
 pub contains_none : {X : Type 0} (x : X) → Contains [] x → ⊥
 contains_none x (k, l, e) = omega arith
@@ -28,8 +28,8 @@ record Picked (is_in : ℕ → Bool) (k : ℕ) (starts : List ListedStart) (s : 
   there : slice_get starts place ≡ Some listed
   same : listed.start ≡ s
 
-picked_behind : {is_in : ℕ → Bool} {k : ℕ} {starts : List ListedStart} {s : StartKind} (one : ListedStart) → Picked is_in (suc k) starts s → Picked is_in k (one ∷ starts) s
-picked_behind {is_in} {k} one p =
+picked_after : {is_in : ℕ → Bool} {k : ℕ} {starts : List ListedStart} {s : StartKind} (one : ListedStart) → Picked is_in (suc k) starts s → Picked is_in k (one ∷ starts) s
+picked_after {is_in} {k} one p =
     let place = p.place in
     let next : suc k + place ≡ k + suc place = omega arith in
     record { place = suc place; listed = p.listed; member = ap is_in (sym next) ∙ p.member; there = p.there; same = p.same }
@@ -44,8 +44,8 @@ picked is_in k (one ∷ others) s h = go (is_in k) refl h (λ rest. picked is_in
     go : (b : Bool) → is_in k ≡ b → Contains (cond b (one.start ∷ numbered_in is_in (suc k) others) (numbered_in is_in (suc k) others)) s →
         (Contains (numbered_in is_in (suc k) others) s → Picked is_in (suc k) others s) → Picked is_in k (one ∷ others) s
     go true is c ih =
-        elim (contains_cases one.start s (numbered_in is_in (suc k) others) c) [ inl same ↦ here is same | inr behind ↦ picked_behind one (ih behind) ]
-    go false is c ih = picked_behind one (ih c)
+        elim (contains_cases one.start s (numbered_in is_in (suc k) others) c) [ inl same ↦ here is same | inr after ↦ picked_after one (ih after) ]
+    go false is c ih = picked_after one (ih c)
 
 unpicked : (is_in : ℕ → Bool) (k : ℕ) (starts : List ListedStart) (place : ℕ) (listed : ListedStart) → slice_get starts place ≡ Some listed → is_in (k + place) ≡ true →
     Contains (numbered_in is_in k starts) listed.start
@@ -65,7 +65,7 @@ unpicked is_in k (one ∷ others) (suc place) listed e m =
   where
     go : (b : Bool) → Contains (numbered_in is_in (suc k) others) listed.start →
         Contains (cond b (one.start ∷ numbered_in is_in (suc k) others) (numbered_in is_in (suc k) others)) listed.start
-    go true h = contains_behind one.start listed.start (numbered_in is_in (suc k) others) h
+    go true h = contains_after one.start listed.start (numbered_in is_in (suc k) others) h
     go false h = h
 
 pub start_from_list : (starts : List ListedStart) (set : List Bool) (s : StartKind) → Contains (numbered_in (contains set) 0 starts) s → HasStart starts set s

@@ -1,7 +1,7 @@
 -- In a grammar every number at a node names something.
 use Rattle.std.proofs.Common.{◌≡◌, ◌<◌, ℕ, zero, suc, List, [], ◌∷◌, subst, length, Some, slice_get}
 use Rattle.std.specs.List.{AllByRecursion}
-use Rattle.pg_grammar.proofs.Numbers.{parts_are_behind, bodies_are_nodes}
+use Rattle.pg_grammar.proofs.Numbers.{parts_are_after, bodies_are_nodes}
 use Rattle.pg_grammar.specs.Forms.{parts_of, NamesRule, NamesWord}
 use Rattle.pg_grammar.specs.Grammar.{Grammar, IsGrammar}
 use Rattle.pg_grammar.specs.declared.form.Form.TheVariants as form
@@ -20,7 +20,7 @@ all_at P (y ∷ xs) h (suc k) x e = all_at P xs h.1 k x e
 
 pub is_whole : (g : Grammar) → IsGrammar g → IsWhole g
 is_whole g h = record {
-  parts = λ p n e. all_mapped _ _ (parts_of n) (λ q l. l.1) (parts_are_behind g.nodes p n h.preorder e);
+  parts = λ p n e. all_mapped _ _ (parts_of n) (λ q l. l.1) (parts_are_after g.nodes p n h.preorder e);
   rules = λ p r e.
       let named = found g.rules r (all_at (NamesRule (length g.rules)) g.nodes h.named p (form.Rule r) e) in
       (named.0, named.1, all_at (λ (rule : declared.Rule). rule.body < length g.nodes) g.rules (bodies_are_nodes g.rules g.nodes h.bodies) r named.0 named.1);

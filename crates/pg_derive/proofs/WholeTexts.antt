@@ -1,4 +1,4 @@
--- What runs of the start rule with the end of the text behind it say of a whole text.
+-- What runs of the start rule with the end of the text after it say of a whole text.
 use Rattle.std.proofs.Common.{◌≡◌, ◌<◌, ◌⊎◌, inl, inr, ℕ, suc, List, [], ◌++◌, Bool, true, false, ◌||◌, refl, sym, ap, subst, length, Some, slice_get, arith, append-nil}
 use Rattle.pg_tree.specs.Trees.{Tree}
 use Rattle.pg_grammar.specs.declared.form.Form.TheVariants as form

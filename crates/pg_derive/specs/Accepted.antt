@@ -14,14 +14,13 @@ use Rattle.pg_language.specs.Errors.{Error}
 use Rattle.pg_derive.specs.LeastSets.{node_sets}
 use Rattle.pg_language.specs.Outcomes.{ok, failed}
 use Rattle.pg_derive.specs.Predictive.{IsPredictive}
+use Rattle.pg_derive.specs.PredictiveLaws.{LosesNoAlternative, EachRoundConsumes, EachLinkConsumes}
 use Rattle.pg_language.specs.WholeTexts.{AnswersText}
 use Rattle.pg_derive.specs.WholeTextLaws.{TextIsAnswered}
 
 -- if nothing is wrong at any node of a grammar, its least sets show that it is predictive
 abbrev pub AcceptedGrammarsArePredictive : Type 0
 AcceptedGrammarsArePredictive = (g : Grammar) (sets : Sets) → IsGrammar g → HasNoOperators g → AreSets g sets → IsFaultless g → IsPredictive g (node_sets g sets)
-
--- ---- whole texts
 
 -- nothing is wrong with the grammar, whose sets these are; the text is one of characters
 pub record Accepts (G : Given) (sets : Sets) : Type 0 where
@@ -30,6 +29,22 @@ pub record Accepts (G : Given) (sets : Sets) : Type 0 where
   pub least : AreSets G.grammar sets
   pub faultless : IsFaultless G.grammar
   pub text : all_scalars G.text ≡ true
+
+-- ---- what it commits to
+
+-- no choice loses an alternative to consumed input: what can follow a choice is what its least follow set says
+abbrev pub AcceptedGrammarsLoseNoAlternative : Type 0
+AcceptedGrammarsLoseNoAlternative = (G : Given) (sets : Sets) → Accepts G sets → LosesNoAlternative G (node_sets G.grammar sets)
+
+-- each round of a repetition consumes
+abbrev pub AcceptedRoundsConsume : Type 0
+AcceptedRoundsConsume = (G : Given) (sets : Sets) → Accepts G sets → EachRoundConsumes G
+
+-- so does each separator of a chain with the operand after it
+abbrev pub AcceptedLinksConsume : Type 0
+AcceptedLinksConsume = (G : Given) (sets : Sets) → Accepts G sets → EachLinkConsumes G
+
+-- ---- whole texts
 
 -- each text is answered
 abbrev pub AcceptedGrammarsAnswer : Type 0

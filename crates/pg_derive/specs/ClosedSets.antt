@@ -38,7 +38,7 @@ abbrev pub BeginsParts : NodeSets → List ℕ → StartKind → Type 0
 BeginsParts sets [] s = ⊥
 BeginsParts sets (q ∷ qs) s = Contains (sets.first q) s ⊎ ((sets.nullable q ≡ true) × BeginsParts sets qs s)
 
--- what follows each part is what begins the parts behind it, and what follows the sequence where these are nullable
+-- what follows each part is what begins the parts after it, and what follows the sequence where these are nullable
 abbrev pub PartsFollowed : NodeSets → List StartKind → List ℕ → Type 0
 PartsFollowed sets follow [] = Unit {0}
 PartsFollowed sets follow (q ∷ qs) =

@@ -3,7 +3,7 @@ use Rattle.std.specs.Prelude.{Bool, ℕ, zero, suc, ◌+◌, ◌-◌, ◌*◌, m
 use Rattle.std.specs.Option.{option_map_or}
 use Rattle.pg_grammar.specs.Grammar.{Grammar}
 use Rattle.pg_start.specs.declared.kind.StartKind.{StartKind}
-use Rattle.pg_numbers.specs.Numbers.{contains, set_at}
+use Rattle.pg_bit_set.specs.Numbers.{contains, set_at}
 use Rattle.pg_sets.specs.Marks.{is_marked}
 use Rattle.pg_sets.specs.Parts.{reached_parts, used_rules}
 use Rattle.pg_sets.specs.Ranks.{rank_at}
@@ -32,7 +32,7 @@ rank_within g sets zero p = 0
 rank_within g sets (suc steps) p =
     option_map_or (λ n. max (greatest (above_rank sets.ranks) (used_rules n)) (greatest (λ q. rank_within g sets steps q) (reached_parts sets.nullable n))) (slice_get g.nodes p) 0
 
--- levels are told apart by that rank first, and then by place, as parts stand behind their node
+-- levels are told apart by that rank first, and then by place, as parts stand after their node
 abbrev pub level_of : Grammar → Sets → ℕ → ℕ
 level_of g sets p = rank_within g sets (length g.nodes - p) p * suc (length g.nodes) + (length g.nodes - p)
 

@@ -39,13 +39,13 @@ pub record IsSomeWordAt (g : Grammar) (w : ℕ) (text : List ℕ) (place : ℕ) 
   pub there : IsWordAt g text item place word
 
 -- a string has a character
-pub record StringFits (sets : NodeSets) (p : ℕ) (characters : List ℕ) : Type 0 where
+pub record StringIsPredictive (sets : NodeSets) (p : ℕ) (characters : List ℕ) : Type 0 where
   pub spelled : 0 < length characters
   pub first : Meets (sets.first p) (λ text place. BeginsAt text place characters)
 
 -- ---- forms with one part
 
-pub record PartFits (sets : NodeSets) (p q : ℕ) : Type 0 where
+pub record PartIsPredictive (sets : NodeSets) (p q : ℕ) : Type 0 where
   pub empty : sets.nullable q ≡ true → sets.nullable p ≡ true
   pub first : Within (sets.first q) (sets.first p)
   pub follow : Within (sets.follow p) (sets.follow q)
@@ -53,21 +53,21 @@ pub record PartFits (sets : NodeSets) (p q : ℕ) : Type 0 where
 
 -- what `try` goes back from is a string, or a string that some characters may not follow: then the whole of it is looked
 -- at, and not its first character alone; or it is any other part
-pub data TryFits (g : Grammar) (sets : NodeSets) (p q : ℕ) : Type 0 where
-  of_part : PartFits sets p q → TryFits g sets p q
+pub data TryIsPredictive (g : Grammar) (sets : NodeSets) (p q : ℕ) : Type 0 where
+  of_part : PartIsPredictive sets p q → TryIsPredictive g sets p q
   of_string : {s : List ℕ} → slice_get g.nodes q ≡ Some (form.Leaf (leaf.String s)) → 0 < length s → sets.level q < sets.level p →
-      Meets (sets.first p) (λ text place. StandsAt text place s) → TryFits g sets p q
+      Meets (sets.first p) (λ text place. StandsAt text place s) → TryIsPredictive g sets p q
   of_key : {x y : ℕ} {s : List ℕ} {class : List ClassPart} →
       slice_get g.nodes q ≡ Some (form.Seq (x ∷ y ∷ [])) → slice_get g.nodes x ≡ Some (form.Leaf (leaf.String s)) →
       slice_get g.nodes y ≡ Some (form.Leaf (leaf.NotFollowedBy class)) → 0 < length s → sets.level q < sets.level p →
-      Meets (sets.first p) (λ text place. StandsAt text place s × (HasAt g text class (place + length s) → ⊥)) → TryFits g sets p q
+      Meets (sets.first p) (λ text place. StandsAt text place s × (HasAt g text class (place + length s) → ⊥)) → TryIsPredictive g sets p q
 
-pub record RuleFits (g : Grammar) (sets : NodeSets) (p r : ℕ) : Type 0 where
-  pub body : (named : declared.Rule) → slice_get g.rules r ≡ Some named → PartFits sets p named.body
+pub record RuleIsPredictive (g : Grammar) (sets : NodeSets) (p r : ℕ) : Type 0 where
+  pub body : (named : declared.Rule) → slice_get g.rules r ≡ Some named → PartIsPredictive sets p named.body
 
 -- ---- sequences
 
-pub record SeqFits (sets : NodeSets) (p : ℕ) (parts : List ℕ) : Type 0 where
+pub record SeqIsPredictive (sets : NodeSets) (p : ℕ) (parts : List ℕ) : Type 0 where
   pub empty : AllNullable sets parts → sets.nullable p ≡ true
   pub first : (s : StartKind) → BeginsParts sets parts s → Contains (sets.first p) s
   pub follow : PartsFollowed sets (sets.follow p) parts
@@ -75,20 +75,20 @@ pub record SeqFits (sets : NodeSets) (p : ℕ) (parts : List ℕ) : Type 0 where
 
 -- ---- choices
 
--- an alternative q, and one behind it
+-- an alternative q, and one after it
 pub record ComesBefore (sets : NodeSets) (p q other : ℕ) : Type 0 where
   pub full : sets.nullable q ≡ false
   pub first : AllApart (sets.first q) (sets.first other)
   pub follow : sets.nullable other ≡ true → AllApart (sets.first q) (sets.follow p)
 
-abbrev pub AlternativesFit : NodeSets → ℕ → List ℕ → Type 0
-AlternativesFit sets p [] = Unit {0}
-AlternativesFit sets p (q ∷ qs) = PartFits sets p q × ((other : ℕ) → Contains qs other → ComesBefore sets p q other) × AlternativesFit sets p qs
+abbrev pub AlternativesArePredictive : NodeSets → ℕ → List ℕ → Type 0
+AlternativesArePredictive sets p [] = Unit {0}
+AlternativesArePredictive sets p (q ∷ qs) = PartIsPredictive sets p q × ((other : ℕ) → Contains qs other → ComesBefore sets p q other) × AlternativesArePredictive sets p qs
 
 -- ---- repetitions
 
 -- a round q
-pub record ManyFits (sets : NodeSets) (p q : ℕ) : Type 0 where
+pub record ManyIsPredictive (sets : NodeSets) (p q : ℕ) : Type 0 where
   pub empty : sets.nullable p ≡ true
   pub full : sets.nullable q ≡ false
   pub first : Within (sets.first q) (sets.first p)
@@ -98,7 +98,7 @@ pub record ManyFits (sets : NodeSets) (p q : ℕ) : Type 0 where
   pub falls : sets.level q < sets.level p
 
 -- an operand q and a separator r; a round is the sequence of r and q
-pub record ChainFits (sets : NodeSets) (p q r : ℕ) : Type 0 where
+pub record ChainIsPredictive (sets : NodeSets) (p q r : ℕ) : Type 0 where
   pub empty : sets.nullable q ≡ true → sets.nullable p ≡ true
   pub full : AllNullable sets (r ∷ q ∷ []) → ⊥
   pub first : Within (sets.first q) (sets.first p)
@@ -114,34 +114,34 @@ pub record ChainFits (sets : NodeSets) (p q r : ℕ) : Type 0 where
 -- ---- nodes
 
 -- by the leaf; grammars with declarations aren't judged yet
-abbrev pub LeafFits : Grammar → NodeSets → ℕ → Leaf ℕ → Type 0
-LeafFits g sets p (leaf.Satisfy class) = Meets (sets.first p) (λ text place. HasAt g text class place)
-LeafFits g sets p (leaf.String s) = StringFits sets p s
-LeafFits g sets p (leaf.Word w) = Meets (sets.first p) (IsSomeWordAt g w)
-LeafFits g sets p (leaf.NotFollowedBy class) = sets.nullable p ≡ true
-LeafFits g sets p leaf.EndOfText = sets.nullable p ≡ true
-LeafFits g sets p (leaf.Declare class) = ⊥
+abbrev pub LeafIsPredictive : Grammar → NodeSets → ℕ → Leaf ℕ → Type 0
+LeafIsPredictive g sets p (leaf.Satisfy class) = Meets (sets.first p) (λ text place. HasAt g text class place)
+LeafIsPredictive g sets p (leaf.String s) = StringIsPredictive sets p s
+LeafIsPredictive g sets p (leaf.Word w) = Meets (sets.first p) (IsSomeWordAt g w)
+LeafIsPredictive g sets p (leaf.NotFollowedBy class) = sets.nullable p ≡ true
+LeafIsPredictive g sets p leaf.EndOfText = sets.nullable p ≡ true
+LeafIsPredictive g sets p (leaf.Declare class) = ⊥
 
 -- by what stands around a part q
-abbrev pub AroundFits : Grammar → NodeSets → ℕ → Around → ℕ → Type 0
-AroundFits g sets p kind.Try q = TryFits g sets p q
-AroundFits g sets p kind.Text q = PartFits sets p q
-AroundFits g sets p kind.Skip q = PartFits sets p q
-AroundFits g sets p (kind.Build used symbol) q = PartFits sets p q
-AroundFits g sets p (kind.Label message) q = PartFits sets p q
+abbrev pub AroundIsPredictive : Grammar → NodeSets → ℕ → Around → ℕ → Type 0
+AroundIsPredictive g sets p kind.Try q = TryIsPredictive g sets p q
+AroundIsPredictive g sets p kind.Text q = PartIsPredictive sets p q
+AroundIsPredictive g sets p kind.Skip q = PartIsPredictive sets p q
+AroundIsPredictive g sets p (kind.Build used symbol) q = PartIsPredictive sets p q
+AroundIsPredictive g sets p (kind.Label message) q = PartIsPredictive sets p q
 
 -- by what stands at the node; grammars with expressions aren't judged yet
-abbrev pub Fits : Grammar → NodeSets → ℕ → Node → Type 0
-Fits g sets p (form.Leaf l) = LeafFits g sets p l
-Fits g sets p (form.Seq parts) = SeqFits sets p parts
-Fits g sets p (form.Choice parts) = AlternativesFit sets p parts
-Fits g sets p (form.Many q) = ManyFits sets p q
-Fits g sets p (form.Chain side used q r) = ChainFits sets p q r
-Fits g sets p (form.Rule r) = RuleFits g sets p r
-Fits g sets p (form.Expression builders q) = ⊥
-Fits g sets p (form.Around k q) = AroundFits g sets p k q
+abbrev pub IsPredictiveAt : Grammar → NodeSets → ℕ → Node → Type 0
+IsPredictiveAt g sets p (form.Leaf l) = LeafIsPredictive g sets p l
+IsPredictiveAt g sets p (form.Seq parts) = SeqIsPredictive sets p parts
+IsPredictiveAt g sets p (form.Choice parts) = AlternativesArePredictive sets p parts
+IsPredictiveAt g sets p (form.Many q) = ManyIsPredictive sets p q
+IsPredictiveAt g sets p (form.Chain side used q r) = ChainIsPredictive sets p q r
+IsPredictiveAt g sets p (form.Rule r) = RuleIsPredictive g sets p r
+IsPredictiveAt g sets p (form.Expression builders q) = ⊥
+IsPredictiveAt g sets p (form.Around k q) = AroundIsPredictive g sets p k q
 
 -- each node fits; the end of the text follows the start rule
 pub record IsPredictive (g : Grammar) (sets : NodeSets) : Type 0 where
-  pub nodes : (p : ℕ) (n : Node) → slice_get g.nodes p ≡ Some n → Fits g sets p n
+  pub nodes : (p : ℕ) (n : Node) → slice_get g.nodes p ≡ Some n → IsPredictiveAt g sets p n
   pub end : (start : declared.Rule) → slice_get g.rules g.start ≡ Some start → Contains (sets.follow start.body) End

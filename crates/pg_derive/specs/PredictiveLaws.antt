@@ -50,25 +50,34 @@ abbrev pub AnswersExist : Type 0
 AnswersExist = (G : Given) (sets : NodeSets) → Predicts G sets → (p : ℕ) → p < length G.grammar.nodes → (a : Spot) → ComesFrom G.grammar a.table → a.place ≤ length G.text →
     HasAnswer G p a
 
--- where an alternative of a choice fails behind consumed input, no alternative behind it derives anything that ends where
+-- where an alternative of a choice fails after consumed input, no alternative after it derives anything that ends where
 -- something that can follow the choice comes next
-abbrev pub NoAlternativeIsLost : Type 0
-NoAlternativeIsLost = (G : Given) (sets : NodeSets) → Predicts G sets → (p : ℕ) (parts : List ℕ) → slice_get G.grammar.nodes p ≡ Some (form.Choice parts) →
+abbrev pub LosesNoAlternative : Given → NodeSets → Type 0
+LosesNoAlternative G sets = (p : ℕ) (parts : List ℕ) → slice_get G.grammar.nodes p ≡ Some (form.Choice parts) →
     (j k q r : ℕ) → j < k → slice_get parts j ≡ Some q → slice_get parts k ≡ Some r →
     (a b : Spot) (e : Error) (m : ℕ) (forest : List Tree) (trail : List TrailItem) → ComesFrom G.grammar a.table →
     Answers G q a (failed true e) m → Derives G.grammar G.text r a b forest trail → SomeMatches G.text (sets.follow p) b.place → ⊥
 
+abbrev pub NoAlternativeIsLost : Type 0
+NoAlternativeIsLost = (G : Given) (sets : NodeSets) → Predicts G sets → LosesNoAlternative G sets
+
 -- each round of a repetition consumes
-abbrev pub RoundsConsume : Type 0
-RoundsConsume = (G : Given) (sets : NodeSets) → Predicts G sets → (p q : ℕ) → slice_get G.grammar.nodes p ≡ Some (form.Many q) →
+abbrev pub EachRoundConsumes : Given → Type 0
+EachRoundConsumes G = (p q : ℕ) → slice_get G.grammar.nodes p ≡ Some (form.Many q) →
     (a b : Spot) (forest : List Tree) (trail : List TrailItem) → Derives G.grammar G.text q a b forest trail → a.place < b.place
 
--- so does each separator of a chain with the operand behind it
-abbrev pub LinksConsume : Type 0
-LinksConsume = (G : Given) (sets : NodeSets) → Predicts G sets → (p q r : ℕ) (used : BuilderUse) →
+abbrev pub RoundsConsume : Type 0
+RoundsConsume = (G : Given) (sets : NodeSets) → Predicts G sets → EachRoundConsumes G
+
+-- so does each separator of a chain with the operand after it
+abbrev pub EachLinkConsumes : Given → Type 0
+EachLinkConsumes G = (p q r : ℕ) (used : BuilderUse) →
     ((slice_get G.grammar.nodes p ≡ Some (form.Chain side.Left used q r)) ⊎ (slice_get G.grammar.nodes p ≡ Some (form.Chain side.Right used q r))) →
     (a b c : Spot) (forest others : List Tree) (trail items : List TrailItem) →
     Derives G.grammar G.text r a b forest trail → Derives G.grammar G.text q b c others items → a.place < c.place
+
+abbrev pub LinksConsume : Type 0
+LinksConsume = (G : Given) (sets : NodeSets) → Predicts G sets → EachLinkConsumes G
 
 -- the same run in a reading of choice
 abbrev pub as_read : Reading → Given → Given

@@ -1,4 +1,4 @@
--- What runs of the start rule, with the end of the text behind it, say of a whole text, as one fact each.
+-- What runs of the start rule, with the end of the text after it, say of a whole text, as one fact each.
 use Rattle.std.specs.Prelude.{◌≡◌, ℕ, List, Bool, length, nat_lt}
 use Rattle.pg_tree.specs.Trees.{Tree}
 use Rattle.pg_grammar.specs.declared.trail.TrailItem.{TrailItem}

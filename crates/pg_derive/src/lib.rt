@@ -12,7 +12,8 @@ mod whole_texts;
 pub use accepted::{
     accepted_grammars_answer, accepted_grammars_answer_what_they_derive,
     accepted_grammars_are_predictive, accepted_grammars_derive_once,
-    accepted_grammars_refuse_rightly,
+    accepted_grammars_lose_no_alternative, accepted_grammars_refuse_rightly,
+    accepted_links_consume, accepted_rounds_consume,
 };
 pub use laws::{errors_stand_in_text, ok_answers_are_derivations, outcomes_are_unique};
 pub use predictive::{

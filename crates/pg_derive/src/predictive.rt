@@ -22,7 +22,7 @@ pub fn answers_exist()
     ensures { AnswersExist }
 {}
 
-/// The law that no choice loses an alternative to consumed input: where one fails behind consumed input, none behind it
+/// The law that no choice loses an alternative to consumed input: where one fails after consumed input, none after it
 /// derives anything that ends before what can follow the choice.
 pub fn no_alternative_is_lost()
     ensures { NoAlternativeIsLost }
@@ -33,13 +33,13 @@ pub fn rounds_consume()
     ensures { RoundsConsume }
 {}
 
-/// The law that each separator of a chain consumes, or else the operand behind it.
+/// The law that each separator of a chain consumes, or else the operand after it.
 pub fn links_consume()
     ensures { LinksConsume }
 {}
 
 /// The law that the two readings of choice give the same answers: an alternative that is ok and consumes nothing is the last
-/// one, so that none behind it could be preferred.
+/// one, so that none after it could be preferred.
 pub fn readings_agree()
     ensures { ReadingsAgree }
 {}

@@ -1,4 +1,4 @@
-//! What a run of the start rule, with the end of the text behind it, says of a whole text.
+//! What a run of the start rule, with the end of the text after it, says of a whole text.
 //!
 //! Of a predictive grammar: the run answers each text; a text is derived in one way at most; it is answered ok, with the one
 //! forest and trail, exactly where it is derived. A law is a function that does nothing when it runs: its clause is the law.

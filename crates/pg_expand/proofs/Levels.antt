@@ -5,7 +5,7 @@ use Rattle.pg_grammar.specs.Operators.{Operator, IsOperator}
 use Rattle.pg_grammar.specs.declared.decl.Role.{Role}
 use Rattle.pg_grammar.specs.declared.decl.Role.TheVariants.{InfixLeft, InfixRight, InfixNone, Prefix, Postfix}
 use Rattle.pg_table.specs.Rows.{holds, rows_from, row_of}
-use Rattle.pg_table.specs.Fitting.{Expression, term, prefixed, postfixed, joined, row, rank, IsAmong, Fits}
+use Rattle.pg_table.specs.Fitting.{Expression, term, prefixed, postfixed, joined, row, rank, IsAmong, IsFitting}
 use Rattle.pg_expand.specs.Readings.{Token, reading}
 use Rattle.pg_table.specs.Tables.{is_prefix}
 use Rattle.pg_expand.specs.Rows.{is_right, is_left, is_non, is_postfix, row_at, rows_of}
@@ -175,13 +175,13 @@ module _ (os : List Operator) (digits : AllByRecursion IsOperator os) where
       let up = row_held os o.precedence (omega arith) (held os o member) in
       absurd (omega arith)
 
-  only_term : (x : Expression) → Fits os x → rank os x ≤ 0 → x ≡ term
+  only_term : (x : Expression) → IsFitting os x → rank os x ≤ 0 → x ≡ term
   only_term term f l = refl
   only_term (prefixed o x) f l = absurd (above o f.0 l)
   only_term (postfixed o x) f l = absurd (above o f.0 l)
   only_term (joined o x y) f l = absurd (above o f.0 l)
 
-  a_term_fits : {s : List Token} {x : Expression} → IsTerm s x → Fits os x × (rank os x ≤ 0) × (s ≡ reading x)
+  a_term_fits : {s : List Token} {x : Expression} → IsTerm s x → IsFitting os x × (rank os x ≤ 0) × (s ≡ reading x)
   a_term_fits a_lone_term = (tt, omega arith, refl)
 
   of_term : (s : List Token) (x : Expression) → x ≡ term → s ≡ reading x → IsTerm s x
@@ -210,14 +210,14 @@ module _ (os : List Operator) (digits : AllByRecursion IsOperator os) where
   folds zero l language exact = exact
   folds (suc p) l language exact = folds_held p (filter (holds os) (below p)) (omega arith) (holds os p) refl (folds p (omega arith)) language exact
 
-  rank_low : (x : Expression) → Fits os x → rank os x ≤ row_of os 0
+  rank_low : (x : Expression) → IsFitting os x → rank os x ≤ row_of os 0
   rank_low term f = omega arith
   rank_low (prefixed o x) f = tighter os 0 o.precedence (omega arith) (let low = digit os o digits (to_member os o f.0) in omega arith)
   rank_low (postfixed o x) f = tighter os 0 o.precedence (omega arith) (let low = digit os o digits (to_member os o f.0) in omega arith)
   rank_low (joined o x y) f = tighter os 0 o.precedence (omega arith) (let low = digit os o digits (to_member os o f.0) in omega arith)
 
   -- the rows of a table derive its fitting trees with their readings, and nothing else
-  pub rows_exact : (s : List Token) (x : Expression) → RowsDerive (rows_of os) s x ↔ (Fits os x × (s ≡ reading x))
+  pub rows_exact : (s : List Token) (x : Expression) → RowsDerive (rows_of os) s x ↔ (IsFitting os x × (s ≡ reading x))
   rows_exact s x =
       let all = folds 10 (omega arith) IsTerm term_exact s x in
       (λ d. (let h = all.0 d in (h.0, h.2)), λ h. all.1 (h.0, rank_low x h.0, h.1))

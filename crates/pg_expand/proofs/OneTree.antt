@@ -4,19 +4,19 @@ use Rattle.pg_grammar.specs.Operators.{Operator}
 use Rattle.pg_grammar.specs.declared.decl.Role.TheVariants.{InfixLeft, InfixRight}
 use Rattle.pg_grammar.specs.declared.trail.Fixity.{Fixity}
 use Rattle.pg_grammar.specs.declared.trail.Fixity.TheVariants as fixity
-use Rattle.pg_table.specs.Fitting.{Expression, term, prefixed, postfixed, joined, row, rank, Fits}
-use Rattle.pg_expand.proofs.Members.{Among, among_behind, split_at}
+use Rattle.pg_table.specs.Fitting.{Expression, term, prefixed, postfixed, joined, row, rank, IsFitting}
+use Rattle.pg_expand.proofs.Members.{Among, among_after, split_at}
 use Rattle.pg_expand.proofs.Ranks.{sides_differ, Mark, blank, mark, marks, same_operator, same_side, within, operand_infix, side_infix, left_infix}
 
 -- ---- ranks
 
-rank_within : (operators : List Operator) (x y : Expression) → Fits operators y → marks x ≡ marks y → rank operators x ≤ rank operators y
+rank_within : (operators : List Operator) (x y : Expression) → IsFitting operators y → marks x ≡ marks y → rank operators x ≤ rank operators y
 rank_within operators term y g e = omega arith
 rank_within operators (prefixed o x) y g e = within operators y fixity.Prefix o g (subst (λ l. Among (mark fixity.Prefix o) l) e (inl refl))
-rank_within operators (postfixed o x) y g e = within operators y fixity.Postfix o g (subst (λ l. Among (mark fixity.Postfix o) l) e (among_behind (mark fixity.Postfix o) (marks x) (mark fixity.Postfix o ∷ []) (inl refl)))
-rank_within operators (joined o x z) y g e = within operators y fixity.Infix o g (subst (λ l. Among (mark fixity.Infix o) l) e (among_behind (mark fixity.Infix o) (marks x) (mark fixity.Infix o ∷ marks z) (inl refl)))
+rank_within operators (postfixed o x) y g e = within operators y fixity.Postfix o g (subst (λ l. Among (mark fixity.Postfix o) l) e (among_after (mark fixity.Postfix o) (marks x) (mark fixity.Postfix o ∷ []) (inl refl)))
+rank_within operators (joined o x z) y g e = within operators y fixity.Infix o g (subst (λ l. Among (mark fixity.Infix o) l) e (among_after (mark fixity.Infix o) (marks x) (mark fixity.Infix o ∷ marks z) (inl refl)))
 
-same_rank : (operators : List Operator) (x y : Expression) → Fits operators x → Fits operators y → marks x ≡ marks y → rank operators x ≡ rank operators y
+same_rank : (operators : List Operator) (x y : Expression) → IsFitting operators x → IsFitting operators y → marks x ≡ marks y → rank operators x ≡ rank operators y
 same_rank operators x y f g e = let there = rank_within operators x y g e in let back = rank_within operators y x f (sym e) in omega arith
 
 -- ---- trees of different kinds
@@ -32,25 +32,25 @@ not_blank a m b e = elim (split_at [] blank [] a m b e) [
 no_term : (a : List Mark) (side : Fixity) (o : Operator) (b : List Mark) → blank ∷ [] ≡ a ++ mark side o ∷ b → ⊥
 no_term a side o b e = let same : blank ≡ mark side o = not_blank a (mark side o) b e in absurd cc
 
-sides_before_behind : (o p : Operator) → mark fixity.Prefix o ≡ mark fixity.Postfix p → ⊥
-sides_before_behind o p e = let same = same_side fixity.Prefix fixity.Postfix o p e in absurd cc
+sides_before_after : (o p : Operator) → mark fixity.Prefix o ≡ mark fixity.Postfix p → ⊥
+sides_before_after o p e = let same = same_side fixity.Prefix fixity.Postfix o p e in absurd cc
 
 sides_before_between : (o p : Operator) → mark fixity.Prefix o ≡ mark fixity.Infix p → ⊥
 sides_before_between o p e = let same = same_side fixity.Prefix fixity.Infix o p e in absurd cc
 
-sides_behind_between : (o p : Operator) → mark fixity.Postfix o ≡ mark fixity.Infix p → ⊥
-sides_behind_between o p e = let same = same_side fixity.Postfix fixity.Infix o p e in absurd cc
+sides_after_between : (o p : Operator) → mark fixity.Postfix o ≡ mark fixity.Infix p → ⊥
+sides_after_between o p e = let same = same_side fixity.Postfix fixity.Infix o p e in absurd cc
 
-prefix_no_postfix : (operators : List Operator) (o p : Operator) (x y : Expression) → Fits operators (prefixed o x) → Fits operators (postfixed p y) → marks (prefixed o x) ≡ marks (postfixed p y) → ⊥
+prefix_no_postfix : (operators : List Operator) (o p : Operator) (x y : Expression) → IsFitting operators (prefixed o x) → IsFitting operators (postfixed p y) → marks (prefixed o x) ≡ marks (postfixed p y) → ⊥
 prefix_no_postfix operators o p x y f g e =
     let same : row operators o ≡ row operators p = same_rank operators (prefixed o x) (postfixed p y) f g e in
     elim (split_at [] (mark fixity.Prefix o) (marks x) (marks y) (mark fixity.Postfix p) [] e) [
-      | inl h ↦ sides_before_behind o p h.1
+      | inl h ↦ sides_before_after o p h.1
       | inr (inl h) ↦ (let below = within operators x fixity.Postfix p f.2 h.1 in let lower = f.3 in absurd (omega arith))
       | inr (inr h) ↦ absurd h.0
     ]
 
-prefix_no_infix : (operators : List Operator) (o p : Operator) (x y z : Expression) → Fits operators (prefixed o x) → Fits operators (joined p y z) → marks (prefixed o x) ≡ marks (joined p y z) → ⊥
+prefix_no_infix : (operators : List Operator) (o p : Operator) (x y z : Expression) → IsFitting operators (prefixed o x) → IsFitting operators (joined p y z) → marks (prefixed o x) ≡ marks (joined p y z) → ⊥
 prefix_no_infix operators o p x y z f g e =
     let same : row operators o ≡ row operators p = same_rank operators (prefixed o x) (joined p y z) f g e in
     elim (split_at [] (mark fixity.Prefix o) (marks x) (marks y) (mark fixity.Infix p) (marks z) e) [
@@ -59,24 +59,24 @@ prefix_no_infix operators o p x y z f g e =
       | inr (inr h) ↦ absurd h.0
     ]
 
-postfix_no_infix : (operators : List Operator) (o p : Operator) (x y z : Expression) → Fits operators (postfixed o x) → Fits operators (joined p y z) → marks (postfixed o x) ≡ marks (joined p y z) → ⊥
+postfix_no_infix : (operators : List Operator) (o p : Operator) (x y z : Expression) → IsFitting operators (postfixed o x) → IsFitting operators (joined p y z) → marks (postfixed o x) ≡ marks (joined p y z) → ⊥
 postfix_no_infix operators o p x y z f g e =
     let same : row operators o ≡ row operators p = same_rank operators (postfixed o x) (joined p y z) f g e in
-    let there : Among (mark fixity.Infix p) (marks (postfixed o x)) = subst (λ l. Among (mark fixity.Infix p) l) (sym e) (among_behind (mark fixity.Infix p) (marks y) (mark fixity.Infix p ∷ marks z) (inl refl)) in
+    let there : Among (mark fixity.Infix p) (marks (postfixed o x)) = subst (λ l. Among (mark fixity.Infix p) l) (sym e) (among_after (mark fixity.Infix p) (marks y) (mark fixity.Infix p ∷ marks z) (inl refl)) in
     let below = operand_infix operators (row operators o) (postfixed o x) p f (inr refl) there in
     absurd (omega arith)
 
 -- ---- two infix operators
 
 -- where one of two infix operators of a row stands further left, it would have to lean to both sides
-not_further : (operators : List Operator) (o p : Operator) (x y z w : Expression) → Fits operators (joined o x y) → Fits operators (joined p z w) → row operators o ≡ row operators p →
+not_further : (operators : List Operator) (o p : Operator) (x y z w : Expression) → IsFitting operators (joined o x y) → IsFitting operators (joined p z w) → row operators o ≡ row operators p →
     Among (mark fixity.Infix o) (marks z) → Among (mark fixity.Infix p) (marks y) → ⊥
 not_further operators o p x y z w f g same m n =
     let leans_right = side_infix operators InfixRight o y p f.3 f.5 n (sym same) in
     let leans_left = side_infix operators InfixLeft p z o g.2 g.4 m same in
     sides_differ o.role (left_infix operators (row operators p) z o g.2 leans_left.1 m same) leans_right.0
 
-one_place : (operators : List Operator) (o p : Operator) (x y z w : Expression) → Fits operators (joined o x y) → Fits operators (joined p z w) → marks (joined o x y) ≡ marks (joined p z w) →
+one_place : (operators : List Operator) (o p : Operator) (x y z w : Expression) → IsFitting operators (joined o x y) → IsFitting operators (joined p z w) → marks (joined o x y) ≡ marks (joined p z w) →
     (marks x ≡ marks z) × (mark fixity.Infix o ≡ mark fixity.Infix p) × (marks y ≡ marks w)
 one_place operators o p x y z w f g e =
     let same : row operators o ≡ row operators p = same_rank operators (joined o x y) (joined p z w) f g e in
@@ -110,7 +110,7 @@ same_head o p a b e = cc
 same_tail : (o p : Operator) (a b : List Mark) → mark fixity.Prefix o ∷ a ≡ mark fixity.Prefix p ∷ b → a ≡ b
 same_tail o p a b e = cc
 
-pub one_tree : (operators : List Operator) (x y : Expression) → Fits operators x → Fits operators y → marks x ≡ marks y → x ≡ y
+pub one_tree : (operators : List Operator) (x y : Expression) → IsFitting operators x → IsFitting operators y → marks x ≡ marks y → x ≡ y
 one_tree operators term term f g e = refl
 one_tree operators term (prefixed p y) f g e = absurd cc
 one_tree operators term (postfixed p y) f g e = absurd (no_term (marks y) fixity.Postfix p [] e)

@@ -17,7 +17,7 @@ abbrev tokens_of : List AppliedOperator → List Token × List Token
 tokens_of [] = (a_term ∷ [], [])
 tokens_of (o ∷ os) = reads_on o.fixity o (tokens_of os)
 
--- a tree with operators behind it, the first of which is no prefix
+-- a tree with operators after it, the first of which is no prefix
 reads_tree : (x : Expression) (os : List AppliedOperator) → (tokens_of os).0 ≡ a_term ∷ (tokens_of os).1 → (tokens_of (operators_read x ++ os)).0 ≡ reading x ++ (tokens_of os).1
 reads_tree term os h = h
 reads_tree (prefixed o x) os h = ap (λ (l : List Token). an_operator (applied fixity.Prefix o) ∷ l) (reads_tree x os h)

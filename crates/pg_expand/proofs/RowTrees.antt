@@ -6,14 +6,14 @@ use Rattle.pg_grammar.specs.declared.decl.Role.TheVariants.{InfixLeft, InfixRigh
 use Rattle.pg_grammar.specs.declared.trail.Fixity.TheVariants as fixity
 use Rattle.pg_table.specs.Trails.{applied}
 use Rattle.pg_expand.specs.declared.rows.Row.{Row}
-use Rattle.pg_table.specs.Fitting.{Expression, term, prefixed, postfixed, joined, row, rank, IsPrefixed, IsUnary, IsJoined, FitsSide, IsInfix, IsAmong, Fits}
+use Rattle.pg_table.specs.Fitting.{Expression, term, prefixed, postfixed, joined, row, rank, IsPrefixed, IsUnary, IsJoined, IsFittingSide, IsInfix, IsAmong, IsFitting}
 use Rattle.pg_expand.specs.Readings.{Token, an_operator, reading}
 use Rattle.pg_expand.specs.RowGrammar.{Language, IsOperand, bare, with_prefix, with_postfix, with_both, GoesRight, right, MayGoRight, on_right, ends_right, GoesLeft, left, MayGoLeft, on_left, ends_left, RowDerives, by_right, by_left, by_non, alone}
 use Rattle.pg_expand.proofs.Ranks.{sides_differ, unary_rank, joined_rank}
 
 -- the language derives the fitting trees up to the row k, each with its reading, and nothing else
 abbrev pub IsExact : List Operator → ℕ → Language → Type 0
-IsExact operators k language = (s : List Token) (x : Expression) → (language s x ↔ (Fits operators x × (rank operators x ≤ k) × (s ≡ reading x)))
+IsExact operators k language = (s : List Token) (x : Expression) → (language s x ↔ (IsFitting operators x × (rank operators x ≤ k) × (s ≡ reading x)))
 
 -- these are the operators of the table that have the role and the row
 abbrev pub AreThose : List Operator → Role → ℕ → List Operator → Type 0
@@ -57,26 +57,26 @@ operandish_rank operators k x (inl l) = omega arith
 operandish_rank operators k x (inr u) = let e = unary_rank operators k x u in omega arith
 
 -- an operand fits on each side, and a tree of the role on the side of the role
-side_of_operand : (operators : List Operator) (k : ℕ) (side : Role) (o : Operator) (x : Expression) → row operators o ≡ k → Operandish operators k x → FitsSide operators side o x
+side_of_operand : (operators : List Operator) (k : ℕ) (side : Role) (o : Operator) (x : Expression) → row operators o ≡ k → Operandish operators k x → IsFittingSide operators side o x
 side_of_operand operators k side o x e h = inl (subst (λ r. Operandish operators r x) (sym e) h)
 
-side_of : (operators : List Operator) (k : ℕ) (side : Role) (o : Operator) (x : Expression) → row operators o ≡ k → o.role ≡ side → Sidewise operators side k x → FitsSide operators side o x
+side_of : (operators : List Operator) (k : ℕ) (side : Role) (o : Operator) (x : Expression) → row operators o ≡ k → o.role ≡ side → Sidewise operators side k x → IsFittingSide operators side o x
 side_of operators k side o x e r (inl h) = side_of_operand operators k side o x e h
 side_of operators k side o x e r (inr h) = inr (r, subst (λ r. IsJoined operators side r x) (sym e) h)
 
 -- and the other way round
-sidewise : (operators : List Operator) (k : ℕ) (side : Role) (o : Operator) (x : Expression) → row operators o ≡ k → FitsSide operators side o x → Sidewise operators side k x
+sidewise : (operators : List Operator) (k : ℕ) (side : Role) (o : Operator) (x : Expression) → row operators o ≡ k → IsFittingSide operators side o x → Sidewise operators side k x
 sidewise operators k side o x e (inl h) = inl (subst (λ r. Operandish operators r x) e h)
 sidewise operators k side o x e (inr h) = inr (subst (λ r. IsJoined operators side r x) e h.1)
 
-operandish : (operators : List Operator) (k : ℕ) (side : Role) (o : Operator) (x : Expression) → row operators o ≡ k → (o.role ≡ side → ⊥) → FitsSide operators side o x → Operandish operators k x
+operandish : (operators : List Operator) (k : ℕ) (side : Role) (o : Operator) (x : Expression) → row operators o ≡ k → (o.role ≡ side → ⊥) → IsFittingSide operators side o x → Operandish operators k x
 operandish operators k side o x e n (inl h) = subst (λ r. Operandish operators r x) e h
 operandish operators k side o x e n (inr h) = absurd (n h.0)
 
 module _ (operators : List Operator) (k : ℕ) (tighter : Language) (exact : IsExact operators k tighter) (these : Row) (is : IsRow operators (suc k) these) where
   -- ---- what is derived fits
 
-  operand_fits : {s : List Token} {x : Expression} → IsOperand these tighter s x → Fits operators x × Operandish operators (suc k) x × (s ≡ reading x)
+  operand_fits : {s : List Token} {x : Expression} → IsOperand these tighter s x → IsFitting operators x × Operandish operators (suc k) x × (s ≡ reading x)
   operand_fits (bare {s} {x} d) = let h = (exact s x).0 d in (h.0, inl (let l = h.1 in omega arith), h.2)
   operand_fits (with_prefix {s} {o} {x} a d) =
       let h = (exact s x).0 d in
@@ -105,31 +105,31 @@ module _ (operators : List Operator) (k : ℕ) (tighter : Language) (exact : IsE
       ap (λ (l : List Token). reading x ++ an_operator (applied fixity.Infix o) ∷ (l ++ t)) e ∙ (sym (append_assoc (reading x) (an_operator (applied fixity.Infix o) ∷ reading y) t) ∙ h)
 
   mutual
-    right_fits : {t : List Token} {x y : Expression} → GoesRight these tighter x t y → Fits operators x → Operandish operators (suc k) x → Fits operators y × IsJoined operators InfixRight (suc k) y × (reading x ++ t ≡ reading y)
+    right_fits : {t : List Token} {x y : Expression} → GoesRight these tighter x t y → IsFitting operators x → Operandish operators (suc k) x → IsFitting operators y × IsJoined operators InfixRight (suc k) y × (reading x ++ t ≡ reading y)
     right_fits (right {s} {t} {o} {x} {y} {z} a d m) f h =
         let p = (is.right o).0 a in
         let first = operand_fits d in
         let rest = may_right_fits m first.0 first.1 in
         ((p.0, infix_role o.role (inl (inr p.1)), f, rest.0, side_of_operand operators (suc k) InfixLeft o x p.2 h, side_of operators (suc k) InfixRight o z p.2 p.1 rest.1), (p.2, p.1), read_on o x s t y z first.2 rest.2)
 
-    may_right_fits : {t : List Token} {x y : Expression} → MayGoRight these tighter x t y → Fits operators x → Operandish operators (suc k) x → Fits operators y × Sidewise operators InfixRight (suc k) y × (reading x ++ t ≡ reading y)
+    may_right_fits : {t : List Token} {x y : Expression} → MayGoRight these tighter x t y → IsFitting operators x → Operandish operators (suc k) x → IsFitting operators y × Sidewise operators InfixRight (suc k) y × (reading x ++ t ≡ reading y)
     may_right_fits (on_right d) f h = let r = right_fits d f h in (r.0, inr r.1, r.2)
     may_right_fits (ends_right {x}) f h = (f, inl h, append-nil (reading x))
 
   mutual
-    left_fits : {t : List Token} {x y : Expression} → GoesLeft these tighter x t y → Fits operators x → Sidewise operators InfixLeft (suc k) x → Fits operators y × IsJoined operators InfixLeft (suc k) y × (reading x ++ t ≡ reading y)
+    left_fits : {t : List Token} {x y : Expression} → GoesLeft these tighter x t y → IsFitting operators x → Sidewise operators InfixLeft (suc k) x → IsFitting operators y × IsJoined operators InfixLeft (suc k) y × (reading x ++ t ≡ reading y)
     left_fits (left {s} {t} {o} {x} {y} {z} a d m) f h =
         let p = (is.left o).0 a in
         let second = operand_fits d in
-        let fits : Fits operators (joined o x y) = (p.0, infix_role o.role (inl (inl p.1)), f, second.0, side_of operators (suc k) InfixLeft o x p.2 p.1 h, side_of_operand operators (suc k) InfixRight o y p.2 second.1) in
+        let fits : IsFitting operators (joined o x y) = (p.0, infix_role o.role (inl (inl p.1)), f, second.0, side_of operators (suc k) InfixLeft o x p.2 p.1 h, side_of_operand operators (suc k) InfixRight o y p.2 second.1) in
         let rest = may_left_fits m fits (p.2, p.1) in
         (rest.0, rest.1, read_then o x s t y z second.2 rest.2)
 
-    may_left_fits : {t : List Token} {x y : Expression} → MayGoLeft these tighter x t y → Fits operators x → IsJoined operators InfixLeft (suc k) x → Fits operators y × IsJoined operators InfixLeft (suc k) y × (reading x ++ t ≡ reading y)
+    may_left_fits : {t : List Token} {x y : Expression} → MayGoLeft these tighter x t y → IsFitting operators x → IsJoined operators InfixLeft (suc k) x → IsFitting operators y × IsJoined operators InfixLeft (suc k) y × (reading x ++ t ≡ reading y)
     may_left_fits (on_left d) f h = left_fits d f (inr h)
     may_left_fits (ends_left {x}) f h = (f, h, append-nil (reading x))
 
-  row_fits : {s : List Token} {x : Expression} → RowDerives these tighter s x → Fits operators x × (rank operators x ≤ suc k) × (s ≡ reading x)
+  row_fits : {s : List Token} {x : Expression} → RowDerives these tighter s x → IsFitting operators x × (rank operators x ≤ suc k) × (s ≡ reading x)
   row_fits (by_right {s} {t} {x} {y} d m) =
       let first = operand_fits d in
       let rest = right_fits m first.0 first.1 in
@@ -150,7 +150,7 @@ module _ (operators : List Operator) (k : ℕ) (tighter : Language) (exact : IsE
 
   -- ---- what fits is derived
 
-  under_postfix : (o : Operator) (x : Expression) → IsAmong these.postfix o → Fits operators x → row operators o ≡ suc k → (rank operators x < row operators o) ⊎ IsPrefixed operators (row operators o) x →
+  under_postfix : (o : Operator) (x : Expression) → IsAmong these.postfix o → IsFitting operators x → row operators o ≡ suc k → (rank operators x < row operators o) ⊎ IsPrefixed operators (row operators o) x →
       IsOperand these tighter (reading (postfixed o x)) (postfixed o x)
   under_postfix o x a f e (inl l) = with_postfix ((exact (reading x) x).1 (f, (omega arith), refl)) a
   under_postfix o term a f e (inr u) = absurd u
@@ -159,7 +159,7 @@ module _ (operators : List Operator) (k : ℕ) (tighter : Language) (exact : IsE
   under_postfix o (postfixed p x) a f e (inr u) = absurd u
   under_postfix o (joined p x y) a f e (inr u) = absurd u
 
-  operand_derived : (x : Expression) → Fits operators x → Operandish operators (suc k) x → IsOperand these tighter (reading x) x
+  operand_derived : (x : Expression) → IsFitting operators x → Operandish operators (suc k) x → IsOperand these tighter (reading x) x
   operand_derived x f (inl l) = bare ((exact (reading x) x).1 (f, (omega arith), refl))
   operand_derived term f (inr u) = absurd u
   operand_derived (prefixed o x) f (inr u) = with_prefix ((is.prefix o).1 (f.0, f.1, u)) ((exact (reading x) x).1 (f.2, (let l = f.3 in let h : row operators o ≡ suc k = u in omega arith), refl))
@@ -175,7 +175,7 @@ module _ (operators : List Operator) (k : ℕ) (tighter : Language) (exact : IsE
     pub more : MayGoRight these tighter first rest x
     pub all : front ++ rest ≡ reading x
 
-  right_derived : (x : Expression) → Fits operators x → Sidewise operators InfixRight (suc k) x → RightSpine x
+  right_derived : (x : Expression) → IsFitting operators x → Sidewise operators InfixRight (suc k) x → RightSpine x
   right_derived x f (inl h) = record { first = x; front = reading x; rest = []; operand = operand_derived x f h; more = ends_right; all = append-nil (reading x) }
   right_derived term f (inr h) = absurd h
   right_derived (prefixed o x) f (inr h) = absurd h
@@ -191,7 +191,7 @@ module _ (operators : List Operator) (k : ℕ) (tighter : Language) (exact : IsE
         all = ap (λ (l : List Token). reading x ++ an_operator (applied fixity.Infix o) ∷ l) spine.all;
       }
 
-  -- an operand from which left-associative operators lead on to a tree, where so many tokens lie behind another tree
+  -- an operand from which left-associative operators lead on to a tree, where so many tokens lie after another tree
   record LeftSpine (x : Expression) (t : List Token) (z : Expression) : Type 0 where
     pub first : Expression
     pub front : List Token
@@ -200,7 +200,7 @@ module _ (operators : List Operator) (k : ℕ) (tighter : Language) (exact : IsE
     pub more : MayGoLeft these tighter first rest z
     pub all : front ++ rest ≡ reading x ++ t
 
-  left_derived : (x : Expression) (t : List Token) (z : Expression) → Fits operators x → Sidewise operators InfixLeft (suc k) x → MayGoLeft these tighter x t z → LeftSpine x t z
+  left_derived : (x : Expression) (t : List Token) (z : Expression) → IsFitting operators x → Sidewise operators InfixLeft (suc k) x → MayGoLeft these tighter x t z → LeftSpine x t z
   left_derived x t z f (inl h) m = record { first = x; front = reading x; rest = t; operand = operand_derived x f h; more = m; all = refl }
   left_derived term t z f (inr h) m = absurd h
   left_derived (prefixed o x) t z f (inr h) m = absurd h
@@ -221,7 +221,7 @@ module _ (operators : List Operator) (k : ℕ) (tighter : Language) (exact : IsE
   goes_left x y s t d (on_left m) = by_left d m
   goes_left x y s t d ends_left = subst (λ l. RowDerives these tighter l x) (sym (append-nil s)) (alone d)
 
-  joined_derived : (o : Operator) (x y : Expression) → Fits operators (joined o x y) → row operators o ≡ suc k → ((o.role ≡ InfixLeft) ⊎ (o.role ≡ InfixRight)) ⊎ (o.role ≡ InfixNone) → RowDerives these tighter (reading (joined o x y)) (joined o x y)
+  joined_derived : (o : Operator) (x y : Expression) → IsFitting operators (joined o x y) → row operators o ≡ suc k → ((o.role ≡ InfixLeft) ⊎ (o.role ≡ InfixRight)) ⊎ (o.role ≡ InfixNone) → RowDerives these tighter (reading (joined o x y)) (joined o x y)
   joined_derived o x y f e (inl (inl r)) =
       let spine = left_derived (joined o x y) [] (joined o x y) f (inr (e, r)) ends_left in
       subst (λ l. RowDerives these tighter l (joined o x y)) (spine.all ∙ append-nil (reading (joined o x y))) (goes_left (joined o x y) spine.first spine.front spine.rest spine.operand spine.more)
@@ -233,7 +233,7 @@ module _ (operators : List Operator) (k : ℕ) (tighter : Language) (exact : IsE
       by_non (operand_derived x f.2 (operandish operators (suc k) InfixLeft o x e (λ h. non_not_left o.role r h) f.4)) ((is.non o).1 (f.0, r, e))
       (operand_derived y f.3 (operandish operators (suc k) InfixRight o y e (λ h. non_not_right o.role r h) f.5))
 
-  top_derived : (x : Expression) → Fits operators x → (rank operators x < suc k) ⊎ (rank operators x ≡ suc k) → RowDerives these tighter (reading x) x
+  top_derived : (x : Expression) → IsFitting operators x → (rank operators x < suc k) ⊎ (rank operators x ≡ suc k) → RowDerives these tighter (reading x) x
   top_derived x f (inl l) = alone (operand_derived x f (inl l))
   top_derived term f (inr e) = absurd (omega arith)
   top_derived (prefixed o x) f (inr e) = alone (operand_derived (prefixed o x) f (inr e))

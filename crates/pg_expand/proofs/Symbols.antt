@@ -15,7 +15,7 @@ use Rattle.pg_grammar.specs.declared.trail.Fixity.TheVariants as fixity
 use Rattle.pg_table.specs.declared.fault.AdmitFault.{AdmitFault}
 use Rattle.pg_table.specs.declared.fault.AdmitFault.TheVariants.{SymbolTooLong, SymbolReserved, PrefixThere, SymbolThere, TableFull}
 use Rattle.pg_table.specs.Tables.{Table, is_prefix, has_prefix, has_other, Admits, with_operator, empty_table, Added, whole, added_unless, added_from, ComesFrom}
-use Rattle.pg_table.specs.Fitting.{Expression, term, prefixed, postfixed, joined, IsInfix, Fits}
+use Rattle.pg_table.specs.Fitting.{Expression, term, prefixed, postfixed, joined, IsInfix, IsFitting}
 use Rattle.pg_table.specs.Trails.{applied}
 use Rattle.pg_expand.specs.Readings.{Token, a_term, an_operator, reading}
 use Rattle.pg_expand.proofs.Members.{Among, among_either}
@@ -133,7 +133,7 @@ of_both : (os : List Operator) (xs ys : List Mark) → AllByRecursion (IsOf os) 
 of_both os [] ys a b = b
 of_both os (x ∷ xs) ys a b = (a.0, of_both os xs ys a.1 b)
 
-marks_of : (os : List Operator) (x : Expression) → Fits os x → AllByRecursion (IsOf os) (marks x)
+marks_of : (os : List Operator) (x : Expression) → IsFitting os x → AllByRecursion (IsOf os) (marks x)
 marks_of os term f = (tt, tt)
 marks_of os (prefixed o x) f = ((to_member os o f.0, f.1), marks_of os x f.2)
 marks_of os (postfixed o x) f = of_both os (marks x) (mark fixity.Postfix o ∷ []) (marks_of os x f.2) ((to_member os o f.0, f.1), tt)
@@ -192,6 +192,6 @@ one_list os told (m ∷ xs) (n ∷ ys) a b e =
     (one_list os told xs ys a.1 b.1 (rest_seen (seen m) (seen n) (map seen xs) (map seen ys) e))
 
 -- two fitting trees with one reading are equal
-pub one_reading : (os : List Operator) → AreTold os → (x y : Expression) → Fits os x → Fits os y → reading x ≡ reading y → x ≡ y
+pub one_reading : (os : List Operator) → AreTold os → (x y : Expression) → IsFitting os x → IsFitting os y → reading x ≡ reading y → x ≡ y
 one_reading os told x y f g e =
     one_tree os x y f g (one_list os told (marks x) (marks y) (marks_of os x f) (marks_of os y g) (seen-reading x ∙ (e ∙ sym (seen-reading y))))

@@ -3,7 +3,7 @@ use Rattle.std.specs.Prelude.{◌≡◌, ◌↔◌, List}
 use Rattle.pg_grammar.specs.Grammar.{Grammar}
 use Rattle.pg_grammar.specs.Operators.{Operator}
 use Rattle.pg_table.specs.Tables.{Table, IsTable, ComesFrom}
-use Rattle.pg_table.specs.Fitting.{Expression, Fits}
+use Rattle.pg_table.specs.Fitting.{Expression, IsFitting}
 use Rattle.pg_table.specs.Trails.{operators_read}
 use Rattle.pg_expand.specs.declared.rows.Row.{Row}
 use Rattle.pg_expand.specs.Readings.{Token, reading}
@@ -12,7 +12,7 @@ use Rattle.pg_expand.specs.RowGrammar.{RowsDerive}
 
 -- the rows, read as a grammar, derive each tree that fits the operators, with the tree's reading, and nothing else
 abbrev pub DeriveFittingTrees : List Row → List Operator → Type 0
-DeriveFittingTrees rows operators = (tokens : List Token) (x : Expression) → (RowsDerive rows tokens x ↔ (Fits operators x × (tokens ≡ reading x)))
+DeriveFittingTrees rows operators = (tokens : List Token) (x : Expression) → (RowsDerive rows tokens x ↔ (IsFitting operators x × (tokens ≡ reading x)))
 
 -- the rows of every table do so
 abbrev pub RowsDeriveFittingTrees : Type 0
@@ -20,8 +20,8 @@ RowsDeriveFittingTrees = (table : Table) → IsTable table → DeriveFittingTree
 
 -- two trees that fit a table of a grammar are equal where their readings are
 abbrev pub OneTreePerReading : Type 0
-OneTreePerReading = (g : Grammar) (table : Table) (x y : Expression) → ComesFrom g table → Fits table.operators x → Fits table.operators y → reading x ≡ reading y → x ≡ y
+OneTreePerReading = (g : Grammar) (table : Table) (x y : Expression) → ComesFrom g table → IsFitting table.operators x → IsFitting table.operators y → reading x ≡ reading y → x ≡ y
 
 -- so they are where a trail keeps the same operators of them
 abbrev pub OneTreePerOperators : Type 0
-OneTreePerOperators = (g : Grammar) (table : Table) (x y : Expression) → ComesFrom g table → Fits table.operators x → Fits table.operators y → operators_read x ≡ operators_read y → x ≡ y
+OneTreePerOperators = (g : Grammar) (table : Table) (x y : Expression) → ComesFrom g table → IsFitting table.operators x → IsFitting table.operators y → operators_read x ≡ operators_read y → x ≡ y

@@ -27,7 +27,7 @@ pub data IsOperand (row : Row) (tighter : Language) : List Token → Expression 
       IsOperand row tighter (an_operator (applied fixity.Prefix o) ∷ (s ++ an_operator (applied fixity.Postfix p) ∷ [])) (postfixed p (prefixed o x))
 
 mutual
-  -- behind an operand x: a right-associative operator, an operand, and what follows that
+  -- after an operand x: a right-associative operator, an operand, and what follows that
   pub data GoesRight (row : Row) (tighter : Language) : Expression → List Token → Expression → Type 0 where
     right : {s t : List Token} {o : Operator} {x y z : Expression} → IsAmong row.right o → IsOperand row tighter s y → MayGoRight row tighter y t z →
         GoesRight row tighter x (an_operator (applied fixity.Infix o) ∷ (s ++ t)) (joined o x z)
@@ -38,7 +38,7 @@ mutual
     ends_right : {x : Expression} → MayGoRight row tighter x [] x
 
 mutual
-  -- behind a tree x: a left-associative operator and an operand, and what follows the tree of the three
+  -- after a tree x: a left-associative operator and an operand, and what follows the tree of the three
   pub data GoesLeft (row : Row) (tighter : Language) : Expression → List Token → Expression → Type 0 where
     left : {s t : List Token} {o : Operator} {x y z : Expression} → IsAmong row.left o → IsOperand row tighter s y → MayGoLeft row tighter (joined o x y) t z →
         GoesLeft row tighter x (an_operator (applied fixity.Infix o) ∷ (s ++ t)) z
@@ -48,7 +48,7 @@ mutual
     on_left : {s : List Token} {x y : Expression} → GoesLeft row tighter x s y → MayGoLeft row tighter x s y
     ends_left : {x : Expression} → MayGoLeft row tighter x [] x
 
--- what a row derives over the tighter ones: an operand, and behind it right-associative operators with their operands, or
+-- what a row derives over the tighter ones: an operand, and after it right-associative operators with their operands, or
 -- left-associative ones, or one that is not associative, or nothing
 pub data RowDerives (row : Row) (tighter : Language) : List Token → Expression → Type 0 where
   by_right : {s t : List Token} {x y : Expression} → IsOperand row tighter s x → GoesRight row tighter x t y → RowDerives row tighter (s ++ t) y

@@ -48,7 +48,7 @@ fn table_of(alloc: Global, declared: &[Declared]) -> Result<Table, Fail> {
     Ok(Table::of(alloc, &grammar)?)
 }
 
-/// The symbols of some operators behind a text.
+/// The symbols of some operators after a text.
 fn with_symbols(mut text: String, operators: &Operators) -> Result<String, Fail> {
     for operator in operators.as_slice() {
         for c in operator.symbol() {

@@ -1,7 +1,7 @@
 //! What can be wrong with a grammar file.
 //!
 //! Of several faults the first from the left counts, and at one place the one with the lowest number; those of names
-//! and of initial operators come behind those of tokens. Programs print these texts, which are written by hand so that
+//! and of initial operators come after those of tokens. Programs print these texts, which are written by hand so that
 //! contracts can speak of their bytes.
 
 ghost use Rattle.std.specs.Prelude.{◌≡◌, Some};

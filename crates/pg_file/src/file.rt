@@ -19,7 +19,7 @@ use crate::names::name_fault;
 use pg_grammar::Grammar;
 use pg_items::Item;
 use pg_making::{PlacedGrammar, grammar_of};
-use pg_meaning::Unmade;
+use pg_meaning::MakingError;
 use pg_parser::{SyntaxError, read_items};
 use pg_pred::Registry;
 use pg_text::position_in;
@@ -29,7 +29,7 @@ use std::alloc::Global;
 /// The most bytes of a grammar file.
 const FILE_LIMIT: usize = 262_144;
 
-/// The furthest place that has a position of its own; a fault behind it is reported there.
+/// The furthest place that has a position of its own; a fault after it is reported there.
 const LAST_PLACE: usize = (1 << 28) - 1;
 
 /// The grammar that the bytes of a file spell, which the registry fits (ours).
@@ -85,8 +85,8 @@ fn grammar_in(
     let items = read_items(alloc, lexemes.as_slice())?;
     match grammar_of(alloc, registry, items.as_slice()) {
         Ok(read) => Ok(read),
-        Err(Unmade::Memory) => Err(ReadError::Memory),
-        Err(Unmade::Refused) => Err(refusal(alloc, registry, items.as_slice())),
+        Err(MakingError::Memory) => Err(ReadError::Memory),
+        Err(MakingError::Refused) => Err(refusal(alloc, registry, items.as_slice())),
     }
 }
 
@@ -117,7 +117,7 @@ fn fault_before(alloc: Global, characters: &[char], limit: usize) -> ReadError {
     }
 }
 
-/// The place of the first character that ends behind the limit, if the file is longer.
+/// The place of the first character that ends after the limit, if the file is longer.
 fn limit_place(text: &str) -> Option<usize>
     ensures { IsNone result ↔ (length text.now ≤ FILE_LIMIT) }
 {

@@ -1,5 +1,6 @@
 -- Facts that hold of each element of a list.
-use Rattle.std.proofs.Common.{◌≡◌, ℕ, zero, suc, Bool, true, false, ◌||◌, List, [], ◌∷◌, take, drop, map, Some, slice_get, get_or, ◌<◌, length, arith, ap, subst, sym, refl}
+use Rattle.std.proofs.Common.{◌≡◌, ℕ, zero, suc, Bool, false, ◌||◌, List, [], ◌∷◌, take, drop, map, Some, slice_get, get_or, ◌<◌, length, arith, ap, subst, sym, refl}
+use Rattle.std.proofs.lemmas.Bool.{or_parts}
 use Rattle.std.specs.List.{AllByRecursion, list_any}
 
 -- of the first n elements
@@ -8,7 +9,7 @@ all-take P zero xs h = tt
 all-take P (suc n) [] h = tt
 all-take P (suc n) (x ∷ xs) h = (h.0, all-take P n xs h.1)
 
--- of the elements behind the first n
+-- of the elements after the first n
 pub all-drop : {X : Type 0} (P : X → Type 0) (n : ℕ) (xs : List X) → AllByRecursion P xs → AllByRecursion P (drop n xs)
 all-drop P zero xs h = h
 all-drop P (suc n) [] h = tt
@@ -37,22 +38,12 @@ get-known [] k x h e = absurd (omega arith)
 get-known (y ∷ ys) zero x h e = ap Some (sym e)
 get-known (y ∷ ys) (suc k) x h e = let below : k < length ys = omega arith in get-known ys k x below e
 
--- neither of two is true, so the first is not
-pub or_first : (a b : Bool) → (a || b) ≡ false → a ≡ false
-or_first true b h = h
-or_first false b h = refl
-
--- neither of two is true, so the second is not
-pub or_second : (a b : Bool) → (a || b) ≡ false → b ≡ false
-or_second true b h = absurd cc
-or_second false b h = h
-
 -- a test that fails at all images fails at the image of the element at a place
 pub none-get : {X Y : Type 0} (p : Y → Bool) (f : X → Y) (xs : List X) (k : ℕ) (x : X) → list_any p (map f xs) ≡ false → slice_get xs k ≡ Some x → p (f x) ≡ false
 none-get p f [] zero x h e = absurd cc
 none-get p f [] (suc k) x h e = absurd cc
-none-get p f (y ∷ ys) zero x h e = let same : y ≡ x = cc in subst (λ z. p (f z) ≡ false) same (or_first (p (f y)) (list_any p (map f ys)) h)
-none-get p f (y ∷ ys) (suc k) x h e = none-get p f ys k x (or_second (p (f y)) (list_any p (map f ys)) h) e
+none-get p f (y ∷ ys) zero x h e = let same : y ≡ x = cc in subst (λ z. p (f z) ≡ false) same (or_parts (p (f y)) (list_any p (map f ys)) h).0
+none-get p f (y ∷ ys) (suc k) x h e = none-get p f ys k x (or_parts (p (f y)) (list_any p (map f ys)) h).1 e
 
 -- a test of the images is a test of the elements
 pub any-map : {X Y : Type 0} (p : Y → Bool) (f : X → Y) (xs : List X) → list_any p (map f xs) ≡ list_any (λ x. p (f x)) xs
@@ -63,5 +54,5 @@ any-map p f (x ∷ xs) = ap (λ b. p (f x) || b) (any-map p f xs)
 pub none-at : {X : Type 0} (p : X → Bool) (xs : List X) (k : ℕ) (x : X) → list_any p xs ≡ false → slice_get xs k ≡ Some x → p x ≡ false
 none-at p [] zero x h e = absurd cc
 none-at p [] (suc k) x h e = absurd cc
-none-at p (y ∷ ys) zero x h e = let same : y ≡ x = cc in subst (λ z. p z ≡ false) same (or_first (p y) (list_any p ys) h)
-none-at p (y ∷ ys) (suc k) x h e = none-at p ys k x (or_second (p y) (list_any p ys) h) e
+none-at p (y ∷ ys) zero x h e = let same : y ≡ x = cc in subst (λ z. p z ≡ false) same (or_parts (p y) (list_any p ys) h).0
+none-at p (y ∷ ys) (suc k) x h e = none-at p ys k x (or_parts (p y) (list_any p ys) h).1 e

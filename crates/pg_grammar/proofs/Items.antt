@@ -1,12 +1,13 @@
 -- What is answered for a class item is what its own expression says, over the same answers.
 use Rattle.std.proofs.Common.{◌≡◌, ◌∙◌, ℕ, zero, suc, ◌+◌, ◌<◌, ◌≤◌, Bool, false, ◌&&◌, ◌==◌, nat_le, List, [], ◌∷◌, ◌++◌, length, take, drop, Some, Option, None, slice_get, get_or, set, replicate, inl, inr, ◌⊎◌, refl, sym, ap, subst, arith, length-append}
+use Rattle.std.proofs.lemmas.Bool.{or_parts}
 use Rattle.std.proofs.lemmas.Bool.Decides.{nat_tests}
 use Rattle.std.proofs.lemmas.Option.{slice_get_within}
 use Rattle.std.specs.List.{list_any}
 use Rattle.pg_class.specs.Ranges.{has}
 use Rattle.pg_pred.specs.Offer.{Offer}
 use Rattle.pg_grammar.specs.Classes.{memberships, is_member, one_holds, first_negated, answer_at, lacks_item}
-use Rattle.pg_grammar.specs.ClassItems.{answers_behind, item_answers, item_class, NameEarlier}
+use Rattle.pg_grammar.specs.ClassItems.{answers_after, item_answers, item_class, NameEarlier}
 use Rattle.pg_grammar.specs.Names.{Name}
 use Rattle.pg_grammar.specs.Contents.{class_parts}
 use Rattle.pg_grammar.specs.Fits.{ClassFits, WordFits, OperatorsFit, NodeFits, Fits, IsClassIn, in_item, in_head, in_rest, in_operators, in_gap, in_node}
@@ -20,11 +21,11 @@ use Rattle.pg_grammar.specs.declared.class.ClassPart.TheVariants.{Literal, Range
 use Rattle.pg_grammar.specs.declared.class_item.ClassItem.{ClassItem}
 use Rattle.pg_grammar.specs.declared.form.Form.TheVariants as form
 use Rattle.pg_grammar.specs.declared.form.Leaf.TheVariants as leaf
-use Rattle.pg_grammar.proofs.Each.{all-get, none-get, none-at, or_first, or_second}
+use Rattle.pg_grammar.proofs.Each.{all-get, none-get, none-at}
 
 -- ---- answers in a list
 
--- an answer stays where further answers come behind it
+-- an answer stays where further answers come after it
 answer_at-front : (known more : List Bool) (k : ℕ) → k < length known → answer_at (known ++ more) k ≡ answer_at known k
 answer_at-front [] more k h = absurd (omega arith)
 answer_at-front (b ∷ bs) more zero h = refl
@@ -36,13 +37,13 @@ answer_at-last [] b = refl
 answer_at-last (a ∷ known) b = answer_at-last known b
 
 -- what is answered first stays
-answers_behind-known : (known : List Bool) (items : List ClassItem) (c k : ℕ) → k < length known
-    → answer_at (answers_behind known items c) k ≡ answer_at known k
-answers_behind-known known [] c k h = refl
-answers_behind-known known (item ∷ items) c k h =
+answers_after-known : (known : List Bool) (items : List ClassItem) (c k : ℕ) → k < length known
+    → answer_at (answers_after known items c) k ≡ answer_at known k
+answers_after-known known [] c k h = refl
+answers_after-known known (item ∷ items) c k h =
     let b = is_member known item.class c in
     let below : k < length (known ++ b ∷ []) = omega (arith, length-append known (b ∷ [])) in
-    answers_behind-known (known ++ b ∷ []) items c k below ∙ answer_at-front known (b ∷ []) k h
+    answers_after-known (known ++ b ∷ []) items c k below ∙ answer_at-front known (b ∷ []) k h
 
 -- ---- expressions
 
@@ -60,41 +61,41 @@ memberships-same below a b same (Union n ∷ parts) c h = ap (λ ms. one_holds (
 memberships-same below a b same (Complement ∷ parts) c h = ap first_negated (memberships-same below a b same parts c h)
 memberships-same below a b same (Class k ∷ parts) c h =
     let rest = list_any (lacks_item below) parts in
-    let number : k < below = not_lacking below k (or_first (nat_le below k) rest h) in
+    let number : k < below = not_lacking below k (or_parts (nat_le below k) rest h).0 in
     let first = same k number in
-    let behind = memberships-same below a b same parts c (or_second (nat_le below k) rest h) in
-    rw (first, behind) refl
+    let after = memberships-same below a b same parts c (or_parts (nat_le below k) rest h).1 in
+    rw (first, after) refl
 memberships-same below a b same (Predicate used ∷ parts) c h = ap (λ ms. has used.class c ∷ ms) (memberships-same below a b same parts c h)
 
 -- ---- class items
 
--- an item's answer, behind those of the items before these
-answer_is_behind : (known : List Bool) (items : List ClassItem) (c k : ℕ) (item : ClassItem) → NameEarlier (length known) items
+-- an item's answer, after those of the items before these
+answer_is_after : (known : List Bool) (items : List ClassItem) (c k : ℕ) (item : ClassItem) → NameEarlier (length known) items
     → slice_get items k ≡ Some item
-    → answer_at (answers_behind known items c) (length known + k) ≡ is_member (answers_behind known items c) item.class c
-answer_is_behind known [] c zero item h e = absurd cc
-answer_is_behind known [] c (suc k) item h e = absurd cc
-answer_is_behind known (first ∷ items) c zero item h e =
+    → answer_at (answers_after known items c) (length known + k) ≡ is_member (answers_after known items c) item.class c
+answer_is_after known [] c zero item h e = absurd cc
+answer_is_after known [] c (suc k) item h e = absurd cc
+answer_is_after known (first ∷ items) c zero item h e =
     let b = is_member known first.class c in
     let more = known ++ b ∷ [] in
     let long : length more ≡ length known + 1 = omega (arith, length-append known (b ∷ [])) in
-    let all = answers_behind more items c in
+    let all = answers_after more items c in
     let same = λ (k : ℕ) (below : k < length known).
     let inside : k < length more = omega arith in
-    answers_behind-known more items c k inside ∙ answer_at-front known (b ∷ []) k below in
+    answers_after-known more items c k inside ∙ answer_at-front known (b ∷ []) k below in
     let is : first ≡ item = cc in
     let own : length known < length more = omega arith in
     let zero_is : length known + 0 ≡ length known = omega arith in
     rw (zero_is, ← is)
-    (answers_behind-known more items c (length known) own
+    (answers_after-known more items c (length known) own
     ∙ (answer_at-last known b ∙ sym (ap (λ ms. one_holds (take 1 ms)) (memberships-same (length known) all known same first.class c h.0))))
-answer_is_behind known (first ∷ items) c (suc k) item h e =
+answer_is_after known (first ∷ items) c (suc k) item h e =
     let b = is_member known first.class c in
     let more = known ++ b ∷ [] in
     let long : length more ≡ suc (length known) = omega (arith, length-append known (b ∷ [])) in
     let next : length more + k ≡ length known + suc k = omega arith in
     let earlier : NameEarlier (length more) items = rw long h.1 in
-    let ih = answer_is_behind more items c k item earlier e in
+    let ih = answer_is_after more items c k item earlier e in
     rw (← next) ih
 
 -- what is answered for an item is what its expression says
@@ -102,7 +103,7 @@ answer_is : (items : List ClassItem) (c k : ℕ) (item : ClassItem) → NameEarl
     → answer_at (item_answers items c) k ≡ is_member (item_answers items c) item.class c
 answer_is items c k item h e =
     let zero_is : 0 + k ≡ k = omega arith in
-    rw zero_is at (answer_is_behind [] items c k item h e)
+    rw zero_is at (answer_is_after [] items c k item h e)
 
 -- an expression that lacks no item of few lacks none of more
 pub lacks_item-more : (few more : ℕ) → few ≤ more → (parts : List ClassPart) → list_any (lacks_item few) parts ≡ false
@@ -114,10 +115,10 @@ lacks_item-more few more le (Union n ∷ parts) h = lacks_item-more few more le 
 lacks_item-more few more le (Complement ∷ parts) h = lacks_item-more few more le parts h
 lacks_item-more few more le (Class k ∷ parts) h =
     let rest = list_any (lacks_item few) parts in
-    let number : k < few = not_lacking few k (or_first (nat_le few k) rest h) in
+    let number : k < few = not_lacking few k (or_parts (nat_le few k) rest h).0 in
     let test : nat_le more k ≡ false = grind (arith, nat_tests) in
-    let behind = lacks_item-more few more le parts (or_second (nat_le few k) rest h) in
-    rw (test, behind) refl
+    let after = lacks_item-more few more le parts (or_parts (nat_le few k) rest h).1 in
+    rw (test, after) refl
 lacks_item-more few more le (Predicate used ∷ parts) h = lacks_item-more few more le parts h
 
 -- an item names only items before it
@@ -164,18 +165,18 @@ weight-item (first ∷ items) (suc below) (suc k) item e h =
 -- ---- parts of an expression
 
 -- the first part names an item below
-pub item_is_below : (below k : ℕ) (all parts behind : List ClassPart) (part : ClassPart) → list_any (lacks_item below) parts ≡ list_any (lacks_item below) all
-    → list_any (lacks_item below) all ≡ false → parts ≡ part ∷ behind → part ≡ Class k → k < below
-item_is_below below k all parts behind part same none are is =
-    let lacks : list_any (lacks_item below) (Class k ∷ behind) ≡ false = rw (are, is) at (same ∙ none) in
-    not_lacking below k (or_first (nat_le below k) (list_any (lacks_item below) behind) lacks)
+pub item_is_below : (below k : ℕ) (all parts after : List ClassPart) (part : ClassPart) → list_any (lacks_item below) parts ≡ list_any (lacks_item below) all
+    → list_any (lacks_item below) all ≡ false → parts ≡ part ∷ after → part ≡ Class k → k < below
+item_is_below below k all parts after part same none are is =
+    let lacks : list_any (lacks_item below) (Class k ∷ after) ≡ false = rw (are, is) at (same ∙ none) in
+    not_lacking below k (or_parts (nat_le below k) (list_any (lacks_item below) after) lacks).0
 
--- the parts behind the first lack no item
-pub none_behind : (below : ℕ) (all parts behind : List ClassPart) (part : ClassPart) → list_any (lacks_item below) parts ≡ list_any (lacks_item below) all
-    → list_any (lacks_item below) all ≡ false → parts ≡ part ∷ behind → list_any (lacks_item below) behind ≡ false
-none_behind below all parts behind part same none are =
-    let lacks : list_any (lacks_item below) (part ∷ behind) ≡ false = rw are at (same ∙ none) in
-    or_second (lacks_item below part) (list_any (lacks_item below) behind) lacks
+-- the parts after the first lack no item
+pub none_after : (below : ℕ) (all parts after : List ClassPart) (part : ClassPart) → list_any (lacks_item below) parts ≡ list_any (lacks_item below) all
+    → list_any (lacks_item below) all ≡ false → parts ≡ part ∷ after → list_any (lacks_item below) after ≡ false
+none_after below all parts after part same none are =
+    let lacks : list_any (lacks_item below) (part ∷ after) ≡ false = rw are at (same ∙ none) in
+    (or_parts (lacks_item below part) (list_any (lacks_item below) after) lacks).1
 
 -- ---- answers that are noted
 
@@ -239,13 +240,13 @@ lacks_none g grammar (in_item k {item} e) =
     let few : k ≤ length g.classes = omega arith in
     lacks_item-more k (length g.classes) few item.class (names_before g.classes k item grammar.classes.earlier e)
 lacks_none g grammar (in_head k {item} e) =
-    or_first _ (list_any (lacks_item (length g.classes)) item.rest) (none-at (word_lacks_item (length g.classes)) g.words k item grammar.words.known e)
+    (or_parts _ (list_any (lacks_item (length g.classes)) item.rest) (none-at (word_lacks_item (length g.classes)) g.words k item grammar.words.known e)).0
 lacks_none g grammar (in_rest k {item} e) =
-    or_second (list_any (lacks_item (length g.classes)) item.head) _ (none-at (word_lacks_item (length g.classes)) g.words k item grammar.words.known e)
+    (or_parts (list_any (lacks_item (length g.classes)) item.head) _ (none-at (word_lacks_item (length g.classes)) g.words k item grammar.words.known e)).1
 lacks_none g grammar (in_operators {item} e) =
-    or_first _ (list_any (lacks_item (length g.classes)) item.gap) (subst (AreOperators (length g.classes)) e grammar.operators).known
+    (or_parts _ (list_any (lacks_item (length g.classes)) item.gap) (subst (AreOperators (length g.classes)) e grammar.operators).known).0
 lacks_none g grammar (in_gap {item} e) =
-    or_second (list_any (lacks_item (length g.classes)) item.class) _ (subst (AreOperators (length g.classes)) e grammar.operators).known
+    (or_parts (list_any (lacks_item (length g.classes)) item.class) _ (subst (AreOperators (length g.classes)) e grammar.operators).known).1
 lacks_none g grammar (in_node p {node = n} e) =
     let known = none-get (has_unknown_class (length g.classes)) (form_of (rule_names g) (word_names g)) g.nodes p n grammar.classes_named e in
     rw (class_parts-form_of (rule_names g) (word_names g) n) at known

@@ -7,5 +7,5 @@ pub mod Items
 pub mod Preorder
 pub mod Numbers
 pub mod Making
-pub mod Behind
+pub mod After
 pub mod Unique

@@ -16,9 +16,9 @@ pub record IsFound (names : List Name) (name : Name) (r : ℕ) : Type 0 where
 abbrev first_place : List Name → Name → ℕ
 first_place names name = position_or_len (λ other. bytes_eq other name) names
 
--- a name found among names is found behind one more
-found_behind : (other : Name) (names : List Name) (name : Name) (r : ℕ) → IsFound names name r → IsFound (other ∷ names) name (1 + r)
-found_behind other names name r found =
+-- a name found among names is found after one more
+found_after : (other : Name) (names : List Name) (name : Name) (r : ℕ) → IsFound names name r → IsFound (other ∷ names) name (1 + r)
+found_after other names name r found =
     let below = found.below in
     let next : 1 + r ≡ suc r = omega arith in
     rw next (record { below = omega arith; named = found.named })
@@ -32,7 +32,7 @@ first_is_found (other ∷ names) name h = go (bytes_eq other name) refl h (λ e.
         → (has_name names name ≡ true → IsFound names name (first_place names name))
         → IsFound (other ∷ names) name (cond (not b) (1 + first_place names name) 0)
     go true e h ih = record { below = omega arith; named = (bytes_eq-Decides other name).0 e }
-    go false e h ih = found_behind other names name (first_place names name) (ih h)
+    go false e h ih = found_after other names name (first_place names name) (ih h)
 
 -- a name that is not among these has its first place at the end
 none_is_found : (names : List Name) (name : Name) → has_name names name ≡ false → first_place names name ≡ length names

@@ -1,13 +1,14 @@
 -- What a maker keeps true, and what is true of the grammar that is made.
-use Rattle.std.proofs.Common.{◌≡◌, ℕ, suc, ◌+◌, ◌<◌, ◌≤◌, if◌then◌else◌, Bool, true, false, ◌||◌, nat_lt, nat_le, List, [], ◌∷◌, ◌++◌, length, map, Option, Some, None, option_and_then, refl, sym, ap, subst, arith, ◌∙◌}
+use Rattle.std.proofs.Common.{◌≡◌, ℕ, suc, ◌+◌, ◌<◌, ◌≤◌, if◌then◌else◌, Bool, true, false, ◌||◌, nat_lt, nat_le, List, [], ◌∷◌, ◌++◌, length, map, take, Option, Some, None, option_and_then, refl, sym, ap, subst, arith, ◌∙◌}
+use Rattle.std.proofs.lemmas.Bool.{or_parts}
 use Rattle.std.proofs.lemmas.Bool.Decides.{nat_tests}
-use Rattle.std.proofs.lemmas.List.{length-append, length-map}
+use Rattle.std.proofs.lemmas.List.{length-append, length-map, map-append}
 use Rattle.std.specs.Str.{bytes_eq}
 use Rattle.std.specs.Option.{is_some, option_map_or}
 use Rattle.std.specs.List.{AllByRecursion, list_any}
-use Rattle.pg_grammar.specs.Preorder.{roots}
+use Rattle.pg_grammar.specs.Preorder.{roots, parts_from}
 use Rattle.pg_grammar.specs.Names.{Name, has_name, place_of_name, number_of, name_at, AreDistinct}
-use Rattle.pg_grammar.specs.Forms.{BaseForm, part_count, has_bad_literal, has_unknown_class, has_unknown_name, lacks_alternative}
+use Rattle.pg_grammar.specs.Forms.{BaseForm, Node, part_count, has_bad_literal, has_unknown_class, has_unknown_name, lacks_alternative}
 use Rattle.pg_grammar.specs.Classes.{lacks_item, descends}
 use Rattle.pg_grammar.specs.ClassItems.{item_name, has_item, NameEarlier}
 use Rattle.pg_grammar.specs.Contents.{class_parts}
@@ -15,8 +16,8 @@ use Rattle.pg_grammar.specs.WordItems.{word_name, has_word, word_lacks_item, wor
 use Rattle.pg_grammar.specs.Operators.{Operator, IsOperator}
 use Rattle.pg_grammar.specs.OperatorsItems.{operators_lack_item, operators_have_bad_literal, operators_have_long_text, lacks_operators, AreOperators}
 use Rattle.pg_grammar.specs.Grammar.{Grammar, IsGrammar, rule_name, rule_body}
-use Rattle.pg_grammar.specs.Made.{Made, IsMade, IsBody, IsReady, Says, with_rule, with_class, with_word, with_operators, with_initial, rule_fault, class_fault, word_fault, operators_fault, finish_fault, is_incomplete, made_words, passes_limit, class_passes_limit, word_passes_limit, operators_pass_limit}
-use Rattle.pg_grammar.specs.Numbering.{nodes_from}
+use Rattle.pg_grammar.specs.Made.{Made, IsMade, IsBody, IsReady, AreNumbers, Says, with_rule, with_class, with_word, with_operators, with_initial, rule_fault, class_fault, word_fault, operators_fault, finish_fault, is_incomplete, made_words, passes_limit, class_passes_limit, word_passes_limit, operators_pass_limit}
+use Rattle.pg_grammar.specs.Numbering.{node_of, nodes_with, nodes_from}
 use Rattle.pg_grammar.specs.declared.class.ClassPart.{ClassPart}
 use Rattle.pg_grammar.specs.declared.class.ClassPart.TheVariants.{Literal, Range, Union, Complement, Class, Predicate}
 use Rattle.pg_grammar.specs.declared.class_item.ClassItem.{ClassItem}
@@ -27,13 +28,8 @@ use Rattle.pg_grammar.specs.declared.fault.MakerFault.{MakerFault}
 use Rattle.pg_grammar.specs.declared.fault.MakerFault.TheVariants.{NoStart}
 use Rattle.pg_grammar.proofs.Each.{any-map}
 use Rattle.pg_grammar.proofs.Lookup.{number_is_found, place_is_number, place_is_none}
-use Rattle.pg_grammar.proofs.Preorder.{SpellForms-append}
+use Rattle.pg_grammar.proofs.Preorder.{SpellForms-append, length-roots}
 use Rattle.pg_grammar.proofs.Numbers.{counts-nodes_from, preorder-nodes_from, forms-nodes_from, named-nodes_from, words_named-nodes_from, length-nodes_from}
-
--- neither of two is true
-or_parts : (a b : Bool) → (a || b) ≡ false → (a ≡ false) × (b ≡ false)
-or_parts true b h = absurd cc
-or_parts false b h = (refl, h)
 
 -- a test that fails in two lists fails in both together
 any-append : {X : Type 0} (p : X → Bool) (xs ys : List X) → list_any p xs ≡ false → list_any p ys ≡ false → list_any p (xs ++ ys) ≡ false
@@ -41,17 +37,12 @@ any-append p [] ys h e = e
 any-append p (x ∷ xs) ys h e =
     let k = or_parts (p x) (list_any p xs) h in rw k.0 (any-append p xs ys k.1 e)
 
--- the images of two lists, one behind the other
-map-append : {X Y : Type 0} (f : X → Y) (xs ys : List X) → map f (xs ++ ys) ≡ map f xs ++ map f ys
-map-append f [] ys = refl
-map-append f (x ∷ xs) ys = ap (λ zs. f x ∷ zs) (map-append f xs ys)
-
 -- a fact of each element, and of one more at the end
 all-push : {X : Type 0} (P : X → Type 0) (xs : List X) (y : X) → AllByRecursion P xs → P y → AllByRecursion P (xs ++ y ∷ [])
 all-push P [] y h p = (p, tt)
 all-push P (x ∷ xs) y h p = (h.0, all-push P xs y h.1 p)
 
--- a new name behind distinct ones
+-- a new name after distinct ones
 AreDistinct-push : (names : List Name) (name : Name) → AreDistinct names → has_name names name ≡ false → AreDistinct (names ++ name ∷ [])
 AreDistinct-push [] name h e = (tt, tt)
 AreDistinct-push (other ∷ names) name h e =
@@ -150,7 +141,7 @@ AreOperators_less count None h = tt
 AreOperators_less count (Some item) h =
     record { known = lacks_item_less-pair count item.class item.gap h.known; literals = h.literals; least = h.least; most = h.most }
 
--- an item behind others that names only those, and those each only the ones before it
+-- an item after others that names only those, and those each only the ones before it
 NameEarlier-push : (count : ℕ) (items : List ClassItem) (item : ClassItem) → NameEarlier count items
     → list_any (lacks_item (count + length items)) item.class ≡ false → NameEarlier count (items ++ item ∷ [])
 NameEarlier-push count [] item h e =
@@ -262,17 +253,59 @@ made_with_initial made operator m o =
 
 -- ---- the grammar
 
--- the rules of what was made, and the grammar
-abbrev pub grammar_with : Made → List Rule → ℕ → Grammar
-grammar_with made rules start = record {
+-- the grammar of what was made, with these nodes and rules
+abbrev pub grammar_with : Made → List Node → List Rule → ℕ → Grammar
+grammar_with made nodes rules start = record {
   classes = made.classes;
   words = made.words;
   operators = made.operators;
   initials = made.initials;
-  nodes = nodes_from made.names (made_words made) 0 made.forms;
+  nodes = nodes;
   rules = rules;
   start = start;
 }
+
+-- these are the nodes and the rules of what was made, and the number of the rule to start with
+pub record IsNumbered (made : Made) (nodes : List Node) (rules : List Rule) (start : ℕ) : Type 0 where
+  pub ready : IsReady made start
+  pub of_forms : nodes ≡ nodes_from made.names (made_words made) 0 made.forms
+  pub names : map rule_name rules ≡ made.names
+  pub bodies : map rule_body rules ≡ roots 0 (map part_count made.forms)
+
+-- the nodes of forms with their own parts
+nodes_with-parts : (rules words : List Name) (i : ℕ) (forms : List BaseForm)
+    → nodes_with rules words forms (parts_from i (map part_count forms)) ≡ nodes_from rules words i forms
+nodes_with-parts rules words i [] = refl
+nodes_with-parts rules words i (f ∷ forms) =
+    ap (λ ns. node_of rules words f (take (part_count f) (roots (suc i) (map part_count forms))) ∷ ns) (nodes_with-parts rules words (suc i) forms)
+
+-- each form has its list of parts
+length-parts_from : (i : ℕ) (counts : List ℕ) → length (parts_from i counts) ≡ length counts
+length-parts_from i [] = refl
+length-parts_from i (n ∷ counts) = ap suc (length-parts_from (suc i) counts)
+
+-- there are as many lists of parts as forms
+pub counted_parts : (made : Made) (parts : List (List ℕ)) (bodies : List ℕ) (start : ℕ) → AreNumbers made parts bodies start
+    → length parts ≡ length made.forms
+counted_parts made parts bodies start n = rw n.own (length-parts_from 0 (map part_count made.forms) ∙ length-map made.forms part_count)
+
+-- there are as many bodies as names
+pub counted_bodies : (made : Made) (parts : List (List ℕ)) (bodies : List ℕ) (start : ℕ) → IsMade made → AreNumbers made parts bodies start
+    → length bodies ≡ length made.names
+counted_bodies made parts bodies start m n = rw n.roots (length-roots 0 _ _ m.whole)
+
+-- with these numbers, the nodes and the rules are those of what was made
+pub are_numbered : (made : Made) (parts : List (List ℕ)) (bodies : List ℕ) (start : ℕ) (nodes : List Node) (rules : List Rule)
+    → AreNumbers made parts bodies start → nodes ≡ nodes_with made.names (made_words made) made.forms parts
+    → map rule_name rules ≡ made.names → map rule_body rules ≡ bodies → IsNumbered made nodes rules start
+are_numbered made parts bodies start nodes rules n formed named embodied =
+    let own = n.own in
+    record {
+      ready = n.ready;
+      of_forms = rw (formed, own) (nodes_with-parts made.names (made_words made) 0 made.forms);
+      names = named;
+      bodies = embodied ∙ n.roots;
+    }
 
 -- every rule and word item that is named is there, and so is the operators item where operators are used
 known_parts : (made : Made) → is_incomplete made ≡ false
@@ -287,45 +320,49 @@ length-rules [] (rule ∷ rules) e = absurd cc
 length-rules (name ∷ names) (rule ∷ rules) e = let rest : map rule_name rules ≡ names = cc in ap suc (length-rules names rules rest)
 
 -- what was made is a grammar, once nothing is in its way
-pub is_grammar : (made : Made) (rules : List Rule) (start : ℕ) → IsMade made → IsReady made start → map rule_name rules ≡ made.names
-    → map rule_body rules ≡ roots 0 (map part_count made.forms) → IsGrammar (grammar_with made rules start)
-is_grammar made rules start m ready names bodies =
-    let known = known_parts made ready.known in
+pub is_grammar : (made : Made) (nodes : List Node) (rules : List Rule) (start : ℕ) → IsMade made → IsNumbered made nodes rules start
+    → IsGrammar (grammar_with made nodes rules start)
+is_grammar made nodes rules start m n =
+    let known = known_parts made n.ready.known in
     let counts = counts-nodes_from made.names (made_words made) 0 _ made.forms m.whole in
     let forms = forms-nodes_from made.names (made_words made) 0 _ made.forms m.whole known.0 in
-    let count = length-rules made.names rules names in
-    record {
+    let count = length-rules made.names rules n.names in
+    let below = n.ready.below in
+    rw n.of_forms
+    (record {
       preorder = preorder-nodes_from made.names (made_words made) 0 _ made.forms m.whole;
-      bodies = bodies ∙ ap (roots 0) (sym counts);
+      bodies = n.bodies ∙ ap (roots 0) (sym counts);
       named = rw count (named-nodes_from made.names (made_words made) 0 made.forms known.0);
       words_named = rw (← length-map made.words word_name) (words_named-nodes_from made.names (made_words made) 0 made.forms known.0);
-      start = omega (arith, count, ready.below);
-      distinct = rw names m.distinct;
+      start = omega (arith, count, below);
+      distinct = rw n.names m.distinct;
       classes = m.classes;
       words = m.words;
       operators = m.operators;
       initials = m.initials;
-      operators_there = rw (names, forms) known.1;
-      classes_named = rw (names, forms) m.classes_named;
-      literals = rw (names, forms) m.literals;
-      alternatives = rw (names, forms) m.alternatives;
+      operators_there = rw (n.names, forms) known.1;
+      classes_named = rw (n.names, forms) m.classes_named;
+      literals = rw (n.names, forms) m.literals;
+      alternatives = rw (n.names, forms) m.alternatives;
       few_rules = omega (arith, count, m.few_rules);
       few_nodes = omega (arith, length-nodes_from made.names (made_words made) 0 made.forms, m.few_nodes);
-    }
+    })
 
 -- that grammar says what was made
-pub says_made : (made : Made) (rules : List Rule) (start : ℕ) → IsMade made → IsReady made start → map rule_name rules ≡ made.names
-    → map rule_body rules ≡ roots 0 (map part_count made.forms) → Says made (grammar_with made rules start)
-says_made made rules start m ready names bodies =
+pub says_made : (made : Made) (nodes : List Node) (rules : List Rule) (start : ℕ) → IsMade made → IsNumbered made nodes rules start
+    → Says made (grammar_with made nodes rules start)
+says_made made nodes rules start m n =
+    let known = known_parts made n.ready.known in
+    let forms = forms-nodes_from made.names (made_words made) 0 _ made.forms m.whole known.0 in
     record {
-      sound = is_grammar made rules start m ready names bodies;
-      start = rw names ready.named;
+      sound = is_grammar made nodes rules start m n;
+      start = rw n.names n.ready.named;
       classes = refl;
       words = refl;
       operators = refl;
       initials = refl;
-      names = sym names;
-      forms = rw names (sym (forms-nodes_from made.names (made_words made) 0 _ made.forms m.whole (known_parts made ready.known).0));
+      names = sym n.names;
+      forms = rw (n.names, n.of_forms) (sym forms);
     }
 
 -- ---- the start

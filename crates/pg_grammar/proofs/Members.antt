@@ -13,13 +13,13 @@ or_next true b rest = refl
 or_next false true rest = refl
 or_next false false rest = refl
 
--- the first of k + 1, and then k of those behind it
+-- the first of k + 1, and then k of those after it
 pub one_holds-next : (any : Bool) (k : ℕ) (bs : List Bool) → ((any || one_holds (take 1 bs)) || one_holds (take k (drop 1 bs))) ≡ (any || one_holds (take (suc k) bs))
 one_holds-next any zero [] = or_assoc any false false
 one_holds-next any (suc k) [] = or_assoc any false false
 one_holds-next any k (b ∷ bs) = or_next any b (one_holds (take k bs))
 
--- behind the first, and then behind k more
+-- after the first, and then after k more
 pub drop-next : (k : ℕ) (bs : List Bool) → drop k (drop 1 bs) ≡ drop (suc k) bs
 drop-next zero [] = refl
 drop-next (suc k) [] = refl

@@ -1,5 +1,7 @@
 -- The nodes of whole forms are those forms in preorder, with numbers for parts and names.
-use Rattle.std.proofs.Common.{◌≡◌, ℕ, zero, suc, ◌+◌, ◌<◌, Bool, true, false, not, ◌||◌, List, [], ◌∷◌, length, map, take, Some, slice_get, refl, sym, ap, subst, arith}
+use Rattle.std.proofs.Common.{◌≡◌, ℕ, zero, suc, ◌+◌, ◌<◌, Bool, true, false, not, List, [], ◌∷◌, length, map, take, Some, slice_get, refl, sym, ap, subst, arith}
+use Rattle.std.proofs.lemmas.Bool.{or_parts}
+use Rattle.std.proofs.lemmas.List.{length-map}
 use Rattle.std.specs.List.{AllByRecursion, list_any}
 use Rattle.pg_grammar.specs.Preorder.{SpellForms, roots}
 use Rattle.pg_grammar.specs.Names.{Name, has_name}
@@ -24,25 +26,25 @@ node_count rules words (form.Choice n) parts h = h
 node_count rules words _ parts h = refl
 
 -- one part is the first
-first_alone : (behind : List ℕ) → length (take 1 behind) ≡ 1 → first_part (take 1 behind) ∷ [] ≡ take 1 behind
+first_alone : (after : List ℕ) → length (take 1 after) ≡ 1 → first_part (take 1 after) ∷ [] ≡ take 1 after
 first_alone [] h = absurd cc
-first_alone (part ∷ behind) h = refl
+first_alone (part ∷ after) h = refl
 
 -- two parts are the first and the second
-two_alone : (behind : List ℕ) → length (take 2 behind) ≡ 2 → first_part (take 2 behind) ∷ second_part (take 2 behind) ∷ [] ≡ take 2 behind
+two_alone : (after : List ℕ) → length (take 2 after) ≡ 2 → first_part (take 2 after) ∷ second_part (take 2 after) ∷ [] ≡ take 2 after
 two_alone [] h = absurd cc
 two_alone (part ∷ []) h = absurd cc
-two_alone (part ∷ other ∷ behind) h = refl
+two_alone (part ∷ other ∷ after) h = refl
 
--- the parts of a node are the next of those behind it
-node_parts : (rules words : List Name) (form : BaseForm) (behind : List ℕ) → length (take (part_count form) behind) ≡ part_count form
-    → let n = node_of rules words form (take (part_count form) behind) in parts_of n ≡ take (node_part_count n) behind
-node_parts rules words (form.Leaf leaf) behind h = refl
-node_parts rules words (form.Seq n) behind h = ap (λ k. take k behind) (sym h)
-node_parts rules words (form.Choice n) behind h = ap (λ k. take k behind) (sym h)
-node_parts rules words (form.Chain side used operand separator) behind h = two_alone behind h
-node_parts rules words (form.Rule name) behind h = refl
-node_parts rules words _ behind h = first_alone behind h
+-- the parts of a node are the next of those after it
+node_parts : (rules words : List Name) (form : BaseForm) (after : List ℕ) → length (take (part_count form) after) ≡ part_count form
+    → let n = node_of rules words form (take (part_count form) after) in parts_of n ≡ take (node_part_count n) after
+node_parts rules words (form.Leaf leaf) after h = refl
+node_parts rules words (form.Seq n) after h = ap (λ k. take k after) (sym h)
+node_parts rules words (form.Choice n) after h = ap (λ k. take k after) (sym h)
+node_parts rules words (form.Chain side used operand separator) after h = two_alone after h
+node_parts rules words (form.Rule name) after h = refl
+node_parts rules words _ after h = first_alone after h
 
 -- not false is true
 not-not : (b : Bool) → not b ≡ false → b ≡ true
@@ -72,11 +74,6 @@ node_word_named rules words (form.Leaf (leaf.Word name)) parts k = (number_is_fo
 node_word_named rules words _ parts k = tt
 
 -- ---- all nodes
-
--- neither of two is true
-or_parts : (a b : Bool) → (a || b) ≡ false → (a ≡ false) × (b ≡ false)
-or_parts true b h = absurd cc
-or_parts false b h = (refl, h)
 
 -- the nodes have as many parts as the forms count
 pub counts-nodes_from : (rules words : List Name) (i k : ℕ) (forms : List BaseForm) → SpellForms k (map part_count forms)
@@ -132,37 +129,32 @@ length-nodes_from rules words i (form ∷ forms) = ap suc (length-nodes_from rul
 
 -- ---- where parts lie
 
--- a list has as many images as elements
-length-map : {X Y : Type 0} (f : X → Y) (xs : List X) → length (map f xs) ≡ length xs
-length-map f [] = refl
-length-map f (x ∷ xs) = ap suc (length-map f xs)
-
--- the parts of a node stand behind it
+-- the parts of a node stand after it
 pub parts_follow : (i : ℕ) (nodes : List Node) (k : ℕ) (n : Node) → InPreorder i nodes → slice_get nodes k ≡ Some n
     → PartsFollow (i + k) (i + length nodes) (parts_of n)
 parts_follow i [] zero n h e = absurd cc
 parts_follow i [] (suc k) n h e = absurd cc
 parts_follow i (m ∷ nodes) zero n h e =
     let same : m ≡ n = cc in
-    let counts = length-map node_part_count nodes in
-    let behind = all-take _ (node_part_count m) _ (roots_within (suc i) (map node_part_count nodes)) in
-    let parts = subst (AllByRecursion _) (sym h.0) behind in
+    let counts = length-map nodes node_part_count in
+    let after = all-take _ (node_part_count m) _ (roots_within (suc i) (map node_part_count nodes)) in
+    let parts = subst (AllByRecursion _) (sym h.0) after in
     subst (λ x. PartsFollow (i + 0) (i + suc (length nodes)) (parts_of x)) same
     (all-weaker _ _ (λ q w. (omega (arith, w.0), omega (arith, w.1, counts))) _ parts)
 parts_follow i (m ∷ nodes) (suc k) n h e =
-    let behind = parts_follow (suc i) nodes k n h.1 e in
-    all-weaker _ _ (λ q w. (omega (arith, w.0), omega (arith, w.1))) _ behind
+    let after = parts_follow (suc i) nodes k n h.1 e in
+    all-weaker _ _ (λ q w. (omega (arith, w.0), omega (arith, w.1))) _ after
 
 -- the same, the first node having the number 0
-pub parts_are_behind : (nodes : List Node) (k : ℕ) (n : Node) → InPreorder 0 nodes → slice_get nodes k ≡ Some n
+pub parts_are_after : (nodes : List Node) (k : ℕ) (n : Node) → InPreorder 0 nodes → slice_get nodes k ≡ Some n
     → PartsFollow k (length nodes) (parts_of n)
-parts_are_behind nodes k n h e =
+parts_are_after nodes k n h e =
     all-weaker _ _ (λ q w. (omega (arith, w.0), omega (arith, w.1))) _ (parts_follow 0 nodes k n h e)
 
 -- the bodies of rules are nodes
 pub bodies_are_nodes : (rules : List Rule) (nodes : List Node) → map rule_body rules ≡ roots 0 (map node_part_count nodes)
     → BodiesAreNodes (length nodes) rules
 bodies_are_nodes rules nodes e =
-    let counts = length-map node_part_count nodes in
+    let counts = length-map nodes node_part_count in
     let within = all-weaker _ (λ q. q < length nodes) (λ q w. omega (arith, w.1, counts)) _ (roots_within 0 (map node_part_count nodes)) in
     all-map (λ q. q < length nodes) rule_body rules (subst (AllByRecursion _) (sym e) within)

@@ -17,7 +17,7 @@ length-roots i (suc k) (n ∷ counts) h =
 pub length-parts : (i k n : ℕ) (counts : List ℕ) → SpellForms (n + k) counts → length (take n (roots i counts)) ≡ n
 length-parts i k n counts h = omega (arith, length-take n (roots i counts), length-roots i (n + k) counts h)
 
--- whole forms, and others behind them
+-- whole forms, and others after them
 pub SpellForms-append : (k j : ℕ) (counts others : List ℕ) → SpellForms k counts → SpellForms j others → SpellForms (k + j) (counts ++ others)
 SpellForms-append k j [] others h e =
     let same : j ≡ k + j = omega (arith, h) in subst (λ m. SpellForms m others) same e
@@ -32,5 +32,5 @@ SpellForms-append (suc k) j (n ∷ counts) others h e =
 pub roots_within : (i : ℕ) (counts : List ℕ) → AllByRecursion (λ q. (i ≤ q) × (q < i + length counts)) (roots i counts)
 roots_within i [] = tt
 roots_within i (n ∷ counts) =
-    let behind = roots_within (suc i) counts in
-    ((omega arith, omega arith), all-weaker _ _ (λ q h. (omega (arith, h.0), omega (arith, h.1))) _ (all-drop _ n _ behind))
+    let after = roots_within (suc i) counts in
+    ((omega arith, omega arith), all-weaker _ _ (λ q h. (omega (arith, h.0), omega (arith, h.1))) _ (all-drop _ n _ after))

@@ -1,5 +1,6 @@
 -- What was made says which grammar it is.
-use Rattle.std.proofs.Common.{◌≡◌, ℕ, zero, suc, ◌<◌, Bool, true, false, ◌||◌, List, [], ◌∷◌, length, map, take, Some, refl, sym, ap, subst, arith, ◌∙◌}
+use Rattle.std.proofs.Common.{◌≡◌, ℕ, zero, suc, ◌<◌, true, false, List, [], ◌∷◌, length, map, take, Some, refl, sym, ap, subst, arith, ◌∙◌}
+use Rattle.std.proofs.lemmas.Bool.{or_right}
 use Rattle.std.proofs.lemmas.List.{length-map}
 use Rattle.std.proofs.lemmas.Slice.Eq.{bytes_eq-Decides}
 use Rattle.std.specs.Str.{bytes_eq}
@@ -43,18 +44,13 @@ same_number (name ∷ names) (suc r) (suc s) d below under e =
     let lower : s < length names = omega arith in
     ap suc (same_number names r s d.1 fewer lower e)
 
--- one of two is true
-or_second : (a b : Bool) → b ≡ true → (a || b) ≡ true
-or_second true b h = refl
-or_second false b h = h
-
 -- the name with a number is among the names
-has_name_at : (names : List Name) (r : ℕ) → r < length names → has_name names (name_at names r) ≡ true
+pub has_name_at : (names : List Name) (r : ℕ) → r < length names → has_name names (name_at names r) ≡ true
 has_name_at [] r below = absurd (omega arith)
 has_name_at (name ∷ names) zero below = rw ((bytes_eq-Decides name name).1 refl) refl
 has_name_at (name ∷ names) (suc r) below =
     let fewer : r < length names = omega arith in
-    or_second (bytes_eq name (name_at names r)) _ (has_name_at names r fewer)
+    or_right (bytes_eq name (name_at names r)) _ (has_name_at names r fewer)
 
 -- the number of the name with a number is that number
 number_of-name_at : (names : List Name) (r : ℕ) → AreDistinct names → r < length names → number_of names (name_at names r) ≡ r
@@ -107,10 +103,10 @@ same_rules (rule ∷ rules) (other ∷ others) names bodies =
     let name : rule.name ≡ other.name = cc in
     let body : rule.body ≡ other.body = cc in
     let same : rule ≡ other = ap (λ n. rule_with n rule.body) name ∙ ap (rule_with other.name) body in
-    let names_behind : map rule_name rules ≡ map rule_name others = cc in
-    let bodies_behind : map rule_body rules ≡ map rule_body others = cc in
-    let behind = same_rules rules others names_behind bodies_behind in
-    cc (same, behind)
+    let names_after : map rule_name rules ≡ map rule_name others = cc in
+    let bodies_after : map rule_body rules ≡ map rule_body others = cc in
+    let after = same_rules rules others names_after bodies_after in
+    cc (same, after)
 
 -- ---- the grammar
 

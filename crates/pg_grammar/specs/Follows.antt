@@ -3,7 +3,7 @@ use Rattle.std.specs.Prelude.{◌<◌, ℕ, List}
 use Rattle.std.specs.List.{AllByRecursion}
 use Rattle.pg_grammar.specs.declared.grammar.Rule.{Rule}
 
--- each part of the node is a node behind it
+-- each part of the node is a node after it
 abbrev pub PartsFollow : ℕ → ℕ → List ℕ → Type 0
 PartsFollow node count parts = AllByRecursion (λ part. (node < part) × (part < count)) parts
 

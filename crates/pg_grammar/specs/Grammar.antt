@@ -46,7 +46,7 @@ forms_of g = map (form_of (rule_names g) (word_names g)) g.nodes
 
 -- every number names something, and what stands there is what a file may say
 pub record IsGrammar (g : Grammar) : Type 0 where
-  -- the parts of a node are the whole forms behind it, and the forms that are no part are the rules' bodies
+  -- the parts of a node are the whole forms after it, and the forms that are no part are the rules' bodies
   pub preorder : InPreorder 0 g.nodes
   pub bodies : map rule_body g.rules ≡ roots 0 (map node_part_count g.nodes)
   pub named : AllByRecursion (NamesRule (length g.rules)) g.nodes

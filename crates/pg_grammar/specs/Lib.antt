@@ -12,5 +12,6 @@ pub mod Grammar
 pub mod Follows
 pub mod Made
 pub mod Numbering
+pub mod Room
 pub mod Fits
 pub mod Membership

@@ -2,7 +2,7 @@
 use Rattle.std.specs.Prelude.{◌≡◌, ◌<◌, ◌≤◌, ◌+◌, ℕ, ◌++◌, if◌then◌else◌, Bool, false, ◌||◌, nat_lt, nat_le, List, [], ◌∷◌, length, map, Option, Some, None}
 use Rattle.std.specs.List.{list_any, AllByRecursion}
 use Rattle.std.specs.Option.{is_some, option_map_or}
-use Rattle.pg_grammar.specs.Preorder.{SpellForms}
+use Rattle.pg_grammar.specs.Preorder.{SpellForms, roots, parts_from}
 use Rattle.pg_grammar.specs.Names.{Name, name_at, has_name, AreDistinct}
 use Rattle.pg_grammar.specs.Forms.{BaseForm, part_count, lacks_alternative, has_bad_literal, has_long_text, has_unknown_name, has_unknown_class}
 use Rattle.pg_grammar.specs.Classes.{lacks_item, descends, is_long}
@@ -20,7 +20,7 @@ use Rattle.pg_grammar.specs.declared.fault.MakerFault.{MakerFault}
 use Rattle.pg_grammar.specs.declared.fault.MakerFault.TheVariants.{UnknownName, NameTwice, NoStart, BadLiteral, LimitPassed}
 
 -- the name of the rule to start with, the class items, the word items, the operators item, the initial declarations, the
--- rules' names, and the base forms of their bodies, one body behind another
+-- rules' names, and the base forms of their bodies, one body after another
 pub record Made : Type 0 where
   pub start : Option Name
   pub classes : List ClassItem
@@ -166,3 +166,9 @@ pub record IsReady (made : Made) (start : ℕ) : Type 0 where
   pub known : is_incomplete made ≡ false
   pub below : start < length made.names
   pub named : made.start ≡ Some (name_at made.names start)
+
+-- these are the numbers of what was made: of each form's parts, of the rules' bodies, and of the rule to start with
+pub record AreNumbers (made : Made) (parts : List (List ℕ)) (bodies : List ℕ) (start : ℕ) : Type 0 where
+  pub ready : IsReady made start
+  pub own : parts ≡ parts_from 0 (map part_count made.forms)
+  pub roots : bodies ≡ roots 0 (map part_count made.forms)

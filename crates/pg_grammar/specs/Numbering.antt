@@ -26,6 +26,12 @@ node_of rules words (form.Rule name) parts = form.Rule (number_of rules name)
 node_of rules words (form.Expression builders part) parts = form.Expression builders (first_part parts)
 node_of rules words (form.Around around part) parts = form.Around around (first_part parts)
 
+-- the nodes of base forms with these parts, a list of parts for each
+abbrev pub nodes_with : List Name → List Name → List BaseForm → List (List ℕ) → List Node
+nodes_with rules words [] parts = []
+nodes_with rules words (f ∷ forms) [] = []
+nodes_with rules words (f ∷ forms) (own ∷ parts) = node_of rules words f own ∷ nodes_with rules words forms parts
+
 -- the nodes of base forms in preorder, the first having the number i
 abbrev pub nodes_from : List Name → List Name → ℕ → List BaseForm → List Node
 nodes_from rules words i [] = []

@@ -1,4 +1,4 @@
--- The operators item: the characters of operators and of the gaps behind them, and the symbols that are none.
+-- The operators item: the characters of operators and of the gaps after them, and the symbols that are none.
 use Rattle.std.specs.Prelude.{◌≡◌, ◌≤◌, ℕ, Bool, true, false, ◌||◌, ◌&&◌, List, [], ◌∷◌, Option, Some, None}
 use Rattle.std.specs.List.{list_any}
 use Rattle.std.specs.Option.{is_none}

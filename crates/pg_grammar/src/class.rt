@@ -16,7 +16,7 @@ use std::alloc::{AllocError, Global};
 use std::marker::Model;
 use std::rc::Rc;
 
-/// One atom of a class expression, or a complement or union, which is of the whole expressions that stand next behind
+/// One atom of a class expression, or a complement or union, which is of the whole expressions that stand next after
 /// it (ours; the Parsec report of 2001 has `satisfy` over any test of a character).
 #[derive(Debug, Drop)]
 pub enum ClassPart {
@@ -26,7 +26,7 @@ pub enum ClassPart {
     Range(char, char),
     /// The characters of so many expressions, two or more.
     Union(usize),
-    /// The characters that the one expression behind it lacks.
+    /// The characters that the one expression after it lacks.
     Complement,
     /// The characters of a class item.
     Class(ClassId),

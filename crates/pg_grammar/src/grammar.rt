@@ -1,6 +1,6 @@
 //! The grammar value: items, rules in file order over one list of nodes in preorder, and the rule to start with.
 //!
-//! The invariant says that every number names something: a node's parts are the whole forms next behind it, the nodes
+//! The invariant says that every number names something: a node's parts are the whole forms next after it, the nodes
 //! that are no part of another are the rules' bodies, what is named is there, and so is the operators item where operators
 //! are used; rules have different names, and so have class items and word items; a class item names only those before it;
 //! no string and no reserved text is empty, a choice has an alternative, no range descends. [`Maker`](crate::Maker)
@@ -139,7 +139,7 @@ impl Grammar {
         self.start
     }
 
-    /// The node with this number. Its parts stand behind it, so whoever goes from nodes to parts ends, unless
+    /// The node with this number. Its parts stand after it, so whoever goes from nodes to parts ends, unless
     /// rules lead back. A string has a character, a choice an alternative, and no range descends.
     pub fn node(&self, id: NodeId) -> &Node
         requires { id < length self.now.nodes }

@@ -8,7 +8,6 @@
 
 mod class;
 mod class_item;
-mod copies;
 mod decl;
 mod fault;
 mod fits;
@@ -20,6 +19,7 @@ mod limits;
 mod maker;
 mod membership;
 mod names;
+mod nodes;
 mod number;
 mod numbering;
 mod operators_item;

@@ -11,7 +11,6 @@ ghost use Rattle.pg_grammar.specs.ClassItems.{has_item};
 
 use crate::class::ClassExpression;
 use crate::class_item::ClassItem;
-use crate::copies::{classes_copied, declarations_copied, operators_copied, words_copied};
 use crate::decl::Decl;
 use crate::fault::{MakerFault, Unfinished};
 use crate::form::BaseForm;
@@ -19,13 +18,14 @@ use crate::grammar::Grammar;
 use crate::judged::{has_bad_literals, has_long_texts, lacks_class, lacks_name, use_operators};
 use crate::limits::{CLASS_LIMIT, LITERAL_LIMIT, NAME_LIMIT, NODE_LIMIT, RULE_LIMIT, WORD_LIMIT};
 use crate::names::{has_name, has_word, place_of_name};
+use crate::nodes::{nodes_of, rules_of};
 use crate::number::{ClassId, RuleId, WordId};
-use crate::numbering::{nodes_of, rules_of};
+use crate::numbering::{Numbers, numbers_of};
 use crate::operators_item::OperatorsItem;
 use crate::texts::Texts;
 use crate::word_item::WordItem;
 use pg_text::Characters;
-use std::alloc::{AllocError, Global};
+use std::alloc::Global;
 use std::marker::Model;
 
 /// A grammar in the making, seen as what it was given so far: each rule's body is one whole form, the rules have
@@ -53,7 +53,8 @@ impl Model for Maker {
 }
 
 impl Maker {
-    ghost use Rattle.pg_grammar.specs.Made.{nothing_made, with_start, with_class, with_word, with_operators, with_initial, with_rule, class_fault, word_fault, operators_fault, initial_fault, rule_fault, word_passes_limit, passes_limit, is_incomplete, finish_fault, IsBody, IsReady, Says};
+    ghost use Rattle.pg_grammar.specs.Made.{nothing_made, with_start, with_class, with_word, with_operators, with_initial, with_rule, class_fault, word_fault, operators_fault, initial_fault, rule_fault, word_passes_limit, passes_limit, is_incomplete, finish_fault, IsBody, IsReady, AreNumbers, Says};
+    ghost use Rattle.pg_grammar.specs.Room.{HasRoom};
 
     /// A maker that was given nothing yet. It takes no memory until it is.
     pub fn new(alloc: Global) -> Maker
@@ -212,8 +213,8 @@ impl Maker {
         ensures refused { MatchOption (finish_fault self) (IfErr result (λ e. e.fault ≡ MakerFault.Memory)) (λ fault. IsErrAnd result (λ e. e.fault ≡ fault)) }
         ensures err { IfErr result (λ e. e.maker ≡ self) }
     {
-        match self.grammar() {
-            Ok(grammar) => Ok(grammar),
+        match self.numbers() {
+            Ok((start, numbers)) => Ok(self.grammar(start, numbers)),
             Err(fault) => Err(Unfinished { maker: self, fault }),
         }
     }
@@ -311,16 +312,44 @@ impl Maker {
             || body.len() > NODE_LIMIT - self.forms.len()
     }
 
-    /// The grammar of all that was given, with the maker kept.
-    fn grammar(&self) -> Result<Grammar, MakerFault>
-        ensures ok { IfOk result (Says self.now) }
+    /// The number of the rule to start with, and those of all forms, with the maker kept.
+    fn numbers(&self) -> Result<(RuleId, Numbers), MakerFault>
+        ensures ok { IfOk result (λ x. AreNumbers self.now x.1.parts.items x.1.bodies.items x.0) }
+        ensures room { IfOk result (λ x. HasRoom self.now x.1) }
         ensures refused { MatchOption (finish_fault self.now) (IsOkUnless result MakerFault.Memory) (λ fault. result ≡ Err fault) }
     {
         let start = self.start_number()?;
-        match self.numbered(start) {
-            Ok(grammar) => Ok(grammar),
+        let alloc = *self.names.allocator();
+        match numbers_of(alloc, self.forms.as_slice(), self.names.len()) {
+            Ok(numbers) => Ok((start, numbers)),
             Err(_) => Err(MakerFault::Memory),
         }
+    }
+
+    /// The grammar of all that was given, with these numbers. What was given is moved into it.
+    fn grammar(self, start: RuleId, numbers: Numbers) -> Grammar
+        requires numbers { AreNumbers self numbers.parts.items numbers.bodies.items start }
+        requires room { HasRoom self numbers }
+        ensures { Says self result }
+    {
+        let Maker {
+            classes,
+            words,
+            operators,
+            initials,
+            names,
+            forms,
+            ..
+        } = self;
+        let Numbers {
+            parts,
+            bodies,
+            nodes,
+            rules,
+        } = numbers;
+        let nodes = nodes_of(nodes, names.as_slice(), words.as_slice(), forms, parts);
+        let rules = rules_of(rules, names, bodies);
+        Grammar::new(classes, words, operators, initials, nodes, rules, start)
     }
 
     /// Whether a rule or a word item that is named, or the operators item where operators are used, isn't there.
@@ -345,22 +374,6 @@ impl Maker {
             Some(place) => Ok(RuleId::new(place)),
             None => Err(MakerFault::NoStart),
         }
-    }
-
-    /// The grammar that starts with this rule.
-    fn numbered(&self, start: RuleId) -> Result<Grammar, AllocError>
-        requires { IsReady self.now start }
-        ensures { IfOk result (Says self.now) }
-    {
-        let alloc = *self.names.allocator();
-        let names = self.names.as_slice();
-        let (nodes, bodies) = nodes_of(alloc, names, self.words.as_slice(), self.forms.as_slice())?;
-        let rules = rules_of(alloc, names, bodies)?;
-        let classes = classes_copied(alloc, self.classes.as_slice())?;
-        let words = words_copied(alloc, self.words.as_slice())?;
-        let operators = operators_copied(alloc, &self.operators)?;
-        let initials = declarations_copied(alloc, self.initials.as_slice())?;
-        Ok(Grammar::new(classes, words, operators, initials, nodes, rules, start))
     }
 }
 

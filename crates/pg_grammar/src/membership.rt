@@ -37,7 +37,7 @@ impl Grammar {
     }
 }
 
-/// Whether the first whole expression of these has the character, and the parts behind that expression. They name only
+/// Whether the first whole expression of these has the character, and the parts after that expression. They name only
 /// the first `below` class items.
 fn first_membership<'a>(
     items: &[ClassItem],
@@ -60,8 +60,8 @@ fn first_membership<'a>(
     ensures parts { ClassFits (offer_of registry.now) result.1.now }
     ensures answers { Knows items.now c answers.new }
 {
-    let (negated, rest) = behind_complements(parts);
-    let Some((first, behind)) = rest.split_first() else {
+    let (negated, rest) = after_complements(parts);
+    let Some((first, after)) = rest.split_first() else {
         return (false, rest);
     };
     match first {
@@ -76,11 +76,11 @@ fn first_membership<'a>(
                 }
             };
             answers[number] = Some(has);
-            (has != negated, behind)
+            (has != negated, after)
         }
         ClassPart::Union(count) => {
             let mut any = false;
-            let mut rest = behind;
+            let mut rest = after;
             for _ in 0..*count {
                 let (has, next) = first_membership(items, registry, below, rest, c, answers);
                 any = any || has;
@@ -91,12 +91,12 @@ fn first_membership<'a>(
         ClassPart::Literal(_)
         | ClassPart::Range(_, _)
         | ClassPart::Predicate(_)
-        | ClassPart::Complement => (atom_has(registry, first, c) != negated, behind),
+        | ClassPart::Complement => (atom_has(registry, first, c) != negated, after),
     }
 }
 
-/// Whether complements negate what stands behind them, and the parts behind them.
-fn behind_complements(parts: &[ClassPart]) -> (bool, &[ClassPart])
+/// Whether complements negate what stands after them, and the parts after them.
+fn after_complements(parts: &[ClassPart]) -> (bool, &[ClassPart])
     ensures meaning { (items : List Bool) (c : ℕ) → memberships items parts.now c ≡ negated_if result.0 (memberships items result.1.now c) }
     ensures none { starts_with_complement result.1.now ≡ false }
     ensures fewer { length result.1.now ≤ length parts.now }
@@ -105,9 +105,9 @@ fn behind_complements(parts: &[ClassPart]) -> (bool, &[ClassPart])
 {
     let mut negated = false;
     let mut rest = parts;
-    while let Some((ClassPart::Complement, behind)) = rest.split_first() {
+    while let Some((ClassPart::Complement, after)) = rest.split_first() {
         negated = !negated;
-        rest = behind;
+        rest = after;
     }
     (negated, rest)
 }

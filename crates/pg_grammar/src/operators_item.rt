@@ -3,21 +3,20 @@
 //! A grammar that reads or declares operators has one. That each class item which it names is there, that no reserved
 //! symbol is empty and that a table may hold from 1 to 64 operators are invariants of the grammar that it stands in.
 
-ghost use Rattle.std.specs.Prelude.{◌≡◌, IfOk};
+ghost use Rattle.std.specs.Prelude.{◌≡◌};
 ghost use Rattle.pg_grammar.specs.Made.{operators_pass_limit};
 ghost use Rattle.pg_grammar.specs.OperatorsItems.{operators_lack_item, operators_have_bad_literal, operators_have_long_text};
 
 use crate::class::ClassExpression;
 use crate::limits::OPERATOR_LIMIT;
 use crate::texts::Texts;
-use std::alloc::{AllocError, Global};
 
 /// How operators are read: all characters of the class that follow one another, and then all characters of the gap.
 #[derive(Debug, Drop)]
 pub struct OperatorsItem {
     /// The characters of operators.
     pub class: ClassExpression,
-    /// The characters that are left out behind an operator.
+    /// The characters that are left out after an operator.
     pub gap: ClassExpression,
     /// The symbols that are never operators, each of at least one character.
     pub reserved: Texts,
@@ -26,18 +25,6 @@ pub struct OperatorsItem {
 }
 
 impl OperatorsItem {
-    /// An equal item in memory of its own. The only error is that memory ran out.
-    pub fn copy(&self, alloc: Global) -> Result<OperatorsItem, AllocError>
-        ensures { IfOk result (λ item. item ≡ self.now) }
-    {
-        Ok(OperatorsItem {
-            class: self.class.share()?,
-            gap: self.gap.share()?,
-            reserved: self.reserved.copy(alloc)?,
-            max: self.max,
-        })
-    }
-
     /// Whether it names a class item that isn't among so many.
     pub(crate) fn lacks_item(&self, count: usize) -> bool
         ensures { result ≡ operators_lack_item count self.now }

@@ -3,13 +3,12 @@
 //! Forms name word items by their numbers. That word items have different names and that each class item which one of
 //! them names is there are invariants of the grammar that they stand in.
 
-ghost use Rattle.std.specs.Prelude.{◌≡◌, IfOk};
+ghost use Rattle.std.specs.Prelude.{◌≡◌};
 ghost use Rattle.pg_grammar.specs.WordItems.{word_lacks_item, word_has_bad_literal, word_has_long_text};
 
 use crate::class::ClassExpression;
 use crate::texts::Texts;
 use pg_text::Characters;
-use std::alloc::{AllocError, Global};
 
 /// A kind of words, with a name by which forms name it: a character of the head, then all characters of the rest that
 /// follow, unless the whole is reserved.
@@ -26,18 +25,6 @@ pub struct WordItem {
 }
 
 impl WordItem {
-    /// An equal item in memory of its own. The only error is that memory ran out.
-    pub fn copy(&self, alloc: Global) -> Result<WordItem, AllocError>
-        ensures { IfOk result (λ item. item ≡ self.now) }
-    {
-        Ok(WordItem {
-            name: Characters::new(Vec::from_slice(alloc, self.name.as_slice())?),
-            head: self.head.share()?,
-            rest: self.rest.share()?,
-            reserved: self.reserved.copy(alloc)?,
-        })
-    }
-
     /// Whether it names a class item that isn't among so many.
     pub(crate) fn lacks_item(&self, count: usize) -> bool
         ensures { result ≡ word_lacks_item count self.now }

@@ -25,7 +25,7 @@ abbrev mutual
   depth (Of_some form v vs) = suc (max (depth v) (depths vs))
   depth (Of_one form v) = suc (depth v)
   depth (Of_two form v separator) = suc (max (depth v) (depth separator))
-  depth (Between before behind inner) = suc (max (depth before) (max (depth behind) (depth inner)))
+  depth (Between before after inner) = suc (max (depth before) (max (depth after) (depth inner)))
   depth (Chain form builder operand separator) = suc (max (depth operand) (depth separator))
   depth (Expression infixes prefixes postfixes term) = suc (depth term)
   depth (Build builder v) = suc (depth v)
@@ -41,7 +41,7 @@ abbrev mutual
 
 abbrev pub item_depth : Item → ℕ
 item_depth (Class_item s c) = class_depth c
-item_depth (Word_item s head behind reserved) = max (class_depth head) (class_depth behind)
+item_depth (Word_item s head after reserved) = max (class_depth head) (class_depth after)
 item_depth (Operators class gap reserved most) = max (class_depth class) (class_depth gap)
 item_depth (Table role precedence symbol) = 0
 item_depth (Start s) = 0

@@ -44,7 +44,7 @@ abbrev mutual
   heads (Of_some form v vs) = written.OfSome form (suc (value_count vs)) ∷ (heads v ++ all_heads vs)
   heads (Of_one form v) = written.OfOne form ∷ heads v
   heads (Of_two form v separator) = written.OfTwo form ∷ (heads v ++ heads separator)
-  heads (Between before behind inner) = written.Between ∷ (heads before ++ (heads behind ++ heads inner))
+  heads (Between before after inner) = written.Between ∷ (heads before ++ (heads after ++ heads inner))
   heads (Chain form builder operand separator) = written.Chain form builder ∷ (heads operand ++ heads separator)
   heads (Expression infixes prefixes postfixes term) = written.Expression infixes prefixes postfixes ∷ heads term
   heads (Build builder v) = written.Build builder [] ∷ heads v
@@ -54,7 +54,7 @@ abbrev mutual
   heads (Word s) = written.Word s ∷ []
   heads (Rule s) = written.Rule s ∷ []
 
-  -- of values, one behind another
+  -- of values, one after another
   pub all_heads : Values → List WrittenForm
   all_heads No_value = []
   all_heads (And v vs) = heads v ++ all_heads vs
@@ -66,7 +66,7 @@ most_of (Some digits) = Some (value_of digits)
 
 abbrev pub entry_of_item : Item → Entry
 entry_of_item (Class_item s c) = class s (class_parts c)
-entry_of_item (Word_item s head behind reserved) = word s (class_parts head) (class_parts behind) reserved
+entry_of_item (Word_item s head after reserved) = word s (class_parts head) (class_parts after) reserved
 entry_of_item (Operators c gap reserved most) = operators (class_parts c) (class_parts gap) reserved (most_of most)
 entry_of_item (Table role precedence symbol) = table role (value_of precedence) symbol
 entry_of_item (Start s) = start s

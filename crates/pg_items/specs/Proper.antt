@@ -61,7 +61,7 @@ abbrev mutual
   IsProper (Of_some form v vs) = IsProper v × AreProper vs
   IsProper (Of_one form v) = IsProper v
   IsProper (Of_two form v separator) = IsProper v × IsProper separator
-  IsProper (Between before behind inner) = IsProper before × IsProper behind × IsProper inner
+  IsProper (Between before after inner) = IsProper before × IsProper after × IsProper inner
   IsProper (Chain form builder operand separator) = IsBuilderName builder × IsProper operand × IsProper separator
   IsProper (Expression infixes prefixes postfixes term) = IsBuilderName infixes × IsBuilderName prefixes × IsBuilderName postfixes × IsProper term
   IsProper (Build builder v) = IsBuilderName builder × IsProper v
@@ -83,7 +83,7 @@ is_decimal c = is_digit c 10
 abbrev pub value_of : List ℕ → ℕ
 value_of digits = digits_value 10 digits
 
--- digits of a number from low to high, with any zeros in front
+-- digits of a number from low to high, with any zeros before
 pub record IsNumber (low high : ℕ) (digits : List ℕ) : Type 0 where
   pub all_digits : passes is_decimal digits ≡ true
   pub above : low ≤ value_of digits
@@ -96,7 +96,7 @@ IsMost (Some digits) = IsNumber 1 64 digits
 
 abbrev pub IsProperItem : Item → Type 0
 IsProperItem (Class_item s c) = IsFreeName s × IsProperClass c
-IsProperItem (Word_item s head behind reserved) = IsFreeName s × IsProperClass head × IsProperClass behind × AllByRecursion IsFilled reserved
+IsProperItem (Word_item s head after reserved) = IsFreeName s × IsProperClass head × IsProperClass after × AllByRecursion IsFilled reserved
 IsProperItem (Operators class gap reserved most) = IsProperClass class × IsProperClass gap × AllByRecursion IsFilled reserved × IsMost most
 IsProperItem (Table role precedence symbol) = IsNumber 0 9 precedence × IsFilled symbol
 IsProperItem (Start s) = IsFreeName s

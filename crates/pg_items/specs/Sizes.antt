@@ -1,4 +1,4 @@
--- How many base forms a value in preorder stands for: each form takes the sizes next behind it.
+-- How many base forms a value in preorder stands for: each form takes the sizes next after it.
 use Rattle.std.specs.Prelude.{ℕ, zero, suc, ◌+◌, ◌==◌, nat_le, if◌then◌else◌, List, [], ◌∷◌, take, drop}
 use Rattle.pg_items.specs.declared.written.WrittenForm.{WrittenForm}
 use Rattle.pg_items.specs.declared.written.WrittenForm.TheVariants as written
@@ -9,7 +9,7 @@ use Rattle.pg_items.specs.declared.words.OneForm.TheVariants as one_form
 use Rattle.pg_items.specs.declared.words.TwoForm.{TwoForm}
 use Rattle.pg_items.specs.declared.words.TwoForm.TheVariants as two_form
 
--- how many of the whole forms next behind a form are its parts
+-- how many of the whole forms next after a form are its parts
 abbrev pub part_count : WrittenForm → ℕ
 part_count (written.OfClass form parts) = 0
 part_count (written.String s) = 0

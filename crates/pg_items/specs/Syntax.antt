@@ -10,8 +10,8 @@ use Rattle.pg_items.specs.declared.words.OneForm.{OneForm}
 use Rattle.pg_items.specs.declared.words.OneForm.TheVariants as one
 use Rattle.pg_items.specs.declared.words.TwoForm.{TwoForm}
 use Rattle.pg_items.specs.declared.words.TwoForm.TheVariants.{SepBy, SepBy1, EndBy}
-use Rattle.pg_items.specs.declared.words.ChainForm.{ChainForm}
-use Rattle.pg_items.specs.declared.words.ChainForm.TheVariants.{Left, Right}
+use Rattle.pg_grammar.specs.declared.side.Side.{Side}
+use Rattle.pg_grammar.specs.declared.side.Side.TheVariants.{Left, Right}
 use Rattle.pg_tokens.specs.declared.token.Mark.TheVariants.{Open, Close, Comma, Semicolon, Equals, Bar, Dots}
 use Rattle.pg_tokens.specs.Tokens.{Token, name, number, literal, mark}
 use Rattle.pg_items.specs.Tree.{Atom, Set, Range, Name, Not, Group, Class, Of, Atoms, No_atom, Or, Value, Of_class, String, Seq, Of_some, Of_one, Of_two, Between, Chain, Expression, Build, Build_symbol, Label, End_of_text, Word, Rule, Values, No_value, And, Item, Class_item, Word_item, Operators, Table, Start, Rule_item}
@@ -39,7 +39,7 @@ two_word SepBy = codes "sepBy"
 two_word SepBy1 = codes "sepBy1"
 two_word EndBy = codes "endBy"
 
-abbrev pub chain_word : ChainForm → List ℕ
+abbrev pub chain_word : Side → List ℕ
 chain_word Left = codes "chainl1"
 chain_word Right = codes "chainr1"
 
@@ -50,7 +50,7 @@ role_word InfixNone = codes "infix"
 role_word Prefix = codes "prefix"
 role_word Postfix = codes "postfix"
 
--- ---- class expressions, each in front of a rest
+-- ---- class expressions, each before a rest
 
 abbrev mutual
   pub atom_written : Atom → List Token → List Token
@@ -63,14 +63,14 @@ abbrev mutual
   pub class_written : Class → List Token → List Token
   class_written (Of a others) rest = atom_written a (atoms_written others rest)
 
-  -- the atoms behind another one
+  -- the atoms after another one
   pub atoms_written : Atoms → List Token → List Token
   atoms_written No_atom rest = rest
   atoms_written (Or a others) rest = mark Bar ∷ atom_written a (atoms_written others rest)
 
--- ---- values, each in front of a rest
+-- ---- values, each before a rest
 
--- a word and the parenthesis behind it
+-- a word and the parenthesis after it
 abbrev pub opened : List ℕ → List Token → List Token
 opened word rest = name word ∷ mark Open ∷ rest
 
@@ -82,10 +82,10 @@ abbrev mutual
   written (Of_some form v vs) rest = opened (some_word form) (written v (written_more vs rest))
   written (Of_one form v) rest = opened (one_word form) (written v (mark Close ∷ rest))
   written (Of_two form v separator) rest = opened (two_word form) (written v (mark Comma ∷ written separator (mark Close ∷ rest)))
-  written (Between before behind inner) rest =
-      opened (codes "between") (written before (mark Comma ∷ written behind (mark Comma ∷ written inner (mark Close ∷ rest))))
-  written (Chain form builder operand separator) rest =
-      opened (chain_word form) (name builder ∷ mark Comma ∷ written operand (mark Comma ∷ written separator (mark Close ∷ rest)))
+  written (Between before after inner) rest =
+      opened (codes "between") (written before (mark Comma ∷ written after (mark Comma ∷ written inner (mark Close ∷ rest))))
+  written (Chain side builder operand separator) rest =
+      opened (chain_word side) (name builder ∷ mark Comma ∷ written operand (mark Comma ∷ written separator (mark Close ∷ rest)))
   written (Expression infixes prefixes postfixes term) rest =
       opened (codes "expr") (name infixes ∷ mark Comma ∷ name prefixes ∷ mark Comma ∷ name postfixes ∷ mark Comma ∷ written term (mark Close ∷ rest))
   written (Build builder v) rest = opened (codes "build") (name builder ∷ mark Comma ∷ written v (mark Close ∷ rest))
@@ -101,31 +101,31 @@ abbrev mutual
   written_list No_value rest = mark Close ∷ rest
   written_list (And v vs) rest = written v (written_more vs rest)
 
-  -- the values behind another one, and the parenthesis that closes
+  -- the values after another one, and the parenthesis that closes
   pub written_more : Values → List Token → List Token
   written_more No_value rest = mark Close ∷ rest
   written_more (And v vs) rest = mark Comma ∷ written v (written_more vs rest)
 
--- ---- items, each in front of a rest
+-- ---- items, each before a rest
 
 abbrev pub literals_written : List (List ℕ) → List Token → List Token
 literals_written [] rest = rest
 literals_written (s ∷ texts) rest = literal s ∷ literals_written texts rest
 
--- the reserved texts behind their word, if there are any
+-- the reserved texts after their word, if there are any
 abbrev pub reserved_written : List (List ℕ) → List Token → List Token
 reserved_written [] rest = rest
 reserved_written (s ∷ texts) rest = name (codes "reserved") ∷ literals_written (s ∷ texts) rest
 
--- the most operators behind their word, if that is said
+-- the most operators after their word, if that is said
 abbrev pub most_written : Option (List ℕ) → List Token → List Token
 most_written None rest = rest
 most_written (Some digits) rest = name (codes "max") ∷ number digits ∷ rest
 
 abbrev pub item_written : Item → List Token → List Token
 item_written (Class_item s c) rest = name (codes "class") ∷ name s ∷ mark Equals ∷ class_written c (mark Semicolon ∷ rest)
-item_written (Word_item s head behind reserved) rest =
-    name (codes "word") ∷ name s ∷ name (codes "head") ∷ class_written head (name (codes "rest") ∷ class_written behind (reserved_written reserved (mark Semicolon ∷ rest)))
+item_written (Word_item s head after reserved) rest =
+    name (codes "word") ∷ name s ∷ name (codes "head") ∷ class_written head (name (codes "rest") ∷ class_written after (reserved_written reserved (mark Semicolon ∷ rest)))
 item_written (Operators class gap reserved most) rest =
     name (codes "operators") ∷ class_written class (name (codes "gap") ∷ class_written gap (reserved_written reserved (most_written most (mark Semicolon ∷ rest))))
 item_written (Table role precedence symbol) rest =
@@ -133,7 +133,7 @@ item_written (Table role precedence symbol) rest =
 item_written (Start s) rest = name (codes "start") ∷ name s ∷ mark Semicolon ∷ rest
 item_written (Rule_item s v) rest = name s ∷ mark Equals ∷ written v (mark Semicolon ∷ rest)
 
--- items, one behind another
+-- items, one after another
 abbrev pub file_written : List Item → List Token
 file_written [] = []
 file_written (item ∷ items) = item_written item (file_written items)

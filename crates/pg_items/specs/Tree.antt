@@ -5,7 +5,7 @@ use Rattle.pg_items.specs.declared.words.ClassForm.{ClassForm}
 use Rattle.pg_items.specs.declared.words.SomeForm.{SomeForm}
 use Rattle.pg_items.specs.declared.words.OneForm.{OneForm}
 use Rattle.pg_items.specs.declared.words.TwoForm.{TwoForm}
-use Rattle.pg_items.specs.declared.words.ChainForm.{ChainForm}
+use Rattle.pg_grammar.specs.declared.side.Side.{Side}
 
 mutual
   -- an atom of a class expression: a set of characters, a range, a name, `not` and an atom, or a class in parentheses
@@ -33,8 +33,8 @@ mutual
     Of_some : SomeForm → Value → Values → Value
     Of_one : OneForm → Value → Value
     Of_two : TwoForm → Value → Value → Value
-    Between : (before behind inner : Value) → Value
-    Chain : ChainForm → (builder : List ℕ) → (operand separator : Value) → Value
+    Between : (before after inner : Value) → Value
+    Chain : Side → (builder : List ℕ) → (operand separator : Value) → Value
     Expression : (infixes prefixes postfixes : List ℕ) → (term : Value) → Value
     Build : (builder : List ℕ) → Value → Value
     Build_symbol : (builder symbol : List ℕ) → Value → Value
@@ -47,7 +47,7 @@ mutual
     No_value : Values
     And : Value → Values → Values
 
--- an item; reserved texts stand behind `reserved`, which isn't written where there are none
+-- an item; reserved texts stand after `reserved`, which isn't written where there are none
 pub data Item : Type 0 where
   Class_item : (name : List ℕ) → Class → Item
   Word_item : (name : List ℕ) → (head rest : Class) → (reserved : List (List ℕ)) → Item

@@ -11,8 +11,8 @@ use Rattle.pg_items.specs.declared.words.OneForm.{OneForm}
 use Rattle.pg_items.specs.declared.words.OneForm.TheVariants as one
 use Rattle.pg_items.specs.declared.words.TwoForm.{TwoForm}
 use Rattle.pg_items.specs.declared.words.TwoForm.TheVariants.{SepBy, SepBy1, EndBy}
-use Rattle.pg_items.specs.declared.words.ChainForm.{ChainForm}
-use Rattle.pg_items.specs.declared.words.ChainForm.TheVariants.{Left, Right}
+use Rattle.pg_grammar.specs.declared.side.Side.{Side}
+use Rattle.pg_grammar.specs.declared.side.Side.TheVariants.{Left, Right}
 use Rattle.pg_items.specs.declared.words.FormWord.{FormWord}
 use Rattle.pg_items.specs.declared.words.FormWord.TheVariants as word
 use Rattle.pg_items.specs.Syntax.{class_word, some_word, one_word, two_word, chain_word, role_word}
@@ -46,8 +46,8 @@ two_form s =
     else if bytes_eq (two_word EndBy) s then Some EndBy
     else None
 
-unfoldable pub chain_form : List ℕ → Option ChainForm
-chain_form s =
+unfoldable pub chain_side : List ℕ → Option Side
+chain_side s =
     if bytes_eq (chain_word Left) s then Some Left
     else if bytes_eq (chain_word Right) s then Some Right
     else None
@@ -73,7 +73,7 @@ first_form of None others = others
 unfoldable pub form_word : List ℕ → Option FormWord
 form_word s =
     first_form word.OfClass (class_form s) (first_form word.OfSome (some_form s) (first_form word.OfOne (one_form s)
-    (first_form word.OfTwo (two_form s) (first_form word.Chain (chain_form s) (single_form s)))))
+    (first_form word.OfTwo (two_form s) (first_form word.Chain (chain_side s) (single_form s)))))
 
 -- the role that a word names
 unfoldable pub role_named : List ℕ → Option Role

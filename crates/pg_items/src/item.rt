@@ -42,7 +42,7 @@ pub enum Item {
         rest: PlacedClass,
         reserved: Vec<Characters>,
     },
-    /// What operators are written with, and what may stand behind one.
+    /// What operators are written with, and what may stand after one.
     Operators {
         class: PlacedClass,
         gap: PlacedClass,

@@ -14,6 +14,6 @@ mod written;
 pub use item::{Item, PlacedClass, PlacedForm};
 pub use size::body_size;
 pub use words::{
-    ChainForm, ClassForm, FormWord, OneForm, SomeForm, TwoForm, form_word, is_reserved, role_named,
+    ClassForm, FormWord, OneForm, SomeForm, TwoForm, form_word, is_reserved, role_named,
 };
 pub use written::{WrittenClass, WrittenForm, WrittenPart};

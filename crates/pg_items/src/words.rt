@@ -9,7 +9,7 @@ ghost use Rattle.std.specs.Str.{bytes_eq};
 ghost use Rattle.pg_items.specs.Proper.{is_reserved};
 ghost use Rattle.pg_items.specs.Words as words;
 
-use pg_grammar::Role;
+use pg_grammar::{Role, Side};
 use pg_tokens::is_word;
 
 /// The words that no rule, no class and no word has for a name.
@@ -94,20 +94,11 @@ pub enum TwoForm {
     SepBy,
     /// `sepBy1`: the same, at least one.
     SepBy1,
-    /// `endBy`: none or more values, with a separator behind each.
+    /// `endBy`: none or more values, with a separator after each.
     EndBy,
 }
 
-/// A chain: a builder, an operand and a separator.
-#[derive(Clone, Copy, Debug, PartialEq, Eq)]
-pub enum ChainForm {
-    /// `chainl1`: folded from the left.
-    Left,
-    /// `chainr1`: folded from the right.
-    Right,
-}
-
-/// A word behind which a form's parenthesis opens.
+/// A word after which a form's parenthesis opens.
 #[derive(Clone, Copy, Debug, PartialEq, Eq)]
 pub enum FormWord {
     /// That of a form of a class expression.
@@ -122,10 +113,10 @@ pub enum FormWord {
     OfOne(OneForm),
     /// That of a form of a value and a separator.
     OfTwo(TwoForm),
-    /// `between`: a value, what stands before it and what stands behind it.
+    /// `between`: a value, what stands before it and what stands after it.
     Between,
-    /// That of a chain.
-    Chain(ChainForm),
+    /// That of a chain, folded from this side: a builder, an operand and a separator.
+    Chain(Side),
     /// `expr`: operators between and around the values of a term.
     Expression,
     /// `build`: the tree that a builder makes of the value's trees.
@@ -212,14 +203,14 @@ fn two_form(name: &[char]) -> Option<TwoForm>
     }
 }
 
-#[tactic(auto, unfolding(crate::specs::Words::chain_form))]
-fn chain_form(name: &[char]) -> Option<ChainForm>
-    ensures { result ≡ words.chain_form name.now }
+#[tactic(auto, unfolding(crate::specs::Words::chain_side))]
+fn chain_side(name: &[char]) -> Option<Side>
+    ensures { result ≡ words.chain_side name.now }
 {
     if is_word("chainl1", name) {
-        Some(ChainForm::Left)
+        Some(Side::Left)
     } else if is_word("chainr1", name) {
-        Some(ChainForm::Right)
+        Some(Side::Right)
     } else {
         None
     }
@@ -262,8 +253,8 @@ pub fn form_word(name: &[char]) -> Option<FormWord>
         Some(FormWord::OfOne(form))
     } else if let Some(form) = two_form(name) {
         Some(FormWord::OfTwo(form))
-    } else if let Some(form) = chain_form(name) {
-        Some(FormWord::Chain(form))
+    } else if let Some(side) = chain_side(name) {
+        Some(FormWord::Chain(side))
     } else {
         single_form(name)
     }

@@ -6,11 +6,12 @@
 ghost use Rattle.std.specs.Prelude.{◌≡◌};
 ghost use Rattle.pg_items.specs.Written.{IsClass};
 
-use crate::words::{ChainForm, ClassForm, OneForm, SomeForm, TwoForm};
+use crate::words::{ClassForm, OneForm, SomeForm, TwoForm};
+use pg_grammar::Side;
 use pg_text::Characters;
 use std::marker::Model;
 
-/// One atom of a class expression, or a complement or union, of the whole expressions next behind it.
+/// One atom of a class expression, or a complement or union, of the whole expressions next after it.
 #[derive(Debug, Drop)]
 pub enum WrittenPart {
     /// The characters of a literal.
@@ -19,7 +20,7 @@ pub enum WrittenPart {
     Range(char, char),
     /// The characters of so many expressions, two or more.
     Union(usize),
-    /// The characters that the expression behind it lacks.
+    /// The characters that the expression after it lacks.
     Complement,
     /// What the name stands for.
     Named(Characters),
@@ -70,7 +71,7 @@ impl WrittenClass {
     }
 }
 
-/// A form of a value in preorder, as it is written; its parts are the whole forms that stand next behind it.
+/// A form of a value in preorder, as it is written; its parts are the whole forms that stand next after it.
 #[derive(Debug, Drop)]
 pub enum WrittenForm {
     /// A form of a class expression.
@@ -85,11 +86,11 @@ pub enum WrittenForm {
     OfOne(OneForm),
     /// A form of a part and a separator.
     OfTwo(TwoForm),
-    /// What stands before, what stands behind, and the part between them.
+    /// What stands before, what stands after, and the part between them.
     Between,
     /// A chain, of an operand and a separator.
     Chain {
-        form: ChainForm,
+        side: Side,
         builder: Characters,
     },
     /// Operators around a term, with a builder for each place of theirs.

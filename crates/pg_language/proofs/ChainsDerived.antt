@@ -10,23 +10,23 @@ use Rattle.pg_grammar.specs.declared.side.Side.{Side}
 use Rattle.pg_language.specs.Reactions.{unless_begun}
 use Rattle.pg_language.proofs.Derived.{WhereOk}
 
--- links behind a forest, which is folded with theirs
-pub record DerivesBehind (G : Given) (side : Side) (shape : Shape) (p s : ℕ) (left : List Tree) (k : ℕ) (a b : Spot) (v : List Tree) (t : List TrailItem) : Type 0 where
+-- links after a forest, which is folded with theirs
+pub record DerivesAfter (G : Given) (side : Side) (shape : Shape) (p s : ℕ) (left : List Tree) (k : ℕ) (a b : Spot) (v : List Tree) (t : List TrailItem) : Type 0 where
   pub links : List Link
   pub derived : DerivesLinks G.grammar G.text p s k a b links t
   pub forest : v ≡ folded side shape left links
 
--- an operand, and links behind it
+-- an operand, and links after it
 pub record DerivesChain (G : Given) (side : Side) (shape : Shape) (p s k : ℕ) (a b : Spot) (v : List Tree) (t : List TrailItem) : Type 0 where
   pub middle : Spot
   pub first : List Tree
   pub trail : List TrailItem
   pub items : List TrailItem
   pub operand : Derives G.grammar G.text p a middle first trail
-  pub behind : DerivesBehind G side shape p s first k middle b v items
+  pub after : DerivesAfter G side shape p s first k middle b v items
   pub noted : t ≡ trail ++ items
 
-pub none_behind : (G : Given) (side : Side) (shape : Shape) (p s : ℕ) (left : List Tree) (a : Spot) (c : Bool) (e : Error) →
-    WhereOk (DerivesBehind G side shape p s left zero a) (unless_begun c a left e)
-none_behind G side shape p s left a true e = tt
-none_behind G side shape p s left a false e = record { links = []; derived = no_link; forest = refl }
+pub none_after : (G : Given) (side : Side) (shape : Shape) (p s : ℕ) (left : List Tree) (a : Spot) (c : Bool) (e : Error) →
+    WhereOk (DerivesAfter G side shape p s left zero a) (unless_begun c a left e)
+none_after G side shape p s left a true e = tt
+none_after G side shape p s left a false e = record { links = []; derived = no_link; forest = refl }

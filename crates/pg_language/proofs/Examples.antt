@@ -19,7 +19,7 @@ use Rattle.pg_grammar.specs.declared.operators_item.OperatorsItem.{OperatorsItem
 use Rattle.pg_grammar.specs.declared.used.BuilderUse.{BuilderUse}
 use Rattle.pg_grammar.specs.declared.used.OperatorBuilders.{OperatorBuilders}
 use Rattle.pg_grammar.specs.declared.word_item.WordItem.{WordItem}
-use Rattle.pg_table.specs.Fitting.{term, prefixed, postfixed, joined, Fits}
+use Rattle.pg_table.specs.Fitting.{term, prefixed, postfixed, joined, IsFitting}
 use Rattle.pg_grammar.specs.declared.trail.TrailItem.{TrailItem}
 use Rattle.pg_grammar.specs.declared.trail.TrailItem.TheVariants.{Alt, Rounds, Ops}
 use Rattle.pg_grammar.specs.declared.trail.Fixity.TheVariants as fixity
@@ -30,7 +30,7 @@ use Rattle.pg_language.specs.Runs.{StandsAt, IsWordAt, IsOperatorAt, IsDeclarati
 use Rattle.pg_grammar.specs.ClassItems.{has_character}
 use Rattle.pg_grammar.specs.declared.decl.Role.{Role}
 use Rattle.pg_language.specs.Derives as derives
-use Rattle.pg_language.specs.Derives.{Spot, behind as further, leaf_of, declaration_tree, Derives, DerivesForm, at_node, satisfy, string, word, not_followed_by, end_of_text, declare, seq, choice, many, rule, expression, no_part, first_part, no_round, first_round, no_link, first_link, a_term, a_prefix, a_postfix, an_infix}
+use Rattle.pg_language.specs.Derives.{Spot, after as further, leaf_of, declaration_tree, Derives, DerivesForm, at_node, satisfy, string, word, not_followed_by, end_of_text, declare, seq, choice, many, rule, expression, no_part, first_part, no_round, first_round, no_link, first_link, a_term, a_prefix, a_postfix, an_infix}
 
 -- ---- a grammar
 
@@ -101,13 +101,13 @@ sums = plus ∷ times ∷ minus ∷ bang ∷ []
 abbrev named : List ℕ → List Tree → Tree
 named symbol kids = node (encode_utf8_all symbol) (kids_of kids)
 
--- the tighter operator stands below, behind each operator lies its gap
+-- the tighter operator stands below, after each operator lies its gap
 precedence : Derives g (codes "1+ 2*3") 0 (spot 0 sums) (spot 6 sums)
     (named (codes "+") (leaf_of (codes "1") ∷ named (codes "*") (leaf_of (codes "2") ∷ leaf_of (codes "3") ∷ []) ∷ []) ∷ [])
     (Ops (applied fixity.Infix plus ∷ applied fixity.Infix times ∷ []) ∷ [])
 precedence =
-    let tighter : Fits sums (joined times term term) = ((1, refl), tt, tt, tt, inl (inl (omega arith)), inl (inl (omega arith))) in
-    let fits : Fits sums (joined plus term (joined times term term)) = ((0, refl), tt, tt, tighter, inl (inl (omega arith)), inl (inl (omega arith))) in
+    let tighter : IsFitting sums (joined times term term) = ((1, refl), tt, tt, tt, inl (inl (omega arith)), inl (inl (omega arith))) in
+    let fits : IsFitting sums (joined plus term (joined times term term)) = ((0, refl), tt, tt, tighter, inl (inl (omega arith)), inl (inl (omega arith))) in
     at_node refl (expression refl fits
     (an_infix {j = 3} (a_term (one _ _ 49 refl refl)) (record { run = refl; past = refl })
     (an_infix {j = 5} (a_term (one _ _ 50 refl refl)) (record { run = refl; past = refl }) (a_term (one _ _ 51 refl refl)))))
@@ -116,7 +116,7 @@ precedence =
 around : Derives g (codes "-1!") 0 (spot 0 sums) (spot 3 sums) (named (codes "-") (named (codes "!") (leaf_of (codes "1") ∷ []) ∷ []) ∷ [])
     (Ops (applied fixity.Prefix minus ∷ applied fixity.Postfix bang ∷ []) ∷ [])
 around =
-    let fits : Fits sums (prefixed minus (postfixed bang term)) = ((2, refl), refl, ((3, refl), refl, tt, inl (omega arith)), omega arith) in
+    let fits : IsFitting sums (prefixed minus (postfixed bang term)) = ((2, refl), refl, ((3, refl), refl, tt, inl (omega arith)), omega arith) in
     at_node refl (expression refl fits
     (a_prefix {j = 1} (record { run = refl; past = refl }) (a_postfix {j = 3} (a_term (one _ _ 49 refl refl)) (record { run = refl; past = refl }))))
 
@@ -124,23 +124,23 @@ around =
 alone : Derives g (codes "1") 0 (spot 0 []) (spot 1 []) (leaf_of (codes "1") ∷ []) (Ops [] ∷ [])
 alone = at_node refl (expression {x = term} refl tt (a_term (one _ _ 49 refl refl)))
 
--- an operator is the whole run of operator characters, and not a front of it
+-- an operator is the whole run of operator characters, and not a prefix of it
 two_dashes : (j : ℕ) → IsOperatorAt g (codes "--1") item (codes "-") 0 j → ⊥
 two_dashes j is = let run = is.run in absurd cc
 
 -- ---- trees
 
 -- left of an infixl operator may stand another one of its row, and right of it none
-leans_left : Fits sums (joined plus (joined plus term term) term)
+leans_left : IsFitting sums (joined plus (joined plus term term) term)
 leans_left = ((0, refl), tt, ((0, refl), tt, tt, tt, inl (inl (omega arith)), inl (inl (omega arith))), tt, inr (refl, (refl, refl)), inl (inl (omega arith)))
 
-leans_not_right : Fits sums (joined plus term (joined plus term term)) → ⊥
+leans_not_right : IsFitting sums (joined plus term (joined plus term term)) → ⊥
 leans_not_right (among, between_two, low, fits, left, inl (inl below)) = absurd (omega arith)
 leans_not_right (among, between_two, low, fits, left, inl (inr unary)) = absurd unary
 leans_not_right (among, between_two, low, fits, left, inr (leans, row)) = absurd cc
 
 -- no prefix stands on another of its row, but a postfix stands on a prefix of its row
-prefix_once : Fits sums (prefixed minus (prefixed minus term)) → ⊥
+prefix_once : IsFitting sums (prefixed minus (prefixed minus term)) → ⊥
 prefix_once h = let below = h.3 in absurd (omega arith)
 
 -- ---- declarations

@@ -17,6 +17,6 @@ both false true false l m e f g = absurd (grind (arith, nat_tests))
 both false false true l m e f g = absurd (grind (arith, nat_tests))
 both false false false l m e f g = refl
 
--- what a part and those behind it consume together
+-- what a part and those after it consume together
 pub both_moved : {i k j : ℕ} → i ≤ k → k ≤ j → (nat_lt i k || nat_lt k j) ≡ nat_lt i j
 both_moved {i = i} {k = k} {j = j} l m = both (nat_lt i k) (nat_lt k j) (nat_lt i j) l m refl refl refl

@@ -26,7 +26,7 @@ use Rattle.pg_grammar.specs.declared.form.Around.{Around}
 use Rattle.pg_grammar.specs.declared.form.Leaf.{Leaf}
 use Rattle.pg_language.proofs.Flags.{moved, stayed, both_moved}
 
--- where the outcome is ok, its end isn't before its first place, and it says whether it lies behind it
+-- where the outcome is ok, its end isn't before its first place, and it says whether it lies after it
 abbrev pub Tells : Spot → Outcome → Type 0
 Tells a (ok c b v t e) = (c ≡ nat_lt a.place b.place) × (a.place ≤ b.place)
 Tells a (failed c e) = Unit {0}

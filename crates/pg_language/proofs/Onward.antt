@@ -17,13 +17,13 @@ use Rattle.pg_grammar.specs.declared.trail.TrailItem.{TrailItem}
 use Rattle.pg_language.specs.Runs.{run_at, past_run, HasAt, StandsAt, IsWordAt, IsOperatorAt, IsDeclarationAt}
 use Rattle.pg_grammar.specs.declared.form.Leaf.{Leaf}
 use Rattle.pg_language.specs.Derives as derives
-use Rattle.pg_language.specs.Derives.{Spot, at, behind, Link, Derives, DerivesForm, DerivesParts, DerivesRounds, DerivesLinks, DerivesExpression, Reads, at_node, satisfy, string, word, not_followed_by, end_of_text, declare, seq, choice, many, rule, expression, no_part, first_part, no_round, first_round, no_link, first_link, a_term, a_prefix, a_postfix, an_infix}
+use Rattle.pg_language.specs.Derives.{Spot, at, after, Link, Derives, DerivesForm, DerivesParts, DerivesRounds, DerivesLinks, DerivesExpression, Reads, at_node, satisfy, string, word, not_followed_by, end_of_text, declare, seq, choice, many, rule, expression, no_part, first_part, no_round, first_round, no_link, first_link, a_term, a_prefix, a_postfix, an_infix}
 use Rattle.pg_language.specs.Onward.{LeadsOn}
-use Rattle.pg_table.proofs.Added.{added_behind, added_at_end, all_proper}
+use Rattle.pg_table.proofs.Added.{added_after, added_at_end, all_proper}
 
 -- ---- places
 
--- so many characters stand behind a place, as the text has there
+-- so many characters stand after a place, as the text has there
 stands_within : (s : List ℕ) (i : ℕ) (cs : List ℕ) → StandsAt s i cs → i ≤ length s → i + length cs ≤ length s
 stands_within s i cs h below =
     let taken = ap length h in
@@ -48,7 +48,7 @@ stays s a = record {
   further = [];
   proper = tt;
   added = refl;
-  behind = sym (append-nil a.table.operators);
+  after = sym (append-nil a.table.operators);
   still = λ e. refl;
 }
 
@@ -59,34 +59,34 @@ moves s a j onward within = record {
   further = [];
   proper = tt;
   added = refl;
-  behind = sym (append-nil a.table.operators);
+  after = sym (append-nil a.table.operators);
   still = λ e. ap (λ i. at a i) e;
 }
 
 joins : (s : List ℕ) (a b c : Spot) → LeadsOn s a b → LeadsOn s b c → LeadsOn s a c
 joins s a b c h k =
-    let added = added_behind 0 0 0 a.table b.table c.table h.further k.further h.added k.added in
+    let added = added_after 0 0 0 a.table b.table c.table h.further k.further h.added k.added in
     record {
       onward = (let first = h.onward in let second = k.onward in omega arith);
       within = λ below. k.within (h.within below);
       further = h.further ++ k.further;
       proper = all_proper h.further k.further h.proper k.proper;
       added = added;
-      behind = added_at_end 0 a.table c.table (h.further ++ k.further) added;
+      after = added_at_end 0 a.table c.table (h.further ++ k.further) added;
       still = λ e. let first = h.onward in let second = k.onward in h.still (omega arith) ∙ k.still (omega arith);
     }
 
 -- ---- what stands at a place
 
-character_on : (g : Grammar) (s : List ℕ) (class : List ClassPart) (a : Spot) → HasAt g s class a.place → LeadsOn s a (behind a 1)
+character_on : (g : Grammar) (s : List ℕ) (class : List ClassPart) (a : Spot) → HasAt g s class a.place → LeadsOn s a (after a 1)
 character_on g s class a has =
     let below = slice_get_within s a.place has.character has.there in
     moves s a (a.place + 1) (omega arith) (λ h. omega arith)
 
-string_on : (s : List ℕ) (cs : List ℕ) (a : Spot) → StandsAt s a.place cs → LeadsOn s a (behind a (length cs))
+string_on : (s : List ℕ) (cs : List ℕ) (a : Spot) → StandsAt s a.place cs → LeadsOn s a (after a (length cs))
 string_on s cs a stands = moves s a (a.place + length cs) (omega arith) (λ h. stands_within s a.place cs stands h)
 
-word_on : (g : Grammar) (s : List ℕ) (item : WordItem) (a : Spot) (w : List ℕ) → IsWordAt g s item a.place w → LeadsOn s a (behind a (length w))
+word_on : (g : Grammar) (s : List ℕ) (item : WordItem) (a : Spot) (w : List ℕ) → IsWordAt g s item a.place w → LeadsOn s a (after a (length w))
 word_on g s item a w is =
     let below = slice_get_within s a.place is.head is.there in
     let ends = run_within g s item.rest (suc a.place) (omega arith) in
@@ -120,7 +120,7 @@ declaration_on g s item class d a j is admits =
       further = d ∷ [];
       proper = (record { digit = is.precedence; spelled = is.spelled }, tt);
       added = ap (λ fault. added_unless fault 0 (whole (with_operator a.table d))) admits;
-      behind = refl;
+      after = refl;
       still = λ e. absurd (omega arith);
     }
 

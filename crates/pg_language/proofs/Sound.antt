@@ -18,7 +18,7 @@ use Rattle.pg_language.specs.Outcomes.{Outcome}
 use Rattle.pg_language.specs.Reactions.{then_rest, as_finished}
 use Rattle.pg_language.proofs.Derived.{WhereOk, ok_map, ok_rest, ok_round, ok_noted, ok_failure, ok_unless, ok_surrounded, ok_finished}
 use Rattle.pg_language.proofs.LeavesDerived.{leaf_derived}
-use Rattle.pg_language.proofs.ChainsDerived.{DerivesBehind, DerivesChain, none_behind}
+use Rattle.pg_language.proofs.ChainsDerived.{DerivesAfter, DerivesChain, none_after}
 
 -- one of these alternatives, the first of which has this number
 record DerivesOne (G : Given) (k : ℕ) (ps : List ℕ) (a b : Spot) (v : List Tree) (t : List TrailItem) : Type 0 where
@@ -48,10 +48,10 @@ last_part G p a b v t d =
     (subst (λ t. DerivesParts G.grammar G.text (p ∷ []) a b (v ++ []) t) (append-nil t) (derives.first_part d derives.no_part))
 
 -- a link more
-more_behind : (G : Given) (side : Side) (shape : Shape) (p s k : ℕ) (left v w : List Tree) (t u : List TrailItem) (a b c d : Spot) (z : List Tree) (items : List TrailItem) →
-    Derives G.grammar G.text s a b v t → Derives G.grammar G.text p b c w u → DerivesBehind G side shape p s (carried side shape left v w) k c d z items →
-    DerivesBehind G side shape p s left (suc k) a d (finished side shape left v z) (t ++ (u ++ items))
-more_behind G side shape p s k left v w t u a b c d z items separator operand h = record {
+more_after : (G : Given) (side : Side) (shape : Shape) (p s k : ℕ) (left v w : List Tree) (t u : List TrailItem) (a b c d : Spot) (z : List Tree) (items : List TrailItem) →
+    Derives G.grammar G.text s a b v t → Derives G.grammar G.text p b c w u → DerivesAfter G side shape p s (carried side shape left v w) k c d z items →
+    DerivesAfter G side shape p s left (suc k) a d (finished side shape left v z) (t ++ (u ++ items))
+more_after G side shape p s k left v w t u a b c d z items separator operand h = record {
   links = (v, w) ∷ h.links;
   derived = subst (λ n. DerivesLinks G.grammar G.text p s (suc k) a d ((v, w) ∷ h.links) n) (append_assoc t u items) (derives.first_link separator operand h.derived);
   forest = ap (finished side shape left v) h.forest;
@@ -61,9 +61,9 @@ more_behind G side shape p s k left v w t u a b c d z items separator operand h 
 whole_chain : (G : Given) (side : Side) (used : BuilderUse) (p s k : ℕ) (a b : Spot) (v : List Tree) (t : List TrailItem) → DerivesChain G side used.shape p s k a b v t →
     DerivesForm G.grammar G.text (form.Chain side used p s) a b v (Rounds k ∷ t)
 whole_chain G side used p s k a b v t h =
-    subst (λ v. DerivesForm G.grammar G.text (form.Chain side used p s) a b v (Rounds k ∷ t)) (sym h.behind.forest)
-    (subst (λ t. DerivesForm G.grammar G.text (form.Chain side used p s) a b (derives.folded side used.shape h.first h.behind.links) (Rounds k ∷ t)) (sym h.noted)
-    (derives.chain h.operand h.behind.derived))
+    subst (λ v. DerivesForm G.grammar G.text (form.Chain side used p s) a b v (Rounds k ∷ t)) (sym h.after.forest)
+    (subst (λ t. DerivesForm G.grammar G.text (form.Chain side used p s) a b (derives.folded side used.shape h.first h.after.links) (Rounds k ∷ t)) (sym h.noted)
+    (derives.chain h.operand h.after.derived))
 
 mutual
   pub sound : {G : Given} {p : ℕ} {a : Spot} {o : Outcome} {m : ℕ} → Answers G p a o m → WhereOk (Derives G.grammar G.text p a) o
@@ -125,25 +125,25 @@ mutual
   sound_after_first first_failed a h = tt
   sound_after_first first_stuck a h = tt
   sound_after_first {G = G} {side = side} {shape = shape} (first_ok {p = p} {s = s} {k = k} {c = c} {b = b} {v = v} {t = t} {e = e} {o = o} d) a h =
-      ok_rest _ _ c [] t e o (λ b w u g. record { middle = _; first = v; trail = t; items = u; operand = h; behind = g; noted = refl }) (sound_links d)
+      ok_rest _ _ c [] t e o (λ b w u g. record { middle = _; first = v; trail = t; items = u; operand = h; after = g; noted = refl }) (sound_links d)
 
   sound_links : {G : Given} {side : Side} {shape : Shape} {p s : ℕ} {left : List Tree} {k : ℕ} {a : Spot} {o : Outcome} {m : ℕ} →
-      AnswersLinks G side shape p s left k a o m → WhereOk (DerivesBehind G side shape p s left k a) o
+      AnswersLinks G side shape p s left k a o m → WhereOk (DerivesAfter G side shape p s left k a) o
   sound_links (link d r) = sound_after_separator r (sound d)
 
   sound_after_separator : {G : Given} {side : Side} {shape : Shape} {p s : ℕ} {left : List Tree} {k : ℕ} {a : Spot} {x o : Outcome} {m : ℕ} →
-      AfterSeparator G side shape p s left k a x o m → WhereOk (Derives G.grammar G.text s a) x → WhereOk (DerivesBehind G side shape p s left k a) o
+      AfterSeparator G side shape p s left k a x o m → WhereOk (Derives G.grammar G.text s a) x → WhereOk (DerivesAfter G side shape p s left k a) o
   sound_after_separator {G = G} (separator_failed {side = side} {shape = shape} {p = p} {s = s} {left = left} {a = a} {c = c} {e = e}) h =
-      none_behind G side shape p s left a c e
+      none_after G side shape p s left a c e
   sound_after_separator separator_stuck h = tt
   sound_after_separator (separator_ok {b = b} d r) h = sound_after_operand r b h (sound d)
 
   sound_after_operand : {G : Given} {side : Side} {shape : Shape} {p s : ℕ} {left : List Tree} {k : ℕ} {a : Spot} {c : Bool} {v : List Tree} {t : List TrailItem} {e : Error} {x o : Outcome} {m : ℕ} →
       AfterOperand G side shape p s left k a c v t e x o m → (b : Spot) → Derives G.grammar G.text s a b v t →
-      WhereOk (Derives G.grammar G.text p b) x → WhereOk (DerivesBehind G side shape p s left k a) o
-  sound_after_operand {G = G} {side = side} {shape = shape} (operand_failed {p = p} {s = s} {left = left} {a = a}) b g h = none_behind G side shape p s left a _ _
+      WhereOk (Derives G.grammar G.text p b) x → WhereOk (DerivesAfter G side shape p s left k a) o
+  sound_after_operand {G = G} {side = side} {shape = shape} (operand_failed {p = p} {s = s} {left = left} {a = a}) b g h = none_after G side shape p s left a _ _
   sound_after_operand operand_stuck b g h = tt
   sound_after_operand {G = G} {side = side} {shape = shape} (operand_ok {p = p} {s = s} {k = k} {left = left} {v = v} {w = w} {a = a} {b = b} {c = c} {d = d} {t = t} {u = u} {e = e} {f = f} {o = o} x y) middle g h =
       ok_rest _ _ c [] t e (then_rest d [] u f (as_finished side shape left v o)) (λ end z items n. n)
       (ok_rest _ _ d [] u f (as_finished side shape left v o) (λ end z items n. n)
-      (ok_finished _ _ side shape left v o (λ end z items n. more_behind G side shape p s k left v w t u a middle b end z items g h n) (sound_links y)))
+      (ok_finished _ _ side shape left v o (λ end z items n. more_after G side shape p s k left v w t u a middle b end z items g h n) (sound_links y)))

@@ -14,10 +14,10 @@ use Rattle.pg_language.specs.Derives.{Spot, carried}
 use Rattle.pg_table.specs.Tables.{Table}
 use Rattle.pg_grammar.specs.declared.trail.TrailItem.{TrailItem}
 use Rattle.pg_grammar.specs.declared.trail.TrailItem.TheVariants.{Alt, Rounds}
-use Rattle.pg_language.specs.Errors.{Error, nothing_said}
+use Rattle.pg_language.specs.Errors.{Error, no_messages_at}
 use Rattle.pg_language.specs.Leaves.{leaf_outcome}
 use Rattle.pg_language.specs.Outcomes.{Outcome, ok, failed, empty_round}
-use Rattle.pg_language.specs.Reactions.{then_rest, then_round, noted, after_failure, unless_consumed, surrounded, as_finished, unless_begun, error_behind}
+use Rattle.pg_language.specs.Reactions.{then_rest, then_round, noted, after_failure, unless_consumed, surrounded, as_finished, unless_begun, error_after}
 use Rattle.pg_language.specs.declared.reading.Reading.{Reading}
 use Rattle.pg_language.specs.declared.reading.Reading.TheVariants.{Library, Report}
 
@@ -43,7 +43,7 @@ mutual
   pub data AnswersForm (G : Given) : Node → Spot → Outcome → ℕ → Type 0 where
     leaf : {l : Leaf ℕ} {a : Spot} {o : Outcome} → leaf_outcome G.grammar G.text l a ≡ Some o → AnswersForm G (form.Leaf l) a o zero
     -- without parts: ok and empty
-    nothing : {a : Spot} → AnswersForm G (form.Seq []) a (ok false a [] [] (nothing_said a.place)) zero
+    nothing : {a : Spot} → AnswersForm G (form.Seq []) a (ok false a [] [] (no_messages_at a.place)) zero
     seq : {p m : ℕ} {ps : List ℕ} {a : Spot} {o : Outcome} → AnswersParts G p ps a o m → AnswersForm G (form.Seq (p ∷ ps)) a o m
     choice : {ps : List ℕ} {m : ℕ} {a : Spot} {o : Outcome} → AnswersAlternatives G (suc zero) ps a o m → AnswersForm G (form.Choice ps) a o m
     many : {p k m : ℕ} {a : Spot} {o : Outcome} → AnswersRounds G p k a o m → AnswersForm G (form.Many p) a (noted (Rounds k) o) m
@@ -53,7 +53,7 @@ mutual
         Answers G named.body a o m → AnswersForm G (form.Rule r) a o m
     around : {k : Around} {p m : ℕ} {a : Spot} {o : Outcome} → Answers G p a o m → AnswersForm G (form.Around k p) a (surrounded k G.text a o) m
 
-  -- ---- sequences: a part, and those behind it
+  -- ---- sequences: a part, and those after it
   pub data AnswersParts (G : Given) : ℕ → List ℕ → Spot → Outcome → ℕ → Type 0 where
     part : {p m n : ℕ} {ps : List ℕ} {a : Spot} {x o : Outcome} → Answers G p a x m → AfterPart G ps x o n → AnswersParts G p ps a o (m + n)
 
@@ -67,7 +67,7 @@ mutual
 
   -- ---- choices: these alternatives, the first of which has this number
   pub data AnswersAlternatives (G : Given) : ℕ → List ℕ → Spot → Outcome → ℕ → Type 0 where
-    no_alternative : {k : ℕ} {a : Spot} → AnswersAlternatives G k [] a (failed false (nothing_said a.place)) zero
+    no_alternative : {k : ℕ} {a : Spot} → AnswersAlternatives G k [] a (failed false (no_messages_at a.place)) zero
     alternative : {k p m n : ℕ} {ps : List ℕ} {a : Spot} {x o : Outcome} → Answers G p a x m → AfterAlternative G k ps a x o n →
         AnswersAlternatives G k (p ∷ ps) a o (m + n)
 
@@ -109,7 +109,7 @@ mutual
     first_ok : {side : Side} {shape : Shape} {p s k m : ℕ} {c : Bool} {b : Spot} {v : List Tree} {t : List TrailItem} {e : Error} {o : Outcome} →
         AnswersLinks G side shape p s v k b o m → AfterFirst G side shape p s k (ok c b v t e) (then_rest c [] t e o) m
 
-  -- separators s, each with an operand p behind it, behind this forest of the chain
+  -- separators s, each with an operand p after it, after this forest of the chain
   pub data AnswersLinks (G : Given) : Side → Shape → ℕ → ℕ → List Tree → ℕ → Spot → Outcome → ℕ → Type 0 where
     link : {side : Side} {shape : Shape} {p s k m n : ℕ} {left : List Tree} {a : Spot} {x o : Outcome} → Answers G s a x m →
         AfterSeparator G side shape p s left k a x o n → AnswersLinks G side shape p s left k a o (m + n)
@@ -123,10 +123,10 @@ mutual
     separator_ok : {side : Side} {shape : Shape} {p s k m n : ℕ} {left v : List Tree} {a b : Spot} {c : Bool} {t : List TrailItem} {e : Error} {x o : Outcome} →
         Answers G p b x m → AfterOperand G side shape p s left k a c v t e x o n → AfterSeparator G side shape p s left k a (ok c b v t e) o (m + n)
 
-  -- what becomes of an operand's outcome, behind a separator that was ok: a link that consumes nothing has no outcome
+  -- what becomes of an operand's outcome, after a separator that was ok: a link that consumes nothing has no outcome
   pub data AfterOperand (G : Given) : Side → Shape → ℕ → ℕ → List Tree → ℕ → Spot → Bool → List Tree → List TrailItem → Error → Outcome → Outcome → ℕ → Type 0 where
     operand_failed : {side : Side} {shape : Shape} {p s : ℕ} {left v : List Tree} {a : Spot} {c d : Bool} {t : List TrailItem} {e f : Error} →
-        AfterOperand G side shape p s left zero a c v t e (failed d f) (unless_begun (c || d) a left (error_behind d e f)) zero
+        AfterOperand G side shape p s left zero a c v t e (failed d f) (unless_begun (c || d) a left (error_after d e f)) zero
     operand_stuck : {side : Side} {shape : Shape} {p s : ℕ} {left v : List Tree} {a : Spot} {c : Bool} {t : List TrailItem} {e : Error} →
         AfterOperand G side shape p s left zero a c v t e empty_round empty_round zero
     operand_ok : {side : Side} {shape : Shape} {p s k m : ℕ} {left v w : List Tree} {a b : Spot} {c d : Bool} {t u : List TrailItem} {e f : Error} {o : Outcome} →

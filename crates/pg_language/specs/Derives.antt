@@ -22,7 +22,7 @@ use Rattle.pg_grammar.specs.declared.grammar.Rule as declared
 use Rattle.pg_grammar.specs.declared.operators_item.OperatorsItem.{OperatorsItem}
 use Rattle.pg_grammar.specs.declared.word_item.WordItem.{WordItem}
 use Rattle.pg_table.specs.Tables.{Table, Admits, with_operator}
-use Rattle.pg_table.specs.Fitting.{Expression, term, prefixed, postfixed, joined, Fits}
+use Rattle.pg_table.specs.Fitting.{Expression, term, prefixed, postfixed, joined, IsFitting}
 use Rattle.pg_grammar.specs.declared.trail.TrailItem.{TrailItem}
 use Rattle.pg_grammar.specs.declared.trail.TrailItem.TheVariants.{Alt, Rounds, Ops}
 use Rattle.pg_table.specs.Trails.{operators_read}
@@ -38,8 +38,8 @@ abbrev pub at : Spot → ℕ → Spot
 at spot place = record { place = place; table = spot.table }
 
 -- the spot so many characters further on, under the same table
-abbrev pub behind : Spot → ℕ → Spot
-behind spot n = at spot (spot.place + n)
+abbrev pub after : Spot → ℕ → Spot
+after spot n = at spot (spot.place + n)
 
 -- ---- values
 
@@ -55,7 +55,7 @@ span text from to = take (to - from) (drop from text)
 abbrev pub declaration_tree : Operator → Tree
 declaration_tree d = node (codes "declare") (kids_of (leaf_of (keyword d.role) ∷ leaf_of ((48 + d.precedence) ∷ []) ∷ leaf_of d.symbol ∷ []))
 
--- a round of a chain: the separator's forest, and the operand's behind it
+-- a round of a chain: the separator's forest, and the operand's after it
 abbrev pub Link : Type 0
 Link = List Tree × List Tree
 
@@ -92,13 +92,13 @@ made_by (kind.Label message) text from to forest = forest
 pub data Reads (g : Grammar) (text : List ℕ) : Leaf ℕ → Spot → Spot → List Tree → Type 0 where
   -- one character of the class
   satisfy : {class : List ClassPart} {a : Spot} (has : HasAt g text class a.place) →
-      Reads g text (read.Satisfy class) a (behind a 1) (leaf_of (has.character ∷ []) ∷ [])
+      Reads g text (read.Satisfy class) a (after a 1) (leaf_of (has.character ∷ []) ∷ [])
   -- the characters
   string : {characters : List ℕ} {a : Spot} → StandsAt text a.place characters →
-      Reads g text (read.String characters) a (behind a (length characters)) (leaf_of characters ∷ [])
+      Reads g text (read.String characters) a (after a (length characters)) (leaf_of characters ∷ [])
   -- a word of the item
   word : {w : ℕ} {item : WordItem} {s : List ℕ} {a : Spot} → slice_get g.words w ≡ Some item → IsWordAt g text item a.place s →
-      Reads g text (read.Word w) a (behind a (length s)) (leaf_of s ∷ [])
+      Reads g text (read.Word w) a (after a (length s)) (leaf_of s ∷ [])
   -- no character of the class comes next
   not_followed_by : {class : List ClassPart} {a : Spot} → (HasAt g text class a.place → ⊥) → Reads g text (read.NotFollowedBy class) a a []
   -- the end of the text
@@ -138,7 +138,7 @@ mutual
         Derives g text named.body a b forest trail → DerivesForm g text (form.Rule r) a b forest trail
     -- a tree that fits the table in force, whose operators and terms are read from left to right
     expression : {builders : OperatorBuilders} {item : OperatorsItem} {p : ℕ} {x : Expression} {a b : Spot} {forest : List Tree} {trail : List TrailItem} →
-        g.operators ≡ Some item → Fits a.table.operators x → DerivesExpression g text item builders p x a b forest trail →
+        g.operators ≡ Some item → IsFitting a.table.operators x → DerivesExpression g text item builders p x a b forest trail →
         DerivesForm g text (form.Expression builders p) a b forest (Ops (operators_read x) ∷ trail)
     -- the part, with what is made of its forest
     around : {k : Around} {p : ℕ} {a b : Spot} {forest : List Tree} {trail : List TrailItem} → Derives g text p a b forest trail →
@@ -156,7 +156,7 @@ mutual
     first_round : {p n : ℕ} {a b c : Spot} {forest others : List Tree} {trail items : List TrailItem} →
         Derives g text p a b forest trail → DerivesRounds g text p n b c others items → DerivesRounds g text p (suc n) a c (forest ++ others) (trail ++ items)
 
-  -- so many separators s, each with an operand p behind it, do so
+  -- so many separators s, each with an operand p after it, do so
   pub data DerivesLinks (g : Grammar) (text : List ℕ) : ℕ → ℕ → ℕ → Spot → Spot → List Link → List TrailItem → Type 0 where
     no_link : {p s : ℕ} {a : Spot} → DerivesLinks g text p s zero a a [] []
     first_link : {p s n : ℕ} {a b c d : Spot} {separator operand : List Tree} {links : List Link} {trail items others : List TrailItem} →

@@ -47,8 +47,8 @@ next_text (Some c) = quote (c ∷ [])
 abbrev pub seen_at : List ℕ → ℕ → Text
 seen_at text i = next_text (slice_get text i)
 
-abbrev pub nothing_said : ℕ → Error
-nothing_said i = record { place = i; messages = no_messages }
+abbrev pub no_messages_at : ℕ → Error
+no_messages_at i = record { place = i; messages = no_messages }
 
 -- what was seen is all that is said
 abbrev pub stopped_by : Text → ℕ → Error

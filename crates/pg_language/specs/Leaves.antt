@@ -8,14 +8,14 @@ use Rattle.pg_grammar.specs.declared.class.ClassPart.{ClassPart}
 use Rattle.pg_grammar.specs.declared.word_item.WordItem.{WordItem}
 use Rattle.pg_grammar.specs.declared.form.Leaf.{Leaf}
 use Rattle.pg_grammar.specs.declared.form.Leaf.TheVariants as leaf
-use Rattle.pg_language.specs.Derives.{Spot, behind, leaf_of}
+use Rattle.pg_language.specs.Derives.{Spot, after, leaf_of}
 use Rattle.pg_language.specs.Runs.{run_at}
-use Rattle.pg_language.specs.Errors.{quote, seen_at, nothing_said, stopped_by, stopped_before, refused, refused_before}
+use Rattle.pg_language.specs.Errors.{quote, seen_at, no_messages_at, stopped_by, stopped_before, refused, refused_before}
 use Rattle.pg_language.specs.Outcomes.{Outcome, ok, failed}
 
 -- these characters were taken, as one leaf
 abbrev pub taken : Spot → List ℕ → Outcome
-taken a s = let b : Spot = behind a (length s) in ok true b (leaf_of s ∷ []) [] (nothing_said b.place)
+taken a s = let b : Spot = after a (length s) in ok true b (leaf_of s ∷ []) [] (no_messages_at b.place)
 
 -- ---- by the character that comes next, if one does
 

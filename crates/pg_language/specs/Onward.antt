@@ -1,4 +1,4 @@
--- What is so of every derivation: it goes on in the text, and operators come to the table only behind those that are there.
+-- What is so of every derivation: it goes on in the text, and operators come to the table only after those that are there.
 use Rattle.std.specs.Prelude.{◌≡◌, ◌≤◌, ◌++◌, ℕ, List, length}
 use Rattle.std.specs.List.{AllByRecursion}
 use Rattle.pg_tree.specs.Trees.{Tree}
@@ -16,7 +16,7 @@ pub record LeadsOn (text : List ℕ) (a b : Spot) : Type 0 where
   pub further : List Operator
   pub proper : AllByRecursion IsOperator further
   pub added : added_from 0 a.table further ≡ whole b.table
-  pub behind : b.table.operators ≡ a.table.operators ++ further
+  pub after : b.table.operators ≡ a.table.operators ++ further
   pub still : a.place ≡ b.place → a ≡ b
 
 -- every derivation of a node leads on

@@ -10,29 +10,29 @@ use Rattle.pg_grammar.specs.declared.form.Around.{Around}
 use Rattle.pg_grammar.specs.declared.form.Around.TheVariants as kind
 use Rattle.pg_grammar.specs.declared.side.Side.{Side}
 use Rattle.pg_grammar.specs.declared.trail.TrailItem.{TrailItem}
-use Rattle.pg_language.specs.Errors.{Error, merge, relabel, nothing_said}
+use Rattle.pg_language.specs.Errors.{Error, merge, relabel, no_messages_at}
 use Rattle.pg_language.specs.Outcomes.{Outcome, ok, failed, empty_round}
 
--- the error behind one of before: alone where something was consumed since, else merged with it
-abbrev pub error_behind : Bool → Error → Error → Error
-error_behind true e f = f
-error_behind false e f = merge e f
+-- the error after one of before: alone where something was consumed since, else merged with it
+abbrev pub error_after : Bool → Error → Error → Error
+error_after true e f = f
+error_after false e f = merge e f
 
 -- ---- sequences and repetitions
 
--- what a sequence answers where a part was ok and those behind it answer so
+-- what a sequence answers where a part was ok and those after it answer so
 abbrev pub then_rest : Bool → List Tree → List TrailItem → Error → Outcome → Outcome
-then_rest c v t e (ok d b w u f) = ok (c || d) b (v ++ w) (t ++ u) (error_behind d e f)
-then_rest c v t e (failed d f) = failed (c || d) (error_behind d e f)
+then_rest c v t e (ok d b w u f) = ok (c || d) b (v ++ w) (t ++ u) (error_after d e f)
+then_rest c v t e (failed d f) = failed (c || d) (error_after d e f)
 then_rest c v t e empty_round = empty_round
 
--- what a repetition answers where a round was ok and those behind it answer so: the round's error is gone
+-- what a repetition answers where a round was ok and those after it answer so: the round's error is gone
 abbrev pub then_round : List Tree → List TrailItem → Outcome → Outcome
 then_round v t (ok d b w u f) = ok true b (v ++ w) (t ++ u) f
 then_round v t (failed d f) = failed true f
 then_round v t empty_round = empty_round
 
--- the outcome with an item in front of its trail
+-- the outcome with an item before its trail
 abbrev pub noted : TrailItem → Outcome → Outcome
 noted x (ok c b v t e) = ok c b v (x ∷ t) e
 noted x (failed c e) = failed c e
@@ -40,13 +40,13 @@ noted x empty_round = empty_round
 
 -- ---- choices
 
--- what a choice answers where an alternative failed empty and those behind it answer so
+-- what a choice answers where an alternative failed empty and those after it answer so
 abbrev pub after_failure : Error → Outcome → Outcome
-after_failure e (ok c b v t f) = ok c b v t (error_behind c e f)
-after_failure e (failed c f) = failed c (error_behind c e f)
+after_failure e (ok c b v t f) = ok c b v t (error_after c e f)
+after_failure e (failed c f) = failed c (error_after c e f)
 after_failure e empty_round = empty_round
 
--- the same in the report's reading where an alternative was ok and empty: it stands, unless one behind it consumed
+-- the same in the report's reading where an alternative was ok and empty: it stands, unless one after it consumed
 abbrev pub unless_consumed : Spot → List Tree → List TrailItem → Error → Outcome → Outcome
 unless_consumed b v t e (ok true d w u f) = ok true d w u f
 unless_consumed b v t e (ok false d w u f) = ok false b v t (merge e f)
@@ -73,17 +73,17 @@ counted_by (kind.Build used symbol) c = c
 counted_by (kind.Label message) c = c
 
 -- the form's error, from how the part answered and the part's error
-abbrev pub said_by : Around → AnswerKind → Error → Error
-said_by kind.Try answer e = e
-said_by kind.Text answer e = e
-said_by kind.Skip answer e = e
-said_by (kind.Build used symbol) answer e = e
-said_by (kind.Label message) answer e = relabel answer (encode_utf8_all message) e
+abbrev pub labelled_by : Around → AnswerKind → Error → Error
+labelled_by kind.Try answer e = e
+labelled_by kind.Text answer e = e
+labelled_by kind.Skip answer e = e
+labelled_by (kind.Build used symbol) answer e = e
+labelled_by (kind.Label message) answer e = relabel answer (encode_utf8_all message) e
 
 -- what a form around a part answers at a spot of the text, where the part answers so
 abbrev pub surrounded : Around → List ℕ → Spot → Outcome → Outcome
-surrounded k text a (ok c b v t e) = ok c b (made_by k text a.place b.place v) t (said_by k (ok_kind c) e)
-surrounded k text a (failed c e) = failed (counted_by k c) (said_by k (error_kind c) e)
+surrounded k text a (ok c b v t e) = ok c b (made_by k text a.place b.place v) t (labelled_by k (ok_kind c) e)
+surrounded k text a (failed c e) = failed (counted_by k c) (labelled_by k (error_kind c) e)
 surrounded k text a empty_round = empty_round
 
 -- ---- chains
@@ -97,4 +97,4 @@ as_finished side shape x s empty_round = empty_round
 -- a round failed: the chain ends before it with its forest, or fails where the round had consumed
 abbrev pub unless_begun : Bool → Spot → List Tree → Error → Outcome
 unless_begun true a x e = failed true e
-unless_begun false a x e = ok false a x [] (merge e (nothing_said a.place))
+unless_begun false a x e = ok false a x [] (merge e (no_messages_at a.place))

@@ -4,8 +4,8 @@
 
 ghost use Rattle.pg_language.specs.Onward.{DerivationsLeadOn, TablesComeFromGrammar};
 
-/// The law that derivations lead on: the place behind is not before the place at the start and not past the text's end,
-/// and the table behind is the table at the start, with operators added that can be declared and that it admitted one after
+/// The law that derivations lead on: the place after is not before the place at the start and not past the text's end,
+/// and the table after is the table at the start, with operators added that can be declared and that it admitted one after
 /// another; none are added where nothing is consumed.
 pub fn derivations_lead_on()
     ensures { DerivationsLeadOn }

@@ -1,4 +1,4 @@
 pub mod Unanswered
 pub mod Running
-pub mod Going
+pub mod HaltingRuns
 pub mod Whole

@@ -1,35 +1,38 @@
 -- What an answer to a whole text says of its derivations.
-use Rattle.std.proofs.Common.{◌≡◌, ◌+◌, ◌≤◌, ◌∙◌, ℕ, arith, Bool, sym, subst}
+use Rattle.std.proofs.Common.{◌≡◌, ◌<◌, ◌-◌, ◌*◌, ◌^◌, ◌∙◌, ℕ, min, arith, Bool, sym, subst}
 use Rattle.std.specs.Prelude.{Option, Some, None, IfSome, IfNone, Result, Ok, Err, IfOk}
 use Rattle.pg_text.specs.Position.{position_of}
 use Rattle.pg_table.specs.Tables.{Table, ComesFrom}
-use Rattle.pg_language.specs.Answers.{Given}
+use Rattle.pg_language.specs.Answers.{Given, Answers, entered}
+use Rattle.pg_language.specs.Derives.{Spot}
 use Rattle.pg_language.specs.Errors.{Error, without_position}
 use Rattle.pg_language.specs.Outcomes.{Outcome, ok, failed, empty_round}
 use Rattle.pg_language.specs.WholeTexts.{AnswersText, from_start, at_end, nodes_to_end}
 use Rattle.pg_derive.proofs.AcceptedTexts.{refuses_rightly, derives_once}
 use Rattle.pg_derive.proofs.WholeTexts.{answered_derived}
-use Rattle.pg_machine.specs.CheckedRuns.{HasAcceptedGrammar, IsTextAnswer, IsStartAnswer, IsOnlyDerivation, IsUnderivable}
+use Rattle.pg_machine.specs.CheckedRuns.{HasAcceptedGrammar, IsTextAnswer, IsStartAnswer, steps_to_end, IsOnlyDerivation, IsUnderivable}
 use Rattle.pg_machine.specs.Outcomes.{outcome_of, outcome_with}
 use Rattle.pg_turns.specs.Tape.{spot_at}
 use Rattle.pg_machine.specs.declared.answer.Answer.{Answer}
 use Rattle.pg_machine.specs.declared.answer.Success.{Success}
 
--- the end of the text is one node, or none
-one_more : (o : Outcome) (m : ℕ) → (m ≤ nodes_to_end o m) × (nodes_to_end o m ≤ m + 1)
-one_more (ok c b v t e) m = (omega arith, omega arith)
-one_more (failed c e) m = (omega arith, omega arith)
-one_more empty_round m = (omega arith, omega arith)
+some_node : {G : Given} {p m : ℕ} {a : Spot} {o : Outcome} → Answers G p a o m → 0 < m
+some_node (entered there d) = omega arith
 
--- the end of the text behind the start rule
+-- the end of the text is one node more, and two turns, where it is asked for
+counted : (o : Outcome) (m k : ℕ) → 0 < m → k ≡ min (2 * m - 1) (2 ^ 64 - 1) → steps_to_end o k ≡ min (2 * nodes_to_end o m - 1) (2 ^ 64 - 1)
+counted (ok c b v t e) m k l h = omega arith
+counted (failed c e) m k l h = h
+counted empty_round m k l h = h
+
+-- the end of the text after the start rule
 pub whole : (G : Given) (T : Table) (a b : Answer) → IsStartAnswer G T a → outcome_of b ≡ at_end G.text (outcome_of a) → b.error.position ≡ position_of G.text b.error.place →
-    b.steps ≡ a.steps → IsTextAnswer G T b
-whole G T a b h e p s = let counted = s ∙ h.steps in let few = (one_more (outcome_of a) h.nodes).0 in let many = (one_more (outcome_of a) h.nodes).1 in record {
+    b.steps ≡ steps_to_end (outcome_of a) a.steps → IsTextAnswer G T b
+whole G T a b h e p s = record {
   nodes = nodes_to_end (outcome_of a) h.nodes;
   answers = subst (λ (o : Outcome). AnswersText G T o (nodes_to_end (outcome_of a) h.nodes)) (sym e) (from_start h.answers.is_start h.answers.body);
   position = p;
-  least = omega arith;
-  most = omega arith;
+  steps = s ∙ counted (outcome_of a) h.nodes a.steps (some_node h.answers.body) h.steps;
 }
 
 ok_only : (G : Given) → HasAcceptedGrammar G → (T : Table) → ComesFrom G.grammar T → (c : Bool) (e : Error) (n : ℕ) (s : Option Success) → AnswersText G T (outcome_with c e s) n → IfSome s (IsOnlyDerivation G.grammar G.text T)
@@ -50,6 +53,6 @@ refused G h T from a x = failed_none G h T from a.consumed (without_position a.e
 
 -- the same where memory may have run out
 pub whole_if_ok : {E : Type 0} (G : Given) (T : Table) (a : Answer) (r : Result Answer E) → IsStartAnswer G T a → IfOk r (λ b. outcome_of b ≡ at_end G.text (outcome_of a)) →
-    IfOk r (λ b. b.error.position ≡ position_of G.text b.error.place) → IfOk r (λ b. b.steps ≡ a.steps) → IfOk r (IsTextAnswer G T)
+    IfOk r (λ b. b.error.position ≡ position_of G.text b.error.place) → IfOk r (λ b. b.steps ≡ steps_to_end (outcome_of a) a.steps) → IfOk r (IsTextAnswer G T)
 whole_if_ok G T a (Ok b) h e p s = whole G T a b h e p s
 whole_if_ok G T a (Err x) h e p s = tt

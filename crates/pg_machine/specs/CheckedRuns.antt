@@ -1,5 +1,5 @@
 -- What a run of an accepted grammar says of a whole text.
-use Rattle.std.specs.Prelude.{◌≡◌, ◌≤◌, ◌+◌, ◌-◌, ◌*◌, ◌^◌, ℕ, min, List, length}
+use Rattle.std.specs.Prelude.{◌≡◌, ◌+◌, ◌-◌, ◌*◌, ◌^◌, ℕ, min, List, length}
 use Rattle.pg_text.specs.Position.{position_of}
 use Rattle.pg_tree.specs.Trees.{Tree}
 use Rattle.pg_grammar.specs.Grammar.{Grammar}
@@ -9,6 +9,7 @@ use Rattle.pg_language.specs.Derives.{DerivesText}
 use Rattle.pg_table.specs.Tables.{Table}
 use Rattle.pg_derive.specs.Accepted.{Accepts}
 use Rattle.pg_language.specs.Answers.{Given, AnswersStart}
+use Rattle.pg_language.specs.Outcomes.{Outcome, ok, failed, empty_round}
 use Rattle.pg_language.specs.WholeTexts.{AnswersText}
 use Rattle.pg_machine.specs.Outcomes.{outcome_of}
 use Rattle.pg_machine.specs.declared.answer.Answer.{Answer}
@@ -18,14 +19,13 @@ use Rattle.pg_machine.specs.declared.answer.Success.{Success}
 abbrev pub HasAcceptedGrammar : Given → Type 0
 HasAcceptedGrammar G = (sets : Sets) × Accepts G sets
 
--- the answer is the relation's, of the start rule and the end of the text behind it, with its error's position, after about
--- two turns for each node, which are counted up to the greatest number
+-- the answer is the relation's, of the start rule and the end of the text after it, with its error's position, after two
+-- turns for each node but one for the first, which are counted up to the greatest number
 pub record IsTextAnswer (G : Given) (table : Table) (a : Answer) : Type 0 where
   pub nodes : ℕ
   pub answers : AnswersText G table (outcome_of a) nodes
   pub position : a.error.position ≡ position_of G.text a.error.place
-  pub least : min (2 * nodes) (2 ^ 64 - 1) ≤ a.steps + 3
-  pub most : a.steps ≤ 2 * nodes
+  pub steps : a.steps ≡ min (2 * nodes - 1) (2 ^ 64 - 1)
 
 -- the text is derived so, to its end, and in no other way
 pub record IsOnlyDerivation (g : Grammar) (text : List ℕ) (table : Table) (s : Success) : Type 0 where
@@ -39,6 +39,13 @@ abbrev pub IsUnderivable : Grammar → List ℕ → Table → Type 0
 IsUnderivable g text table = (after : Table) (forest : List Tree) (trail : List TrailItem) → ¬ (DerivesText g text table after forest trail)
 
 -- ---- on the way there
+
+-- the turns that were counted, with those of the end of the text where it is asked for: it is entered, and its answer is handed
+-- on
+abbrev pub steps_to_end : Outcome → ℕ → ℕ
+steps_to_end (ok c b v t e) k = min (k + 2) (2 ^ 64 - 1)
+steps_to_end (failed c e) k = k
+steps_to_end empty_round k = k
 
 -- the answer of the start rule alone
 pub record IsStartAnswer (G : Given) (table : Table) (a : Answer) : Type 0 where

@@ -29,60 +29,39 @@ IsDerived G p a (outcome.ok c b v t e) = Derives G.grammar G.text p a b v t
 IsDerived G p a (outcome.failed c e) = Unit {0}
 IsDerived G p a outcome.empty_round = Unit {0}
 
--- an answer of the start rule: the relation's, with its error's position, after about two turns for each node
+-- an answer of the start rule: the relation's, with its error's position, after two turns for each node but one for the first
 pub record IsAnswer (G : Given) (table : Table) (a : Answer) : Type 0 where
   pub entered : ℕ
   pub answers : AnswersStart G table (outcome_of a) entered
   pub position : a.error.position ≡ position_of G.text a.error.place
-  pub least : 2 * entered ≤ a.steps + 1
-  pub most : a.steps ≤ 2 * entered + 8
+  pub steps : a.steps + 1 ≡ 2 * entered
   pub derived : IsDerived G answers.start.body (spot_at table 0) (outcome_of a)
 
--- a run of the start rule within so many steps
+-- a run of the start rule within so many steps: it comes to its outcome exactly where that takes no more
 abbrev pub IsOutcome : Given → Table → ℕ → ended.Outcome → Type 0
 IsOutcome G table most (Answered a) = IsAnswer G table a × (a.steps ≤ most)
--- only where no outcome takes so few steps
-IsOutcome G table most StepsUsed = (o : Outcome) (m : ℕ) → AnswersStart G table o m → most < 2 * m + 8
-IsOutcome G table most EmptyRound = (m : ℕ) × AnswersStart G table outcome.empty_round m
+IsOutcome G table most StepsUsed = (o : Outcome) (m : ℕ) → AnswersStart G table o m → most + 1 < 2 * m
+IsOutcome G table most EmptyRound = (m : ℕ) × AnswersStart G table outcome.empty_round m × (2 * m ≤ most + 1)
 
 -- ---- how the machine ends
 
--- the answer that lies on the tape, where no frame is left
-abbrev pub answer_on : Tape → Option Outcome
-answer_on (tape_at p i fs v t x T) = None
-answer_on (tape_with (reply.Fine c j why) [] v t x T) = Some (outcome.ok c (spot_at T j) v t (error_of why.place (drop why.from x)))
-answer_on (tape_with (reply.Failed c why) [] v t x T) = Some (outcome.failed c (error_of why.place (drop why.from x)))
-answer_on (tape_with (reply.Fine c j why) (f ∷ fs) v t x T) = None
-answer_on (tape_with (reply.Failed c why) (f ∷ fs) v t x T) = None
-answer_on (tape_with reply.EmptyRound fs v t x T) = None
-answer_on tape_endless = None
-
--- a round was empty
-abbrev pub IsStuck : Tape → Type 0
-IsStuck (tape_at p i fs v t x T) = ⊥
-IsStuck (tape_with (reply.Fine c j why) fs v t x T) = ⊥
-IsStuck (tape_with (reply.Failed c why) fs v t x T) = ⊥
-IsStuck (tape_with reply.EmptyRound fs v t x T) = Unit {0}
-IsStuck tape_endless = ⊥
-
--- neither an answer nor an empty round
-abbrev pub IsUnanswered : Tape → Type 0
-IsUnanswered (tape_at p i fs v t x T) = Unit {0}
-IsUnanswered (tape_with (reply.Fine c j why) [] v t x T) = ⊥
-IsUnanswered (tape_with (reply.Failed c why) [] v t x T) = ⊥
-IsUnanswered (tape_with (reply.Fine c j why) (f ∷ fs) v t x T) = Unit {0}
-IsUnanswered (tape_with (reply.Failed c why) (f ∷ fs) v t x T) = Unit {0}
-IsUnanswered (tape_with reply.EmptyRound fs v t x T) = ⊥
-IsUnanswered tape_endless = Unit {0}
+-- the outcome that lies on the tape, where no frame is left
+abbrev pub outcome_on : Tape → Option Outcome
+outcome_on (tape_at p i fs v t x T) = None
+outcome_on (tape_with r (f ∷ fs) v t x T) = None
+outcome_on (tape_with (reply.Succeeded c j error) [] v t x T) = Some (outcome.ok c (spot_at T j) v t (error_of error.place (drop error.from x)))
+outcome_on (tape_with (reply.Failed c error) [] v t x T) = Some (outcome.failed c (error_of error.place (drop error.from x)))
+outcome_on (tape_with reply.EmptyRound [] v t x T) = Some outcome.empty_round
+outcome_on tape_endless = None
 
 -- the answer is what lies on the tape
 pub record IsAnswerOn (text : List ℕ) (tape : Tape) (taken : ℕ) (a : Answer) : Type 0 where
-  pub outcome : answer_on tape ≡ Some (outcome_of a)
+  pub outcome : outcome_on tape ≡ Some (outcome_of a)
   pub position : a.error.position ≡ position_of text a.error.place
   pub steps : a.steps ≡ taken
 
 -- so a run ends whose machine has this tape after so many steps
 abbrev pub Ends : List ℕ → Tape → ℕ → ended.Outcome → Type 0
 Ends text tape steps (Answered a) = IsAnswerOn text tape steps a
-Ends text tape steps StepsUsed = IsUnanswered tape
-Ends text tape steps EmptyRound = IsStuck tape
+Ends text tape steps StepsUsed = outcome_on tape ≡ None
+Ends text tape steps EmptyRound = outcome_on tape ≡ Some outcome.empty_round

@@ -1,7 +1,7 @@
 //! Runs of a checked grammar over whole texts.
 //!
 //! At the nodes of a checked grammar nothing is wrong, so that the start rule has an answer to each text and the machine
-//! comes to it: the run goes on until it is there, however many turns that takes. Behind an ok answer the text has to end.
+//! comes to it: the run goes on until it is there, however many turns that takes. After an ok answer the text has to end.
 
 ghost use Rattle.std.specs.Prelude.{◌≡◌, ◌≤◌, length, IfOk, IfSome, IfNone};
 ghost use Rattle.pg_grammar.specs.Fits.{Fits};
@@ -9,11 +9,13 @@ ghost use Rattle.pg_pred.specs.Offer.{offer_of};
 ghost use Rattle.pg_table.specs.Tables.{ComesFrom};
 ghost use Rattle.pg_text.specs.Position.{position_of};
 ghost use Rattle.pg_derive.specs.Accepted.{Accepts};
+ghost use Rattle.pg_derive.specs.LeastSets.{node_sets};
+ghost use Rattle.pg_derive.specs.PredictiveLaws.{LosesNoAlternative, EachRoundConsumes, EachLinkConsumes};
 ghost use Rattle.pg_language.specs.Answers.{given};
 ghost use Rattle.pg_language.specs.WholeTexts.{at_end};
 ghost use Rattle.pg_language.specs.declared.reading.Reading.TheVariants.{Library};
 ghost use Rattle.pg_turns.specs.Messages.{end_error};
-ghost use Rattle.pg_machine.specs.CheckedRuns.{HasAcceptedGrammar, IsTextAnswer, IsStartAnswer, IsOnlyDerivation, IsUnderivable};
+ghost use Rattle.pg_machine.specs.CheckedRuns.{HasAcceptedGrammar, IsTextAnswer, IsStartAnswer, IsOnlyDerivation, IsUnderivable, steps_to_end};
 ghost use Rattle.pg_machine.specs.Halting.{Halts, Halts-prop};
 ghost use Rattle.pg_machine.specs.Outcomes.{outcome_of};
 
@@ -25,13 +27,14 @@ use pg_pred::Registry;
 use pg_predict::Checked;
 use pg_table::Table;
 use pg_text::Text;
-use pg_turns::{Machine, Mode, end_said};
+use pg_turns::{Machine, Mode, error_at_end};
 use std::alloc::{AllocError, Global};
 
 /// Runs the start rule over the whole text, under the table, in the library's reading, until there is an answer: ok, with
 /// the one derivation of the text, or an error, and then nothing derives it. The answer's steps are the turns that it took,
-/// or the greatest number where they are more. The caller owes that the registry fits and that the table comes from the
-/// grammar. The only error is that memory ran out.
+/// those of the end of the text among them, or the greatest number where they are more: `2m - 1` for `m` nodes. On the way no
+/// choice loses an alternative to consumed input, and each round of a repetition and each link of a chain consumes. The
+/// caller owes that the registry fits and that the table comes from the grammar. The only error is that memory ran out.
 pub fn run(
     alloc: Global,
     checked: &Checked,
@@ -44,6 +47,9 @@ pub fn run(
     ensures answer { IfOk result (IsTextAnswer (given Library checked.now.grammar text.now) table.now) }
     ensures derived { IfOk result (λ a. IfSome a.success (IsOnlyDerivation checked.now.grammar text.now table.now)) }
     ensures refused { IfOk result (λ a. IfNone a.success (IsUnderivable checked.now.grammar text.now table.now)) }
+    ensures choices { LosesNoAlternative (given Library checked.now.grammar text.now) (node_sets checked.now.grammar checked.now.sets) }
+    ensures rounds { EachRoundConsumes (given Library checked.now.grammar text.now) }
+    ensures links { EachLinkConsumes (given Library checked.now.grammar text.now) }
 {
     let grammar = accepted(checked, text);
     let run = HaltingRun {
@@ -102,12 +108,12 @@ impl HaltingRun<'_> {
     }
 }
 
-/// The answer to a text that has to end behind what was read.
+/// The answer to a text that has to end after what was read.
 fn whole_answer(alloc: Global, text: &Text, answer: Answer) -> Result<Answer, AllocError>
     requires { answer.error.position ≡ position_of text.now answer.error.place }
     ensures outcome { IfOk result (λ whole. outcome_of whole ≡ at_end text.now (outcome_of answer)) }
     ensures position { IfOk result (λ whole. whole.error.position ≡ position_of text.now whole.error.place) }
-    ensures steps { IfOk result (λ whole. whole.steps ≡ answer.steps) }
+    ensures steps { IfOk result (λ whole. whole.steps ≡ steps_to_end (outcome_of answer) answer.steps) }
 {
     let Answer {
         consumed,
@@ -123,8 +129,10 @@ fn whole_answer(alloc: Global, text: &Text, answer: Answer) -> Result<Answer, Al
             success: None,
         });
     };
-    let said = end_said(alloc, text, success.place)?;
+    let said = error_at_end(alloc, text, success.place)?;
     error.merge(said)?;
+    // The end is a node more: it is entered, and its answer is handed on.
+    let steps = steps.saturating_add(2);
     let ends = success.place == text.len();
     let success = if ends { Some(success) } else { None };
     Ok(Answer {

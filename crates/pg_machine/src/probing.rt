@@ -18,9 +18,10 @@ use pg_turns::{Machine, Mode, Reply};
 use std::alloc::{AllocError, Global};
 
 /// Runs the start rule at the beginning of the text, under the table, in at most so many turns: each enters a node or
-/// hands an answer on. The answer has the table in a copy. P5 is answered only where no answer takes so few turns, also
-/// where the start rule has none, since a chain goes on without an end or an operator form is met. The caller owes that
-/// the registry fits. The only error is that memory ran out.
+/// hands an answer on, so that `m` nodes take `2m - 1`. The answer has the table in a copy. P5 is answered exactly where
+/// what the start rule comes to, an answer or P6, takes more turns, or where it comes to nothing: rules go round, a chain goes
+/// on without an end, or an operator form is met. The caller owes that the registry fits. The only error is that memory ran
+/// out.
 pub fn probe<'a>(
     alloc: Global,
     grammar: &'a Grammar,
@@ -64,33 +65,36 @@ pub(crate) fn ended(
 {
     match mode {
         Mode::At(_, _) => Ok(Outcome::StepsUsed),
-        Mode::With(reply) => match reply {
-            Reply::Fine { consumed, end, why } => {
-                if !machine.frames.is_empty() {
-                    return Ok(Outcome::StepsUsed);
-                }
-                let error = machine.error(alloc, text, why)?;
-                Ok(Outcome::Answered(Answer {
-                    consumed,
-                    error,
-                    steps,
-                    success: Some(success(machine, end)),
-                }))
+        Mode::With(reply) => {
+            if !machine.frames.is_empty() {
+                return Ok(Outcome::StepsUsed);
             }
-            Reply::Failed { consumed, why } => {
-                if !machine.frames.is_empty() {
-                    return Ok(Outcome::StepsUsed);
-                }
-                let error = machine.error(alloc, text, why)?;
-                Ok(Outcome::Answered(Answer {
+            match reply {
+                Reply::Succeeded {
                     consumed,
+                    end,
                     error,
-                    steps,
-                    success: None,
-                }))
+                } => {
+                    let error = machine.error(alloc, text, error)?;
+                    Ok(Outcome::Answered(Answer {
+                        consumed,
+                        error,
+                        steps,
+                        success: Some(success(machine, end)),
+                    }))
+                }
+                Reply::Failed { consumed, error } => {
+                    let error = machine.error(alloc, text, error)?;
+                    Ok(Outcome::Answered(Answer {
+                        consumed,
+                        error,
+                        steps,
+                        success: None,
+                    }))
+                }
+                Reply::EmptyRound => Ok(Outcome::EmptyRound),
             }
-            Reply::EmptyRound => Ok(Outcome::EmptyRound),
-        },
+        }
         Mode::Endless => Ok(Outcome::StepsUsed),
     }
 }

@@ -1,4 +1,4 @@
--- What is so of items that are handed to a maker, one behind another.
+-- What is so of items that are handed to a maker, one after another.
 pub mod Entries
 pub mod Growth
 pub mod Proper

@@ -16,8 +16,8 @@ use Rattle.pg_making.specs.Spells.{made_classes, max_meant, HasInitialTable}
 -- what was handed in, and an entry more
 abbrev pub with_entry : Offer → Made → Entry → Made
 with_entry offer made (class s parts) = with_class made s (parts_meant offer (made_classes made) parts)
-with_entry offer made (word s head behind reserved) =
-    with_word made (record { name = s; head = parts_meant offer (made_classes made) head; rest = parts_meant offer (made_classes made) behind; reserved = reserved })
+with_entry offer made (word s head after reserved) =
+    with_word made (record { name = s; head = parts_meant offer (made_classes made) head; rest = parts_meant offer (made_classes made) after; reserved = reserved })
 with_entry offer made (operators parts gap reserved most) =
     with_operators made (record { class = parts_meant offer (made_classes made) parts; gap = parts_meant offer (made_classes made) gap; reserved = reserved; max = max_meant most })
 with_entry offer made (table role precedence symbol) =
@@ -32,7 +32,7 @@ with_entries offer made (entry ∷ entries) = with_entries offer (with_entry off
 -- the names of classes and builders in an entry stand for something
 abbrev pub EntryIsKnown : Offer → List Name → Entry → Type 0
 EntryIsKnown offer classes (class s parts) = ClassIsKnown offer classes parts
-EntryIsKnown offer classes (word s head behind reserved) = ClassIsKnown offer classes head × ClassIsKnown offer classes behind
+EntryIsKnown offer classes (word s head after reserved) = ClassIsKnown offer classes head × ClassIsKnown offer classes after
 EntryIsKnown offer classes (operators parts gap reserved most) = ClassIsKnown offer classes parts × ClassIsKnown offer classes gap
 EntryIsKnown offer classes (table role precedence symbol) = Unit {0}
 EntryIsKnown offer classes (start s) = Unit {0}
@@ -41,7 +41,7 @@ EntryIsKnown offer classes (rule s forms) = AllByRecursion (FormIsKnown offer cl
 -- what an entry defines wasn't there before
 abbrev pub EntryIsNew : Offer → Made → Entry → Type 0
 EntryIsNew offer made (class s parts) = (has_name (made_classes made) s ≡ false) × (is_predicate_name offer s ≡ false)
-EntryIsNew offer made (word s head behind reserved) = has_name (made_words made) s ≡ false
+EntryIsNew offer made (word s head after reserved) = has_name (made_words made) s ≡ false
 EntryIsNew offer made (operators parts gap reserved most) = made.operators ≡ None
 EntryIsNew offer made (table role precedence symbol) = Unit {0}
 EntryIsNew offer made (start s) = made.start ≡ None
@@ -52,7 +52,7 @@ pub record MayFollow (offer : Offer) (made : Made) (entry : Entry) : Type 0 wher
   pub known : EntryIsKnown offer (made_classes made) entry
   pub new : EntryIsNew offer made entry
 
--- so is each entry, behind what was handed in before it
+-- so is each entry, after what was handed in before it
 abbrev pub EntriesAreInOrder : Offer → Made → List Entry → Type 0
 EntriesAreInOrder offer made [] = Unit {0}
 EntriesAreInOrder offer made (entry ∷ entries) = MayFollow offer made entry × EntriesAreInOrder offer (with_entry offer made entry) entries
@@ -79,7 +79,7 @@ pub record IsProperEntry (entry : Entry) : Type 0 where
 abbrev pub MakeNoGrammar : Offer → List Entry → Type 0
 MakeNoGrammar offer entries = (g : Grammar) → IsGrammarOfEntries offer entries g → ⊥
 
--- what was handed in, this entry and any others behind it make no grammar
+-- what was handed in, this entry and any others after it make no grammar
 abbrev pub LeadsNowhere : Offer → Made → Entry → Type 0
 LeadsNowhere offer made entry =
     (entries : List Entry) (g : Grammar) → MayFollow offer made entry → Says (with_entries offer (with_entry offer made entry) entries) g → ⊥

@@ -31,8 +31,8 @@ max_meant most = unwrap_or most 64
 -- what was handed in, and an item more; classes are looked up among the class items above
 abbrev pub with_item : Offer → Made → Item → Made
 with_item offer made (Class_item s c) = with_class made s (class_meant offer (made_classes made) c)
-with_item offer made (Word_item s head behind reserved) =
-    with_word made (record { name = s; head = class_meant offer (made_classes made) head; rest = class_meant offer (made_classes made) behind; reserved = reserved })
+with_item offer made (Word_item s head after reserved) =
+    with_word made (record { name = s; head = class_meant offer (made_classes made) head; rest = class_meant offer (made_classes made) after; reserved = reserved })
 with_item offer made (Operators c gap reserved most) =
     with_operators made (record { class = class_meant offer (made_classes made) c; gap = class_meant offer (made_classes made) gap; reserved = reserved; max = max_meant (most_of most) })
 with_item offer made (Table role precedence symbol) =
@@ -40,7 +40,7 @@ with_item offer made (Table role precedence symbol) =
 with_item offer made (Start s) = with_start made s
 with_item offer made (Rule_item s v) = with_rule made s (meant offer (made_classes made) v)
 
--- what was handed in, and these items, one behind another
+-- what was handed in, and these items, one after another
 abbrev pub with_items : Offer → Made → List Item → Made
 with_items offer made [] = made
 with_items offer made (item ∷ items) = with_items offer (with_item offer made item) items
@@ -48,7 +48,7 @@ with_items offer made (item ∷ items) = with_items offer (with_item offer made 
 -- the names of classes and builders in an item stand for something
 abbrev pub IsKnown : Offer → List Name → Item → Type 0
 IsKnown offer classes (Class_item s c) = ClassIsKnown offer classes (class_parts c)
-IsKnown offer classes (Word_item s head behind reserved) = ClassIsKnown offer classes (class_parts head) × ClassIsKnown offer classes (class_parts behind)
+IsKnown offer classes (Word_item s head after reserved) = ClassIsKnown offer classes (class_parts head) × ClassIsKnown offer classes (class_parts after)
 IsKnown offer classes (Operators c gap reserved most) = ClassIsKnown offer classes (class_parts c) × ClassIsKnown offer classes (class_parts gap)
 IsKnown offer classes (Table role precedence symbol) = Unit {0}
 IsKnown offer classes (Start s) = Unit {0}
@@ -58,13 +58,13 @@ IsKnown offer classes (Rule_item s v) = AllByRecursion (FormIsKnown offer classe
 -- the operators and the start come once
 abbrev pub IsNew : Offer → Made → Item → Type 0
 IsNew offer made (Class_item s c) = (has_name (made_classes made) s ≡ false) × (is_predicate_name offer s ≡ false)
-IsNew offer made (Word_item s head behind reserved) = has_name (made_words made) s ≡ false
+IsNew offer made (Word_item s head after reserved) = has_name (made_words made) s ≡ false
 IsNew offer made (Operators c gap reserved most) = made.operators ≡ None
 IsNew offer made (Table role precedence symbol) = Unit {0}
 IsNew offer made (Start s) = made.start ≡ None
 IsNew offer made (Rule_item s v) = has_name made.names s ≡ false
 
--- so is each item, behind what was handed in before it
+-- so is each item, after what was handed in before it
 abbrev pub AreInOrder : Offer → Made → List Item → Type 0
 AreInOrder offer made [] = Unit {0}
 AreInOrder offer made (item ∷ items) = IsKnown offer (made_classes made) item × IsNew offer made item × AreInOrder offer (with_item offer made item) items

@@ -15,7 +15,7 @@ ghost use Rattle.pg_making.specs.Making.{with_entry, MayFollow, LeadsNowhere, Is
 
 use pg_grammar::{BaseForm, Decl, Maker, MakerFault, OPERATOR_LIMIT, Role, Texts};
 use pg_items::{PlacedForm, WrittenClass};
-use pg_meaning::{PlacedBase, Unmade, body_meant, class_meant, is_predicate_name};
+use pg_meaning::{MakingError, PlacedBase, body_meant, class_meant, is_predicate_name};
 use pg_pred::Registry;
 use pg_text::Characters;
 use pg_tokens::copied;
@@ -25,16 +25,16 @@ use std::alloc::{AllocError, Global};
 const PRECEDENCE_LIMIT: usize = 9;
 
 /// A maker's refusal.
-pub fn unmade(fault: MakerFault) -> Unmade
-    ensures { (result ≡ Unmade.Memory) ↔ (fault ≡ MakerFault.Memory) }
+pub fn unmade(fault: MakerFault) -> MakingError
+    ensures { (result ≡ MakingError.Memory) ↔ (fault ≡ MakerFault.Memory) }
 {
     match fault {
-        MakerFault::Memory => Unmade::Memory,
+        MakerFault::Memory => MakingError::Memory,
         MakerFault::UnknownName
         | MakerFault::NameTwice
         | MakerFault::NoStart
         | MakerFault::BadLiteral
-        | MakerFault::LimitPassed => Unmade::Refused,
+        | MakerFault::LimitPassed => MakingError::Refused,
     }
 }
 
@@ -46,17 +46,17 @@ pub fn class_item(
     classes: &mut Vec<Characters>,
     name: &Characters,
     class: &WrittenClass,
-) -> Result<(), Unmade>
+) -> Result<(), MakingError>
     requires proper { IsProperEntry (entries.class name.now class.now) }
     requires names { classes.old.items ≡ made_classes maker.old }
     ensures made { OnOk result (maker.new ≡ with_entry (offer_of registry.now) maker.old (entries.class name.now class.now)) }
     ensures follows { OnOk result (MayFollow (offer_of registry.now) maker.old (entries.class name.now class.now)) }
     ensures names { OnOk result (classes.new.items ≡ made_classes maker.new) }
-    ensures refused { IsErrOf result Unmade.Refused → LeadsNowhere (offer_of registry.now) maker.old (entries.class name.now class.now) }
+    ensures refused { IsErrOf result MakingError.Refused → LeadsNowhere (offer_of registry.now) maker.old (entries.class name.now class.now) }
 {
     let name = name.as_slice();
     if is_predicate_name(alloc, registry, name)? {
-        return Err(Unmade::Refused);
+        return Err(MakingError::Refused);
     }
     let class = class_meant(alloc, registry, classes.as_slice(), class)?;
     if let Err(fault) = maker.class(copied(alloc, name)?, class) {
@@ -76,12 +76,12 @@ pub fn word_item(
     head: &WrittenClass,
     rest: &WrittenClass,
     reserved: &[Characters],
-) -> Result<(), Unmade>
+) -> Result<(), MakingError>
     requires proper { IsProperEntry (entries.word name.now head.now rest.now reserved.now) }
     requires names { classes.now ≡ made_classes maker.old }
     ensures made { OnOk result (maker.new ≡ with_entry (offer_of registry.now) maker.old (entries.word name.now head.now rest.now reserved.now)) }
     ensures follows { OnOk result (MayFollow (offer_of registry.now) maker.old (entries.word name.now head.now rest.now reserved.now)) }
-    ensures refused { IsErrOf result Unmade.Refused → LeadsNowhere (offer_of registry.now) maker.old (entries.word name.now head.now rest.now reserved.now) }
+    ensures refused { IsErrOf result MakingError.Refused → LeadsNowhere (offer_of registry.now) maker.old (entries.word name.now head.now rest.now reserved.now) }
 {
     let head_parts = class_meant(alloc, registry, classes, head)?;
     let rest_parts = class_meant(alloc, registry, classes, rest)?;
@@ -102,12 +102,12 @@ pub fn operators_item(
     gap: &WrittenClass,
     reserved: &[Characters],
     most: Option<usize>,
-) -> Result<(), Unmade>
+) -> Result<(), MakingError>
     requires proper { IsProperEntry (entries.operators class.now gap.now reserved.now most) }
     requires names { classes.now ≡ made_classes maker.old }
     ensures made { OnOk result (maker.new ≡ with_entry (offer_of registry.now) maker.old (entries.operators class.now gap.now reserved.now most)) }
     ensures follows { OnOk result (MayFollow (offer_of registry.now) maker.old (entries.operators class.now gap.now reserved.now most)) }
-    ensures refused { IsErrOf result Unmade.Refused → LeadsNowhere (offer_of registry.now) maker.old (entries.operators class.now gap.now reserved.now most) }
+    ensures refused { IsErrOf result MakingError.Refused → LeadsNowhere (offer_of registry.now) maker.old (entries.operators class.now gap.now reserved.now most) }
 {
     let class_parts = class_meant(alloc, registry, classes, class)?;
     let gap_parts = class_meant(alloc, registry, classes, gap)?;
@@ -125,13 +125,13 @@ pub fn table_item(
     role: Role,
     precedence: usize,
     symbol: &Characters,
-) -> Result<(), Unmade>
+) -> Result<(), MakingError>
     requires { IsProperEntry (entries.table role precedence symbol.now) }
     ensures made { OnOk result (maker.new ≡ with_initial maker.old (record { role = role; precedence = precedence; symbol = symbol.now })) }
-    ensures proper { IsErrOf result Unmade.Refused → ⊥ }
+    ensures proper { IsErrOf result MakingError.Refused → ⊥ }
 {
     let Some(declaration) = declaration(alloc, role, precedence, symbol)? else {
-        return Err(Unmade::Refused);
+        return Err(MakingError::Refused);
     };
     match maker.initial(declaration) {
         Ok(()) => Ok(()),
@@ -140,11 +140,11 @@ pub fn table_item(
 }
 
 /// Hands the start in.
-pub fn start_item(alloc: Global, maker: &mut Maker, name: &Characters) -> Result<(), Unmade>
+pub fn start_item(alloc: Global, maker: &mut Maker, name: &Characters) -> Result<(), MakingError>
     requires { IsProperEntry (entries.start name.now) }
     ensures made { OnOk result (maker.new ≡ with_start maker.old name.now) }
     ensures follows { OnOk result (maker.old.start ≡ None) }
-    ensures refused { IsErrOf result Unmade.Refused → maker.old.start ≡ None → ⊥ }
+    ensures refused { IsErrOf result MakingError.Refused → maker.old.start ≡ None → ⊥ }
 {
     match maker.start(copied(alloc, name.as_slice())?) {
         Ok(()) => Ok(()),
@@ -161,14 +161,14 @@ pub fn rule_item(
     places: &mut Vec<usize>,
     name: &Characters,
     body: &[PlacedForm],
-) -> Result<(), Unmade>
+) -> Result<(), MakingError>
     requires proper { IsProperEntry (entries.rule name.now (forms_of body.now)) }
     requires names { classes.now ≡ made_classes maker.old }
     requires forms { length places.old.items ≡ length maker.old.forms }
     ensures made { OnOk result (maker.new ≡ with_entry (offer_of registry.now) maker.old (entries.rule name.now (forms_of body.now))) }
     ensures follows { OnOk result (MayFollow (offer_of registry.now) maker.old (entries.rule name.now (forms_of body.now))) }
     ensures forms { OnOk result (length places.new.items ≡ length maker.new.forms) }
-    ensures refused { IsErrOf result Unmade.Refused → LeadsNowhere (offer_of registry.now) maker.old (entries.rule name.now (forms_of body.now)) }
+    ensures refused { IsErrOf result MakingError.Refused → LeadsNowhere (offer_of registry.now) maker.old (entries.rule name.now (forms_of body.now)) }
 {
     let placed = body_meant(alloc, registry, classes, body)?;
     let forms = without_places(alloc, placed, places)?;

@@ -16,7 +16,7 @@ use crate::handing::{
 use crate::initials::has_initial_table;
 use pg_grammar::{Grammar, Maker};
 use pg_items::Item;
-use pg_meaning::Unmade;
+use pg_meaning::MakingError;
 use pg_pred::Registry;
 use pg_text::Characters;
 use std::alloc::Global;
@@ -35,11 +35,11 @@ pub fn grammar_of(
     alloc: Global,
     registry: &Registry,
     items: &[Item],
-) -> Result<PlacedGrammar, Unmade>
+) -> Result<PlacedGrammar, MakingError>
     requires { AreProperEntries (entries_of items.now) }
     ensures ok { IfOk result (λ made. IsGrammarOfEntries (offer_of registry.now) (entries_of items.now) made.grammar) }
     ensures places { IfOk result (λ made. length made.places.items ≡ length made.grammar.nodes) }
-    ensures refused { IsErrOf result Unmade.Refused → MakeNoGrammar (offer_of registry.now) (entries_of items.now) }
+    ensures refused { IsErrOf result MakingError.Refused → MakeNoGrammar (offer_of registry.now) (entries_of items.now) }
 {
     let mut maker = Maker::new(alloc);
     let mut classes = Vec::new(alloc);
@@ -64,7 +64,7 @@ fn hand_in(
     classes: &mut Vec<Characters>,
     places: &mut Vec<usize>,
     item: &Item,
-) -> Result<(), Unmade>
+) -> Result<(), MakingError>
     requires proper { IsProperEntry (entry_of item.now) }
     requires names { classes.old.items ≡ made_classes maker.old }
     requires forms { length places.old.items ≡ length maker.old.forms }
@@ -72,7 +72,7 @@ fn hand_in(
     ensures follows { OnOk result (MayFollow (offer_of registry.now) maker.old (entry_of item.now)) }
     ensures names { OnOk result (classes.new.items ≡ made_classes maker.new) }
     ensures forms { OnOk result (length places.new.items ≡ length maker.new.forms) }
-    ensures refused { IsErrOf result Unmade.Refused → LeadsNowhere (offer_of registry.now) maker.old (entry_of item.now) }
+    ensures refused { IsErrOf result MakingError.Refused → LeadsNowhere (offer_of registry.now) maker.old (entry_of item.now) }
 {
     match item {
         Item::Class { name, class, .. } => {

@@ -1,4 +1,4 @@
--- The bodies that forms in preorder stand for: each form takes the bodies next behind it.
+-- The bodies that forms in preorder stand for: each form takes the bodies next after it.
 use Rattle.std.specs.Prelude.{ℕ, zero, suc, List, [], ◌∷◌, ◌++◌, map, take, drop}
 use Rattle.std.specs.Str.{encode_utf8_all}
 use Rattle.std.specs.Global.{Vec}

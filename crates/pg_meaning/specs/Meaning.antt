@@ -11,7 +11,6 @@ use Rattle.pg_grammar.specs.declared.form.Form.TheVariants as form
 use Rattle.pg_grammar.specs.declared.form.Leaf.TheVariants as leaf
 use Rattle.pg_grammar.specs.declared.form.Around.TheVariants as around
 use Rattle.pg_grammar.specs.declared.side.Side.{Side}
-use Rattle.pg_grammar.specs.declared.side.Side.TheVariants as side
 use Rattle.pg_grammar.specs.declared.used.BuilderUse.{BuilderUse}
 use Rattle.pg_grammar.specs.declared.used.OperatorBuilders.{OperatorBuilders}
 use Rattle.pg_items.specs.declared.words.ClassForm.{ClassForm}
@@ -22,8 +21,6 @@ use Rattle.pg_items.specs.declared.words.OneForm.{OneForm}
 use Rattle.pg_items.specs.declared.words.OneForm.TheVariants as one_form
 use Rattle.pg_items.specs.declared.words.TwoForm.{TwoForm}
 use Rattle.pg_items.specs.declared.words.TwoForm.TheVariants as two_form
-use Rattle.pg_items.specs.declared.words.ChainForm.{ChainForm}
-use Rattle.pg_items.specs.declared.words.ChainForm.TheVariants as chain_form
 use Rattle.pg_items.specs.Tree.{Atom, Set, Range, Name, Not, Group, Class, Of, Atoms, No_atom, Or, Value, Of_class, String, Seq, Of_some, Of_one, Of_two, Between, Chain, Expression, Build, Build_symbol, Label, End_of_text, Word, Rule, Values, No_value, And}
 use Rattle.pg_meaning.specs.Names.{builder_named, class_named}
 
@@ -31,7 +28,7 @@ use Rattle.pg_meaning.specs.Names.{builder_named, class_named}
 abbrev pub Body : Type 0
 Body = List BaseForm
 
--- lists, one behind another
+-- lists, one after another
 abbrev pub joined : {A : Type 0} → List (List A) → List A
 joined [] = []
 joined (xs ∷ lists) = xs ++ joined lists
@@ -106,9 +103,9 @@ two_of two_form.SepBy body separator = optional (separated body separator)
 two_of two_form.SepBy1 body separator = separated body separator
 two_of two_form.EndBy body separator = repeated (seq_of (body ∷ skipped separator ∷ []))
 
--- what is before a body, the body, and what is behind it
+-- what is before a body, the body, and what is after it
 abbrev pub between_of : Body → Body → Body → Body
-between_of before behind inner = seq_of (skipped before ∷ inner ∷ skipped behind ∷ [])
+between_of before after inner = seq_of (skipped before ∷ inner ∷ skipped after ∷ [])
 
 -- the form of a class expression
 abbrev pub class_of : ClassForm → List ClassPart → BaseForm
@@ -116,13 +113,9 @@ class_of class_form.Satisfy class = form.Leaf (leaf.Satisfy class)
 class_of class_form.NotFollowedBy class = form.Leaf (leaf.NotFollowedBy class)
 class_of class_form.Declare class = form.Leaf (leaf.Declare class)
 
--- the side from which a chain is folded
-abbrev pub side_of : ChainForm → Side
-side_of chain_form.Left = side.Left
-side_of chain_form.Right = side.Right
-
-abbrev pub chain_of : ChainForm → BuilderUse → BaseForm
-chain_of chain used = form.Chain (side_of chain) used (record {}) (record {})
+-- a chain, folded from a side by a builder
+abbrev pub chain_of : Side → BuilderUse → BaseForm
+chain_of side used = form.Chain side used (record {}) (record {})
 
 -- the builders of an expression
 abbrev pub builders_named : Offer → (infixes prefixes postfixes : names.Name) → OperatorBuilders
@@ -142,7 +135,7 @@ abbrev mutual
   meant offer classes (Of_some form v vs) = some_of form (meant offer classes v ∷ all_meant offer classes vs)
   meant offer classes (Of_one form v) = one_of form (meant offer classes v)
   meant offer classes (Of_two form v separator) = two_of form (meant offer classes v) (meant offer classes separator)
-  meant offer classes (Between before behind inner) = between_of (meant offer classes before) (meant offer classes behind) (meant offer classes inner)
+  meant offer classes (Between before after inner) = between_of (meant offer classes before) (meant offer classes after) (meant offer classes inner)
   meant offer classes (Chain form builder operand separator) = chain_of form (builder_named offer builder) ∷ (meant offer classes operand ++ meant offer classes separator)
   meant offer classes (Expression infixes prefixes postfixes term) = form.Expression (builders_named offer infixes prefixes postfixes) (record {}) ∷ meant offer classes term
   meant offer classes (Build builder v) = form.Around (around.Build (builder_named offer builder) []) (record {}) ∷ meant offer classes v

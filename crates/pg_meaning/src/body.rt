@@ -27,8 +27,8 @@ pub fn single(alloc: Global, form: BaseForm, place: usize) -> Result<Vec<PlacedB
     Ok(vec![in alloc; PlacedBase { form, place }]?)
 }
 
-/// A base form in front of a body, or of bodies one behind another.
-pub fn in_front(
+/// A base form before a body, or of bodies one after another.
+pub fn before_all(
     form: BaseForm,
     place: usize,
     body: Vec<PlacedBase>,
@@ -40,7 +40,7 @@ pub fn in_front(
     Ok(whole)
 }
 
-/// The bodies, one behind another.
+/// The bodies, one after another.
 pub fn joined(alloc: Global, bodies: Vec<Vec<PlacedBase>>) -> Result<Vec<PlacedBase>, AllocError>
     ensures { IfOk result (λ all. bases_of all.items ≡ meaning.joined (all_bases_of bodies.items)) }
 {
@@ -75,7 +75,7 @@ pub fn seq_of(
     ensures { IfOk result (λ body. bases_of body.items ≡ meaning.seq_of (all_bases_of bodies.items)) }
 {
     let form = Form::Seq(bodies.len());
-    in_front(form, place, joined(alloc, bodies)?)
+    before_all(form, place, joined(alloc, bodies)?)
 }
 
 /// One of the bodies.
@@ -87,7 +87,7 @@ fn choice_of(
     ensures { IfOk result (λ body. bases_of body.items ≡ meaning.choice_of (all_bases_of bodies.items)) }
 {
     let form = Form::Choice(bodies.len());
-    in_front(form, place, joined(alloc, bodies)?)
+    before_all(form, place, joined(alloc, bodies)?)
 }
 
 /// One body, or several one after another, all or nothing.
@@ -103,7 +103,7 @@ fn try_of(
     } else {
         seq_of(alloc, place, bodies)?
     };
-    in_front(Form::Around(Around::Try, NextForm), place, body)
+    before_all(Form::Around(Around::Try, NextForm), place, body)
 }
 
 /// What a form of several bodies stands for.
@@ -125,14 +125,14 @@ pub fn some_of(
 fn skipped(place: usize, body: Vec<PlacedBase>) -> Result<Vec<PlacedBase>, AllocError>
     ensures { IfOk result (λ whole. bases_of whole.items ≡ meaning.skipped (bases_of body.items)) }
 {
-    in_front(Form::Around(Around::Skip, NextForm), place, body)
+    before_all(Form::Around(Around::Skip, NextForm), place, body)
 }
 
 /// A body as often as it succeeds.
 fn repeated(place: usize, body: Vec<PlacedBase>) -> Result<Vec<PlacedBase>, AllocError>
     ensures { IfOk result (λ whole. bases_of whole.items ≡ meaning.repeated (bases_of body.items)) }
 {
-    in_front(Form::Many(NextForm), place, body)
+    before_all(Form::Many(NextForm), place, body)
 }
 
 /// A body or nothing.
@@ -181,7 +181,7 @@ pub fn one_of(
             seq_of(alloc, place, bodies)
         }
         OneForm::Option => optional(alloc, place, body),
-        OneForm::Text => in_front(Form::Around(Around::Text, NextForm), place, body),
+        OneForm::Text => before_all(Form::Around(Around::Text, NextForm), place, body),
         OneForm::Skip => skipped(place, body),
     }
 }
@@ -209,16 +209,16 @@ pub fn two_of(
     }
 }
 
-/// What stands before a body, the body, and what stands behind it.
+/// What stands before a body, the body, and what stands after it.
 pub fn between_of(
     alloc: Global,
     place: usize,
     before: Vec<PlacedBase>,
-    behind: Vec<PlacedBase>,
+    after: Vec<PlacedBase>,
     inner: Vec<PlacedBase>,
 ) -> Result<Vec<PlacedBase>, AllocError>
-    ensures { IfOk result (λ whole. bases_of whole.items ≡ meaning.between_of (bases_of before.items) (bases_of behind.items) (bases_of inner.items)) }
+    ensures { IfOk result (λ whole. bases_of whole.items ≡ meaning.between_of (bases_of before.items) (bases_of after.items) (bases_of inner.items)) }
 {
-    let bodies = vec![in alloc; skipped(place, before)?, inner, skipped(place, behind)?]?;
+    let bodies = vec![in alloc; skipped(place, before)?, inner, skipped(place, after)?]?;
     seq_of(alloc, place, bodies)
 }

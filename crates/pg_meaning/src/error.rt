@@ -1,31 +1,31 @@
 //! Why items make no grammar.
 
 ghost use Rattle.std.specs.Prelude.{◌≡◌};
-ghost use Rattle.pg_meaning.specs.declared.error.Unmade.TheVariants.{Memory};
+ghost use Rattle.pg_meaning.specs.declared.error.MakingError.TheVariants.{Memory};
 
 use std::alloc::{AllocError, AllocFailed};
 
 /// Why items were not made into a grammar.
 #[derive(Debug, Drop)]
-pub enum Unmade {
+pub enum MakingError {
     /// Memory ran out.
     Memory,
     /// They make none; at which name, is found out elsewhere.
     Refused,
 }
 
-impl From<AllocError> for Unmade {
+impl From<AllocError> for MakingError {
     ghost from_gives = { λ _ e. e ≡ Memory };
 
-    fn from(_e: AllocError) -> Unmade {
-        Unmade::Memory
+    fn from(_e: AllocError) -> MakingError {
+        MakingError::Memory
     }
 }
 
-impl<T: Drop> From<AllocFailed<T>> for Unmade {
+impl<T: Drop> From<AllocFailed<T>> for MakingError {
     ghost from_gives = { λ _ e. e ≡ Memory };
 
-    fn from(_e: AllocFailed<T>) -> Unmade {
-        Unmade::Memory
+    fn from(_e: AllocFailed<T>) -> MakingError {
+        MakingError::Memory
     }
 }

@@ -11,6 +11,6 @@ mod lookup;
 mod replacing;
 
 pub use body::PlacedBase;
-pub use error::Unmade;
+pub use error::MakingError;
 pub use lookup::{class_meant, is_builder_name, is_predicate_name};
 pub use replacing::body_meant;

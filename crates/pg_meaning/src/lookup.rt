@@ -11,7 +11,7 @@ ghost use Rattle.pg_meaning.specs.Names.{is_predicate_name, is_class_name, is_bu
 ghost use Rattle.pg_meaning.specs.Bodies.{part_meant, parts_meant};
 ghost use Rattle.pg_meaning.specs.Meaning as meaning;
 
-use crate::error::Unmade;
+use crate::error::MakingError;
 use pg_grammar::{BuilderUse, ClassExpression, ClassId, ClassPart, OperatorBuilders, PredicateUse};
 use pg_items::{WrittenClass, WrittenPart};
 use pg_pred::Registry;
@@ -56,10 +56,10 @@ fn predicate_named(
     alloc: Global,
     registry: &Registry,
     name: &[char],
-) -> Result<PredicateUse, Unmade>
+) -> Result<PredicateUse, MakingError>
     ensures used { IfOk result (λ used. used ≡ names.predicate_named (offer_of registry.now) name.now) }
     ensures known { OnOk result (is_predicate_name (offer_of registry.now) name.now ≡ true) }
-    ensures refused { IsErrOf result Unmade.Refused → is_predicate_name (offer_of registry.now) name.now ≡ false }
+    ensures refused { IsErrOf result MakingError.Refused → is_predicate_name (offer_of registry.now) name.now ≡ false }
 {
     let name = label(alloc, name)?;
     match registry.predicate(name.as_str()) {
@@ -67,7 +67,7 @@ fn predicate_named(
             let class = predicate.class().copy(alloc)?;
             Ok(PredicateUse { name, class })
         }
-        None => Err(Unmade::Refused),
+        None => Err(MakingError::Refused),
     }
 }
 
@@ -76,10 +76,10 @@ pub fn builder_named(
     alloc: Global,
     registry: &Registry,
     name: &[char],
-) -> Result<BuilderUse, Unmade>
+) -> Result<BuilderUse, MakingError>
     ensures used { IfOk result (λ used. used ≡ names.builder_named (offer_of registry.now) name.now) }
     ensures known { OnOk result (is_builder_name (offer_of registry.now) name.now ≡ true) }
-    ensures refused { IsErrOf result Unmade.Refused → is_builder_name (offer_of registry.now) name.now ≡ false }
+    ensures refused { IsErrOf result MakingError.Refused → is_builder_name (offer_of registry.now) name.now ≡ false }
 {
     let name = label(alloc, name)?;
     match registry.builder(name.as_str()) {
@@ -87,7 +87,7 @@ pub fn builder_named(
             let shape = builder.shape().copy(alloc)?;
             Ok(BuilderUse { name, shape })
         }
-        None => Err(Unmade::Refused),
+        None => Err(MakingError::Refused),
     }
 }
 
@@ -98,10 +98,10 @@ pub fn builders_named(
     infixes: &[char],
     prefixes: &[char],
     postfixes: &[char],
-) -> Result<OperatorBuilders, Unmade>
+) -> Result<OperatorBuilders, MakingError>
     ensures used { IfOk result (λ used. used ≡ meaning.builders_named (offer_of registry.now) infixes.now prefixes.now postfixes.now) }
     ensures known { OnOk result (BuilderIsKnown (offer_of registry.now) infixes.now × BuilderIsKnown (offer_of registry.now) prefixes.now × BuilderIsKnown (offer_of registry.now) postfixes.now) }
-    ensures refused { IsErrOf result Unmade.Refused → (BuilderIsKnown (offer_of registry.now) infixes.now × BuilderIsKnown (offer_of registry.now) prefixes.now × BuilderIsKnown (offer_of registry.now) postfixes.now) → ⊥ }
+    ensures refused { IsErrOf result MakingError.Refused → (BuilderIsKnown (offer_of registry.now) infixes.now × BuilderIsKnown (offer_of registry.now) prefixes.now × BuilderIsKnown (offer_of registry.now) postfixes.now) → ⊥ }
 {
     let infix = builder_named(alloc, registry, infixes)?;
     let prefix = builder_named(alloc, registry, prefixes)?;
@@ -126,10 +126,10 @@ fn class_named(
     registry: &Registry,
     classes: &[Characters],
     name: &[char],
-) -> Result<ClassPart, Unmade>
+) -> Result<ClassPart, MakingError>
     ensures meant { IfOk result (λ part. part ≡ names.class_named (offer_of registry.now) classes.now name.now) }
     ensures known { OnOk result (is_class_name (offer_of registry.now) classes.now name.now ≡ true) }
-    ensures refused { IsErrOf result Unmade.Refused → is_class_name (offer_of registry.now) classes.now name.now ≡ false }
+    ensures refused { IsErrOf result MakingError.Refused → is_class_name (offer_of registry.now) classes.now name.now ≡ false }
 {
     match place_of_class(classes, name) {
         Some(number) => Ok(ClassPart::Class(ClassId::new(number))),
@@ -143,10 +143,10 @@ fn part_meant(
     registry: &Registry,
     classes: &[Characters],
     part: &WrittenPart,
-) -> Result<ClassPart, Unmade>
+) -> Result<ClassPart, MakingError>
     ensures meant { IfOk result (λ meant. meant ≡ part_meant (offer_of registry.now) classes.now part.now) }
     ensures known { OnOk result (PartIsKnown (offer_of registry.now) classes.now part.now) }
-    ensures refused { IsErrOf result Unmade.Refused → PartIsKnown (offer_of registry.now) classes.now part.now → ⊥ }
+    ensures refused { IsErrOf result MakingError.Refused → PartIsKnown (offer_of registry.now) classes.now part.now → ⊥ }
 {
     match part {
         WrittenPart::Literal(text) => Ok(ClassPart::Literal(copied(alloc, text.as_slice())?)),
@@ -163,10 +163,10 @@ fn parts_meant(
     registry: &Registry,
     classes: &[Characters],
     parts: &[WrittenPart],
-) -> Result<Vec<ClassPart>, Unmade>
+) -> Result<Vec<ClassPart>, MakingError>
     ensures meant { IfOk result (λ meant. meant.items ≡ parts_meant (offer_of registry.now) classes.now parts.now) }
     ensures known { OnOk result (ClassIsKnown (offer_of registry.now) classes.now parts.now) }
-    ensures refused { IsErrOf result Unmade.Refused → ClassIsKnown (offer_of registry.now) classes.now parts.now → ⊥ }
+    ensures refused { IsErrOf result MakingError.Refused → ClassIsKnown (offer_of registry.now) classes.now parts.now → ⊥ }
 {
     let mut meant = Vec::new(alloc);
     for part in parts {
@@ -181,10 +181,10 @@ pub fn class_meant(
     registry: &Registry,
     classes: &[Characters],
     class: &WrittenClass,
-) -> Result<ClassExpression, Unmade>
+) -> Result<ClassExpression, MakingError>
     ensures meant { IfOk result (λ meant. meant ≡ parts_meant (offer_of registry.now) classes.now class.now) }
     ensures known { OnOk result (ClassIsKnown (offer_of registry.now) classes.now class.now) }
-    ensures refused { IsErrOf result Unmade.Refused → ClassIsKnown (offer_of registry.now) classes.now class.now → ⊥ }
+    ensures refused { IsErrOf result MakingError.Refused → ClassIsKnown (offer_of registry.now) classes.now class.now → ⊥ }
 {
     let parts = parts_meant(alloc, registry, classes, class.parts())?;
     Ok(ClassExpression::new(alloc, parts)?)

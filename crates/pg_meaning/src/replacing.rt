@@ -1,7 +1,7 @@
 //! From values as they are written to base forms: short forms are replaced by what they stand for, and names of classes and
 //! builders by what they name.
 //!
-//! The forms are gone through from the last to the first, since a form's parts are the whole forms that stand next behind
+//! The forms are gone through from the last to the first, since a form's parts are the whole forms that stand next after
 //! it. The bodies that wait to become parts are kept first to last. How large a body gets is judged before, so that
 //! nothing too large is built here.
 
@@ -18,13 +18,11 @@ ghost use Rattle.pg_meaning.specs.Meaning as meaning;
 ghost use Rattle.pg_items.specs.Sizes.{part_count};
 ghost use Rattle.pg_meaning.specs.Bodies.{bases_of, all_bases_of, body_at, body_of_form, body_meant, parts_meant};
 
-use crate::body::{PlacedBase, between_of, in_front, one_of, seq_of, single, some_of, two_of};
-use crate::error::Unmade;
+use crate::body::{PlacedBase, before_all, between_of, one_of, seq_of, single, some_of, two_of};
+use crate::error::MakingError;
 use crate::lookup::{builder_named, builders_named, class_meant, label};
 use pg_grammar::{Around, BaseForm, BuilderUse, ClassExpression, Form, Leaf, NextForm, Side};
-use pg_items::{
-    ChainForm, ClassForm, OneForm, PlacedForm, SomeForm, TwoForm, WrittenClass, WrittenForm,
-};
+use pg_items::{ClassForm, OneForm, PlacedForm, SomeForm, TwoForm, WrittenClass, WrittenForm};
 use pg_pred::Registry;
 use pg_text::Characters;
 use pg_tokens::copied;
@@ -38,10 +36,10 @@ pub fn body_meant(
     registry: &Registry,
     classes: &[Characters],
     forms: &[PlacedForm],
-) -> Result<Vec<PlacedBase>, Unmade>
+) -> Result<Vec<PlacedBase>, MakingError>
     ensures meant { IfOk result (λ body. bases_of body.items ≡ body_meant (offer_of registry.now) classes.now (forms_of forms.now)) }
     ensures known { OnOk result (AllByRecursion (FormIsKnown (offer_of registry.now) classes.now) (forms_of forms.now)) }
-    ensures refused { IsErrOf result Unmade.Refused → AllByRecursion (FormIsKnown (offer_of registry.now) classes.now) (forms_of forms.now) → ⊥ }
+    ensures refused { IsErrOf result MakingError.Refused → AllByRecursion (FormIsKnown (offer_of registry.now) classes.now) (forms_of forms.now) → ⊥ }
 {
     let mut waiting = VecDeque::new(alloc);
     let mut rest = forms;
@@ -94,7 +92,7 @@ fn around(
     ensures rest { OnOk result (waiting.new.items ≡ drop 1 waiting.old.items) }
 {
     let body = next_body(alloc, waiting);
-    in_front(form, place, body)
+    before_all(form, place, body)
 }
 
 /// A base form around the first two bodies that wait.
@@ -110,7 +108,7 @@ fn around_two(
     let mut first = next_body(alloc, waiting);
     let mut second = next_body(alloc, waiting);
     first.append(&mut second)?;
-    in_front(form, place, first)
+    before_all(form, place, first)
 }
 
 /// A `seq` of the first so many bodies that wait.
@@ -120,10 +118,10 @@ fn seq_body(
     count: usize,
     place: usize,
     waiting: &mut VecDeque<Vec<PlacedBase>>,
-) -> Result<Vec<PlacedBase>, Unmade>
+) -> Result<Vec<PlacedBase>, MakingError>
     ensures body { IfOk result (λ body. bases_of body.items ≡ meaning.seq_of (take count (all_bases_of waiting.old.items))) }
     ensures rest { OnOk result (waiting.new.items ≡ drop count waiting.old.items) }
-    ensures memory { IsErrOf result Unmade.Refused → ⊥ }
+    ensures memory { IsErrOf result MakingError.Refused → ⊥ }
 {
     let bodies = next_bodies(alloc, waiting, count)?;
     Ok(seq_of(alloc, place, bodies)?)
@@ -137,10 +135,10 @@ fn some_body(
     count: usize,
     place: usize,
     waiting: &mut VecDeque<Vec<PlacedBase>>,
-) -> Result<Vec<PlacedBase>, Unmade>
+) -> Result<Vec<PlacedBase>, MakingError>
     ensures body { IfOk result (λ body. bases_of body.items ≡ meaning.some_of form (take count (all_bases_of waiting.old.items))) }
     ensures rest { OnOk result (waiting.new.items ≡ drop count waiting.old.items) }
-    ensures memory { IsErrOf result Unmade.Refused → ⊥ }
+    ensures memory { IsErrOf result MakingError.Refused → ⊥ }
 {
     let bodies = next_bodies(alloc, waiting, count)?;
     Ok(some_of(alloc, form, place, bodies)?)
@@ -152,10 +150,10 @@ fn one_body(
     form: OneForm,
     place: usize,
     waiting: &mut VecDeque<Vec<PlacedBase>>,
-) -> Result<Vec<PlacedBase>, Unmade>
+) -> Result<Vec<PlacedBase>, MakingError>
     ensures body { IfOk result (λ body. bases_of body.items ≡ meaning.one_of form (body_at 0 (all_bases_of waiting.old.items))) }
     ensures rest { OnOk result (waiting.new.items ≡ drop 1 waiting.old.items) }
-    ensures memory { IsErrOf result Unmade.Refused → ⊥ }
+    ensures memory { IsErrOf result MakingError.Refused → ⊥ }
 {
     let body = next_body(alloc, waiting);
     Ok(one_of(alloc, form, place, body)?)
@@ -167,30 +165,30 @@ fn two_body(
     form: TwoForm,
     place: usize,
     waiting: &mut VecDeque<Vec<PlacedBase>>,
-) -> Result<Vec<PlacedBase>, Unmade>
+) -> Result<Vec<PlacedBase>, MakingError>
     ensures body { IfOk result (λ body. bases_of body.items ≡ meaning.two_of form (body_at 0 (all_bases_of waiting.old.items)) (body_at 1 (all_bases_of waiting.old.items))) }
     ensures rest { OnOk result (waiting.new.items ≡ drop 2 waiting.old.items) }
-    ensures memory { IsErrOf result Unmade.Refused → ⊥ }
+    ensures memory { IsErrOf result MakingError.Refused → ⊥ }
 {
     let body = next_body(alloc, waiting);
     let separator = next_body(alloc, waiting);
     Ok(two_of(alloc, form, place, body, separator)?)
 }
 
-/// What stands before a body, what stands behind it, and the body: the first three bodies that wait.
+/// What stands before a body, what stands after it, and the body: the first three bodies that wait.
 fn between_body(
     alloc: Global,
     place: usize,
     waiting: &mut VecDeque<Vec<PlacedBase>>,
-) -> Result<Vec<PlacedBase>, Unmade>
+) -> Result<Vec<PlacedBase>, MakingError>
     ensures body { IfOk result (λ body. bases_of body.items ≡ meaning.between_of (body_at 0 (all_bases_of waiting.old.items)) (body_at 1 (all_bases_of waiting.old.items)) (body_at 2 (all_bases_of waiting.old.items))) }
     ensures rest { OnOk result (waiting.new.items ≡ drop 3 waiting.old.items) }
-    ensures memory { IsErrOf result Unmade.Refused → ⊥ }
+    ensures memory { IsErrOf result MakingError.Refused → ⊥ }
 {
     let before = next_body(alloc, waiting);
-    let behind = next_body(alloc, waiting);
+    let after = next_body(alloc, waiting);
     let inner = next_body(alloc, waiting);
-    Ok(between_of(alloc, place, before, behind, inner)?)
+    Ok(between_of(alloc, place, before, after, inner)?)
 }
 
 /// A form of a class expression.
@@ -204,16 +202,6 @@ fn class_of(form: ClassForm, class: ClassExpression) -> BaseForm
     }
 }
 
-/// A chain, folded by a builder.
-fn chain_of(form: ChainForm, used: BuilderUse) -> BaseForm
-    ensures { result ≡ meaning.chain_of form used }
-{
-    match form {
-        ChainForm::Left => Form::Chain(Side::Left, used, NextForm, NextForm),
-        ChainForm::Right => Form::Chain(Side::Right, used, NextForm, NextForm),
-    }
-}
-
 /// The body of a form of a class expression. Refused where a name in it stands for nothing.
 fn class_body(
     alloc: Global,
@@ -222,10 +210,10 @@ fn class_body(
     form: ClassForm,
     class: &WrittenClass,
     place: usize,
-) -> Result<Vec<PlacedBase>, Unmade>
+) -> Result<Vec<PlacedBase>, MakingError>
     ensures meant { IfOk result (λ body. bases_of body.items ≡ meaning.class_of form (parts_meant (offer_of registry.now) classes.now class.now) ∷ []) }
     ensures known { OnOk result (ClassIsKnown (offer_of registry.now) classes.now class.now) }
-    ensures refused { IsErrOf result Unmade.Refused → ClassIsKnown (offer_of registry.now) classes.now class.now → ⊥ }
+    ensures refused { IsErrOf result MakingError.Refused → ClassIsKnown (offer_of registry.now) classes.now class.now → ⊥ }
 {
     let class = class_meant(alloc, registry, classes, class)?;
     Ok(single(alloc, class_of(form, class), place)?)
@@ -235,18 +223,19 @@ fn class_body(
 fn chain_body(
     alloc: Global,
     registry: &Registry,
-    form: ChainForm,
+    side: Side,
     builder: &Characters,
     place: usize,
     waiting: &mut VecDeque<Vec<PlacedBase>>,
-) -> Result<Vec<PlacedBase>, Unmade>
-    ensures meant { IfOk result (λ body. bases_of body.items ≡ meaning.chain_of form (builder_named (offer_of registry.now) builder.now) ∷ (body_at 0 (all_bases_of waiting.old.items) ++ body_at 1 (all_bases_of waiting.old.items))) }
+) -> Result<Vec<PlacedBase>, MakingError>
+    ensures meant { IfOk result (λ body. bases_of body.items ≡ meaning.chain_of side (builder_named (offer_of registry.now) builder.now) ∷ (body_at 0 (all_bases_of waiting.old.items) ++ body_at 1 (all_bases_of waiting.old.items))) }
     ensures rest { OnOk result (waiting.new.items ≡ drop 2 waiting.old.items) }
     ensures known { OnOk result (BuilderIsKnown (offer_of registry.now) builder.now) }
-    ensures refused { IsErrOf result Unmade.Refused → BuilderIsKnown (offer_of registry.now) builder.now → ⊥ }
+    ensures refused { IsErrOf result MakingError.Refused → BuilderIsKnown (offer_of registry.now) builder.now → ⊥ }
 {
     let used = builder_named(alloc, registry, builder.as_slice())?;
-    Ok(around_two(alloc, chain_of(form, used), place, waiting)?)
+    let chain = Form::Chain(side, used, NextForm, NextForm);
+    Ok(around_two(alloc, chain, place, waiting)?)
 }
 
 /// Operators around the first body that waits. Refused where one of the names is that of no builder.
@@ -258,11 +247,11 @@ fn expression_body(
     postfixes: &Characters,
     place: usize,
     waiting: &mut VecDeque<Vec<PlacedBase>>,
-) -> Result<Vec<PlacedBase>, Unmade>
+) -> Result<Vec<PlacedBase>, MakingError>
     ensures meant { IfOk result (λ body. bases_of body.items ≡ form.Expression (meaning.builders_named (offer_of registry.now) infixes.now prefixes.now postfixes.now) (record {}) ∷ body_at 0 (all_bases_of waiting.old.items)) }
     ensures rest { OnOk result (waiting.new.items ≡ drop 1 waiting.old.items) }
     ensures known { OnOk result (BuilderIsKnown (offer_of registry.now) infixes.now × BuilderIsKnown (offer_of registry.now) prefixes.now × BuilderIsKnown (offer_of registry.now) postfixes.now) }
-    ensures refused { IsErrOf result Unmade.Refused → (BuilderIsKnown (offer_of registry.now) infixes.now × BuilderIsKnown (offer_of registry.now) prefixes.now × BuilderIsKnown (offer_of registry.now) postfixes.now) → ⊥ }
+    ensures refused { IsErrOf result MakingError.Refused → (BuilderIsKnown (offer_of registry.now) infixes.now × BuilderIsKnown (offer_of registry.now) prefixes.now × BuilderIsKnown (offer_of registry.now) postfixes.now) → ⊥ }
 {
     let (infixes, prefixes, postfixes) = (
         infixes.as_slice(),
@@ -281,11 +270,11 @@ fn build_body(
     symbol: &Characters,
     place: usize,
     waiting: &mut VecDeque<Vec<PlacedBase>>,
-) -> Result<Vec<PlacedBase>, Unmade>
+) -> Result<Vec<PlacedBase>, MakingError>
     ensures meant { IfOk result (λ body. bases_of body.items ≡ form.Around (around.Build (builder_named (offer_of registry.now) builder.now) (encode_utf8_all symbol.now)) (record {}) ∷ body_at 0 (all_bases_of waiting.old.items)) }
     ensures rest { OnOk result (waiting.new.items ≡ drop 1 waiting.old.items) }
     ensures known { OnOk result (BuilderIsKnown (offer_of registry.now) builder.now) }
-    ensures refused { IsErrOf result Unmade.Refused → BuilderIsKnown (offer_of registry.now) builder.now → ⊥ }
+    ensures refused { IsErrOf result MakingError.Refused → BuilderIsKnown (offer_of registry.now) builder.now → ⊥ }
 {
     let used = builder_named(alloc, registry, builder.as_slice())?;
     let form = Form::Around(
@@ -296,36 +285,40 @@ fn build_body(
 }
 
 /// The body of characters.
-fn string_body(alloc: Global, text: &Characters, place: usize) -> Result<Vec<PlacedBase>, Unmade>
+fn string_body(
+    alloc: Global,
+    text: &Characters,
+    place: usize,
+) -> Result<Vec<PlacedBase>, MakingError>
     ensures body { IfOk result (λ body. bases_of body.items ≡ form.Leaf (leaf.String text.now) ∷ []) }
-    ensures memory { IsErrOf result Unmade.Refused → ⊥ }
+    ensures memory { IsErrOf result MakingError.Refused → ⊥ }
 {
     let form = Form::Leaf(Leaf::String(copied(alloc, text.as_slice())?));
     Ok(single(alloc, form, place)?)
 }
 
 /// The body of a word.
-fn word_body(alloc: Global, text: &Characters, place: usize) -> Result<Vec<PlacedBase>, Unmade>
+fn word_body(alloc: Global, text: &Characters, place: usize) -> Result<Vec<PlacedBase>, MakingError>
     ensures body { IfOk result (λ body. bases_of body.items ≡ form.Leaf (leaf.Word text.now) ∷ []) }
-    ensures memory { IsErrOf result Unmade.Refused → ⊥ }
+    ensures memory { IsErrOf result MakingError.Refused → ⊥ }
 {
     let form = Form::Leaf(Leaf::Word(copied(alloc, text.as_slice())?));
     Ok(single(alloc, form, place)?)
 }
 
 /// The body of a rule's name.
-fn rule_body(alloc: Global, text: &Characters, place: usize) -> Result<Vec<PlacedBase>, Unmade>
+fn rule_body(alloc: Global, text: &Characters, place: usize) -> Result<Vec<PlacedBase>, MakingError>
     ensures body { IfOk result (λ body. bases_of body.items ≡ form.Rule text.now ∷ []) }
-    ensures memory { IsErrOf result Unmade.Refused → ⊥ }
+    ensures memory { IsErrOf result MakingError.Refused → ⊥ }
 {
     let form = Form::Rule(copied(alloc, text.as_slice())?);
     Ok(single(alloc, form, place)?)
 }
 
 /// The body of the end of the text.
-fn end_body(alloc: Global, place: usize) -> Result<Vec<PlacedBase>, Unmade>
+fn end_body(alloc: Global, place: usize) -> Result<Vec<PlacedBase>, MakingError>
     ensures body { IfOk result (λ body. bases_of body.items ≡ form.Leaf leaf.EndOfText ∷ []) }
-    ensures memory { IsErrOf result Unmade.Refused → ⊥ }
+    ensures memory { IsErrOf result MakingError.Refused → ⊥ }
 {
     Ok(single(alloc, Form::Leaf(Leaf::EndOfText), place)?)
 }
@@ -336,10 +329,10 @@ fn label_body(
     message: &Characters,
     place: usize,
     waiting: &mut VecDeque<Vec<PlacedBase>>,
-) -> Result<Vec<PlacedBase>, Unmade>
+) -> Result<Vec<PlacedBase>, MakingError>
     ensures body { IfOk result (λ body. bases_of body.items ≡ form.Around (around.Label message.now) (record {}) ∷ body_at 0 (all_bases_of waiting.old.items)) }
     ensures rest { OnOk result (waiting.new.items ≡ drop 1 waiting.old.items) }
-    ensures memory { IsErrOf result Unmade.Refused → ⊥ }
+    ensures memory { IsErrOf result MakingError.Refused → ⊥ }
 {
     let form = Form::Around(Around::Label(copied(alloc, message.as_slice())?), NextForm);
     Ok(around(alloc, form, place, waiting)?)
@@ -353,11 +346,11 @@ fn body_of_form(
     classes: &[Characters],
     placed: &PlacedForm,
     waiting: &mut VecDeque<Vec<PlacedBase>>,
-) -> Result<Vec<PlacedBase>, Unmade>
+) -> Result<Vec<PlacedBase>, MakingError>
     ensures meant { IfOk result (λ body. bases_of body.items ≡ body_of_form (offer_of registry.now) classes.now placed.now.form (take (part_count placed.now.form) (all_bases_of waiting.old.items))) }
     ensures rest { OnOk result (waiting.new.items ≡ drop (part_count placed.now.form) waiting.old.items) }
     ensures known { OnOk result (FormIsKnown (offer_of registry.now) classes.now placed.now.form) }
-    ensures refused { IsErrOf result Unmade.Refused → FormIsKnown (offer_of registry.now) classes.now placed.now.form → ⊥ }
+    ensures refused { IsErrOf result MakingError.Refused → FormIsKnown (offer_of registry.now) classes.now placed.now.form → ⊥ }
 {
     let place = placed.place;
     match &placed.form {
@@ -370,8 +363,8 @@ fn body_of_form(
         WrittenForm::OfOne(form) => one_body(alloc, *form, place, waiting),
         WrittenForm::OfTwo(form) => two_body(alloc, *form, place, waiting),
         WrittenForm::Between => between_body(alloc, place, waiting),
-        WrittenForm::Chain { form, builder } => {
-            chain_body(alloc, registry, *form, builder, place, waiting)
+        WrittenForm::Chain { side, builder } => {
+            chain_body(alloc, registry, *side, builder, place, waiting)
         }
         WrittenForm::Expression {
             infix,

@@ -67,9 +67,9 @@ merged_assoc e f g = either (is_empty e.messages) (is_empty f.messages) (is_empt
     -- all with messages, or none: the later of them
     all : (b : Bool) → is_empty e.messages ≡ b → is_empty f.messages ≡ b → is_empty g.messages ≡ b → merged_by b b f g ≡ later f g → merged_by b b e (later f g) ≡ later e (later f g) → merged_by b b e f ≡ later e f → merged_by b b (later e f) g ≡ later (later e f) g → merged e (merged f g) ≡ merged (merged e f) g
     all b h k l fg e_fg ef ef_g =
-        let behind = ap (merged e) (by_tests b b f g k l ∙ fg) ∙ by_tests b b e (later f g) h (is_empty-later b f g k l) ∙ e_fg in
+        let after = ap (merged e) (by_tests b b f g k l ∙ fg) ∙ by_tests b b e (later f g) h (is_empty-later b f g k l) ∙ e_fg in
         let before = ap (λ x. merged x g) (by_tests b b e f h k ∙ ef) ∙ by_tests b b (later e f) g (is_empty-later b e f h k) l ∙ ef_g in
-        behind ∙ later_assoc e f g ∙ sym before
+        after ∙ later_assoc e f g ∙ sym before
 
     either : (a b c : Bool) → is_empty e.messages ≡ a → is_empty f.messages ≡ b → is_empty g.messages ≡ c → merged e (merged f g) ≡ merged (merged e f) g
     either true true true h k l = all true h k l refl refl refl refl

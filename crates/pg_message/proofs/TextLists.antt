@@ -1,4 +1,4 @@
--- Texts put behind others without repeats: what is there stays, and it doesn't matter which are put together first.
+-- Texts put after others without repeats: what is there stays, and it doesn't matter which are put together first.
 use Rattle.std.proofs.Common.{◌≡◌, ℕ, suc, arith, List, [], ◌∷◌, ◌++◌, Bool, true, false, refl, sym, ap, subst, ◌∙◌, length, length-append}
 use Rattle.std.specs.Prelude.{◌||◌, ◌&&◌, ◌==◌, ◌≤◌, ◌+◌, not, if◌then◌else◌}
 use Rattle.std.specs.Str.{bytes_eq}
@@ -23,7 +23,7 @@ has_text-last : (xs : List Text) (y : Text) → has_text (xs ++ y ∷ []) y ≡ 
 has_text-last xs y =
     list_any-append (λ other. bytes_eq other y) xs (y ∷ []) ∙ ap (λ b. has_text xs y || (b || false)) (same_text y) ∙ or-true (has_text xs y)
 
--- a text stays where others come behind it
+-- a text stays where others come after it
 has_text-append : (xs ys : List Text) (z : Text) → has_text xs z ≡ true → has_text (xs ++ ys) z ≡ true
 has_text-append xs ys z h = list_any-append (λ other. bytes_eq other z) xs ys ∙ ap (λ b. b || has_text ys z) h
 
@@ -110,7 +110,7 @@ missing_count-first : (texts rest : List Text) (y : Text) → has_text texts y �
 missing_count-first texts rest y h =
     sum_by-cons (λ x. if not (has_text texts x) then 1 else 0) y rest ∙ ap (λ b. (if not b then 1 else 0) + missing_count texts rest) h
 
--- room for the missing ones is room for one of them and for those that are missing behind it
+-- room for the missing ones is room for one of them and for those that are missing after it
 pub room_left : (texts others rest : List Text) (y : Text) (capacity : ℕ) → others ≡ y ∷ rest → has_text texts y ≡ false → length texts + missing_count texts others ≤ capacity → length (texts ++ y ∷ []) + missing_count (texts ++ y ∷ []) rest ≤ capacity
 room_left texts others rest y capacity e h room =
     let before = ap (missing_count texts) e ∙ missing_count-first texts rest y h in

@@ -31,7 +31,7 @@ of_kind m Unexpected = m.unexpected
 of_kind m Expected = m.expected
 of_kind m Plain = m.plain
 
--- a text behind the others of its kind
+-- a text after the others of its kind
 abbrev pub with_message : Messages → MessageKind → Text → Messages
 with_message m SystemUnexpected text = record m { system_unexpected = m.system_unexpected ++ text ∷ [] }
 with_message m Unexpected text = record m { unexpected = m.unexpected ++ text ∷ [] }
@@ -45,7 +45,7 @@ has_text texts text = list_any (λ other. bytes_eq other text) texts
 abbrev pub missing_count : List Text → List Text → ℕ
 missing_count texts others = count_by (λ text. not (has_text texts text)) others
 
--- a text behind the others, unless it is there already
+-- a text after the others, unless it is there already
 abbrev pub with_text : List Text → Text → List Text
 with_text texts text = if has_text texts text then texts else texts ++ text ∷ []
 
@@ -54,7 +54,7 @@ abbrev pub with_texts : List Text → List Text → List Text
 with_texts texts [] = texts
 with_texts texts (first ∷ rest) = with_texts (with_text texts first) rest
 
--- the texts of other messages, each behind those of its kind, unless it is there already
+-- the texts of other messages, each after those of its kind, unless it is there already
 abbrev pub with_messages : Messages → Messages → Messages
 with_messages m n = record {
   system_unexpected = with_texts m.system_unexpected n.system_unexpected;

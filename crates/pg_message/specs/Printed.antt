@@ -11,17 +11,17 @@ has_bytes text = not (length text == 0)
 abbrev pub shown_texts : List Text → List Text
 shown_texts texts = with_texts [] (filter has_bytes texts)
 
--- what stands before a text that isn't the first, from those behind it
+-- what stands before a text that isn't the first, from those after it
 abbrev pub joint : List Text → List ℕ
 joint [] = codes " or "
 joint (next ∷ rest) = codes ", "
 
--- the texts behind the first of a list
+-- the texts after the first of a list
 abbrev pub further_texts : List Text → List ℕ
 further_texts [] = []
 further_texts (next ∷ rest) = joint rest ++ (next ++ further_texts rest)
 
--- a line of texts behind some words, or no line where there is no text
+-- a line of texts after some words, or no line where there is no text
 abbrev pub line_of : List ℕ → List Text → List ℕ
 line_of words [] = []
 line_of words (first ∷ rest) = words ++ (first ++ (further_texts rest ++ codes "\n"))
@@ -41,7 +41,7 @@ abbrev pub unexpected_line : Messages → List ℕ
 unexpected_line m = if length m.unexpected == 0 then system_line m.system_unexpected else
     line_of (codes "unexpected ") (shown_texts m.unexpected)
 
--- all that stands behind the colon
+-- all that stands after the colon
 abbrev pub messages_text : Messages → List ℕ
 messages_text m = if is_empty m then codes "unknown parse error\n" else
     codes "\n" ++ (unexpected_line m ++ (line_of (codes "expecting ") (shown_texts m.expected) ++

@@ -51,7 +51,7 @@ impl ParseError {
     }
 
     /// Makes one error of this one and of that of a later answer: the only one with messages, or else the one at the
-    /// later place, or at one place this one with the other's messages behind its own, but for texts that are there
+    /// later place, or at one place this one with the other's messages after its own, but for texts that are there
     /// already (Text.Parsec.Error keeps these twice, and prints them once). The only error is that memory ran out; the
     /// other is then gone.
     pub fn merge(&mut self, other: ParseError) -> Result<(), AllocError>

@@ -14,10 +14,10 @@ pub fn merging_is_associative()
         merged first (merged second third) ≡ merged (merged first second) third }
 {}
 
-/// The law that an error without messages changes none that stands at its place or behind it, from either side. At one
+/// The law that an error without messages changes none that stands at its place or after it, from either side. At one
 /// place the positions have to be equal, as they are in one text.
 pub fn errors_without_messages_change_nothing()
-    ensures behind { (error nothing : ParseError) → is_empty nothing.messages ≡ true →
+    ensures after { (error nothing : ParseError) → is_empty nothing.messages ≡ true →
         nothing.place ≤ error.place → merged error nothing ≡ error }
     ensures before { (error nothing : ParseError) → is_empty nothing.messages ≡ true →
         nothing.place ≤ error.place → (nothing.place ≡ error.place → nothing.position ≡ error.position) →

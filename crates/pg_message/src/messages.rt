@@ -89,7 +89,7 @@ impl Messages {
         Ok(())
     }
 
-    /// Puts the other messages behind those of their kinds, but for texts that are there already.
+    /// Puts the other messages after those of their kinds, but for texts that are there already.
     pub(crate) fn append(&mut self, other: Messages) -> Result<(), AllocError>
         ensures ok { OnOk result (self.new ≡ with_messages self.old other) }
         ensures err { OnErr result (self.new ≡ self.old) }

@@ -60,7 +60,7 @@ fn push_system(first: &str, text: &mut String) -> Result<(), AllocError>
     write!(text, "unexpected {first}\n")
 }
 
-/// A line of those texts that aren't empty, behind some words, or nothing where there is none.
+/// A line of those texts that aren't empty, after some words, or nothing where there is none.
 fn push_line(words: &str, texts: &[MessageText], text: &mut String) -> Result<(), AllocError>
     ensures { OnOk result (string_bytes text.new ≡
         string_bytes text.old ++ line_of words.now (shown_texts texts.now)) }
@@ -86,7 +86,7 @@ fn push_further(rest: &[&str], text: &mut String) -> Result<(), AllocError>
     Ok(())
 }
 
-/// What stands before a text, from those behind it.
+/// What stands before a text, from those after it.
 fn joint(rest: &[&str]) -> &'static str
     ensures { result.now ≡ joint (map (λ one. one.now) rest.now) }
 {

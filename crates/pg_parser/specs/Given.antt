@@ -13,10 +13,10 @@ use Rattle.pg_tokens.specs.Tokens.{Token}
 use Rattle.pg_tokens.specs.View.{tokens_of}
 use Rattle.pg_items.specs.Entries.{forms_of}
 
--- the tokens behind a mark or a word
-abbrev pub behind_of : Option (Bor (List Lexeme)) → Option (List Token)
-behind_of (Some rest) = Some (tokens_of rest.now)
-behind_of None = None
+-- the tokens after a mark or a word
+abbrev pub after_of : Option (Bor (List Lexeme)) → Option (List Token)
+after_of (Some rest) = Some (tokens_of rest.now)
+after_of None = None
 
 abbrev pub bodies_of : List (Vec PlacedForm) → List (List WrittenForm)
 bodies_of bodies = map (λ (b : Vec PlacedForm). forms_of b.items) bodies
@@ -24,9 +24,9 @@ bodies_of bodies = map (λ (b : Vec PlacedForm). forms_of b.items) bodies
 abbrev pub classes_of : List (Vec WrittenPart) → List (List WrittenPart)
 classes_of classes = map (λ (c : Vec WrittenPart). c.items) classes
 
--- a form in front of its parts
+-- a form before its parts
 abbrev pub body_of : Form → List WrittenForm
-body_of f = f.head.form ∷ forms_of f.parts.items
+body_of f = f.form ∷ forms_of f.parts.items
 
 -- an error is a fault of the file, and not that memory ran out
 abbrev pub IsFault : SyntaxError → Type 0

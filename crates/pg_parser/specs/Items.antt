@@ -9,7 +9,7 @@ use Rattle.pg_items.specs.Proper.{IsProperItem}
 use Rattle.pg_items.specs.Depth.{IsShallow}
 use Rattle.pg_items.specs.Heads.{entry_of_item}
 use Rattle.pg_items.specs.Entries.{Entry}
-use Rattle.pg_parser.specs.Limits.{full_room, KeepWithin}
+use Rattle.pg_parser.specs.Limits.{full_allowance, KeepWithin}
 use Rattle.pg_parser.specs.Given.{IsFault}
 
 -- the tokens are those of items that may stand in a file, not too many of a kind, and these are their entries
@@ -18,7 +18,7 @@ pub record AreItems (tokens : List Token) (entries : List Entry) : Type 0 where
   pub written : tokens ≡ file_written items
   pub proper : AllByRecursion IsProperItem items
   pub shallow : AllByRecursion IsShallow items
-  pub few : KeepWithin full_room (map entry_of_item items)
+  pub few : KeepWithin full_allowance (map entry_of_item items)
   pub meant : entries ≡ map entry_of_item items
 
 -- whatever entries the tokens spell, it is these

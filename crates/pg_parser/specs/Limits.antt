@@ -1,13 +1,13 @@
 -- How many items of a kind a file may have.
 use Rattle.std.specs.Prelude.{ℕ, suc, ◌+◌, ◌-◌, ◌≤◌, ◌&&◌, nat_le, if◌then◌else◌, List, [], ◌∷◌, Option, Some, None}
-use Rattle.pg_parser.specs.declared.room.Room.{Room}
+use Rattle.pg_parser.specs.declared.allowance.Allowance.{Allowance}
 use Rattle.pg_items.specs.Sizes.{counted, body_size}
 use Rattle.pg_items.specs.Entries.{Entry, class, word, operators, table, start, rule}
 
 abbrev pub class_count : List Entry → ℕ
 class_count [] = 0
 class_count (class name parts ∷ entries) = suc (class_count entries)
-class_count (word name head behind reserved ∷ entries) = class_count entries
+class_count (word name head after reserved ∷ entries) = class_count entries
 class_count (operators parts gap reserved most ∷ entries) = class_count entries
 class_count (table role precedence symbol ∷ entries) = class_count entries
 class_count (start name ∷ entries) = class_count entries
@@ -16,7 +16,7 @@ class_count (rule name body ∷ entries) = class_count entries
 abbrev pub word_count : List Entry → ℕ
 word_count [] = 0
 word_count (class name parts ∷ entries) = word_count entries
-word_count (word name head behind reserved ∷ entries) = suc (word_count entries)
+word_count (word name head after reserved ∷ entries) = suc (word_count entries)
 word_count (operators parts gap reserved most ∷ entries) = word_count entries
 word_count (table role precedence symbol ∷ entries) = word_count entries
 word_count (start name ∷ entries) = word_count entries
@@ -25,7 +25,7 @@ word_count (rule name body ∷ entries) = word_count entries
 abbrev pub rule_count : List Entry → ℕ
 rule_count [] = 0
 rule_count (class name parts ∷ entries) = rule_count entries
-rule_count (word name head behind reserved ∷ entries) = rule_count entries
+rule_count (word name head after reserved ∷ entries) = rule_count entries
 rule_count (operators parts gap reserved most ∷ entries) = rule_count entries
 rule_count (table role precedence symbol ∷ entries) = rule_count entries
 rule_count (start name ∷ entries) = rule_count entries
@@ -35,40 +35,40 @@ rule_count (rule name body ∷ entries) = suc (rule_count entries)
 abbrev pub node_count : List Entry → ℕ
 node_count [] = 0
 node_count (class name parts ∷ entries) = node_count entries
-node_count (word name head behind reserved ∷ entries) = node_count entries
+node_count (word name head after reserved ∷ entries) = node_count entries
 node_count (operators parts gap reserved most ∷ entries) = node_count entries
 node_count (table role precedence symbol ∷ entries) = node_count entries
 node_count (start name ∷ entries) = node_count entries
 node_count (rule name body ∷ entries) = counted (body_size body) + node_count entries
 
 -- items that there is room for
-pub record KeepWithin (room : Room) (entries : List Entry) : Type 0 where
-  pub few_classes : class_count entries ≤ room.classes
-  pub few_words : word_count entries ≤ room.words
-  pub few_rules : rule_count entries ≤ room.rules
-  pub few_nodes : node_count entries ≤ room.nodes
+pub record KeepWithin (allowance : Allowance) (entries : List Entry) : Type 0 where
+  pub few_classes : class_count entries ≤ allowance.classes
+  pub few_words : word_count entries ≤ allowance.words
+  pub few_rules : rule_count entries ≤ allowance.rules
+  pub few_nodes : node_count entries ≤ allowance.nodes
 
 -- the room of a file that has no item yet
-abbrev pub full_room : Room
-full_room = record { classes = 256; words = 64; rules = 512; nodes = 8192 }
+abbrev pub full_allowance : Allowance
+full_allowance = record { classes = 256; words = 64; rules = 512; nodes = 8192 }
 
--- the room that is left behind a class item, if there is any for it
-abbrev pub behind_class : Room → Option Room
-behind_class room = if nat_le 1 room.classes then Some (record { classes = room.classes - 1; words = room.words; rules = room.rules; nodes = room.nodes }) else None
+-- the room that is left after a class item, if there is any for it
+abbrev pub after_class : Allowance → Option Allowance
+after_class allowance = if nat_le 1 allowance.classes then Some (record { classes = allowance.classes - 1; words = allowance.words; rules = allowance.rules; nodes = allowance.nodes }) else None
 
-abbrev pub behind_word : Room → Option Room
-behind_word room = if nat_le 1 room.words then Some (record { classes = room.classes; words = room.words - 1; rules = room.rules; nodes = room.nodes }) else None
+abbrev pub after_word : Allowance → Option Allowance
+after_word allowance = if nat_le 1 allowance.words then Some (record { classes = allowance.classes; words = allowance.words - 1; rules = allowance.rules; nodes = allowance.nodes }) else None
 
--- behind a rule of so many base forms
-abbrev pub behind_rule : Room → ℕ → Option Room
-behind_rule room size =
-    if nat_le 1 room.rules && nat_le size room.nodes then Some (record { classes = room.classes; words = room.words; rules = room.rules - 1; nodes = room.nodes - size }) else None
+-- after a rule of so many base forms
+abbrev pub after_rule : Allowance → ℕ → Option Allowance
+after_rule allowance size =
+    if nat_le 1 allowance.rules && nat_le size allowance.nodes then Some (record { classes = allowance.classes; words = allowance.words; rules = allowance.rules - 1; nodes = allowance.nodes - size }) else None
 
--- the room that is left behind an item, if there is any for it
-abbrev pub room_behind : Room → Entry → Option Room
-room_behind room (class name parts) = behind_class room
-room_behind room (word name head behind reserved) = behind_word room
-room_behind room (operators parts gap reserved most) = Some room
-room_behind room (table role precedence symbol) = Some room
-room_behind room (start name) = Some room
-room_behind room (rule name body) = behind_rule room (counted (body_size body))
+-- the room that is left after an item, if there is any for it
+abbrev pub allowance_after : Allowance → Entry → Option Allowance
+allowance_after allowance (class name parts) = after_class allowance
+allowance_after allowance (word name head after reserved) = after_word allowance
+allowance_after allowance (operators parts gap reserved most) = Some allowance
+allowance_after allowance (table role precedence symbol) = Some allowance
+allowance_after allowance (start name) = Some allowance
+allowance_after allowance (rule name body) = after_rule allowance (counted (body_size body))

@@ -1,6 +1,6 @@
--- Reading tokens from left to right, as functions: what was read and the tokens behind it, or None at a fault. The parser's
+-- Reading tokens from left to right, as functions: what was read and the tokens after it, or None at a fault. The parser's
 -- code is held to them, and they read exactly what Syntax writes.
-use Rattle.std.specs.Prelude.{ℕ, zero, suc, ◌-◌, ◌&&◌, ◌==◌, nat_le, if◌then◌else◌, List, [], ◌∷◌, ◌++◌, length, Option, Some, None, codes}
+use Rattle.std.specs.Prelude.{ℕ, zero, suc, Bool, true, false, ◌-◌, ◌&&◌, ◌==◌, nat_le, if◌then◌else◌, List, [], ◌∷◌, ◌++◌, length, Option, Some, None, codes}
 use Rattle.std.specs.Str.{bytes_eq}
 use Rattle.pg_items.specs.declared.written.WrittenPart.{WrittenPart}
 use Rattle.pg_items.specs.declared.written.WrittenPart.TheVariants as part
@@ -10,7 +10,7 @@ use Rattle.pg_tokens.specs.declared.token.Mark.{Mark}
 use Rattle.pg_tokens.specs.declared.token.Mark.TheVariants.{Open, Close, Comma, Bar, Dots}
 use Rattle.pg_items.specs.declared.words.ClassForm.{ClassForm}
 use Rattle.pg_items.specs.declared.words.SomeForm.{SomeForm}
-use Rattle.pg_items.specs.declared.words.ChainForm.{ChainForm}
+use Rattle.pg_grammar.specs.declared.side.Side.{Side}
 use Rattle.pg_items.specs.declared.words.FormWord.{FormWord}
 use Rattle.pg_items.specs.declared.words.FormWord.TheVariants as word
 use Rattle.pg_tokens.specs.Lexical.{passes}
@@ -36,12 +36,12 @@ Reader A = List Token → Option (A × List Token)
 
 -- ---- marks, words, names, literals and numbers
 
--- what stands behind a mark
+-- what stands after a mark
 abbrev pub mark_at : Mark → List Token → Option (List Token)
 mark_at m [] = None
 mark_at m (t ∷ ts) = if is_mark m t then Some ts else None
 
--- what stands behind a word
+-- what stands after a word
 abbrev pub word_at : List ℕ → List Token → Option (List Token)
 word_at word [] = None
 word_at word (t ∷ ts) = if is_word word t then Some ts else None
@@ -55,6 +55,20 @@ name_at ts = None
 abbrev pub literal_at : Reader (List ℕ)
 literal_at (literal s ∷ ts) = Some (s, ts)
 literal_at ts = None
+
+-- whether a token is a literal, be it wrong or not
+abbrev pub is_literal : Token → Bool
+is_literal (name s) = false
+is_literal (number s) = false
+is_literal (literal s) = true
+is_literal (mark m) = false
+is_literal wrong = true
+is_literal bad = false
+
+-- whether one stands at the front
+abbrev pub has_literal : List Token → Bool
+has_literal [] = false
+has_literal (t ∷ ts) = is_literal t
 
 -- a number of any size
 abbrev pub number_at : Reader (List ℕ)
@@ -88,16 +102,16 @@ value_between low high s = value_within high s >>= λ n. if nat_le low n then So
 
 -- ---- parts with a mark between
 
--- what was read behind another part, which stood in front
+-- what was read after another part, which stood before
 abbrev pub with_first : {A : Type 0} → A → Option (List A × List Token) → Option (List A × List Token)
 with_first x read = read >>= λ xs. Some (x ∷ xs.0, xs.1)
 
--- the parts behind another one: none, or what stands behind the mark
+-- the parts after another one: none, or what stands after the mark
 abbrev pub more_with : {A : Type 0} → Reader A → Reader (List A) → List Token → Option (List Token) → Option (List A × List Token)
 more_with part more ts None = Some ([], ts)
-more_with part more ts (Some behind) = part behind >>= λ x. with_first x.0 (more x.1)
+more_with part more ts (Some after) = part after >>= λ x. with_first x.0 (more x.1)
 
--- the parts behind another one, a mark in front of each; at most n are read
+-- the parts after another one, a mark before each; at most n are read
 unfoldable pub more_at : {A : Type 0} → Mark → Reader A → ℕ → Reader (List A)
 more_at between part zero ts = Some ([], ts)
 more_at between part (suc n) ts = more_with part (more_at between part n) ts (mark_at between ts)
@@ -106,7 +120,7 @@ more_at between part (suc n) ts = more_with part (more_at between part n) ts (ma
 unfoldable pub some_at : {A : Type 0} → Mark → Reader A → ℕ → Reader (List A)
 some_at between part n ts = part ts >>= λ x. with_first x.0 (more_at between part n x.1)
 
--- lists, one behind another
+-- lists, one after another
 abbrev pub joined : {A : Type 0} → List (List A) → List A
 joined [] = []
 joined (xs ∷ lists) = xs ++ joined lists
@@ -123,7 +137,7 @@ range_end (c ∷ d ∷ s) = None
 abbrev pub range_between : ℕ → ℕ → Option WrittenPart
 range_between low high = if nat_le low high then Some (part.Range low high) else None
 
--- the rest of a range, behind the dots
+-- the rest of a range, after the dots
 abbrev pub range_at : List ℕ → Reader ClassParts
 range_at s ts = do
   low ← range_end s
@@ -136,10 +150,10 @@ range_at s ts = do
 abbrev pub set_at : List ℕ → Reader ClassParts
 set_at s ts = literal_text s >>= λ t. Some (part.Literal t ∷ [], ts)
 
--- a literal and what stands behind it; behind that, if it is there, what stands behind the dots
+-- a literal and what stands after it; after that, if it is there, what stands after the dots
 abbrev pub atom_with : List ℕ → List Token → Option (List Token) → Option (ClassParts × List Token)
 atom_with s ts None = set_at s ts
-atom_with s ts (Some behind) = range_at s behind
+atom_with s ts (Some after) = range_at s after
 
 -- a set or a range, from its first literal on
 abbrev pub literal_atom_at : Reader ClassParts
@@ -149,11 +163,11 @@ literal_atom_at ts = literal_at ts >>= λ s. atom_with s.0 s.1 (mark_at Dots s.1
 abbrev pub named_at : List ℕ → Reader ClassParts
 named_at s ts = free_name s >>= λ n. Some (part.Named n ∷ [], ts)
 
--- one part in front
-abbrev pub in_front : WrittenPart → Option (ClassParts × List Token) → Option (ClassParts × List Token)
-in_front first read = read >>= λ x. Some (first ∷ x.0, x.1)
+-- one part before
+abbrev pub before_all : WrittenPart → Option (ClassParts × List Token) → Option (ClassParts × List Token)
+before_all first read = read >>= λ x. Some (first ∷ x.0, x.1)
 
--- an atom without `not`; group reads what stands behind a parenthesis
+-- an atom without `not`; group reads what stands after a parenthesis
 unfoldable pub plain_at : Reader ClassParts → Reader ClassParts
 plain_at group [] = None
 plain_at group (name s ∷ ts) = named_at s ts
@@ -163,10 +177,10 @@ plain_at group (mark m ∷ ts) = if is_mark Open (mark m) then group ts else Non
 plain_at group (wrong ∷ ts) = None
 plain_at group (bad ∷ ts) = None
 
--- an atom, behind any number of `not`
+-- an atom, after any number of `not`
 unfoldable pub atom_at : Reader ClassParts → Reader ClassParts
 atom_at group [] = None
-atom_at group (t ∷ ts) = if is_word (codes "not") t then in_front part.Complement (atom_at group ts) else plain_at group (t ∷ ts)
+atom_at group (t ∷ ts) = if is_word (codes "not") t then before_all part.Complement (atom_at group ts) else plain_at group (t ∷ ts)
 
 -- the expression of these atoms: a single one as it is, several as a union
 abbrev pub expressed : List ClassParts → ClassParts
@@ -178,7 +192,7 @@ expressed (first ∷ second ∷ others) = part.Union (length (first ∷ second �
 unfoldable pub class_with : Reader ClassParts → Reader ClassParts
 class_with group ts = some_at Bar (atom_at group) (length ts) ts >>= λ atoms. Some (expressed atoms.0, atoms.1)
 
--- what was read, if the closing parenthesis stands behind it
+-- what was read, if the closing parenthesis stands after it
 abbrev pub with_close : {A : Type 0} → A → Reader A
 with_close x ts = mark_at Close ts >>= λ rest. Some (x, rest)
 
@@ -186,7 +200,7 @@ with_close x ts = mark_at Close ts >>= λ rest. Some (x, rest)
 abbrev pub closed_at : {A : Type 0} → Reader A → Reader A
 closed_at read ts = read ts >>= λ x. with_close x.0 x.1
 
--- behind a parenthesis, where n may nest, this one included
+-- after a parenthesis, where n may nest, this one included
 unfoldable pub group_at : ℕ → Reader ClassParts
 group_at zero ts = None
 group_at (suc n) ts = closed_at (class_with (group_at n)) ts
@@ -195,7 +209,7 @@ group_at (suc n) ts = closed_at (class_with (group_at n)) ts
 abbrev pub class_at : ℕ → Reader ClassParts
 class_at n = class_with (group_at n)
 
--- ---- values: what stands in the parentheses of each form, in front of the one that closes
+-- ---- values: what stands in the parentheses of each form, before the one that closes
 
 -- a class
 abbrev pub of_class_at : ClassForm → Reader ClassParts → Reader Body
@@ -227,15 +241,18 @@ seq_with value ts None = values_at value ts >>= λ vs. Some (written.Seq (length
 abbrev pub of_some_at : SomeForm → Reader Body → Reader Body
 of_some_at form value ts = values_at value ts >>= λ vs. Some (written.OfSome form (length vs.0) ∷ joined vs.0, vs.1)
 
--- these parts behind a form, if they are n
-abbrev pub counted : WrittenForm → ℕ → List Body → List Token → Option (Body × List Token)
-counted head n parts rest = if length parts == n then Some (head ∷ joined parts, rest) else None
+-- these parts, one after another, if they are n
+abbrev pub counted : ℕ → List Body → List Token → Option (Body × List Token)
+counted n parts rest = if length parts == n then Some (joined parts, rest) else None
 
 -- a form of n values
 abbrev pub around_at : WrittenForm → ℕ → Reader Body → Reader Body
-around_at head n value ts = some_at Comma value (n - 1) ts >>= λ vs. counted head n vs.0 vs.1
+around_at head n value ts = do
+  vs ← some_at Comma value (n - 1) ts
+  parts ← counted n vs.0 vs.1
+  Some (head ∷ parts.0, parts.1)
 
--- a builder's name, and the comma behind it
+-- a builder's name, and the comma after it
 abbrev pub builder_at : Reader (List ℕ)
 builder_at ts = do
   s ← name_at ts
@@ -243,10 +260,10 @@ builder_at ts = do
   rest ← mark_at Comma s.1
   Some (builder, rest)
 
-abbrev pub chain_head_at : ChainForm → Reader WrittenForm
-chain_head_at form ts = do
+abbrev pub chain_head_at : Side → Reader WrittenForm
+chain_head_at side ts = do
   builder ← builder_at ts
-  Some (written.Chain form builder.0, builder.1)
+  Some (written.Chain side builder.0, builder.1)
 
 abbrev pub expression_head_at : Reader WrittenForm
 expression_head_at ts = do
@@ -255,18 +272,17 @@ expression_head_at ts = do
   postfixes ← builder_at prefixes.1
   Some (written.Expression infixes.0 prefixes.0 postfixes.0, postfixes.1)
 
--- a builder's symbol and the comma behind it, if a literal stands there
-abbrev pub symbol_at : Reader (List ℕ)
-symbol_at [] = Some ([], [])
-symbol_at (name s ∷ ts) = Some ([], name s ∷ ts)
-symbol_at (number s ∷ ts) = Some ([], number s ∷ ts)
-symbol_at (literal s ∷ ts) = do
-  text ← literal_text s
-  rest ← mark_at Comma ts
+-- a symbol, and the comma after it
+abbrev pub written_symbol_at : Reader (List ℕ)
+written_symbol_at ts = do
+  s ← literal_at ts
+  text ← literal_text s.0
+  rest ← mark_at Comma s.1
   Some (text, rest)
-symbol_at (mark m ∷ ts) = Some ([], mark m ∷ ts)
-symbol_at (wrong ∷ ts) = None
-symbol_at (bad ∷ ts) = Some ([], bad ∷ ts)
+
+-- a builder's symbol and the comma after it, if a literal stands there
+abbrev pub symbol_at : Reader (List ℕ)
+symbol_at ts = if has_literal ts then written_symbol_at ts else Some ([], ts)
 
 abbrev pub build_head_at : Reader WrittenForm
 build_head_at ts = do
@@ -274,16 +290,22 @@ build_head_at ts = do
   symbol ← symbol_at builder.1
   Some (written.Build builder.0 symbol.0, symbol.1)
 
+-- a comma and a message
+abbrev pub message_at : Reader (List ℕ)
+message_at ts = do
+  after ← mark_at Comma ts
+  s ← literal_at after
+  message ← literal_text s.0
+  Some (message, s.1)
+
 -- a value, a comma and a message
 abbrev pub label_at : Reader Body → Reader Body
 label_at value ts = do
   v ← value ts
-  behind ← mark_at Comma v.1
-  s ← literal_at behind
-  message ← literal_text s.0
-  Some (written.Label message ∷ v.0, s.1)
+  message ← message_at v.1
+  Some (written.Label message.0 ∷ v.0, message.1)
 
--- what stands in the parentheses behind a word; class and value read what stands in those
+-- what stands in the parentheses after a word; class and value read what stands in those
 unfoldable pub form_at : Reader ClassParts → Reader Body → FormWord → Reader Body
 form_at class value (word.OfClass form) ts = of_class_at form class ts
 form_at class value word.String ts = string_at ts

@@ -1,6 +1,6 @@
-//! Class expressions: atoms with `|` between them. One ends where no `|` stands behind an atom.
+//! Class expressions: atoms with `|` between them. One ends where no `|` stands after an atom.
 //!
-//! Whether a literal is a set of its own or an end of a range shows only behind it, so it is judged then. How deep
+//! Whether a literal is a set of its own or an end of a range shows only after it, so it is judged then. How deep
 //! parentheses may still nest is handed down, so that the recursion ends at the limit; `not` before `not` is read in a
 //! loop, since only the file's length bounds how many stand in a row. The places of names are noted from left to right.
 
@@ -12,7 +12,7 @@ ghost use Rattle.pg_parser.specs.Reading.{range_at, literal_atom_at, named_at, p
 ghost use Rattle.pg_parser.specs.Reading as reading;
 
 use crate::error::{SyntaxError, SyntaxFault};
-use crate::front::{behind_mark, behind_word, expect_mark, literal, unexpected};
+use crate::front::{after_mark, after_word, expect_mark, literal, unexpected};
 use crate::text::{free_name, literal_text};
 use pg_items::{PlacedClass, WrittenClass, WrittenPart};
 use pg_tokens::{Lexeme, Mark, Token};
@@ -50,8 +50,8 @@ fn literal_part(alloc: Global, tokens: &[Lexeme]) -> Result<(WrittenPart, &[Lexe
     ensures { Gives (λ x. (x.0 ∷ [], tokens_of x.1.now)) result (literal_atom_at (tokens_of tokens.now)) }
 {
     let (text, place, rest) = literal(tokens)?;
-    match behind_mark(rest, Mark::Dots) {
-        Some(behind) => range(text, place, behind),
+    match after_mark(rest, Mark::Dots) {
+        Some(after) => range(text, place, after),
         None => {
             let text = literal_text(alloc, text, place)?;
             Ok((WrittenPart::Literal(text), rest))
@@ -114,7 +114,7 @@ fn plain_atom<'a>(
     }
 }
 
-/// The class behind a parenthesis that stands at a place, and the parenthesis that closes. F8 at the place where it
+/// The class after a parenthesis that stands at a place, and the parenthesis that closes. F8 at the place where it
 /// nests too deep.
 #[cycle(class)]
 #[tactic(auto, unfolding(crate::specs::Reading::group_at))]
@@ -134,7 +134,7 @@ fn group<'a>(
     Ok((parts, expect_mark(rest, Mark::Close)?))
 }
 
-/// An atom, behind any number of `not`.
+/// An atom, after any number of `not`.
 #[cycle(class)]
 fn atom<'a>(
     alloc: Global,
@@ -146,16 +146,16 @@ fn atom<'a>(
 {
     let mut parts = Vec::new(alloc);
     let mut rest = tokens;
-    while let Some(behind) = behind_word(rest, "not") {
+    while let Some(after) = after_word(rest, "not") {
         parts.push(WrittenPart::Complement)?;
-        rest = behind;
+        rest = after;
     }
     let (mut atom, rest) = plain_atom(alloc, depth, rest, names)?;
     parts.append(&mut atom)?;
     Ok((parts, rest))
 }
 
-/// The atoms behind another one, `|` in front of each; at most so many.
+/// The atoms after another one, `|` before each; at most so many.
 #[cycle(class)]
 fn more_atoms<'a>(
     alloc: Global,
@@ -169,10 +169,10 @@ fn more_atoms<'a>(
     let mut atoms = Vec::new(alloc);
     let mut rest = tokens;
     for _ in 0..most {
-        let Some(behind) = behind_mark(rest, Mark::Bar) else {
+        let Some(after) = after_mark(rest, Mark::Bar) else {
             return Ok((atoms, rest));
         };
-        let (next, after) = atom(alloc, depth, behind, names)?;
+        let (next, after) = atom(alloc, depth, after, names)?;
         atoms.push(next)?;
         rest = after;
     }
@@ -196,7 +196,7 @@ fn atoms<'a>(
     Ok((atoms, rest))
 }
 
-/// Lists, one behind another.
+/// Lists, one after another.
 fn joined(alloc: Global, lists: Vec<Vec<WrittenPart>>) -> Result<Vec<WrittenPart>, AllocError>
     ensures { IfOk result (λ parts. parts.items ≡ reading.joined (classes_of lists.items)) }
 {
@@ -234,6 +234,19 @@ fn class<'a>(
     Ok((expression(alloc, atoms)?, rest))
 }
 
+/// A class expression, in which parentheses may nest so deep. The places of its names are noted after these.
+pub fn written_class<'a>(
+    alloc: Global,
+    depth: usize,
+    tokens: &'a [Lexeme],
+    names: &mut Vec<usize>,
+) -> Result<(WrittenClass, &'a [Lexeme]), SyntaxError>
+    ensures { Gives (λ x. (x.0, tokens_of x.1.now)) result (class_at depth (tokens_of tokens.now)) }
+{
+    let (parts, rest) = class(alloc, depth, tokens, names)?;
+    Ok((WrittenClass::new(parts), rest))
+}
+
 /// The same, with the places of its names.
 pub fn placed_class(
     alloc: Global,
@@ -243,7 +256,6 @@ pub fn placed_class(
     ensures { Gives (λ x. (x.0.class, tokens_of x.1.now)) result (class_at depth (tokens_of tokens.now)) }
 {
     let mut names = Vec::new(alloc);
-    let (parts, rest) = class(alloc, depth, tokens, &mut names)?;
-    let class = WrittenClass::new(parts);
+    let (class, rest) = written_class(alloc, depth, tokens, &mut names)?;
     Ok((PlacedClass { class, names }, rest))
 }

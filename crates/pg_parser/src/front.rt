@@ -5,7 +5,7 @@
 
 ghost use Rattle.std.specs.Prelude.{◌≡◌};
 ghost use Rattle.pg_tokens.specs.View.{tokens_of};
-ghost use Rattle.pg_parser.specs.Given.{Gives, IsFault, behind_of};
+ghost use Rattle.pg_parser.specs.Given.{Gives, IsFault, after_of};
 ghost use Rattle.pg_parser.specs.Reading as reading;
 
 use crate::error::{SyntaxError, SyntaxFault};
@@ -24,9 +24,9 @@ pub fn unexpected(tokens: &[Lexeme]) -> SyntaxError
     }
 }
 
-/// What stands behind the mark, if it is the first.
-pub fn behind_mark(tokens: &[Lexeme], which: Mark) -> Option<&[Lexeme]>
-    ensures { behind_of result ≡ reading.mark_at which (tokens_of tokens.now) }
+/// What stands after the mark, if it is the first.
+pub fn after_mark(tokens: &[Lexeme], which: Mark) -> Option<&[Lexeme]>
+    ensures { after_of result ≡ reading.mark_at which (tokens_of tokens.now) }
 {
     match tokens {
         [first, rest @ ..] if first.token.is_mark(which) => Some(rest),
@@ -34,19 +34,19 @@ pub fn behind_mark(tokens: &[Lexeme], which: Mark) -> Option<&[Lexeme]>
     }
 }
 
-/// What stands behind the mark, which must be there.
+/// What stands after the mark, which must be there.
 pub fn expect_mark(tokens: &[Lexeme], which: Mark) -> Result<&[Lexeme], SyntaxError>
     ensures { Gives (λ rest. tokens_of rest.now) result (reading.mark_at which (tokens_of tokens.now)) }
 {
-    match behind_mark(tokens, which) {
+    match after_mark(tokens, which) {
         Some(rest) => Ok(rest),
         None => Err(unexpected(tokens)),
     }
 }
 
-/// What stands behind the word, which is ASCII, if it is the first.
-pub fn behind_word<'a>(tokens: &'a [Lexeme], word: &str) -> Option<&'a [Lexeme]>
-    ensures { behind_of result ≡ reading.word_at word.now (tokens_of tokens.now) }
+/// What stands after the word, which is ASCII, if it is the first.
+pub fn after_word<'a>(tokens: &'a [Lexeme], word: &str) -> Option<&'a [Lexeme]>
+    ensures { after_of result ≡ reading.word_at word.now (tokens_of tokens.now) }
 {
     match tokens {
         [first, rest @ ..] if first.token.is_word(word) => Some(rest),
@@ -54,17 +54,17 @@ pub fn behind_word<'a>(tokens: &'a [Lexeme], word: &str) -> Option<&'a [Lexeme]>
     }
 }
 
-/// What stands behind the word, which is ASCII and must be there.
+/// What stands after the word, which is ASCII and must be there.
 pub fn expect_word<'a>(tokens: &'a [Lexeme], word: &str) -> Result<&'a [Lexeme], SyntaxError>
     ensures { Gives (λ rest. tokens_of rest.now) result (reading.word_at word.now (tokens_of tokens.now)) }
 {
-    match behind_word(tokens, word) {
+    match after_word(tokens, word) {
         Some(rest) => Ok(rest),
         None => Err(unexpected(tokens)),
     }
 }
 
-/// A name and its place, and what stands behind it.
+/// A name and its place, and what stands after it.
 pub fn name(tokens: &[Lexeme]) -> Result<(&[char], usize, &[Lexeme]), SyntaxError>
     ensures { Gives (λ x. (x.0.now, tokens_of x.2.now)) result (reading.name_at (tokens_of tokens.now)) }
 {
@@ -76,7 +76,7 @@ pub fn name(tokens: &[Lexeme]) -> Result<(&[char], usize, &[Lexeme]), SyntaxErro
     Err(unexpected(tokens))
 }
 
-/// A number's digits and their place, and what stands behind it.
+/// A number's digits and their place, and what stands after it.
 pub fn number(tokens: &[Lexeme]) -> Result<(&[char], usize, &[Lexeme]), SyntaxError>
     ensures { Gives (λ x. (x.0.now, tokens_of x.2.now)) result (reading.number_at (tokens_of tokens.now)) }
 {
@@ -88,7 +88,17 @@ pub fn number(tokens: &[Lexeme]) -> Result<(&[char], usize, &[Lexeme]), SyntaxEr
     Err(unexpected(tokens))
 }
 
-/// A literal and its place, and what stands behind it. F7 where an escape in it is none.
+/// Whether a literal stands at the front, be it wrong or not.
+pub fn has_literal(tokens: &[Lexeme]) -> bool
+    ensures { result ≡ reading.has_literal (tokens_of tokens.now) }
+{
+    match tokens {
+        [first, ..] => matches!(first.token, Token::Literal(_) | Token::WrongLiteral),
+        [] => false,
+    }
+}
+
+/// A literal and its place, and what stands after it. F7 where an escape in it is none.
 pub fn literal(tokens: &[Lexeme]) -> Result<(&[char], usize, &[Lexeme]), SyntaxError>
     ensures { Gives (λ x. (x.0.now, tokens_of x.2.now)) result (reading.literal_at (tokens_of tokens.now)) }
 {

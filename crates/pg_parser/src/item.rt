@@ -6,7 +6,7 @@ ghost use Rattle.std.specs.Prelude.{◌≡◌};
 ghost use Rattle.pg_tokens.specs.View.{tokens_of};
 ghost use Rattle.pg_items.specs.Entries.{entry_of};
 ghost use Rattle.pg_parser.specs.Given.{Gives};
-ghost use Rattle.pg_parser.specs.ItemReading.{class_item_at, word_item_at, operators_at, table_at, start_at, rule_at, item_at, item_named_at};
+ghost use Rattle.pg_parser.specs.ItemReading.{class_item_at, class_after, word_item_at, operators_at, table_at, start_at, rule_at, item_at, item_named_at};
 
 use crate::class::placed_class;
 use crate::error::SyntaxError;
@@ -14,7 +14,7 @@ use crate::front::{expect_mark, expect_word, name, number, unexpected};
 use crate::reserved::{most, reserved};
 use crate::text::{filled_at, free_name, free_name_at, value_within};
 use crate::value::value;
-use pg_items::{Item, role_named};
+use pg_items::{Item, PlacedClass, role_named};
 use pg_tokens::{Lexeme, Mark, is_word};
 use std::alloc::Global;
 
@@ -24,7 +24,7 @@ const DEPTH_LIMIT: usize = 64;
 /// The greatest precedence.
 const PRECEDENCE_LIMIT: usize = 9;
 
-/// A class item, behind its word.
+/// A class item, after its word.
 fn class_item(alloc: Global, tokens: &[Lexeme]) -> Result<(Item, &[Lexeme]), SyntaxError>
     ensures { Gives (λ x. (entry_of x.0, tokens_of x.1.now)) result (class_item_at (tokens_of tokens.now)) }
 {
@@ -41,16 +41,25 @@ fn class_item(alloc: Global, tokens: &[Lexeme]) -> Result<(Item, &[Lexeme]), Syn
     ))
 }
 
-/// A word item, behind its word.
+/// The word, and the class after it.
+fn class_after<'a>(
+    alloc: Global,
+    word: &str,
+    tokens: &'a [Lexeme],
+) -> Result<(PlacedClass, &'a [Lexeme]), SyntaxError>
+    ensures { Gives (λ x. (x.0.class, tokens_of x.1.now)) result (class_after 64 word.now (tokens_of tokens.now)) }
+{
+    placed_class(alloc, DEPTH_LIMIT, expect_word(tokens, word)?)
+}
+
+/// A word item, after its word.
 fn word_item(alloc: Global, tokens: &[Lexeme]) -> Result<(Item, &[Lexeme]), SyntaxError>
     ensures { Gives (λ x. (entry_of x.0, tokens_of x.1.now)) result (word_item_at (tokens_of tokens.now)) }
 {
-    let (name, name_place, behind) = free_name_at(alloc, tokens)?;
-    let behind = expect_word(behind, "head")?;
-    let (head, behind) = placed_class(alloc, DEPTH_LIMIT, behind)?;
-    let behind = expect_word(behind, "rest")?;
-    let (rest, behind) = placed_class(alloc, DEPTH_LIMIT, behind)?;
-    let (reserved, behind) = reserved(alloc, behind)?;
+    let (name, name_place, after) = free_name_at(alloc, tokens)?;
+    let (head, after) = class_after(alloc, "head", after)?;
+    let (rest, after) = class_after(alloc, "rest", after)?;
+    let (reserved, after) = reserved(alloc, after)?;
     Ok((
         Item::Word {
             name,
@@ -59,11 +68,11 @@ fn word_item(alloc: Global, tokens: &[Lexeme]) -> Result<(Item, &[Lexeme]), Synt
             rest,
             reserved,
         },
-        behind,
+        after,
     ))
 }
 
-/// The operators, behind their word, which stands at a place.
+/// The operators, after their word, which stands at a place.
 fn operators(
     alloc: Global,
     place: usize,
@@ -72,8 +81,7 @@ fn operators(
     ensures { Gives (λ x. (entry_of x.0, tokens_of x.1.now)) result (operators_at (tokens_of tokens.now)) }
 {
     let (class, rest) = placed_class(alloc, DEPTH_LIMIT, tokens)?;
-    let rest = expect_word(rest, "gap")?;
-    let (gap, rest) = placed_class(alloc, DEPTH_LIMIT, rest)?;
+    let (gap, rest) = class_after(alloc, "gap", rest)?;
     let (reserved, rest) = reserved(alloc, rest)?;
     let (most, rest) = most(rest)?;
     Ok((
@@ -88,7 +96,7 @@ fn operators(
     ))
 }
 
-/// An operator of the table, behind its word, which stands at a place. F3 at a precedence over 9.
+/// An operator of the table, after its word, which stands at a place. F3 at a precedence over 9.
 fn table(alloc: Global, place: usize, tokens: &[Lexeme]) -> Result<(Item, &[Lexeme]), SyntaxError>
     ensures { Gives (λ x. (entry_of x.0, tokens_of x.1.now)) result (table_at (tokens_of tokens.now)) }
 {
@@ -111,7 +119,7 @@ fn table(alloc: Global, place: usize, tokens: &[Lexeme]) -> Result<(Item, &[Lexe
     ))
 }
 
-/// The start, behind its word, which stands at a place.
+/// The start, after its word, which stands at a place.
 fn start(alloc: Global, place: usize, tokens: &[Lexeme]) -> Result<(Item, &[Lexeme]), SyntaxError>
     ensures { Gives (λ x. (entry_of x.0, tokens_of x.1.now)) result (start_at (tokens_of tokens.now)) }
 {
@@ -126,7 +134,7 @@ fn start(alloc: Global, place: usize, tokens: &[Lexeme]) -> Result<(Item, &[Lexe
     ))
 }
 
-/// A rule, behind its name, which stands at a place.
+/// A rule, after its name, which stands at a place.
 fn rule<'a>(
     alloc: Global,
     name: &[char],

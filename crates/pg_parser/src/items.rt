@@ -7,38 +7,42 @@ ghost use Rattle.pg_tokens.specs.View.{tokens_of};
 ghost use Rattle.pg_items.specs.Entries.{entry_of, entries_of};
 ghost use Rattle.pg_parser.specs.Items.{AreItems, OnlyItems, FaultyItems};
 ghost use Rattle.pg_parser.specs.Given.{Gives};
-ghost use Rattle.pg_parser.specs.Limits.{room_behind};
-ghost use Rattle.pg_parser.specs.ItemReading.{turn_at, file_at};
+ghost use Rattle.pg_parser.specs.ItemReading.{end_at, turn_at, file_at};
 
+use crate::allowance::Allowance;
 use crate::error::{SyntaxError, SyntaxFault};
 use crate::front::expect_mark;
 use crate::item::item;
-use crate::room::Room;
 use pg_items::Item;
 use pg_tokens::{Lexeme, Mark};
 use std::alloc::Global;
 
-/// An item, with the room that it leaves, and what stands behind its semicolon. F8 at the semicolon where there is no
-/// room for it.
+/// An item, with the room that it leaves, and what stands after its semicolon.
 fn item_in(
     alloc: Global,
-    room: Room,
+    allowance: Allowance,
     tokens: &[Lexeme],
-) -> Result<(Item, Room, &[Lexeme]), SyntaxError>
-    ensures { Gives (λ x. ((entry_of x.0, x.1), tokens_of x.2.now)) result (turn_at room (tokens_of tokens.now)) }
+) -> Result<(Item, Allowance, &[Lexeme]), SyntaxError>
+    ensures { Gives (λ x. ((entry_of x.0, x.1), tokens_of x.2.now)) result (turn_at allowance (tokens_of tokens.now)) }
 {
     let (item, end) = item(alloc, tokens)?;
-    let rest = expect_mark(end, Mark::Semicolon)?;
-    let left = room_left(alloc, room, &item, end)?;
+    let (left, rest) = after_item(alloc, allowance, &item, end)?;
     Ok((item, left, rest))
 }
 
-/// The room that an item leaves. F8 at its semicolon, the first of these tokens, where there is no room for it.
-fn room_left(alloc: Global, room: Room, item: &Item, end: &[Lexeme]) -> Result<Room, SyntaxError>
-    ensures { Gives (λ left. left) result (room_behind room (entry_of item.now)) }
+/// The room that an item leaves, and what stands after its semicolon, which is the first of these tokens. F8 there where
+/// there is no room for it.
+fn after_item<'a>(
+    alloc: Global,
+    allowance: Allowance,
+    item: &Item,
+    end: &'a [Lexeme],
+) -> Result<(Allowance, &'a [Lexeme]), SyntaxError>
+    ensures { Gives (λ x. (x.0, tokens_of x.1.now)) result (end_at allowance (entry_of item.now) (tokens_of end.now)) }
 {
-    match room.behind(alloc, item)? {
-        Some(left) => Ok(left),
+    let rest = expect_mark(end, Mark::Semicolon)?;
+    match allowance.after(alloc, item)? {
+        Some(left) => Ok((left, rest)),
         None => Err(SyntaxError::Fault(
             SyntaxFault::LimitPassed,
             end.first().map(|first| first.place),
@@ -51,12 +55,12 @@ fn all_items(alloc: Global, lexemes: &[Lexeme]) -> Result<Vec<Item>, SyntaxError
 {
     let mut items = Vec::new(alloc);
     let mut rest = lexemes;
-    let mut room = Room::new();
+    let mut allowance = Allowance::new();
     while !rest.is_empty() {
-        let (item, left, behind) = item_in(alloc, room, rest)?;
+        let (item, left, after) = item_in(alloc, allowance, rest)?;
         items.push(item)?;
-        room = left;
-        rest = behind;
+        allowance = left;
+        rest = after;
     }
     Ok(items)
 }
@@ -65,7 +69,7 @@ fn all_items(alloc: Global, lexemes: &[Lexeme]) -> Result<Vec<Item>, SyntaxError
 ///
 /// The first fault from the left is answered, at one place the one with the lowest number: F2 at a `Bad` token and
 /// F3 at another that can't stand where it does, F7 at a literal that is wrong, F8 at a name, a literal or a
-/// parenthesis past its limit, and at the semicolon behind which there are over 256 classes, 64 words, 512 rules
+/// parenthesis past its limit, and at the semicolon after which there are over 256 classes, 64 words, 512 rules
 /// or 8,192 nodes (ours).
 #[tactic(auto, using(crate::proofs::ParserLemmas::Files::are_items))]
 pub fn read_items(alloc: Global, lexemes: &[Lexeme]) -> Result<Vec<Item>, SyntaxError>

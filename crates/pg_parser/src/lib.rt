@@ -5,6 +5,7 @@
 //! places of faults are tested alone.
 #![tactic(auto)]
 
+mod allowance;
 mod class;
 mod error;
 mod front;
@@ -12,7 +13,6 @@ mod head;
 mod item;
 mod items;
 mod reserved;
-mod room;
 mod text;
 mod value;
 

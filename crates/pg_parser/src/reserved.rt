@@ -3,27 +3,17 @@
 ghost use Rattle.std.specs.Prelude.{◌≡◌};
 ghost use Rattle.pg_tokens.specs.View.{tokens_of};
 ghost use Rattle.pg_parser.specs.Given.{Gives};
-ghost use Rattle.pg_parser.specs.ItemReading.{has_literal, literals_at, reserved_at, most_at};
+ghost use Rattle.pg_parser.specs.ItemReading.{literals_at, reserved_at, most_at};
 
 use crate::error::SyntaxError;
-use crate::front::{behind_word, number};
+use crate::front::{after_word, has_literal, number};
 use crate::text::{filled_at, value_between};
 use pg_text::Characters;
-use pg_tokens::{Lexeme, Token};
+use pg_tokens::Lexeme;
 use std::alloc::Global;
 
 /// The most operators that a file may allow.
 const OPERATOR_LIMIT: usize = 64;
-
-/// Whether a literal stands at the front, be it wrong or not.
-fn has_literal(tokens: &[Lexeme]) -> bool
-    ensures { result ≡ has_literal (tokens_of tokens.now) }
-{
-    match tokens {
-        [first, ..] => matches!(first.token, Token::Literal(_) | Token::WrongLiteral),
-        [] => false,
-    }
-}
 
 /// The literals that stand next to one another, none of them empty.
 fn literals(alloc: Global, tokens: &[Lexeme]) -> Result<(Vec<Characters>, &[Lexeme]), SyntaxError>
@@ -32,36 +22,36 @@ fn literals(alloc: Global, tokens: &[Lexeme]) -> Result<(Vec<Characters>, &[Lexe
     let mut texts = Vec::new(alloc);
     let mut rest = tokens;
     while has_literal(rest) {
-        let (text, _place, behind) = filled_at(alloc, rest)?;
+        let (text, _place, after) = filled_at(alloc, rest)?;
         texts.push(text)?;
-        rest = behind;
+        rest = after;
     }
     Ok((texts, rest))
 }
 
-/// The texts behind the word `reserved`, if it stands there: one or more.
+/// The texts after the word `reserved`, if it stands there: one or more.
 pub fn reserved(
     alloc: Global,
     tokens: &[Lexeme],
 ) -> Result<(Vec<Characters>, &[Lexeme]), SyntaxError>
     ensures { Gives (λ x. (x.0.items, tokens_of x.1.now)) result (reserved_at (tokens_of tokens.now)) }
 {
-    let Some(behind) = behind_word(tokens, "reserved") else {
+    let Some(after) = after_word(tokens, "reserved") else {
         return Ok((Vec::new(alloc), tokens));
     };
-    let (first, _place, rest) = filled_at(alloc, behind)?;
+    let (first, _place, rest) = filled_at(alloc, after)?;
     let (mut texts, rest) = literals(alloc, rest)?;
     texts.insert(0, first)?;
     Ok((texts, rest))
 }
 
-/// The number behind the word `max`, if it stands there. F3 where it isn't 1 to 64.
+/// The number after the word `max`, if it stands there. F3 where it isn't 1 to 64.
 pub fn most(tokens: &[Lexeme]) -> Result<(Option<usize>, &[Lexeme]), SyntaxError>
     ensures { Gives (λ x. (x.0, tokens_of x.1.now)) result (most_at (tokens_of tokens.now)) }
 {
-    let Some(behind) = behind_word(tokens, "max") else {
+    let Some(after) = after_word(tokens, "max") else {
         return Ok((None, tokens));
     };
-    let (digits, place, rest) = number(behind)?;
+    let (digits, place, rest) = number(after)?;
     Ok((Some(value_between(1, OPERATOR_LIMIT, digits, place)?), rest))
 }

@@ -64,7 +64,7 @@ pub fn filled_text(alloc: Global, text: &[char], place: usize) -> Result<Charact
     literal_text(alloc, text, place)
 }
 
-/// The name at the front, which an item gets or names, its place, and what stands behind it.
+/// The name at the front, which an item gets or names, its place, and what stands after it.
 pub fn free_name_at(
     alloc: Global,
     tokens: &[Lexeme],
@@ -75,7 +75,7 @@ pub fn free_name_at(
     Ok((free_name(alloc, text, place)?, place, rest))
 }
 
-/// The text of the literal at the front, which mustn't be empty, its place, and what stands behind it.
+/// The text of the literal at the front, which mustn't be empty, its place, and what stands after it.
 pub fn filled_at(
     alloc: Global,
     tokens: &[Lexeme],

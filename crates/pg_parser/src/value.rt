@@ -1,6 +1,6 @@
 //! Values: the bodies of rules, read as forms in preorder, each with its place.
 //!
-//! A form's parts are read whole before the form is put in front of them. How deep parentheses may still nest is
+//! A form's parts are read whole before the form is put before them. How deep parentheses may still nest is
 //! handed down, so that the recursion ends at the limit.
 
 ghost use Rattle.std.specs.Prelude.{◌≡◌, [], ◌∷◌, ◌<◌, length, IfOk};
@@ -8,20 +8,21 @@ ghost use Rattle.pg_tokens.specs.declared.token.Mark.TheVariants.{Comma, Close};
 ghost use Rattle.pg_tokens.specs.View.{tokens_of};
 ghost use Rattle.pg_items.specs.Entries.{forms_of};
 ghost use Rattle.pg_parser.specs.Given.{Gives, bodies_of, body_of};
-ghost use Rattle.pg_parser.specs.Reading.{with_close, more_at, some_at, mark_at, class_at, seq_with, of_some_at, counted, around_at, label_at, form_at, value_at, rule_named_at};
+ghost use Rattle.pg_parser.specs.Reading.{with_close, more_at, some_at, mark_at, class_at, seq_with, of_some_at, counted, around_at, message_at, label_at, form_at, value_at, rule_named_at};
 ghost use Rattle.pg_parser.specs.Reading as reading;
 
 use crate::error::{SyntaxError, SyntaxFault};
-use crate::front::{behind_mark, expect_mark, literal, name, unexpected};
+use crate::front::{after_mark, expect_mark, literal, name, unexpected};
 use crate::head::{
-    Form, Head, build_head, chain_head, expression_head, of_class, string, unnamed, word_name,
+    Form, alone, build_head, chain_head, expression_head, of_class, string, word_name,
 };
 use crate::text::{free_name, literal_text};
 use pg_items::{FormWord, PlacedForm, SomeForm, WrittenForm, form_word};
+use pg_text::Characters;
 use pg_tokens::{Lexeme, Mark, is_word};
 use std::alloc::{AllocError, Global};
 
-/// Bodies, one behind another.
+/// Bodies, one after another.
 fn joined(alloc: Global, bodies: Vec<Vec<PlacedForm>>) -> Result<Vec<PlacedForm>, AllocError>
     ensures { IfOk result (λ parts. forms_of parts.items ≡ reading.joined (bodies_of bodies.items)) }
 {
@@ -32,44 +33,42 @@ fn joined(alloc: Global, bodies: Vec<Vec<PlacedForm>>) -> Result<Vec<PlacedForm>
     Ok(parts)
 }
 
-/// The form at a place, in front of its parts.
-fn placed(form: Form, place: usize) -> Result<Vec<PlacedForm>, AllocError>
+/// The form at a place, before its parts, with the places of its names.
+fn placed(form: Form, place: usize, names: Vec<usize>) -> Result<Vec<PlacedForm>, AllocError>
     ensures { IfOk result (λ body. forms_of body.items ≡ body_of form) }
 {
-    let Form { head, parts } = form;
-    let Head { form, names } = head;
+    let Form { form, parts } = form;
     let mut body = parts;
     body.insert(0, PlacedForm { form, place, names })?;
     Ok(body)
 }
 
-/// The body of the form at a place, and what stands behind the parenthesis that closes.
+/// The body of the form at a place, and what stands after the parenthesis that closes.
 fn closed(
     form: Form,
     place: usize,
+    names: Vec<usize>,
     tokens: &[Lexeme],
 ) -> Result<(Vec<PlacedForm>, &[Lexeme]), SyntaxError>
     ensures { Gives (λ x. (forms_of x.0.items, tokens_of x.1.now)) result (with_close (body_of form) (tokens_of tokens.now)) }
 {
     let rest = expect_mark(tokens, Mark::Close)?;
-    Ok((placed(form, place)?, rest))
+    Ok((placed(form, place, names)?, rest))
 }
 
-/// The form around these bodies, in front of the tokens behind them. F3 at these where there are not so many bodies.
+/// These bodies, one after another. F3 at the tokens after them where there are not so many.
 fn counted(
     alloc: Global,
-    head: Head,
     count: usize,
     values: Vec<Vec<PlacedForm>>,
     rest: &[Lexeme],
-) -> Result<(Form, &[Lexeme]), SyntaxError>
-    ensures { Gives (λ x. (body_of x.0, tokens_of x.1.now)) result (counted head.form count (bodies_of values.items) (tokens_of rest.now)) }
+) -> Result<Vec<PlacedForm>, SyntaxError>
+    ensures { Gives (λ parts. (forms_of parts.items, tokens_of rest.now)) result (counted count (bodies_of values.items) (tokens_of rest.now)) }
 {
     if values.len() != count {
         return Err(unexpected(rest));
     }
-    let parts = joined(alloc, values)?;
-    Ok((Form { head, parts }, rest))
+    Ok(joined(alloc, values)?)
 }
 
 /// The body of this one form, in which nothing is named but perhaps itself.
@@ -80,7 +79,7 @@ fn single(alloc: Global, form: WrittenForm, place: usize) -> Result<Vec<PlacedFo
     Ok(vec![in alloc; PlacedForm { form, place, names }]?)
 }
 
-/// The values behind another one, a comma in front of each; at most so many.
+/// The values after another one, a comma before each; at most so many.
 #[cycle(value)]
 fn more_values(
     alloc: Global,
@@ -93,10 +92,10 @@ fn more_values(
     let mut values = Vec::new(alloc);
     let mut rest = tokens;
     for _ in 0..most {
-        let Some(behind) = behind_mark(rest, Mark::Comma) else {
+        let Some(after) = after_mark(rest, Mark::Comma) else {
             return Ok((values, rest));
         };
-        let (next, after) = value(alloc, depth, behind)?;
+        let (next, after) = value(alloc, depth, after)?;
         values.push(next)?;
         rest = after;
     }
@@ -125,15 +124,16 @@ fn values(
 fn around(
     alloc: Global,
     depth: usize,
-    head: Head,
+    form: WrittenForm,
     count: usize,
     tokens: &[Lexeme],
 ) -> Result<(Form, &[Lexeme]), SyntaxError>
     requires { 0 < count }
-    ensures { Gives (λ x. (body_of x.0, tokens_of x.1.now)) result (around_at head.form count (value_at depth) (tokens_of tokens.now)) }
+    ensures { Gives (λ x. (body_of x.0, tokens_of x.1.now)) result (around_at form count (value_at depth) (tokens_of tokens.now)) }
 {
     let (values, rest) = values(alloc, depth, count - 1, tokens)?;
-    counted(alloc, head, count, values, rest)
+    let parts = counted(alloc, count, values, rest)?;
+    Ok((Form { form, parts }, rest))
 }
 
 /// A `seq`, of any number of values.
@@ -141,15 +141,14 @@ fn around(
 fn seq(alloc: Global, depth: usize, tokens: &[Lexeme]) -> Result<(Form, &[Lexeme]), SyntaxError>
     ensures { Gives (λ x. (body_of x.0, tokens_of x.1.now)) result (seq_with (value_at depth) (tokens_of tokens.now) (mark_at Close (tokens_of tokens.now))) }
 {
-    if behind_mark(tokens, Mark::Close).is_some() {
-        let head = unnamed(alloc, WrittenForm::Seq(0));
-        let parts = Vec::new(alloc);
-        return Ok((Form { head, parts }, tokens));
+    if after_mark(tokens, Mark::Close).is_some() {
+        return Ok((alone(alloc, WrittenForm::Seq(0)), tokens));
     }
     let (values, rest) = values(alloc, depth, tokens.len(), tokens)?;
-    let head = unnamed(alloc, WrittenForm::Seq(values.len()));
+    let count = values.len();
     let parts = joined(alloc, values)?;
-    Ok((Form { head, parts }, rest))
+    let form = WrittenForm::Seq(count);
+    Ok((Form { form, parts }, rest))
 }
 
 /// A form of one value or more.
@@ -163,9 +162,18 @@ fn of_some(
     ensures { Gives (λ x. (body_of x.0, tokens_of x.1.now)) result (of_some_at form (value_at depth) (tokens_of tokens.now)) }
 {
     let (values, rest) = values(alloc, depth, tokens.len(), tokens)?;
-    let head = unnamed(alloc, WrittenForm::OfSome(form, values.len()));
+    let count = values.len();
     let parts = joined(alloc, values)?;
-    Ok((Form { head, parts }, rest))
+    let form = WrittenForm::OfSome(form, count);
+    Ok((Form { form, parts }, rest))
+}
+
+/// A comma and a message.
+fn message(alloc: Global, tokens: &[Lexeme]) -> Result<(Characters, &[Lexeme]), SyntaxError>
+    ensures { Gives (λ x. (x.0, tokens_of x.1.now)) result (message_at (tokens_of tokens.now)) }
+{
+    let (text, place, rest) = literal(expect_mark(tokens, Mark::Comma)?)?;
+    Ok((literal_text(alloc, text, place)?, rest))
 }
 
 /// A `label`: a value and its message.
@@ -174,55 +182,45 @@ fn label(alloc: Global, depth: usize, tokens: &[Lexeme]) -> Result<(Form, &[Lexe
     ensures { Gives (λ x. (body_of x.0, tokens_of x.1.now)) result (label_at (value_at depth) (tokens_of tokens.now)) }
 {
     let (parts, rest) = value(alloc, depth, tokens)?;
-    let rest = expect_mark(rest, Mark::Comma)?;
-    let (text, place, rest) = literal(rest)?;
-    let message = literal_text(alloc, text, place)?;
-    let head = unnamed(alloc, WrittenForm::Label(message));
-    Ok((Form { head, parts }, rest))
+    let (message, rest) = message(alloc, rest)?;
+    let form = WrittenForm::Label(message);
+    Ok((Form { form, parts }, rest))
 }
 
-/// What stands behind a form's word and parenthesis, up to the one that closes.
+/// What stands after a form's word and parenthesis, up to the one that closes.
 #[cycle(value)]
 #[tactic(auto, unfolding(crate::specs::Reading::form_at))]
-fn form(
+fn form<'a>(
     alloc: Global,
     depth: usize,
     word: FormWord,
-    tokens: &[Lexeme],
-) -> Result<(Form, &[Lexeme]), SyntaxError>
+    tokens: &'a [Lexeme],
+    names: &mut Vec<usize>,
+) -> Result<(Form, &'a [Lexeme]), SyntaxError>
     ensures { Gives (λ x. (body_of x.0, tokens_of x.1.now)) result (form_at (class_at depth) (value_at depth) word (tokens_of tokens.now)) }
 {
     match word {
-        FormWord::OfClass(form) => of_class(alloc, depth, form, tokens),
+        FormWord::OfClass(form) => of_class(alloc, depth, form, tokens, names),
         FormWord::String => string(alloc, tokens),
         FormWord::Seq => seq(alloc, depth, tokens),
         FormWord::OfSome(form) => of_some(alloc, depth, form, tokens),
-        FormWord::OfOne(form) => {
-            let head = unnamed(alloc, WrittenForm::OfOne(form));
-            around(alloc, depth, head, 1, tokens)
-        }
-        FormWord::OfTwo(form) => {
-            let head = unnamed(alloc, WrittenForm::OfTwo(form));
-            around(alloc, depth, head, 2, tokens)
-        }
-        FormWord::Between => {
-            let head = unnamed(alloc, WrittenForm::Between);
-            around(alloc, depth, head, 3, tokens)
-        }
-        FormWord::Chain(form) => {
-            let (head, rest) = chain_head(alloc, form, tokens)?;
+        FormWord::OfOne(form) => around(alloc, depth, WrittenForm::OfOne(form), 1, tokens),
+        FormWord::OfTwo(form) => around(alloc, depth, WrittenForm::OfTwo(form), 2, tokens),
+        FormWord::Between => around(alloc, depth, WrittenForm::Between, 3, tokens),
+        FormWord::Chain(side) => {
+            let (head, rest) = chain_head(alloc, side, tokens, names)?;
             around(alloc, depth, head, 2, rest)
         }
         FormWord::Expression => {
-            let (head, rest) = expression_head(alloc, tokens)?;
+            let (head, rest) = expression_head(alloc, tokens, names)?;
             around(alloc, depth, head, 1, rest)
         }
         FormWord::Build => {
-            let (head, rest) = build_head(alloc, tokens)?;
+            let (head, rest) = build_head(alloc, tokens, names)?;
             around(alloc, depth, head, 1, rest)
         }
         FormWord::Label => label(alloc, depth, tokens),
-        FormWord::Word => word_name(alloc, tokens),
+        FormWord::Word => word_name(alloc, tokens, names),
     }
 }
 
@@ -263,6 +261,7 @@ pub fn value(
             rest.first().map(|first| first.place),
         ));
     }
-    let (form, rest) = form(alloc, depth - 1, word, inside)?;
-    closed(form, place, rest)
+    let mut names = Vec::new(alloc);
+    let (form, rest) = form(alloc, depth - 1, word, inside, &mut names)?;
+    closed(form, place, names, rest)
 }

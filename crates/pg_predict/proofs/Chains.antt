@@ -11,18 +11,14 @@ use Rattle.pg_sets.specs.Marks.{is_marked}
 use Rattle.pg_sets.specs.Ranks.{Chain, head, heads, AreRanks, on_cycle, rank_at}
 use Rattle.pg_sets.specs.Reached.{Heads, AreHeads}
 use Rattle.pg_sets.proofs.Marking.{marked_same, marked_kept, marked_others}
-use Rattle.pg_predict.proofs.MetSets.{none_in}
+use Rattle.pg_sets.proofs.RankLaws.{chain_on}
+use Rattle.pg_bit_set.proofs.Inside.{contains_none}
 use Rattle.pg_predict.specs.Shown.{IsRecursive}
-
--- one head more
-chain_more : {g : Grammar} {a b c : ℕ} → Chain g a b → Heads g b c → Chain g a c
-chain_more (head h) last = heads h (head last)
-chain_more (heads h rest) last = heads h (chain_more rest last)
 
 -- whatever is reached from the heads of a rule, a chain leads to
 pub reached_chain : (g : Grammar) (lists : List (List ℕ)) (a v : ℕ) → AreHeads g lists → IsReached lists (numbers_at lists a) v → Chain g a v
 reached_chain g lists a v are (root is below) = head ((are.members a v).0 is)
-reached_chain g lists a v are (onward {w} from edge below) = chain_more (reached_chain g lists a w are from) ((are.members w v).0 edge)
+reached_chain g lists a v are (onward {w} from edge below) = chain_on (reached_chain g lists a w are from) ((are.members w v).0 edge)
 
 below_length : (g : Grammar) (lists : List (List ℕ)) (a b : ℕ) → AreHeads g lists → Heads g a b → b < length lists
 below_length g lists a b are h = let long = are.long in let below = are.rules a b ((are.members a b).1 h) in omega arith
@@ -53,7 +49,7 @@ pub record MarksBelow (g : Grammar) (count : ℕ) (marks : List Bool) : Type 0 w
 pub marks_none : (g : Grammar) (marks : List Bool) → marks ≡ replicate (length g.nodes) false → MarksBelow g 0 marks
 marks_none g marks e = record {
   long = ap length e ∙ length-replicate (length g.nodes) false;
-  right = λ p. (λ h. absurd (true≢false (sym h ∙ (ap (λ ms. is_marked ms p) e ∙ none_in (length g.nodes) p))), λ is. let below = is.below in absurd (omega arith));
+  right = λ p. (λ h. absurd (true≢false (sym h ∙ (ap (λ ms. is_marked ms p) e ∙ contains_none (length g.nodes) p))), λ is. let below = is.below in absurd (omega arith));
 }
 
 wider : (g : Grammar) (k p : ℕ) → RecursiveBelow g k p → RecursiveBelow g (k + 1) p

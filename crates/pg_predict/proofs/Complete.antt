@@ -16,16 +16,16 @@ use Rattle.pg_sets.specs.Marks.{is_marked}
 use Rattle.pg_sets.specs.Nullable.{Nullable}
 use Rattle.pg_sets.specs.declared.listed.ListedStart.{ListedStart}
 use Rattle.pg_sets.proofs.Lists.{all_get}
-use Rattle.pg_predict.specs.Breaches.{condition_of, start_at}
-use Rattle.pg_predict.specs.Conditions.{Condition, LeftRecursion, EmptyRound, EmptyAlternative, AlternativesMeet, AlternativeMeetsFollow, RoundMeetsFollow, TryAroundMore, Violates, AreFirstToMeet, Begins, Follows, BeginsLink, EndsNullable, IsLexeme}
+use Rattle.pg_predict.specs.WithStarts.{kind_with_starts, start_at}
+use Rattle.pg_predict.specs.Conditions.{Violates, AreFirstToMeet, Begins, Follows, BeginsLink, EndsNullable, IsLexeme}
 use Rattle.pg_predict.specs.Conditions as violates
 use Rattle.pg_predict.specs.Judged.{Facts, noted, noted_meeting, all_below, part_at, node_meeting, follow_meeting, link_meeting, empty_alternative, empty_alternatives, meeting_alternatives, meetings_of_alternative, alternatives_that_meet, alternative_and_follow, alternatives_and_follow, ends_nullable, noted_chain, noted_form, noted_node}
 use Rattle.pg_predict.specs.Lexemes.{is_lexeme}
 use Rattle.pg_predict.specs.Shown.{AreFacts}
-use Rattle.pg_predict.specs.declared.breach.Breach.{Breach}
-use Rattle.pg_predict.specs.declared.breach.BreachKind.{BreachKind}
-use Rattle.pg_predict.specs.declared.breach.BreachKind.TheVariants as kind
-use Rattle.pg_predict.specs.declared.breach.Meeting.{Meeting}
+use Rattle.pg_predict.specs.declared.violation.Violation.{Violation}
+use Rattle.pg_predict.specs.declared.violation.ViolationKind.{ViolationKind}
+use Rattle.pg_predict.specs.declared.violation.ViolationKind.TheVariants.{LeftRecursion, EmptyRound, EmptyAlternative, AlternativesMeet, AlternativeMeetsFollow, RoundMeetsFollow, TryAroundMore}
+use Rattle.pg_predict.specs.declared.meetings.Meeting.{Meeting}
 use Rattle.pg_predict.proofs.Lexeme.{lexeme_is}
 use Rattle.pg_predict.proofs.Lists.{In, in_left, in_right, all_below_has, noted_has, noted_meeting_has}
 use Rattle.pg_predict.proofs.Meanings.{MeetAt, first_numbers, first_there, follow_there, link_there, node_found, follow_found, link_found}
@@ -33,9 +33,9 @@ use Rattle.pg_predict.proofs.Pairs.{pair_from}
 use Rattle.pg_predict.proofs.Sound.{parts_below}
 
 -- it is noted of a node
-pub record IsNoted (g : Grammar) (facts : Facts) (p : ℕ) (condition : Condition) : Type 0 where
-  pub kind : BreachKind
-  pub same : condition_of facts.sets.starts kind ≡ condition
+pub record IsNoted (g : Grammar) (facts : Facts) (p : ℕ) (what : ViolationKind ListedStart) : Type 0 where
+  pub kind : ViolationKind ℕ
+  pub same : kind_with_starts facts.sets.starts kind ≡ what
   pub noted_there : In (noted_node g facts p) (record { node = p; kind = kind })
   pub below : p < length g.nodes
 
@@ -95,13 +95,13 @@ module _ (g : Grammar) (facts : Facts) (are : AreFacts g facts) (grammar : IsGra
   -- ---- nodes
 
   -- what is noted of what stands at a node is noted of the node
-  at_form : (p : ℕ) (n : Node) (b : Breach) → slice_get g.nodes p ≡ Some n → In (noted_form g facts p n) b → In (noted_node g facts p) b
+  at_form : (p : ℕ) (n : Node) (b : Violation ℕ) → slice_get g.nodes p ≡ Some n → In (noted_form g facts p n) b → In (noted_node g facts p) b
   at_form p n b at is =
-      in_right (noted (is_marked facts.recursive p) p kind.LeftRecursion) (option_map_or (noted_form g facts p) (slice_get g.nodes p) []) b
+      in_right (noted (is_marked facts.recursive p) p LeftRecursion) (option_map_or (noted_form g facts p) (slice_get g.nodes p) []) b
       (subst (λ (o : Option Node). In (option_map_or (noted_form g facts p) o []) b) (sym at) is)
 
   -- the form of a chain
-  at_chain : (p operand separator : ℕ) (n : Node) (b : Breach) → slice_get g.nodes p ≡ Some n → IsChain operand separator n → In (noted_chain facts p operand separator) b
+  at_chain : (p operand separator : ℕ) (n : Node) (b : Violation ℕ) → slice_get g.nodes p ≡ Some n → IsChain operand separator n → In (noted_chain facts p operand separator) b
       → In (noted_node g facts p) b
   at_chain p operand separator n b at chain.chain is = at_form p n b at is
 
@@ -116,13 +116,13 @@ module _ (g : Grammar) (facts : Facts) (are : AreFacts g facts) (grammar : IsGra
   empty_noted : (p k q : ℕ) (parts : List ℕ) → slice_get g.nodes p ≡ Some (form.Choice parts) → slice_get parts k ≡ Some q → suc k < length parts → Nullable g q
       → IsNoted g facts p (EmptyAlternative (suc k))
   empty_noted p k q parts at part not_last null =
-      let b : Breach = record { node = p; kind = kind.EmptyAlternative (k + 1) } in
+      let b : Violation ℕ = record { node = p; kind = EmptyAlternative (k + 1) } in
       let test : is_marked facts.sets.nullable (part_at parts k) ≡ true = ap (is_marked facts.sets.nullable) (part_is parts k q part) ∙ marked q null in
-      let here = noted_has (is_marked facts.sets.nullable (part_at parts k)) p (kind.EmptyAlternative (k + 1)) test in
+      let here = noted_has (is_marked facts.sets.nullable (part_at parts k)) p (EmptyAlternative (k + 1)) test in
       let below : k < length parts - 1 = omega arith in
       let one = all_below_has (empty_alternative facts p parts) (length parts - 1) k b below here in
       record {
-        kind = kind.EmptyAlternative (k + 1);
+        kind = EmptyAlternative (k + 1);
         same = ap EmptyAlternative (add-one k);
         noted_there = at_form p (form.Choice parts) b at
             (in_left (empty_alternatives facts p parts) (alternatives_that_meet facts p parts ++ alternatives_and_follow facts p parts) b one);
@@ -130,11 +130,11 @@ module _ (g : Grammar) (facts : Facts) (are : AreFacts g facts) (grammar : IsGra
       }
 
   pair_has : (p : ℕ) (parts : List ℕ) (j k : ℕ) (m : Meeting) → j < k → node_meeting facts (part_at parts j) (part_at parts k) ≡ Some m
-      → In (meeting_alternatives facts p parts j k) (record { node = p; kind = kind.AlternativesMeet (j + 1) (k + 1) m })
+      → In (meeting_alternatives facts p parts j k) (record { node = p; kind = AlternativesMeet (j + 1) (k + 1) m.one m.other })
   pair_has p parts j k m before found =
-      subst (λ (t : Bool). In (if t then noted_meeting (node_meeting facts (part_at parts j) (part_at parts k)) p (kind.AlternativesMeet (j + 1) (k + 1)) else [])
-      (record { node = p; kind = kind.AlternativesMeet (j + 1) (k + 1) m })) (sym (test_below j k before))
-      (noted_meeting_has (node_meeting facts (part_at parts j) (part_at parts k)) p (kind.AlternativesMeet (j + 1) (k + 1)) m found)
+      subst (λ (t : Bool). In (if t then noted_meeting (node_meeting facts (part_at parts j) (part_at parts k)) p (AlternativesMeet (j + 1) (k + 1)) else [])
+      (record { node = p; kind = AlternativesMeet (j + 1) (k + 1) m.one m.other })) (sym (test_below j k before))
+      (noted_meeting_has (node_meeting facts (part_at parts j) (part_at parts k)) p (AlternativesMeet (j + 1) (k + 1)) m found)
 
   pair_noted : (p j k q r : ℕ) (parts : List ℕ) (s t : ListedStart) → slice_get g.nodes p ≡ Some (form.Choice parts) → j < k → slice_get parts j ≡ Some q → slice_get parts k ≡ Some r
       → AreFirstToMeet g (Begins g q) (Begins g r) s t → IsNoted g facts p (AlternativesMeet (suc j) (suc k) s t)
@@ -144,13 +144,13 @@ module _ (g : Grammar) (facts : Facts) (are : AreFacts g facts) (grammar : IsGra
       let r_below = parts_below g p (form.Choice parts) k r grammar at other in
       let found = nodes_found q r s t q_below r_below first in
       let m = found.meeting in
-      let b : Breach = record { node = p; kind = kind.AlternativesMeet (j + 1) (k + 1) m } in
+      let b : Violation ℕ = record { node = p; kind = AlternativesMeet (j + 1) (k + 1) m.one m.other } in
       let e : node_meeting facts (part_at parts j) (part_at parts k) ≡ Some m =
       ap (λ (x : ℕ). node_meeting facts x (part_at parts k)) (part_is parts j q one) ∙ (ap (node_meeting facts q) (part_is parts k r other) ∙ found.found) in
       let inner = all_below_has (meeting_alternatives facts p parts j) (length parts) k b (slice_get_within parts k r other) (pair_has p parts j k m before e) in
       let outer = all_below_has (meetings_of_alternative facts p parts) (length parts) j b (slice_get_within parts j q one) inner in
       record {
-        kind = kind.AlternativesMeet (j + 1) (k + 1) m;
+        kind = AlternativesMeet (j + 1) (k + 1) m.one m.other;
         same =
             ap (λ (i : ℕ). AlternativesMeet i (k + 1) (start_at starts m.one) (start_at starts m.other)) (add-one j)
             ∙ (ap (λ (i : ℕ). AlternativesMeet (suc j) i (start_at starts m.one) (start_at starts m.other)) (add-one k)
@@ -176,15 +176,15 @@ module _ (g : Grammar) (facts : Facts) (are : AreFacts g facts) (grammar : IsGra
       let q_below = parts_below g p (form.Choice parts) k q grammar at part in
       let found = with_follow q p s t q_below p_below first in
       let m = found.meeting in
-      let b : Breach = record { node = p; kind = kind.AlternativeMeetsFollow (k + 1) m } in
+      let b : Violation ℕ = record { node = p; kind = AlternativeMeetsFollow (k + 1) m.one m.other } in
       let e : follow_meeting facts (part_at parts k) p ≡ Some m = ap (λ (x : ℕ). follow_meeting facts x p) (part_is parts k q part) ∙ found.found in
-      let here = noted_meeting_has (follow_meeting facts (part_at parts k) p) p (kind.AlternativeMeetsFollow (k + 1)) m e in
+      let here = noted_meeting_has (follow_meeting facts (part_at parts k) p) p (AlternativeMeetsFollow (k + 1)) m e in
       let below : k < length parts - 1 = omega arith in
       let one = all_below_has (alternative_and_follow facts p parts) (length parts - 1) k b below here in
       let all : In (alternatives_and_follow facts p parts) b =
       subst (λ (u : Bool). In (if u then all_below (alternative_and_follow facts p parts) (length parts - 1) else []) b) (sym (ends_test parts ends)) one in
       record {
-        kind = kind.AlternativeMeetsFollow (k + 1) m;
+        kind = AlternativeMeetsFollow (k + 1) m.one m.other;
         same =
             ap (λ (i : ℕ). AlternativeMeetsFollow i (start_at starts m.one) (start_at starts m.other)) (add-one k)
             ∙ (ap (λ (x : ListedStart). AlternativeMeetsFollow (suc k) x (start_at starts m.other)) found.one ∙ ap (AlternativeMeetsFollow (suc k) s) found.other);
@@ -197,7 +197,7 @@ module _ (g : Grammar) (facts : Facts) (are : AreFacts g facts) (grammar : IsGra
   -- ---- the others
 
   round_same : (m : Meeting) (s t : ListedStart) → start_at facts.sets.starts m.one ≡ s → start_at facts.sets.starts m.other ≡ t
-      → condition_of facts.sets.starts (kind.RoundMeetsFollow m) ≡ RoundMeetsFollow s t
+      → kind_with_starts facts.sets.starts (RoundMeetsFollow m.one m.other) ≡ RoundMeetsFollow s t
   round_same m s t one other = ap (λ (x : ListedStart). RoundMeetsFollow x (start_at facts.sets.starts m.other)) one ∙ ap (RoundMeetsFollow s) other
 
   not_lexeme : (q : ℕ) → (IsLexeme g q → ⊥) → not (is_lexeme g q) ≡ true
@@ -207,73 +207,73 @@ module _ (g : Grammar) (facts : Facts) (are : AreFacts g facts) (grammar : IsGra
       go true is = absurd (none (is refl))
       go false is = refl
 
-  pub violation_noted : (p : ℕ) (condition : Condition) → Violates g p condition → IsNoted g facts p condition
-  violation_noted p condition (violates.left_recursion {r} {rule} there circle) =
+  pub violation_noted : (p : ℕ) (what : ViolationKind ListedStart) → Violates g p what → IsNoted g facts p what
+  violation_noted p what (violates.left_recursion {r} {rule} there circle) =
       let test = (are.recursive rule.body).1 (record { number = r; rule = rule; there = there; body = refl; chain = circle }) in
       record {
-        kind = kind.LeftRecursion;
+        kind = LeftRecursion;
         same = refl;
-        noted_there = in_left (noted (is_marked facts.recursive rule.body) rule.body kind.LeftRecursion) (option_map_or (noted_form g facts rule.body) (slice_get g.nodes rule.body) [])
-            (record { node = rule.body; kind = kind.LeftRecursion }) (noted_has (is_marked facts.recursive rule.body) rule.body kind.LeftRecursion test);
+        noted_there = in_left (noted (is_marked facts.recursive rule.body) rule.body LeftRecursion) (option_map_or (noted_form g facts rule.body) (slice_get g.nodes rule.body) [])
+            (record { node = rule.body; kind = LeftRecursion }) (noted_has (is_marked facts.recursive rule.body) rule.body LeftRecursion test);
         below = all_get (λ one. one.body < length g.nodes) g.rules r rule (bodies_are_nodes g.rules g.nodes grammar.bodies) there;
       }
-  violation_noted p condition (violates.empty_round {q = q} at null) =
-      let b : Breach = record { node = p; kind = kind.EmptyRound } in
+  violation_noted p what (violates.empty_round {q = q} at null) =
+      let b : Violation ℕ = record { node = p; kind = EmptyRound } in
       record {
-        kind = kind.EmptyRound;
+        kind = EmptyRound;
         same = refl;
         noted_there = at_form p (form.Many q) b at
-            (in_left (noted (is_marked facts.sets.nullable q) p kind.EmptyRound) (noted_meeting (follow_meeting facts q p) p kind.RoundMeetsFollow) b
-            (noted_has (is_marked facts.sets.nullable q) p kind.EmptyRound (marked q null)));
+            (in_left (noted (is_marked facts.sets.nullable q) p EmptyRound) (noted_meeting (follow_meeting facts q p) p RoundMeetsFollow) b
+            (noted_has (is_marked facts.sets.nullable q) p EmptyRound (marked q null)));
         below = slice_get_within g.nodes p (form.Many q) at;
       }
-  violation_noted p condition (violates.empty_link {operand = operand} {separator = separator} {n = n} at is_chain null_s null_o) =
-      let b : Breach = record { node = p; kind = kind.EmptyRound } in
+  violation_noted p what (violates.empty_link {operand = operand} {separator = separator} {n = n} at is_chain null_s null_o) =
+      let b : Violation ℕ = record { node = p; kind = EmptyRound } in
       let test = and_from (is_marked facts.sets.nullable separator) (is_marked facts.sets.nullable operand) (marked separator null_s) (marked operand null_o) in
       record {
-        kind = kind.EmptyRound;
+        kind = EmptyRound;
         same = refl;
         noted_there = at_chain p operand separator n b at is_chain
-            (in_left (noted (is_marked facts.sets.nullable separator && is_marked facts.sets.nullable operand) p kind.EmptyRound)
-            (noted_meeting (link_meeting facts operand separator p) p kind.RoundMeetsFollow) b
-            (noted_has (is_marked facts.sets.nullable separator && is_marked facts.sets.nullable operand) p kind.EmptyRound test));
+            (in_left (noted (is_marked facts.sets.nullable separator && is_marked facts.sets.nullable operand) p EmptyRound)
+            (noted_meeting (link_meeting facts operand separator p) p RoundMeetsFollow) b
+            (noted_has (is_marked facts.sets.nullable separator && is_marked facts.sets.nullable operand) p EmptyRound test));
         below = slice_get_within g.nodes p n at;
       }
-  violation_noted p condition (violates.empty_alternative {k = k} {q = q} {parts = parts} at part not_last null) = empty_noted p k q parts at part not_last null
-  violation_noted p condition (violates.alternatives_meet {j = j} {k = k} {q = q} {r = r} {parts = parts} {s = s} {t = t} at before one other first) =
+  violation_noted p what (violates.empty_alternative {k = k} {q = q} {parts = parts} at part not_last null) = empty_noted p k q parts at part not_last null
+  violation_noted p what (violates.alternatives_meet {j = j} {k = k} {q = q} {r = r} {parts = parts} {s = s} {t = t} at before one other first) =
       pair_noted p j k q r parts s t at before one other first
-  violation_noted p condition (violates.alternative_meets_follow {k = k} {q = q} {parts = parts} {s = s} {t = t} at part not_last ends first) =
+  violation_noted p what (violates.alternative_meets_follow {k = k} {q = q} {parts = parts} {s = s} {t = t} at part not_last ends first) =
       follow_noted p k q parts s t at part not_last ends first
-  violation_noted p condition (violates.round_meets_follow {q = q} {s = s} {t = t} at first) =
+  violation_noted p what (violates.round_meets_follow {q = q} {s = s} {t = t} at first) =
       let p_below = slice_get_within g.nodes p (form.Many q) at in
       let found = with_follow q p s t (parts_below g p (form.Many q) 0 q grammar at refl) p_below first in
-      let b : Breach = record { node = p; kind = kind.RoundMeetsFollow found.meeting } in
+      let b : Violation ℕ = record { node = p; kind = RoundMeetsFollow found.meeting.one found.meeting.other } in
       record {
-        kind = kind.RoundMeetsFollow found.meeting;
+        kind = RoundMeetsFollow found.meeting.one found.meeting.other;
         same = round_same found.meeting s t found.one found.other;
         noted_there = at_form p (form.Many q) b at
-            (in_right (noted (is_marked facts.sets.nullable q) p kind.EmptyRound) (noted_meeting (follow_meeting facts q p) p kind.RoundMeetsFollow) b
-            (noted_meeting_has (follow_meeting facts q p) p kind.RoundMeetsFollow found.meeting found.found));
+            (in_right (noted (is_marked facts.sets.nullable q) p EmptyRound) (noted_meeting (follow_meeting facts q p) p RoundMeetsFollow) b
+            (noted_meeting_has (follow_meeting facts q p) p RoundMeetsFollow found.meeting found.found));
         below = p_below;
       }
-  violation_noted p condition (violates.link_meets_follow {operand = operand} {separator = separator} {n = n} {s = s} {t = t} at is_chain first) =
+  violation_noted p what (violates.link_meets_follow {operand = operand} {separator = separator} {n = n} {s = s} {t = t} at is_chain first) =
       let p_below = slice_get_within g.nodes p n at in
       let found = link_with_follow operand separator p s t (operand_below p operand separator n at is_chain) (separator_below p operand separator n at is_chain) p_below first in
-      let b : Breach = record { node = p; kind = kind.RoundMeetsFollow found.meeting } in
+      let b : Violation ℕ = record { node = p; kind = RoundMeetsFollow found.meeting.one found.meeting.other } in
       record {
-        kind = kind.RoundMeetsFollow found.meeting;
+        kind = RoundMeetsFollow found.meeting.one found.meeting.other;
         same = round_same found.meeting s t found.one found.other;
         noted_there = at_chain p operand separator n b at is_chain
-            (in_right (noted (is_marked facts.sets.nullable separator && is_marked facts.sets.nullable operand) p kind.EmptyRound)
-            (noted_meeting (link_meeting facts operand separator p) p kind.RoundMeetsFollow) b
-            (noted_meeting_has (link_meeting facts operand separator p) p kind.RoundMeetsFollow found.meeting found.found));
+            (in_right (noted (is_marked facts.sets.nullable separator && is_marked facts.sets.nullable operand) p EmptyRound)
+            (noted_meeting (link_meeting facts operand separator p) p RoundMeetsFollow) b
+            (noted_meeting_has (link_meeting facts operand separator p) p RoundMeetsFollow found.meeting found.found));
         below = p_below;
       }
-  violation_noted p condition (violates.try_around_more {q = q} at none) =
-      let b : Breach = record { node = p; kind = kind.TryAroundMore } in
+  violation_noted p what (violates.try_around_more {q = q} at none) =
+      let b : Violation ℕ = record { node = p; kind = TryAroundMore } in
       record {
-        kind = kind.TryAroundMore;
+        kind = TryAroundMore;
         same = refl;
-        noted_there = at_form p (form.Around around.Try q) b at (noted_has (not (is_lexeme g q)) p kind.TryAroundMore (not_lexeme q none));
+        noted_there = at_form p (form.Around around.Try q) b at (noted_has (not (is_lexeme g q)) p TryAroundMore (not_lexeme q none));
         below = slice_get_within g.nodes p (form.Around around.Try q) at;
       }

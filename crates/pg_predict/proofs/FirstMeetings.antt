@@ -4,19 +4,17 @@ use Rattle.std.specs.Prelude.{is_some}
 use Rattle.std.specs.Option.{MatchOption, option_and_then, option_map}
 use Rattle.std.proofs.lemmas.Bool.{cases_eq, cases_lt, true≢false, and_parts, and_from}
 use Rattle.std.proofs.lemmas.List.{get_or_past}
-use Rattle.pg_numbers.specs.Numbers.{contains, in_both, set_at, IsNext}
+use Rattle.pg_bit_set.specs.Numbers.{contains, in_both, set_at, IsNext}
+use Rattle.pg_bit_set.proofs.Inside.{contains_below}
 use Rattle.pg_predict.specs.Meetings.{least, least_met, is_met, with_least_met, first_meeting}
-use Rattle.pg_predict.specs.declared.breach.Meeting.{Meeting}
+use Rattle.pg_predict.specs.declared.meetings.Meeting.{Meeting}
 use Rattle.pg_predict.proofs.Least.{IsLeast, least_from, none_from, least_is, least_none, found, Found}
 use Rattle.pg_predict.proofs.Least as found_by
 
 -- ---- sets
 
-pub contained_below : (set : List Bool) (k : ℕ) → contains set k ≡ true → k < length set
-contained_below set k h = elim (cases_lt k (length set)) [ inl below ↦ below | inr past ↦ absurd (true≢false (sym h ∙ get_or_past set k false past)) ]
-
 pub both_below : (a b : List Bool) (k : ℕ) → in_both a b k ≡ true → k < length b
-both_below a b k h = contained_below b k (and_parts (contains a k) (contains b k) h).1
+both_below a b k h = contains_below b k (and_parts (contains a k) (contains b k) h).1
 
 -- the least common number, as it is found by words
 pub common_is : (a b : List Bool) (k : ℕ) → IsNext (in_both a b) 0 k → least (in_both a b) (length b) ≡ Some k
@@ -76,7 +74,7 @@ meeting_found meetings one other = go (least (is_met meetings one other) (length
     go : (r : Option ℕ) → Found (is_met meetings one other) (length one) r → MeetingFound meetings one other (option_and_then (with_least_met meetings other) r)
     go (Some s) (found_by.some is) = at s is (least_met meetings other s) (found (in_both (set_at meetings s) other) (length other)) refl
     go None (found_by.none out) =
-        none (λ s t met. absurd (true≢false (sym (met_is_met meetings one other s t met) ∙ out s (contained_below one s met.begins))))
+        none (λ s t met. absurd (true≢false (sym (met_is_met meetings one other s t met) ∙ out s (contains_below one s met.begins))))
 
 -- the first two are the ones that are found
 pub meeting_from : (meetings : List (List Bool)) (one other : List Bool) (m : Meeting) → IsFirstMeeting meetings one other m → first_meeting meetings one other ≡ Some m
@@ -115,7 +113,7 @@ no_meeting meetings one other out = go (first_meeting meetings one other) (meeti
 abbrev pub NoneBelow : List (List Bool) → List Bool → List Bool → ℕ → Type 0
 NoneBelow meetings one other from = (s t : ℕ) → s < from → Met meetings one other s t → ⊥
 
--- a start is left behind that meets none
+-- a start is left after that meets none
 pub none_below_next : (meetings : List (List Bool)) (one other : List Bool) (from start : ℕ) → NoneBelow meetings one other from → IsNext (contains one) from start
     → least_met meetings other start ≡ None → NoneBelow meetings one other (start + 1)
 none_below_next meetings one other from start before next out s t below met =

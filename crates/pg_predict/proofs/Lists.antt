@@ -7,41 +7,41 @@ use Rattle.std.specs.List.Sorted.{IsStrictlySortedBy}
 use Rattle.std.specs.Ordering.{nat_cmp, ordering_then}
 use Rattle.std.proofs.lemmas.Bool.{cases_eq, true≢false}
 use Rattle.pg_sets.specs.declared.listed.ListedStart.{ListedStart}
-use Rattle.pg_predict.specs.Breaches.{condition_of, violation_of}
-use Rattle.pg_predict.specs.Conditions.{Violation}
-use Rattle.pg_predict.specs.Findings.{condition_number, alternatives_of, violation_order}
+use Rattle.pg_predict.specs.WithStarts.{kind_with_starts, with_starts}
+use Rattle.pg_predict.specs.Findings.{condition_number, alternatives_of, violation_key, violation_order}
 use Rattle.pg_predict.specs.Judged.{noted, noted_meeting, all_below}
-use Rattle.pg_predict.specs.declared.breach.Breach.{Breach}
-use Rattle.pg_predict.specs.declared.breach.BreachKind.{BreachKind}
-use Rattle.pg_predict.specs.declared.breach.Meeting.{Meeting}
+use Rattle.pg_predict.specs.declared.violation.Violation.{Violation}
+use Rattle.pg_predict.specs.declared.violation.ViolationKind.{ViolationKind}
+use Rattle.pg_predict.specs.declared.violation.ViolationKind.TheVariants.{LeftRecursion, EmptyRound, EmptyAlternative, AlternativesMeet, AlternativeMeetsFollow, RoundMeetsFollow, TryAroundMore}
+use Rattle.pg_predict.specs.declared.meetings.Meeting.{Meeting}
 
 -- ---- what is among others
 
-abbrev pub In : List Breach → Breach → Type 0
+abbrev pub In : List (Violation ℕ) → Violation ℕ → Type 0
 In [] b = ⊥
 In (x ∷ xs) b = (x ≡ b) ⊎ In xs b
 
-pub in_left : (xs ys : List Breach) (b : Breach) → In xs b → In (xs ++ ys) b
+pub in_left : (xs ys : List (Violation ℕ)) (b : Violation ℕ) → In xs b → In (xs ++ ys) b
 in_left [] ys b is = absurd is
 in_left (x ∷ xs) ys b (inl e) = inl e
 in_left (x ∷ xs) ys b (inr is) = inr (in_left xs ys b is)
 
-pub in_right : (xs ys : List Breach) (b : Breach) → In ys b → In (xs ++ ys) b
+pub in_right : (xs ys : List (Violation ℕ)) (b : Violation ℕ) → In ys b → In (xs ++ ys) b
 in_right [] ys b is = is
 in_right (x ∷ xs) ys b is = inr (in_right xs ys b is)
 
-pub in_cases : (xs ys : List Breach) (b : Breach) → In (xs ++ ys) b → In xs b ⊎ In ys b
+pub in_cases : (xs ys : List (Violation ℕ)) (b : Violation ℕ) → In (xs ++ ys) b → In xs b ⊎ In ys b
 in_cases [] ys b is = inr is
 in_cases (x ∷ xs) ys b (inl e) = inl (inl e)
 in_cases (x ∷ xs) ys b (inr is) = elim (in_cases xs ys b is) [ inl a ↦ inl (inr a) | inr c ↦ inr c ]
 
 -- it was noted for a number
-pub record NotedFor (f : ℕ → List Breach) (n : ℕ) (b : Breach) : Type 0 where
+pub record NotedFor (f : ℕ → List (Violation ℕ)) (n : ℕ) (b : Violation ℕ) : Type 0 where
   pub number : ℕ
   pub below : number < n
   pub noted_for : In (f number) b
 
-pub in_all_below : (f : ℕ → List Breach) (n : ℕ) (b : Breach) → In (all_below f n) b → NotedFor f n b
+pub in_all_below : (f : ℕ → List (Violation ℕ)) (n : ℕ) (b : Violation ℕ) → In (all_below f n) b → NotedFor f n b
 in_all_below f zero b is = absurd is
 in_all_below f (suc n) b is =
     elim (in_cases (all_below f n) (f n) b is) [
@@ -49,7 +49,7 @@ in_all_below f (suc n) b is =
       | inr last ↦ record { number = n; below = omega arith; noted_for = last }
     ]
 
-pub all_below_has : (f : ℕ → List Breach) (n k : ℕ) (b : Breach) → k < n → In (f k) b → In (all_below f n) b
+pub all_below_has : (f : ℕ → List (Violation ℕ)) (n k : ℕ) (b : Violation ℕ) → k < n → In (f k) b → In (all_below f n) b
 all_below_has f zero k b below is = absurd (omega arith)
 all_below_has f (suc n) k b below is =
     elim (cases_eq k n) [
@@ -58,62 +58,61 @@ all_below_has f (suc n) k b below is =
     ]
 
 -- a test
-pub in_noted : (t : Bool) (p : ℕ) (what : BreachKind) (b : Breach) → In (noted t p what) b → (t ≡ true) × (record { node = p; kind = what } ≡ b)
+pub in_noted : (t : Bool) (p : ℕ) (what : ViolationKind ℕ) (b : Violation ℕ) → In (noted t p what) b → (t ≡ true) × (record { node = p; kind = what } ≡ b)
 in_noted true p what b (inl e) = (refl, e)
 in_noted true p what b (inr is) = absurd is
 in_noted false p what b is = absurd is
 
-pub noted_has : (t : Bool) (p : ℕ) (what : BreachKind) → t ≡ true → In (noted t p what) (record { node = p; kind = what })
+pub noted_has : (t : Bool) (p : ℕ) (what : ViolationKind ℕ) → t ≡ true → In (noted t p what) (record { node = p; kind = what })
 noted_has true p what e = inl refl
 noted_has false p what e = absurd (true≢false (sym e))
 
 -- a meeting
-pub record NotedMeeting (o : Option Meeting) (p : ℕ) (what : Meeting → BreachKind) (b : Breach) : Type 0 where
+pub record NotedMeeting (o : Option Meeting) (p : ℕ) (what : ℕ → ℕ → ViolationKind ℕ) (b : Violation ℕ) : Type 0 where
   pub meeting : Meeting
   pub found : o ≡ Some meeting
-  pub same : record { node = p; kind = what meeting } ≡ b
+  pub same : record { node = p; kind = what meeting.one meeting.other } ≡ b
 
-pub in_noted_meeting : (o : Option Meeting) (p : ℕ) (what : Meeting → BreachKind) (b : Breach) → In (noted_meeting o p what) b → NotedMeeting o p what b
+pub in_noted_meeting : (o : Option Meeting) (p : ℕ) (what : ℕ → ℕ → ViolationKind ℕ) (b : Violation ℕ) → In (noted_meeting o p what) b → NotedMeeting o p what b
 in_noted_meeting (Some m) p what b (inl e) = record { meeting = m; found = refl; same = e }
 in_noted_meeting (Some m) p what b (inr is) = absurd is
 in_noted_meeting None p what b is = absurd is
 
-pub noted_meeting_has : (o : Option Meeting) (p : ℕ) (what : Meeting → BreachKind) (m : Meeting) → o ≡ Some m → In (noted_meeting o p what) (record { node = p; kind = what m })
-noted_meeting_has (Some k) p what m e = let same : k ≡ m = cc in inl (ap (λ (x : Meeting). record { node = p; kind = what x }) same)
+pub noted_meeting_has : (o : Option Meeting) (p : ℕ) (what : ℕ → ℕ → ViolationKind ℕ) (m : Meeting) → o ≡ Some m → In (noted_meeting o p what) (record { node = p; kind = what m.one m.other })
+noted_meeting_has (Some k) p what m e = let same : k ≡ m = cc in inl (ap (λ (x : Meeting). record { node = p; kind = what x.one x.other }) same)
 noted_meeting_has None p what m e = absurd cc
 
 -- ---- the order
 
 -- the one stands before the other
-abbrev pub Precedes : List ListedStart → Breach → Breach → Type 0
-Precedes starts b c = violation_order (violation_of starts b) (violation_of starts c) ≡ Less
+abbrev pub Precedes : Violation ℕ → Violation ℕ → Type 0
+Precedes b c = violation_order b c ≡ Less
 
-abbrev pub Ascends : List ListedStart → List Breach → Type 0
-Ascends starts [] = Unit {0}
-Ascends starts (b ∷ bs) = ((c : Breach) → In bs c → Precedes starts b c) × Ascends starts bs
+abbrev pub Ascends : List (Violation ℕ) → Type 0
+Ascends [] = Unit {0}
+Ascends (b ∷ bs) = ((c : Violation ℕ) → In bs c → Precedes b c) × Ascends bs
 
-pub ascends_append : (starts : List ListedStart) (xs ys : List Breach) → Ascends starts xs → Ascends starts ys
-    → ((b c : Breach) → In xs b → In ys c → Precedes starts b c) → Ascends starts (xs ++ ys)
-ascends_append starts [] ys up_xs up_ys before = up_ys
-ascends_append starts (x ∷ xs) ys up_xs up_ys before = (
-  λ c is. elim (in_cases xs ys c is) [ inl here ↦ up_xs.0 c here | inr behind ↦ before x c (inl refl) behind ],
-  ascends_append starts xs ys up_xs.1 up_ys (λ b c is_b is_c. before b c (inr is_b) is_c),
+pub ascends_append : (xs ys : List (Violation ℕ)) → Ascends xs → Ascends ys → ((b c : Violation ℕ) → In xs b → In ys c → Precedes b c) → Ascends (xs ++ ys)
+ascends_append [] ys up_xs up_ys before = up_ys
+ascends_append (x ∷ xs) ys up_xs up_ys before = (
+  λ c is. elim (in_cases xs ys c is) [ inl here ↦ up_xs.0 c here | inr after ↦ before x c (inl refl) after ],
+  ascends_append xs ys up_xs.1 up_ys (λ b c is_b is_c. before b c (inr is_b) is_c),
 )
 
-pub ascends_below : (starts : List ListedStart) (f : ℕ → List Breach) → ((k : ℕ) → Ascends starts (f k))
-    → ((j k : ℕ) (b c : Breach) → j < k → In (f j) b → In (f k) c → Precedes starts b c) → (n : ℕ) → Ascends starts (all_below f n)
-ascends_below starts f each across zero = tt
-ascends_below starts f each across (suc n) =
-    ascends_append starts (all_below f n) (f n) (ascends_below starts f each across n) (each n)
+pub ascends_below : (f : ℕ → List (Violation ℕ)) → ((k : ℕ) → Ascends (f k))
+    → ((j k : ℕ) (b c : Violation ℕ) → j < k → In (f j) b → In (f k) c → Precedes b c) → (n : ℕ) → Ascends (all_below f n)
+ascends_below f each across zero = tt
+ascends_below f each across (suc n) =
+    ascends_append (all_below f n) (f n) (ascends_below f each across n) (each n)
     (λ b c is_b is_c. let for = in_all_below f n b is_b in across for.number n b c for.below for.noted_for is_c)
 
-pub ascends_noted : (starts : List ListedStart) (t : Bool) (p : ℕ) (what : BreachKind) → Ascends starts (noted t p what)
-ascends_noted starts true p what = (λ c is. absurd is, tt)
-ascends_noted starts false p what = tt
+pub ascends_noted : (t : Bool) (p : ℕ) (what : ViolationKind ℕ) → Ascends (noted t p what)
+ascends_noted true p what = (λ c is. absurd is, tt)
+ascends_noted false p what = tt
 
-pub ascends_meeting : (starts : List ListedStart) (o : Option Meeting) (p : ℕ) (what : Meeting → BreachKind) → Ascends starts (noted_meeting o p what)
-ascends_meeting starts (Some m) p what = (λ c is. absurd is, tt)
-ascends_meeting starts None p what = tt
+pub ascends_meeting : (o : Option Meeting) (p : ℕ) (what : ℕ → ℕ → ViolationKind ℕ) → Ascends (noted_meeting o p what)
+ascends_meeting (Some m) p what = (λ c is. absurd is, tt)
+ascends_meeting None p what = tt
 
 -- ---- keys
 
@@ -130,56 +129,78 @@ pub key_same : (a : ℕ) (xs ys : List ℕ) → slice_cmp nat_cmp xs ys ≡ Less
 key_same a xs ys less = ap (λ o. ordering_then o (slice_cmp nat_cmp xs ys)) (equal_is a) ∙ less
 
 -- by node
-pub node_precedes : (starts : List ListedStart) (b c : Breach) → b.node < c.node → Precedes starts b c
-node_precedes starts b c below =
-    key_less b.node c.node (condition_number (condition_of starts b.kind) ∷ alternatives_of (condition_of starts b.kind))
-    (condition_number (condition_of starts c.kind) ∷ alternatives_of (condition_of starts c.kind)) below
+pub node_precedes : (b c : Violation ℕ) → b.node < c.node → Precedes b c
+node_precedes b c below = key_less b.node c.node (condition_number b.kind ∷ alternatives_of b.kind) (condition_number c.kind ∷ alternatives_of c.kind) below
 
 -- it is noted of a node, under a number
-pub record Tagged (starts : List ListedStart) (p n : ℕ) (b : Breach) : Type 0 where
+pub record Tagged (p n : ℕ) (b : Violation ℕ) : Type 0 where
   pub node : b.node ≡ p
-  pub number : condition_number (condition_of starts b.kind) ≡ n
+  pub number : condition_number b.kind ≡ n
 
 -- by number, at one node
-pub tags_precede : (starts : List ListedStart) (p m n : ℕ) (b c : Breach) → m < n → Tagged starts p m b → Tagged starts p n c → Precedes starts b c
-tags_precede starts p m n b c below tag_b tag_c =
+pub tags_precede : (p m n : ℕ) (b c : Violation ℕ) → m < n → Tagged p m b → Tagged p n c → Precedes b c
+tags_precede p m n b c below tag_b tag_c =
     let node_b = tag_b.node in
     let node_c = tag_c.node in
     let number_b = tag_b.number in
     let number_c = tag_c.number in
     let same : b.node ≡ c.node = node_b ∙ sym node_c in
-    let less : condition_number (condition_of starts b.kind) < condition_number (condition_of starts c.kind) = omega arith in
-    subst (λ (q : ℕ). slice_cmp nat_cmp (b.node ∷ condition_number (condition_of starts b.kind) ∷ alternatives_of (condition_of starts b.kind))
-    (q ∷ condition_number (condition_of starts c.kind) ∷ alternatives_of (condition_of starts c.kind)) ≡ Less) same
-    (key_same b.node (condition_number (condition_of starts b.kind) ∷ alternatives_of (condition_of starts b.kind))
-    (condition_number (condition_of starts c.kind) ∷ alternatives_of (condition_of starts c.kind))
-    (key_less (condition_number (condition_of starts b.kind)) (condition_number (condition_of starts c.kind)) (alternatives_of (condition_of starts b.kind))
-    (alternatives_of (condition_of starts c.kind)) less))
+    let less : condition_number b.kind < condition_number c.kind = omega arith in
+    subst (λ (q : ℕ). slice_cmp nat_cmp (violation_key b) (q ∷ condition_number c.kind ∷ alternatives_of c.kind) ≡ Less) same
+    (key_same b.node (condition_number b.kind ∷ alternatives_of b.kind) (condition_number c.kind ∷ alternatives_of c.kind)
+    (key_less (condition_number b.kind) (condition_number c.kind) (alternatives_of b.kind) (alternatives_of c.kind) less))
+
+-- ---- with starts
+
+-- the number of the condition is the same
+pub same_number : (starts : List ListedStart) (kind : ViolationKind ℕ) → condition_number (kind_with_starts starts kind) ≡ condition_number kind
+same_number starts LeftRecursion = refl
+same_number starts EmptyRound = refl
+same_number starts (EmptyAlternative k) = refl
+same_number starts (AlternativesMeet j k s t) = refl
+same_number starts (AlternativeMeetsFollow k s t) = refl
+same_number starts (RoundMeetsFollow s t) = refl
+same_number starts TryAroundMore = refl
+
+-- and so is all that the order sees
+same_key : (starts : List ListedStart) (p : ℕ) (kind : ViolationKind ℕ) → violation_key (with_starts starts (record { node = p; kind = kind })) ≡ violation_key {S = ℕ} (record { node = p; kind = kind })
+same_key starts p LeftRecursion = refl
+same_key starts p EmptyRound = refl
+same_key starts p (EmptyAlternative k) = refl
+same_key starts p (AlternativesMeet j k s t) = refl
+same_key starts p (AlternativeMeetsFollow k s t) = refl
+same_key starts p (RoundMeetsFollow s t) = refl
+same_key starts p TryAroundMore = refl
+
+precedes_with : (starts : List ListedStart) (b c : Violation ℕ) → Precedes b c → violation_order (with_starts starts b) (with_starts starts c) ≡ Less
+precedes_with starts b c less =
+    ap (λ key. slice_cmp nat_cmp key (violation_key (with_starts starts c))) (same_key starts b.node b.kind)
+    ∙ (ap (slice_cmp nat_cmp (violation_key b)) (same_key starts c.node c.kind) ∙ less)
 
 -- ---- as lists of violations
 
 -- what was noted is among the violations
-pub contains_noted : (starts : List ListedStart) (bs : List Breach) (b : Breach) → In bs b → Contains (map (violation_of starts) bs) (violation_of starts b)
+pub contains_noted : (starts : List ListedStart) (bs : List (Violation ℕ)) (b : Violation ℕ) → In bs b → Contains (map (with_starts starts) bs) (with_starts starts b)
 contains_noted starts [] b is = absurd is
-contains_noted starts (x ∷ xs) b (inl e) = (0, omega arith, ap (violation_of starts) e)
+contains_noted starts (x ∷ xs) b (inl e) = (0, omega arith, ap (with_starts starts) e)
 contains_noted starts (x ∷ xs) b (inr is) = let rest = contains_noted starts xs b is in let below = rest.1 in (suc rest.0, omega arith, rest.2)
 
-pub record NotedAs (starts : List ListedStart) (bs : List Breach) (v : Violation) : Type 0 where
-  pub breach : Breach
-  pub there : In bs breach
-  pub same : violation_of starts breach ≡ v
+pub record NotedAs (starts : List ListedStart) (bs : List (Violation ℕ)) (v : Violation ListedStart) : Type 0 where
+  pub violation : Violation ℕ
+  pub there : In bs violation
+  pub same : with_starts starts violation ≡ v
 
-pub noted_contains : (starts : List ListedStart) (bs : List Breach) (v : Violation) → Contains (map (violation_of starts) bs) v → NotedAs starts bs v
+pub noted_contains : (starts : List ListedStart) (bs : List (Violation ℕ)) (v : Violation ListedStart) → Contains (map (with_starts starts) bs) v → NotedAs starts bs v
 noted_contains starts [] v is = let below = is.1 in absurd (omega arith)
-noted_contains starts (x ∷ xs) v (zero, below, e) = record { breach = x; there = inl refl; same = e }
-noted_contains starts (x ∷ xs) v (suc k, below, e) = let rest = noted_contains starts xs v (k, omega arith, e) in record { breach = rest.breach; there = inr rest.there; same = rest.same }
+noted_contains starts (x ∷ xs) v (zero, below, e) = record { violation = x; there = inl refl; same = e }
+noted_contains starts (x ∷ xs) v (suc k, below, e) = let rest = noted_contains starts xs v (k, omega arith, e) in record { violation = rest.violation; there = inr rest.there; same = rest.same }
 
-all_behind : (starts : List ListedStart) (b : Breach) (bs : List Breach) → ((c : Breach) → In bs c → Precedes starts b c)
-    → AllByRecursion (λ v. violation_order (violation_of starts b) v ≡ Less) (map (violation_of starts) bs)
-all_behind starts b [] before = tt
-all_behind starts b (c ∷ cs) before = (before c (inl refl), all_behind starts b cs (λ d is. before d (inr is)))
+all_after : (starts : List ListedStart) (b : Violation ℕ) (bs : List (Violation ℕ)) → ((c : Violation ℕ) → In bs c → Precedes b c)
+    → AllByRecursion (λ v. violation_order (with_starts starts b) v ≡ Less) (map (with_starts starts) bs)
+all_after starts b [] before = tt
+all_after starts b (c ∷ cs) before = (precedes_with starts b c (before c (inl refl)), all_after starts b cs (λ d is. before d (inr is)))
 
-pub ascends_sorted : (starts : List ListedStart) (bs : List Breach) → Ascends starts bs → IsStrictlySortedBy violation_order (map (violation_of starts) bs)
+pub ascends_sorted : (starts : List ListedStart) (bs : List (Violation ℕ)) → Ascends bs → IsStrictlySortedBy violation_order (map (with_starts starts) bs)
 unfolding IsStrictlySortedBy
 ascends_sorted starts [] up = tt
-ascends_sorted starts (b ∷ bs) up = (all_behind starts b bs up.0, ascends_sorted starts bs up.1)
+ascends_sorted starts (b ∷ bs) up = (all_after starts b bs up.0, ascends_sorted starts bs up.1)

@@ -4,7 +4,7 @@ use Rattle.std.specs.Prelude.{◌↔◌, if◌then◌else◌}
 use Rattle.std.proofs.lemmas.Bool.{true≢false, and_parts, and_from}
 use Rattle.std.proofs.lemmas.Option.{same_Some, slice_get-get_or}
 use Rattle.pg_grammar.specs.Grammar.{Grammar}
-use Rattle.pg_numbers.specs.Numbers.{contains, set_at}
+use Rattle.pg_bit_set.specs.Numbers.{contains, set_at}
 use Rattle.pg_start.specs.Apart.{Apart}
 use Rattle.pg_start.specs.declared.kind.StartKind.{StartKind}
 use Rattle.pg_sets.specs.First.{IsFirst, IsFirstOf}
@@ -14,13 +14,14 @@ use Rattle.pg_sets.specs.Marks.{is_marked}
 use Rattle.pg_sets.specs.Nullable.{Nullable}
 use Rattle.pg_sets.specs.Sets.{HasStart}
 use Rattle.pg_sets.specs.declared.listed.ListedStart.{ListedStart}
-use Rattle.pg_predict.specs.Breaches.{start_at}
+use Rattle.pg_predict.specs.WithStarts.{start_at}
 use Rattle.pg_predict.specs.Conditions.{AreFirstToMeet, Begins, Follows, BeginsLink}
 use Rattle.pg_predict.specs.Judged.{Facts, node_meeting, follow_meeting, link_meeting}
 use Rattle.pg_predict.specs.Meetings.{first_meeting, earlier}
 use Rattle.pg_predict.specs.Shown.{AreFacts}
-use Rattle.pg_predict.specs.declared.breach.Meeting.{Meeting}
-use Rattle.pg_predict.proofs.FirstMeetings.{Met, contained_below}
+use Rattle.pg_predict.specs.declared.meetings.Meeting.{Meeting}
+use Rattle.pg_bit_set.proofs.Inside.{contains_below}
+use Rattle.pg_predict.proofs.FirstMeetings.{Met}
 use Rattle.pg_predict.proofs.Numbered.{Placed, placed_by, member_by, numbers_order, order_numbers, start_is}
 use Rattle.pg_predict.proofs.Pairs.{IsFirstPair, PairFound, pair_same, pair_of_sets, pair_either}
 
@@ -55,7 +56,7 @@ module _ (g : Grammar) (facts : Facts) (are : AreFacts g facts) where
 
   start_in : (set : List Bool) (Kind : StartKind → Type 0) (s : ℕ) → ShowsKind facts.sets.starts set Kind → contains set s ≡ true → (x : ListedStart) × (slice_get facts.sets.starts s ≡ Some x)
   start_in set Kind s shows h =
-      let below = contained_below set s h in
+      let below = contains_below set s h in
       let limit = shows.limit in
       let inside : s < length facts.sets.starts = omega arith in
       (start_at facts.sets.starts s, slice_get-get_or facts.sets.starts s _ inside)
@@ -182,8 +183,8 @@ module _ (g : Grammar) (facts : Facts) (are : AreFacts g facts) where
   pub link_there : (operand separator : ℕ) → operand < length g.nodes → separator < length g.nodes → (x : ListedStart) → IsListed g x → BeginsLink g operand separator x.start
       → Placed facts.sets.starts x
   link_there operand separator o s x is (first_of.here begins) = first_there separator s x is begins
-  link_there operand separator o s x is (first_of.behind null (first_of.here begins)) = first_there operand o x is begins
-  link_there operand separator o s x is (first_of.behind null (first_of.behind null_operand more)) = absurd (nothing more)
+  link_there operand separator o s x is (first_of.after null (first_of.here begins)) = first_there operand o x is begins
+  link_there operand separator o s x is (first_of.after null (first_of.after null_operand more)) = absurd (nothing more)
     where
       nothing : IsFirstOf g x.start [] → ⊥
       nothing more = elim more [ ]
@@ -205,8 +206,8 @@ module _ (g : Grammar) (facts : Facts) (are : AreFacts g facts) where
   -- which of its parts begins a round
   link_cases : (operand separator : ℕ) (x : StartKind) → BeginsLink g operand separator x → Begins g separator x ⊎ (Nullable g separator × Begins g operand x)
   link_cases operand separator x (first_of.here begins) = inl begins
-  link_cases operand separator x (first_of.behind null (first_of.here begins)) = inr (null, begins)
-  link_cases operand separator x (first_of.behind null (first_of.behind null_operand more)) = absurd (nothing more)
+  link_cases operand separator x (first_of.after null (first_of.here begins)) = inr (null, begins)
+  link_cases operand separator x (first_of.after null (first_of.after null_operand more)) = absurd (nothing more)
     where
       nothing : IsFirstOf g x [] → ⊥
       nothing more = elim more [ ]
@@ -232,7 +233,7 @@ module _ (g : Grammar) (facts : Facts) (are : AreFacts g facts) where
 
       from_operand : Nullable g separator → (u v : ℕ) → S u v → Link u v
       from_operand null u v r =
-          record { x = r.x; y = r.y; x_there = r.x_there; y_there = r.y_there; one = first_of.behind null (first_of.here r.one); other = r.other; together = r.together }
+          record { x = r.x; y = r.y; x_there = r.x_there; y_there = r.y_there; one = first_of.after null (first_of.here r.one); other = r.other; together = r.together }
 
       parts : (u v : ℕ) → Link u v → R u v ⊎ (Nullable g separator × S u v)
       parts u v l = elim (link_cases operand separator l.x.start l.one) [

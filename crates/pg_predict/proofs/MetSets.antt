@@ -1,10 +1,11 @@
 -- The set of what a start meets, as it is gathered.
 use Rattle.std.proofs.Common.{◌≡◌, ℕ, zero, suc, ◌+◌, ◌<◌, ◌≤◌, Bool, true, false, List, [], ◌∷◌, ◌++◌, length-append, Some, slice_get, slice_set, length, length-set, replicate, refl, sym, ap, subst, ◌∙◌, inl, inr, arith}
 use Rattle.std.specs.Prelude.{◌↔◌, IsTrue}
-use Rattle.std.proofs.lemmas.Bool.{cases_eq, cases_lt, true≢false}
-use Rattle.std.proofs.lemmas.List.{length-replicate, get_or-replicate, get_or_past}
+use Rattle.std.proofs.lemmas.Bool.{cases_eq, true≢false}
+use Rattle.std.proofs.lemmas.List.{length-replicate}
 use Rattle.std.proofs.lemmas.Option.{same_Some, slice_get_within}
-use Rattle.pg_numbers.specs.Numbers.{contains, set_at}
+use Rattle.pg_bit_set.specs.Numbers.{contains, set_at}
+use Rattle.pg_bit_set.proofs.Inside.{contains_none}
 use Rattle.pg_start.specs.Apart.{Apart}
 use Rattle.pg_start.specs.declared.kind.StartKind.{StartKind}
 use Rattle.pg_sets.specs.declared.listed.ListedStart.{ListedStart}
@@ -17,18 +18,11 @@ pub record MetSoFar (starts : List ListedStart) (start : StartKind) (count : ℕ
   pub told : (t : ℕ) (other : ListedStart) → t < count → slice_get starts t ≡ Some other → (contains met t ≡ true) ↔ (Apart start other.start → ⊥)
   pub rest : (t : ℕ) → count ≤ t → contains met t ≡ false
 
-pub none_in : (n t : ℕ) → contains (replicate n false) t ≡ false
-none_in n t =
-    elim (cases_lt t n) [
-      | inl below ↦ get_or-replicate n t false false below
-      | inr past ↦ let long = length-replicate n false in get_or_past (replicate n false) t false (omega arith)
-    ]
-
 pub met_none : (starts : List ListedStart) (start : StartKind) (met : List Bool) → met ≡ replicate (length starts) false → MetSoFar starts start 0 met
 met_none starts start met e = record {
   long = ap length e ∙ length-replicate (length starts) false;
   told = λ t other below. absurd (omega arith);
-  rest = λ t more. ap (λ set. contains set t) e ∙ none_in (length starts) t;
+  rest = λ t more. ap (λ set. contains set t) e ∙ contains_none (length starts) t;
 }
 
 pub met_in : (starts : List ListedStart) (start : StartKind) (k : ℕ) (one : ListedStart) (met : List Bool) → MetSoFar starts start k met → slice_get starts k ≡ Some one

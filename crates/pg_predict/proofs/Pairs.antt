@@ -3,7 +3,7 @@ use Rattle.std.proofs.Common.{◌≡◌, ℕ, ◌<◌, ◌≤◌, Bool, true, fa
 use Rattle.std.specs.Prelude.{nat_le, if◌then◌else◌}
 use Rattle.std.proofs.lemmas.Bool.{cases_eq, cases_lt, true≢false}
 use Rattle.pg_predict.specs.Meetings.{first_meeting, earlier}
-use Rattle.pg_predict.specs.declared.breach.Meeting.{Meeting}
+use Rattle.pg_predict.specs.declared.meetings.Meeting.{Meeting}
 use Rattle.pg_predict.proofs.FirstMeetings.{Met, IsFirstMeeting, MeetingFound, meeting_found}
 use Rattle.pg_predict.proofs.FirstMeetings as of_sets
 
@@ -66,11 +66,11 @@ pair_either R S (Some m) (Some k) alike (some is) (some other) = go (nat_le m.on
           first_other = λ t below either. elim either [ inl r ↦ is.first_other t below r | inr q ↦ is.first_other t below (alike m.one t m.other is.met q) ];
         })
     go false e =
-        let behind = after m.one k.one e in
+        let following = after m.one k.one e in
         some (record {
           met = inr other.met;
           first_one = λ s t below either. elim either [ inl r ↦ is.first_one s t (omega arith) r | inr q ↦ other.first_one s t below q ];
-          first_other = λ t below either. elim either [ inl r ↦ is.first_one k.one t behind r | inr q ↦ other.first_other t below q ];
+          first_other = λ t below either. elim either [ inl r ↦ is.first_one k.one t following r | inr q ↦ other.first_other t below q ];
         })
 
 -- the first two are the ones that are found

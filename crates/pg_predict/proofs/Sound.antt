@@ -9,32 +9,32 @@ use Rattle.pg_grammar.specs.Forms.{Node, parts_of}
 use Rattle.pg_grammar.specs.Grammar.{Grammar, IsGrammar}
 use Rattle.pg_grammar.specs.declared.form.Form.TheVariants as form
 use Rattle.pg_grammar.specs.declared.form.Around.TheVariants as around
-use Rattle.pg_grammar.proofs.Numbers.{parts_are_behind}
+use Rattle.pg_grammar.proofs.Numbers.{parts_are_after}
 use Rattle.pg_sets.specs.Follow.{IsChain}
 use Rattle.pg_sets.specs.Follow as chain
 use Rattle.pg_sets.specs.Marks.{is_marked}
 use Rattle.pg_sets.specs.declared.listed.ListedStart.{ListedStart}
 use Rattle.pg_sets.proofs.Lists.{all_get}
-use Rattle.pg_predict.specs.Breaches.{condition_of, start_at}
-use Rattle.pg_predict.specs.Conditions.{Condition, LeftRecursion, EmptyRound, EmptyAlternative, AlternativesMeet, AlternativeMeetsFollow, RoundMeetsFollow, TryAroundMore, Violates, AreFirstToMeet, Begins, Follows, BeginsLink, EndsNullable}
+use Rattle.pg_predict.specs.WithStarts.{kind_with_starts, start_at}
+use Rattle.pg_predict.specs.Conditions.{Violates, AreFirstToMeet, Begins, Follows, BeginsLink, EndsNullable}
 use Rattle.pg_predict.specs.Conditions as violates
 use Rattle.pg_predict.specs.Findings.{condition_number}
 use Rattle.pg_predict.specs.Judged.{Facts, noted, noted_meeting, all_below, part_at, node_meeting, follow_meeting, link_meeting, empty_alternative, empty_alternatives, meeting_alternatives, meetings_of_alternative, alternatives_that_meet, alternative_and_follow, alternatives_and_follow, ends_nullable, noted_many, noted_chain, noted_try, noted_form, noted_node}
 use Rattle.pg_predict.specs.Lexemes.{is_lexeme}
 use Rattle.pg_predict.specs.Shown.{AreFacts}
-use Rattle.pg_predict.specs.declared.breach.Breach.{Breach}
-use Rattle.pg_predict.specs.declared.breach.BreachKind.{BreachKind}
-use Rattle.pg_predict.specs.declared.breach.BreachKind.TheVariants as kind
-use Rattle.pg_predict.specs.declared.breach.Meeting.{Meeting}
+use Rattle.pg_predict.specs.declared.violation.Violation.{Violation}
+use Rattle.pg_predict.specs.declared.violation.ViolationKind.{ViolationKind}
+use Rattle.pg_predict.specs.declared.violation.ViolationKind.TheVariants.{LeftRecursion, EmptyRound, EmptyAlternative, AlternativesMeet, AlternativeMeetsFollow, RoundMeetsFollow, TryAroundMore}
+use Rattle.pg_predict.specs.declared.meetings.Meeting.{Meeting}
 use Rattle.pg_predict.proofs.Lexeme.{lexeme_is}
 use Rattle.pg_predict.proofs.Lists.{In, in_cases, NotedFor, in_all_below, in_noted, NotedMeeting, in_noted_meeting, Tagged}
 use Rattle.pg_predict.proofs.Meanings.{MeetAt, numbers_first, first_there, follow_there, link_there, node_found, follow_found, link_found}
 use Rattle.pg_predict.proofs.Pairs.{pair_is}
 
 -- what is noted of a node is wrong there, and has a number
-pub record IsWrong (g : Grammar) (starts : List ListedStart) (p number : ℕ) (b : Breach) : Type 0 where
-  pub tagged : Tagged starts p number b
-  pub violates : Violates g p (condition_of starts b.kind)
+pub record IsWrong (g : Grammar) (starts : List ListedStart) (p number : ℕ) (b : Violation ℕ) : Type 0 where
+  pub tagged : Tagged p number b
+  pub violates : Violates g p (kind_with_starts starts b.kind)
 
 -- ---- parts
 
@@ -42,28 +42,28 @@ pub part_inside : (parts : List ℕ) (k : ℕ) → k < length parts → slice_ge
 part_inside parts k below = slice_get-get_or parts k 0 below
 
 pub parts_below : (g : Grammar) (p : ℕ) (n : Node) (k q : ℕ) → IsGrammar g → slice_get g.nodes p ≡ Some n → slice_get (parts_of n) k ≡ Some q → q < length g.nodes
-parts_below g p n k q is at part = (all_get (λ r. (p < r) × (r < length g.nodes)) (parts_of n) k q (parts_are_behind g.nodes p n is.preorder at) part).1
+parts_below g p n k q is at part = (all_get (λ r. (p < r) × (r < length g.nodes)) (parts_of n) k q (parts_are_after g.nodes p n is.preorder at) part).1
 
 below_test : (j k : ℕ) → nat_lt j k ≡ true → j < k
 below_test j k e = grind (arith, e)
 
 -- ---- meetings of alternatives that are noted
 
-pub record NotedPair (facts : Facts) (p : ℕ) (parts : List ℕ) (j k : ℕ) (b : Breach) : Type 0 where
+pub record NotedPair (facts : Facts) (p : ℕ) (parts : List ℕ) (j k : ℕ) (b : Violation ℕ) : Type 0 where
   pub before : j < k
-  pub noted_meeting : NotedMeeting (node_meeting facts (part_at parts j) (part_at parts k)) p (kind.AlternativesMeet (j + 1) (k + 1)) b
+  pub noted_meeting : NotedMeeting (node_meeting facts (part_at parts j) (part_at parts k)) p (AlternativesMeet (j + 1) (k + 1)) b
 
-pub in_pair : (facts : Facts) (p : ℕ) (parts : List ℕ) (j k : ℕ) (b : Breach) → In (meeting_alternatives facts p parts j k) b → NotedPair facts p parts j k b
+pub in_pair : (facts : Facts) (p : ℕ) (parts : List ℕ) (j k : ℕ) (b : Violation ℕ) → In (meeting_alternatives facts p parts j k) b → NotedPair facts p parts j k b
 in_pair facts p parts j k b is = go (nat_lt j k) refl is
   where
-    what : Meeting → BreachKind
-    what = kind.AlternativesMeet (j + 1) (k + 1)
+    what : ℕ → ℕ → ViolationKind ℕ
+    what = AlternativesMeet (j + 1) (k + 1)
 
     go : (t : Bool) → nat_lt j k ≡ t → In (if t then noted_meeting (node_meeting facts (part_at parts j) (part_at parts k)) p what else []) b → NotedPair facts p parts j k b
     go true e is = record { before = below_test j k e; noted_meeting = in_noted_meeting (node_meeting facts (part_at parts j) (part_at parts k)) p what b is }
     go false e is = absurd is
 
-pub in_follow : (facts : Facts) (p : ℕ) (parts : List ℕ) (b : Breach) → In (alternatives_and_follow facts p parts) b
+pub in_follow : (facts : Facts) (p : ℕ) (parts : List ℕ) (b : Violation ℕ) → In (alternatives_and_follow facts p parts) b
     → (ends_nullable facts parts ≡ true) × NotedFor (alternative_and_follow facts p parts) (length parts - 1) b
 in_follow facts p parts b is = go (ends_nullable facts parts) refl is
   where
@@ -73,8 +73,8 @@ in_follow facts p parts b is = go (ends_nullable facts parts) refl is
     go false e is = absurd is
 
 module _ (g : Grammar) (facts : Facts) (are : AreFacts g facts) (grammar : IsGrammar g) where
-  wrong_where : (p number : ℕ) (what : BreachKind) (b : Breach) → record { node = p; kind = what } ≡ b → condition_number (condition_of facts.sets.starts what) ≡ number
-      → Violates g p (condition_of facts.sets.starts what) → IsWrong g facts.sets.starts p number b
+  wrong_where : (p number : ℕ) (what : ViolationKind ℕ) (b : Violation ℕ) → record { node = p; kind = what } ≡ b → condition_number what ≡ number
+      → Violates g p (kind_with_starts facts.sets.starts what) → IsWrong g facts.sets.starts p number b
   wrong_where p number what b e n v =
       subst (IsWrong g facts.sets.starts p number) e (record { tagged = record { node = refl; number = n }; violates = v })
 
@@ -101,19 +101,19 @@ module _ (g : Grammar) (facts : Facts) (are : AreFacts g facts) (grammar : IsGra
 
   -- ---- choices
 
-  pub empty_wrong : (p : ℕ) (parts : List ℕ) (b : Breach) → slice_get g.nodes p ≡ Some (form.Choice parts) → In (empty_alternatives facts p parts) b → IsWrong g facts.sets.starts p 3 b
+  pub empty_wrong : (p : ℕ) (parts : List ℕ) (b : Violation ℕ) → slice_get g.nodes p ≡ Some (form.Choice parts) → In (empty_alternatives facts p parts) b → IsWrong g facts.sets.starts p 3 b
   empty_wrong p parts b at is =
       let for = in_all_below (empty_alternative facts p parts) (length parts - 1) b is in
       let k = for.number in
       let below = for.below in
       let inside : k < length parts = omega arith in
       let not_last : suc k < length parts = omega arith in
-      let test = in_noted (is_marked facts.sets.nullable (part_at parts k)) p (kind.EmptyAlternative (k + 1)) b for.noted_for in
+      let test = in_noted (is_marked facts.sets.nullable (part_at parts k)) p (EmptyAlternative (k + 1)) b for.noted_for in
       let null = (are.sets.nullable (part_at parts k)).0 test.0 in
       let violates : Violates g p (EmptyAlternative (suc k)) = violates.empty_alternative at (part_inside parts k inside) not_last null in
-      wrong_where p 3 (kind.EmptyAlternative (k + 1)) b test.1 refl (subst (λ (i : ℕ). Violates g p (EmptyAlternative i)) (sym (add-one k)) violates)
+      wrong_where p 3 (EmptyAlternative (k + 1)) b test.1 refl (subst (λ (i : ℕ). Violates g p (EmptyAlternative i)) (sym (add-one k)) violates)
 
-  pub pair_wrong : (p : ℕ) (parts : List ℕ) (j k : ℕ) (b : Breach) → slice_get g.nodes p ≡ Some (form.Choice parts) → j < length parts → k < length parts
+  pub pair_wrong : (p : ℕ) (parts : List ℕ) (j k : ℕ) (b : Violation ℕ) → slice_get g.nodes p ≡ Some (form.Choice parts) → j < length parts → k < length parts
       → In (meeting_alternatives facts p parts j k) b → IsWrong g facts.sets.starts p 4 b
   pair_wrong p parts j k b at j_inside k_inside is =
       let pair = in_pair facts p parts j k b is in
@@ -128,15 +128,15 @@ module _ (g : Grammar) (facts : Facts) (are : AreFacts g facts) (grammar : IsGra
       let first = nodes_first (part_at parts j) (part_at parts k) m q_below r_below found.found in
       let violates : Violates g p (AlternativesMeet (suc j) (suc k) S T) = violates.alternatives_meet at pair.before q_there r_there first in
       let one = subst (λ (i : ℕ). Violates g p (AlternativesMeet i (suc k) S T)) (sym (add-one j)) violates in
-      wrong_where p 4 (kind.AlternativesMeet (j + 1) (k + 1) m) b found.same refl (subst (λ (i : ℕ). Violates g p (AlternativesMeet (j + 1) i S T)) (sym (add-one k)) one)
+      wrong_where p 4 (AlternativesMeet (j + 1) (k + 1) m.one m.other) b found.same refl (subst (λ (i : ℕ). Violates g p (AlternativesMeet (j + 1) i S T)) (sym (add-one k)) one)
 
-  pub meet_wrong : (p : ℕ) (parts : List ℕ) (b : Breach) → slice_get g.nodes p ≡ Some (form.Choice parts) → In (alternatives_that_meet facts p parts) b → IsWrong g facts.sets.starts p 4 b
+  pub meet_wrong : (p : ℕ) (parts : List ℕ) (b : Violation ℕ) → slice_get g.nodes p ≡ Some (form.Choice parts) → In (alternatives_that_meet facts p parts) b → IsWrong g facts.sets.starts p 4 b
   meet_wrong p parts b at is =
       let one = in_all_below (meetings_of_alternative facts p parts) (length parts) b is in
       let other = in_all_below (meeting_alternatives facts p parts one.number) (length parts) b one.noted_for in
       pair_wrong p parts one.number other.number b at one.below other.below other.noted_for
 
-  pub follow_wrong : (p : ℕ) (parts : List ℕ) (b : Breach) → slice_get g.nodes p ≡ Some (form.Choice parts) → In (alternatives_and_follow facts p parts) b → IsWrong g facts.sets.starts p 5 b
+  pub follow_wrong : (p : ℕ) (parts : List ℕ) (b : Violation ℕ) → slice_get g.nodes p ≡ Some (form.Choice parts) → In (alternatives_and_follow facts p parts) b → IsWrong g facts.sets.starts p 5 b
   follow_wrong p parts b at is =
       let both = in_follow facts p parts b is in
       let for = both.1 in
@@ -145,7 +145,7 @@ module _ (g : Grammar) (facts : Facts) (are : AreFacts g facts) (grammar : IsGra
       let inside : k < length parts = omega arith in
       let not_last : suc k < length parts = omega arith in
       let last : length parts - 1 < length parts = omega arith in
-      let found = in_noted_meeting (follow_meeting facts (part_at parts k) p) p (kind.AlternativeMeetsFollow (k + 1)) b for.noted_for in
+      let found = in_noted_meeting (follow_meeting facts (part_at parts k) p) p (AlternativeMeetsFollow (k + 1)) b for.noted_for in
       let m = found.meeting in
       let q_there = part_inside parts k inside in
       let q_below = parts_below g p (form.Choice parts) k (part_at parts k) grammar at q_there in
@@ -160,43 +160,43 @@ module _ (g : Grammar) (facts : Facts) (are : AreFacts g facts) (grammar : IsGra
       let S = start_at facts.sets.starts m.one in
       let T = start_at facts.sets.starts m.other in
       let violates : Violates g p (AlternativeMeetsFollow (suc k) S T) = violates.alternative_meets_follow at q_there not_last ends first in
-      wrong_where p 5 (kind.AlternativeMeetsFollow (k + 1) m) b found.same refl (subst (λ (i : ℕ). Violates g p (AlternativeMeetsFollow i S T)) (sym (add-one k)) violates)
+      wrong_where p 5 (AlternativeMeetsFollow (k + 1) m.one m.other) b found.same refl (subst (λ (i : ℕ). Violates g p (AlternativeMeetsFollow i S T)) (sym (add-one k)) violates)
 
   -- ---- repetitions and tries
 
-  pub many_wrong : (p q : ℕ) (b : Breach) → slice_get g.nodes p ≡ Some (form.Many q) → In (noted_many facts p q) b → IsWrong g facts.sets.starts p 2 b ⊎ IsWrong g facts.sets.starts p 6 b
+  pub many_wrong : (p q : ℕ) (b : Violation ℕ) → slice_get g.nodes p ≡ Some (form.Many q) → In (noted_many facts p q) b → IsWrong g facts.sets.starts p 2 b ⊎ IsWrong g facts.sets.starts p 6 b
   many_wrong p q b at is =
-      elim (in_cases (noted (is_marked facts.sets.nullable q) p kind.EmptyRound) (noted_meeting (follow_meeting facts q p) p kind.RoundMeetsFollow) b is) [
+      elim (in_cases (noted (is_marked facts.sets.nullable q) p EmptyRound) (noted_meeting (follow_meeting facts q p) p RoundMeetsFollow) b is) [
         | inl empty ↦
-            let test = in_noted (is_marked facts.sets.nullable q) p kind.EmptyRound b empty in
-            inl (wrong_where p 2 kind.EmptyRound b test.1 refl (violates.empty_round at ((are.sets.nullable q).0 test.0)))
+            let test = in_noted (is_marked facts.sets.nullable q) p EmptyRound b empty in
+            inl (wrong_where p 2 EmptyRound b test.1 refl (violates.empty_round at ((are.sets.nullable q).0 test.0)))
         | inr meets ↦
-            let found = in_noted_meeting (follow_meeting facts q p) p kind.RoundMeetsFollow b meets in
+            let found = in_noted_meeting (follow_meeting facts q p) p RoundMeetsFollow b meets in
             let q_below = parts_below g p (form.Many q) 0 q grammar at refl in
             let first = follow_first q p found.meeting q_below (slice_get_within g.nodes p (form.Many q) at) found.found in
-            inr (wrong_where p 6 (kind.RoundMeetsFollow found.meeting) b found.same refl (violates.round_meets_follow at first))
+            inr (wrong_where p 6 (RoundMeetsFollow found.meeting.one found.meeting.other) b found.same refl (violates.round_meets_follow at first))
       ]
 
-  pub chain_wrong : (p operand separator : ℕ) (n : Node) (b : Breach) → slice_get g.nodes p ≡ Some n → IsChain operand separator n → operand < length g.nodes → separator < length g.nodes
+  pub chain_wrong : (p operand separator : ℕ) (n : Node) (b : Violation ℕ) → slice_get g.nodes p ≡ Some n → IsChain operand separator n → operand < length g.nodes → separator < length g.nodes
       → In (noted_chain facts p operand separator) b → IsWrong g facts.sets.starts p 2 b ⊎ IsWrong g facts.sets.starts p 6 b
   chain_wrong p operand separator n b at is_chain o s is =
       let null_s = is_marked facts.sets.nullable separator in
       let null_o = is_marked facts.sets.nullable operand in
-      elim (in_cases (noted (null_s && null_o) p kind.EmptyRound) (noted_meeting (link_meeting facts operand separator p) p kind.RoundMeetsFollow) b is) [
+      elim (in_cases (noted (null_s && null_o) p EmptyRound) (noted_meeting (link_meeting facts operand separator p) p RoundMeetsFollow) b is) [
         | inl empty ↦
-            let test = in_noted (null_s && null_o) p kind.EmptyRound b empty in
+            let test = in_noted (null_s && null_o) p EmptyRound b empty in
             let both = and_parts null_s null_o test.0 in
-            inl (wrong_where p 2 kind.EmptyRound b test.1 refl (violates.empty_link at is_chain ((are.sets.nullable separator).0 both.0) ((are.sets.nullable operand).0 both.1)))
+            inl (wrong_where p 2 EmptyRound b test.1 refl (violates.empty_link at is_chain ((are.sets.nullable separator).0 both.0) ((are.sets.nullable operand).0 both.1)))
         | inr meets ↦
-            let found = in_noted_meeting (link_meeting facts operand separator p) p kind.RoundMeetsFollow b meets in
+            let found = in_noted_meeting (link_meeting facts operand separator p) p RoundMeetsFollow b meets in
             let first = link_first operand separator p found.meeting o s (slice_get_within g.nodes p n at) found.found in
-            inr (wrong_where p 6 (kind.RoundMeetsFollow found.meeting) b found.same refl (violates.link_meets_follow at is_chain first))
+            inr (wrong_where p 6 (RoundMeetsFollow found.meeting.one found.meeting.other) b found.same refl (violates.link_meets_follow at is_chain first))
       ]
 
-  pub try_wrong : (p q : ℕ) (b : Breach) → slice_get g.nodes p ≡ Some (form.Around around.Try q) → In (noted_try g p q) b → IsWrong g facts.sets.starts p 10 b
+  pub try_wrong : (p q : ℕ) (b : Violation ℕ) → slice_get g.nodes p ≡ Some (form.Around around.Try q) → In (noted_try g p q) b → IsWrong g facts.sets.starts p 10 b
   try_wrong p q b at is =
-      let test = in_noted (not (is_lexeme g q)) p kind.TryAroundMore b is in
-      wrong_where p 10 kind.TryAroundMore b test.1 refl (violates.try_around_more at (λ lexeme. not_both (is_lexeme g q) ((lexeme_is g q).1 lexeme) test.0))
+      let test = in_noted (not (is_lexeme g q)) p TryAroundMore b is in
+      wrong_where p 10 TryAroundMore b test.1 refl (violates.try_around_more at (λ lexeme. not_both (is_lexeme g q) ((lexeme_is g q).1 lexeme) test.0))
     where
       not_both : (t : Bool) → t ≡ true → not t ≡ true → ⊥
       not_both true e f = true≢false (sym f)
@@ -205,21 +205,21 @@ module _ (g : Grammar) (facts : Facts) (are : AreFacts g facts) (grammar : IsGra
   -- ---- nodes
 
   -- what is noted is wrong, under a number above another
-  pub record WrongAbove (low p : ℕ) (b : Breach) : Type 0 where
+  pub record WrongAbove (low p : ℕ) (b : Violation ℕ) : Type 0 where
     pub number : ℕ
     pub above : low < number
     pub wrong : IsWrong g facts.sets.starts p number b
 
-  either_above : (low p m n : ℕ) (b : Breach) → low < m → low < n → IsWrong g facts.sets.starts p m b ⊎ IsWrong g facts.sets.starts p n b → WrongAbove low p b
+  either_above : (low p m n : ℕ) (b : Violation ℕ) → low < m → low < n → IsWrong g facts.sets.starts p m b ⊎ IsWrong g facts.sets.starts p n b → WrongAbove low p b
   either_above low p m n b a c (inl is) = record { number = m; above = a; wrong = is }
   either_above low p m n b a c (inr is) = record { number = n; above = c; wrong = is }
 
-  pub form_wrong : (p : ℕ) (n : Node) (b : Breach) → slice_get g.nodes p ≡ Some n → In (noted_form g facts p n) b → WrongAbove 1 p b
+  pub form_wrong : (p : ℕ) (n : Node) (b : Violation ℕ) → slice_get g.nodes p ≡ Some n → In (noted_form g facts p n) b → WrongAbove 1 p b
   form_wrong p (form.Choice parts) b at is =
       elim (in_cases (empty_alternatives facts p parts) (alternatives_that_meet facts p parts ++ alternatives_and_follow facts p parts) b is) [
         | inl empty ↦ record { number = 3; above = omega arith; wrong = empty_wrong p parts b at empty }
-        | inr behind ↦
-            elim (in_cases (alternatives_that_meet facts p parts) (alternatives_and_follow facts p parts) b behind) [
+        | inr after ↦
+            elim (in_cases (alternatives_that_meet facts p parts) (alternatives_and_follow facts p parts) b after) [
               | inl meets ↦ record { number = 4; above = omega arith; wrong = meet_wrong p parts b at meets }
               | inr follows ↦ record { number = 5; above = omega arith; wrong = follow_wrong p parts b at follows }
             ]
@@ -232,23 +232,23 @@ module _ (g : Grammar) (facts : Facts) (are : AreFacts g facts) (grammar : IsGra
   form_wrong p (form.Around around.Try part) b at is = record { number = 10; above = omega arith; wrong = try_wrong p part b at is }
   form_wrong p n b at is = absurd is
 
-  pub recursion_wrong : (p : ℕ) (b : Breach) → In (noted (is_marked facts.recursive p) p kind.LeftRecursion) b → IsWrong g facts.sets.starts p 1 b
+  pub recursion_wrong : (p : ℕ) (b : Violation ℕ) → In (noted (is_marked facts.recursive p) p LeftRecursion) b → IsWrong g facts.sets.starts p 1 b
   recursion_wrong p b is =
-      let test = in_noted (is_marked facts.recursive p) p kind.LeftRecursion b is in
+      let test = in_noted (is_marked facts.recursive p) p LeftRecursion b is in
       let recursive = (are.recursive p).0 test.0 in
       let violates : Violates g recursive.rule.body LeftRecursion = violates.left_recursion recursive.there recursive.chain in
-      wrong_where p 1 kind.LeftRecursion b test.1 refl (subst (λ (q : ℕ). Violates g q LeftRecursion) recursive.body violates)
+      wrong_where p 1 LeftRecursion b test.1 refl (subst (λ (q : ℕ). Violates g q LeftRecursion) recursive.body violates)
 
-  pub standing_wrong : (p : ℕ) (b : Breach) → In (option_map_or (noted_form g facts p) (slice_get g.nodes p) []) b → WrongAbove 1 p b
+  pub standing_wrong : (p : ℕ) (b : Violation ℕ) → In (option_map_or (noted_form g facts p) (slice_get g.nodes p) []) b → WrongAbove 1 p b
   standing_wrong p b is = go (slice_get g.nodes p) refl is
     where
       go : (o : Option Node) → slice_get g.nodes p ≡ o → In (option_map_or (noted_form g facts p) o []) b → WrongAbove 1 p b
       go (Some n) e is = form_wrong p n b e is
       go None e is = absurd is
 
-  pub node_wrong : (p : ℕ) (b : Breach) → In (noted_node g facts p) b → WrongAbove 0 p b
+  pub node_wrong : (p : ℕ) (b : Violation ℕ) → In (noted_node g facts p) b → WrongAbove 0 p b
   node_wrong p b is =
-      elim (in_cases (noted (is_marked facts.recursive p) p kind.LeftRecursion) (option_map_or (noted_form g facts p) (slice_get g.nodes p) []) b is) [
+      elim (in_cases (noted (is_marked facts.recursive p) p LeftRecursion) (option_map_or (noted_form g facts p) (slice_get g.nodes p) []) b is) [
         | inl recursion ↦ record { number = 1; above = omega arith; wrong = recursion_wrong p b recursion }
         | inr standing ↦ let wrong = standing_wrong p b standing in let above = wrong.above in record { number = wrong.number; above = omega arith; wrong = wrong.wrong }
       ]

@@ -14,14 +14,15 @@ use Rattle.pg_grammar.specs.declared.form.Form.TheVariants as form
 use Rattle.pg_grammar.specs.declared.form.Around.TheVariants as around
 use Rattle.pg_sets.specs.Marks.{is_marked}
 use Rattle.pg_sets.specs.declared.listed.ListedStart.{ListedStart}
-use Rattle.pg_predict.specs.Breaches.{condition_of, violation_of}
-use Rattle.pg_predict.specs.Conditions.{Condition, Violation, Violates, IsFaultless}
+use Rattle.pg_predict.specs.WithStarts.{kind_with_starts, with_starts}
+use Rattle.pg_predict.specs.Conditions.{Violates, IsFaultless}
 use Rattle.pg_predict.specs.Findings.{AreViolations, AreFindings, said, saying_of}
 use Rattle.pg_predict.specs.Judged.{Facts, noted, noted_meeting, all_below, part_at, node_meeting, follow_meeting, link_meeting, empty_alternative, empty_alternatives, meeting_alternatives, meetings_of_alternative, alternatives_that_meet, alternative_and_follow, alternatives_and_follow, ends_nullable, noted_choice, noted_form, noted_node, noted_grammar}
 use Rattle.pg_predict.specs.Shown.{AreFacts}
-use Rattle.pg_predict.specs.declared.breach.Breach.{Breach}
-use Rattle.pg_predict.specs.declared.breach.BreachKind.TheVariants as kind
-use Rattle.pg_predict.specs.declared.breach.Meeting.{Meeting}
+use Rattle.pg_predict.specs.declared.violation.Violation.{Violation}
+use Rattle.pg_predict.specs.declared.violation.ViolationKind.{ViolationKind}
+use Rattle.pg_predict.specs.declared.violation.ViolationKind.TheVariants.{LeftRecursion, EmptyRound, EmptyAlternative, AlternativesMeet, AlternativeMeetsFollow, RoundMeetsFollow, TryAroundMore}
+use Rattle.pg_predict.specs.declared.meetings.Meeting.{Meeting}
 use Rattle.pg_predict.specs.declared.finding.Finding.{Finding}
 use Rattle.pg_predict.proofs.Complete.{violation_noted}
 use Rattle.pg_predict.proofs.Lists.{In, in_all_below, all_below_has, in_noted, in_noted_meeting, in_cases, Precedes, Ascends, ascends_append, ascends_below, ascends_noted, ascends_meeting, key_less, key_same, node_precedes, tags_precede, contains_noted, noted_contains, ascends_sorted}
@@ -30,186 +31,186 @@ use Rattle.pg_predict.proofs.Sound.{in_pair, empty_wrong, meet_wrong, follow_wro
 -- ---- order within a condition
 
 -- of two that are noted, what is said of them as they are made up
-both_are : (starts : List ListedStart) (x y b c : Breach) → x ≡ b → y ≡ c → Precedes starts x y → Precedes starts b c
-both_are starts x y b c e f is = subst (λ (z : Breach). Precedes starts z c) e (subst (λ (z : Breach). Precedes starts x z) f is)
+both_are : (x y b c : Violation ℕ) → x ≡ b → y ≡ c → Precedes x y → Precedes b c
+both_are x y b c e f is = subst (λ (z : Violation ℕ). Precedes z c) e (subst (λ (z : Violation ℕ). Precedes x z) f is)
 
 later : (j k : ℕ) (xs ys : List ℕ) (p n : ℕ) → j < k → slice_cmp nat_cmp (p ∷ n ∷ (j + 1) ∷ xs) (p ∷ n ∷ (k + 1) ∷ ys) ≡ Less
 later j k xs ys p n below =
     key_same p (n ∷ (j + 1) ∷ xs) (n ∷ (k + 1) ∷ ys) (key_same n ((j + 1) ∷ xs) ((k + 1) ∷ ys) (key_less (j + 1) (k + 1) xs ys (omega arith)))
 
 module _ (g : Grammar) (facts : Facts) (are : AreFacts g facts) (grammar : IsGrammar g) where
-  empty_ascends : (p : ℕ) (parts : List ℕ) → Ascends facts.sets.starts (empty_alternatives facts p parts)
+  empty_ascends : (p : ℕ) (parts : List ℕ) → Ascends (empty_alternatives facts p parts)
   empty_ascends p parts =
-      ascends_below facts.sets.starts (empty_alternative facts p parts)
-      (λ k. ascends_noted facts.sets.starts (is_marked facts.sets.nullable (part_at parts k)) p (kind.EmptyAlternative (k + 1)))
+      ascends_below (empty_alternative facts p parts)
+      (λ k. ascends_noted (is_marked facts.sets.nullable (part_at parts k)) p (EmptyAlternative (k + 1)))
       (λ j k b c before is_b is_c.
-      both_are facts.sets.starts (record { node = p; kind = kind.EmptyAlternative (j + 1) }) (record { node = p; kind = kind.EmptyAlternative (k + 1) }) b c
-      (in_noted (is_marked facts.sets.nullable (part_at parts j)) p (kind.EmptyAlternative (j + 1)) b is_b).1
-      (in_noted (is_marked facts.sets.nullable (part_at parts k)) p (kind.EmptyAlternative (k + 1)) c is_c).1 (later j k [] [] p 3 before))
+      both_are (record { node = p; kind = EmptyAlternative (j + 1) }) (record { node = p; kind = EmptyAlternative (k + 1) }) b c
+      (in_noted (is_marked facts.sets.nullable (part_at parts j)) p (EmptyAlternative (j + 1)) b is_b).1
+      (in_noted (is_marked facts.sets.nullable (part_at parts k)) p (EmptyAlternative (k + 1)) c is_c).1 (later j k [] [] p 3 before))
       (length parts - 1)
 
-  pair_ascends : (p : ℕ) (parts : List ℕ) (j k : ℕ) → Ascends facts.sets.starts (meeting_alternatives facts p parts j k)
+  pair_ascends : (p : ℕ) (parts : List ℕ) (j k : ℕ) → Ascends (meeting_alternatives facts p parts j k)
   pair_ascends p parts j k = go (nat_lt j k)
     where
-      go : (t : Bool) → Ascends facts.sets.starts
-          (if t then noted_meeting (node_meeting facts (part_at parts j) (part_at parts k)) p (kind.AlternativesMeet (j + 1) (k + 1)) else [])
-      go true = ascends_meeting facts.sets.starts (node_meeting facts (part_at parts j) (part_at parts k)) p (kind.AlternativesMeet (j + 1) (k + 1))
+      go : (t : Bool) → Ascends
+          (if t then noted_meeting (node_meeting facts (part_at parts j) (part_at parts k)) p (AlternativesMeet (j + 1) (k + 1)) else [])
+      go true = ascends_meeting (node_meeting facts (part_at parts j) (part_at parts k)) p (AlternativesMeet (j + 1) (k + 1))
       go false = tt
 
-  alternative_ascends : (p : ℕ) (parts : List ℕ) (j : ℕ) → Ascends facts.sets.starts (meetings_of_alternative facts p parts j)
+  alternative_ascends : (p : ℕ) (parts : List ℕ) (j : ℕ) → Ascends (meetings_of_alternative facts p parts j)
   alternative_ascends p parts j =
-      ascends_below facts.sets.starts (meeting_alternatives facts p parts j) (pair_ascends p parts j)
+      ascends_below (meeting_alternatives facts p parts j) (pair_ascends p parts j)
       (λ k l b c before is_b is_c.
       let one = (in_pair facts p parts j k b is_b).noted_meeting in
       let other = (in_pair facts p parts j l c is_c).noted_meeting in
-      both_are facts.sets.starts (record { node = p; kind = kind.AlternativesMeet (j + 1) (k + 1) one.meeting })
-      (record { node = p; kind = kind.AlternativesMeet (j + 1) (l + 1) other.meeting }) b c one.same other.same
+      both_are (record { node = p; kind = AlternativesMeet (j + 1) (k + 1) one.meeting.one one.meeting.other })
+      (record { node = p; kind = AlternativesMeet (j + 1) (l + 1) other.meeting.one other.meeting.other }) b c one.same other.same
       (key_same p (4 ∷ (j + 1) ∷ (k + 1) ∷ []) (4 ∷ (j + 1) ∷ (l + 1) ∷ [])
       (key_same 4 ((j + 1) ∷ (k + 1) ∷ []) ((j + 1) ∷ (l + 1) ∷ [])
       (key_same (j + 1) ((k + 1) ∷ []) ((l + 1) ∷ []) (key_less (k + 1) (l + 1) [] [] (omega arith))))))
       (length parts)
 
-  meet_ascends : (p : ℕ) (parts : List ℕ) → Ascends facts.sets.starts (alternatives_that_meet facts p parts)
+  meet_ascends : (p : ℕ) (parts : List ℕ) → Ascends (alternatives_that_meet facts p parts)
   meet_ascends p parts =
-      ascends_below facts.sets.starts (meetings_of_alternative facts p parts) (alternative_ascends p parts)
+      ascends_below (meetings_of_alternative facts p parts) (alternative_ascends p parts)
       (λ i j b c before is_b is_c.
       let for_b = in_all_below (meeting_alternatives facts p parts i) (length parts) b is_b in
       let for_c = in_all_below (meeting_alternatives facts p parts j) (length parts) c is_c in
       let one = (in_pair facts p parts i for_b.number b for_b.noted_for).noted_meeting in
       let other = (in_pair facts p parts j for_c.number c for_c.noted_for).noted_meeting in
-      both_are facts.sets.starts (record { node = p; kind = kind.AlternativesMeet (i + 1) (for_b.number + 1) one.meeting })
-      (record { node = p; kind = kind.AlternativesMeet (j + 1) (for_c.number + 1) other.meeting }) b c one.same other.same
+      both_are (record { node = p; kind = AlternativesMeet (i + 1) (for_b.number + 1) one.meeting.one one.meeting.other })
+      (record { node = p; kind = AlternativesMeet (j + 1) (for_c.number + 1) other.meeting.one other.meeting.other }) b c one.same other.same
       (later i j ((for_b.number + 1) ∷ []) ((for_c.number + 1) ∷ []) p 4 before))
       (length parts)
 
-  follow_ascends : (p : ℕ) (parts : List ℕ) → Ascends facts.sets.starts (alternatives_and_follow facts p parts)
+  follow_ascends : (p : ℕ) (parts : List ℕ) → Ascends (alternatives_and_follow facts p parts)
   follow_ascends p parts = go (ends_nullable facts parts)
     where
-      go : (t : Bool) → Ascends facts.sets.starts (if t then all_below (alternative_and_follow facts p parts) (length parts - 1) else [])
+      go : (t : Bool) → Ascends (if t then all_below (alternative_and_follow facts p parts) (length parts - 1) else [])
       go false = tt
       go true =
-          ascends_below facts.sets.starts (alternative_and_follow facts p parts)
-          (λ k. ascends_meeting facts.sets.starts (follow_meeting facts (part_at parts k) p) p (kind.AlternativeMeetsFollow (k + 1)))
+          ascends_below (alternative_and_follow facts p parts)
+          (λ k. ascends_meeting (follow_meeting facts (part_at parts k) p) p (AlternativeMeetsFollow (k + 1)))
           (λ j k b c before is_b is_c.
-          let one = in_noted_meeting (follow_meeting facts (part_at parts j) p) p (kind.AlternativeMeetsFollow (j + 1)) b is_b in
-          let other = in_noted_meeting (follow_meeting facts (part_at parts k) p) p (kind.AlternativeMeetsFollow (k + 1)) c is_c in
-          both_are facts.sets.starts (record { node = p; kind = kind.AlternativeMeetsFollow (j + 1) one.meeting })
-          (record { node = p; kind = kind.AlternativeMeetsFollow (k + 1) other.meeting }) b c one.same other.same (later j k [] [] p 5 before))
+          let one = in_noted_meeting (follow_meeting facts (part_at parts j) p) p (AlternativeMeetsFollow (j + 1)) b is_b in
+          let other = in_noted_meeting (follow_meeting facts (part_at parts k) p) p (AlternativeMeetsFollow (k + 1)) c is_c in
+          both_are (record { node = p; kind = AlternativeMeetsFollow (j + 1) one.meeting.one one.meeting.other })
+          (record { node = p; kind = AlternativeMeetsFollow (k + 1) other.meeting.one other.meeting.other }) b c one.same other.same (later j k [] [] p 5 before))
           (length parts - 1)
 
   -- ---- order at a node
 
-  choice_ascends : (p : ℕ) (parts : List ℕ) → slice_get g.nodes p ≡ Some (form.Choice parts) → Ascends facts.sets.starts (noted_choice facts p parts)
+  choice_ascends : (p : ℕ) (parts : List ℕ) → slice_get g.nodes p ≡ Some (form.Choice parts) → Ascends (noted_choice facts p parts)
   choice_ascends p parts at =
-      ascends_append facts.sets.starts (empty_alternatives facts p parts) (alternatives_that_meet facts p parts ++ alternatives_and_follow facts p parts) (empty_ascends p parts)
-      (ascends_append facts.sets.starts (alternatives_that_meet facts p parts) (alternatives_and_follow facts p parts) (meet_ascends p parts) (follow_ascends p parts)
+      ascends_append (empty_alternatives facts p parts) (alternatives_that_meet facts p parts ++ alternatives_and_follow facts p parts) (empty_ascends p parts)
+      (ascends_append (alternatives_that_meet facts p parts) (alternatives_and_follow facts p parts) (meet_ascends p parts) (follow_ascends p parts)
       (λ b c is_b is_c.
-      tags_precede facts.sets.starts p 4 5 b c (omega arith) (meet_wrong g facts are grammar p parts b at is_b).tagged (follow_wrong g facts are grammar p parts c at is_c).tagged))
+      tags_precede p 4 5 b c (omega arith) (meet_wrong g facts are grammar p parts b at is_b).tagged (follow_wrong g facts are grammar p parts c at is_c).tagged))
       (λ b c is_b is_c.
       let tag_b = (empty_wrong g facts are grammar p parts b at is_b).tagged in
       elim (in_cases (alternatives_that_meet facts p parts) (alternatives_and_follow facts p parts) c is_c) [
-        | inl meets ↦ tags_precede facts.sets.starts p 3 4 b c (omega arith) tag_b (meet_wrong g facts are grammar p parts c at meets).tagged
-        | inr follows ↦ tags_precede facts.sets.starts p 3 5 b c (omega arith) tag_b (follow_wrong g facts are grammar p parts c at follows).tagged
+        | inl meets ↦ tags_precede p 3 4 b c (omega arith) tag_b (meet_wrong g facts are grammar p parts c at meets).tagged
+        | inr follows ↦ tags_precede p 3 5 b c (omega arith) tag_b (follow_wrong g facts are grammar p parts c at follows).tagged
       ])
 
   -- an empty round, and then a meeting
-  round_ascends : (p : ℕ) (t : Bool) (o : Option Meeting) → Ascends facts.sets.starts (noted t p kind.EmptyRound ++ noted_meeting o p kind.RoundMeetsFollow)
+  round_ascends : (p : ℕ) (t : Bool) (o : Option Meeting) → Ascends (noted t p EmptyRound ++ noted_meeting o p RoundMeetsFollow)
   round_ascends p t o =
-      ascends_append facts.sets.starts (noted t p kind.EmptyRound) (noted_meeting o p kind.RoundMeetsFollow) (ascends_noted facts.sets.starts t p kind.EmptyRound)
-      (ascends_meeting facts.sets.starts o p kind.RoundMeetsFollow)
+      ascends_append (noted t p EmptyRound) (noted_meeting o p RoundMeetsFollow) (ascends_noted t p EmptyRound)
+      (ascends_meeting o p RoundMeetsFollow)
       (λ b c is_b is_c.
-      let other = in_noted_meeting o p kind.RoundMeetsFollow c is_c in
-      both_are facts.sets.starts (record { node = p; kind = kind.EmptyRound }) (record { node = p; kind = kind.RoundMeetsFollow other.meeting }) b c
-      (in_noted t p kind.EmptyRound b is_b).1 other.same (key_same p (2 ∷ []) (6 ∷ []) (key_less 2 6 [] [] (omega arith))))
+      let other = in_noted_meeting o p RoundMeetsFollow c is_c in
+      both_are (record { node = p; kind = EmptyRound }) (record { node = p; kind = RoundMeetsFollow other.meeting.one other.meeting.other }) b c
+      (in_noted t p EmptyRound b is_b).1 other.same (key_same p (2 ∷ []) (6 ∷ []) (key_less 2 6 [] [] (omega arith))))
 
-  form_ascends : (p : ℕ) (n : Node) → slice_get g.nodes p ≡ Some n → Ascends facts.sets.starts (noted_form g facts p n)
+  form_ascends : (p : ℕ) (n : Node) → slice_get g.nodes p ≡ Some n → Ascends (noted_form g facts p n)
   form_ascends p (form.Choice parts) at = choice_ascends p parts at
   form_ascends p (form.Many part) at = round_ascends p (is_marked facts.sets.nullable part) (follow_meeting facts part p)
   form_ascends p (form.Chain side used operand separator) at =
       round_ascends p (is_marked facts.sets.nullable separator && is_marked facts.sets.nullable operand) (link_meeting facts operand separator p)
-  form_ascends p (form.Around around.Try part) at = ascends_noted facts.sets.starts (not (is_lexeme g part)) p kind.TryAroundMore
+  form_ascends p (form.Around around.Try part) at = ascends_noted (not (is_lexeme g part)) p TryAroundMore
   form_ascends p n at = tt
 
-  standing_ascends : (p : ℕ) → Ascends facts.sets.starts (option_map_or (noted_form g facts p) (slice_get g.nodes p) [])
+  standing_ascends : (p : ℕ) → Ascends (option_map_or (noted_form g facts p) (slice_get g.nodes p) [])
   standing_ascends p = go (slice_get g.nodes p) refl
     where
-      go : (o : Option Node) → slice_get g.nodes p ≡ o → Ascends facts.sets.starts (option_map_or (noted_form g facts p) o [])
+      go : (o : Option Node) → slice_get g.nodes p ≡ o → Ascends (option_map_or (noted_form g facts p) o [])
       go (Some n) e = form_ascends p n e
       go None e = tt
 
-  node_ascends : (p : ℕ) → Ascends facts.sets.starts (noted_node g facts p)
+  node_ascends : (p : ℕ) → Ascends (noted_node g facts p)
   node_ascends p =
-      ascends_append facts.sets.starts (noted (is_marked facts.recursive p) p kind.LeftRecursion) (option_map_or (noted_form g facts p) (slice_get g.nodes p) [])
-      (ascends_noted facts.sets.starts (is_marked facts.recursive p) p kind.LeftRecursion) (standing_ascends p)
+      ascends_append (noted (is_marked facts.recursive p) p LeftRecursion) (option_map_or (noted_form g facts p) (slice_get g.nodes p) [])
+      (ascends_noted (is_marked facts.recursive p) p LeftRecursion) (standing_ascends p)
       (λ b c is_b is_c.
       let other = standing_wrong g facts are grammar p c is_c in
-      tags_precede facts.sets.starts p 1 other.number b c other.above (recursion_wrong g facts are grammar p b is_b).tagged other.wrong.tagged)
+      tags_precede p 1 other.number b c other.above (recursion_wrong g facts are grammar p b is_b).tagged other.wrong.tagged)
 
-  grammar_ascends : Ascends facts.sets.starts (noted_grammar g facts)
+  grammar_ascends : Ascends (noted_grammar g facts)
   grammar_ascends =
-      ascends_below facts.sets.starts (noted_node g facts) node_ascends
+      ascends_below (noted_node g facts) node_ascends
       (λ j k b c before is_b is_c.
       let node_b = (node_wrong g facts are grammar j b is_b).wrong.tagged.node in
       let node_c = (node_wrong g facts are grammar k c is_c).wrong.tagged.node in
-      node_precedes facts.sets.starts b c (omega arith))
+      node_precedes b c (omega arith))
       (length g.nodes)
 
   -- ---- the whole
 
-  violation_wrong : (b : Breach) → In (noted_grammar g facts) b → Violates g b.node (condition_of facts.sets.starts b.kind)
+  violation_wrong : (b : Violation ℕ) → In (noted_grammar g facts) b → Violates g b.node (kind_with_starts facts.sets.starts b.kind)
   violation_wrong b is =
       let for = in_all_below (noted_node g facts) (length g.nodes) b is in
       let wrong = (node_wrong g facts are grammar for.number b for.noted_for).wrong in
-      subst (λ (p : ℕ). Violates g p (condition_of facts.sets.starts b.kind)) (sym wrong.tagged.node) wrong.violates
+      subst (λ (p : ℕ). Violates g p (kind_with_starts facts.sets.starts b.kind)) (sym wrong.tagged.node) wrong.violates
 
-  pub are_violations : AreViolations g (map (violation_of facts.sets.starts) (noted_grammar g facts))
+  pub are_violations : AreViolations g (map (with_starts facts.sets.starts) (noted_grammar g facts))
   are_violations = record {
     ordered = ascends_sorted facts.sets.starts (noted_grammar g facts) grammar_ascends;
     members = λ v. (
       λ h.
           let noted = noted_contains facts.sets.starts (noted_grammar g facts) v h in
-          subst (λ (w : Violation). Violates g w.node w.condition) noted.same (violation_wrong noted.breach noted.there),
+          subst (λ (w : Violation ListedStart). Violates g w.node w.kind) noted.same (violation_wrong noted.violation noted.there),
       λ is.
-          let noted = violation_noted g facts are grammar v.node v.condition is in
-          let b : Breach = record { node = v.node; kind = noted.kind } in
+          let noted = violation_noted g facts are grammar v.node v.kind is in
+          let b : Violation ℕ = record { node = v.node; kind = noted.kind } in
           let there = contains_noted facts.sets.starts (noted_grammar g facts) b (all_below_has (noted_node g facts) (length g.nodes) v.node b noted.below noted.noted_there) in
-          subst (λ (w : Violation). Contains (map (violation_of facts.sets.starts) (noted_grammar g facts)) w) (ap (λ (c : Condition). record v { condition = c }) noted.same) there,
+          subst (λ (w : Violation ListedStart). Contains (map (with_starts facts.sets.starts) (noted_grammar g facts)) w) (ap (λ (c : ViolationKind ListedStart). record v { kind = c }) noted.same) there,
     );
   }
 
-  breach_below : (b : Breach) → In (noted_grammar g facts) b → b.node < 8192
-  breach_below b is =
+  violation_below : (b : Violation ℕ) → In (noted_grammar g facts) b → b.node < 8192
+  violation_below b is =
       let for = in_all_below (noted_node g facts) (length g.nodes) b is in
       let node = (node_wrong g facts are grammar for.number b for.noted_for).wrong.tagged.node in
       let below = for.below in
       let few = grammar.few_nodes in
       omega arith
 
-  pub breaches_below : All (λ b. b.node < 8192) (noted_grammar g facts)
-  breaches_below = λ k d below. breach_below (get_or (noted_grammar g facts) k d) (there (noted_grammar g facts) k d below)
+  pub violations_below : All (λ b. b.node < 8192) (noted_grammar g facts)
+  violations_below = λ k d below. violation_below (get_or (noted_grammar g facts) k d) (there (noted_grammar g facts) k d below)
     where
-      there : (bs : List Breach) (k : ℕ) (d : Breach) → k < length bs → In bs (get_or bs k d)
+      there : (bs : List (Violation ℕ)) (k : ℕ) (d : Violation ℕ) → k < length bs → In bs (get_or bs k d)
       there [] k d below = absurd (omega arith)
       there (x ∷ xs) zero d below = inl refl
       there (x ∷ xs) (suc k) d below = inr (there xs k d (omega arith))
 
   -- ---- findings
 
-  map_twice : (starts : List ListedStart) (bs : List Breach) → map (λ b. saying_of g (violation_of starts b)) bs ≡ map (saying_of g) (map (violation_of starts) bs)
+  map_twice : (starts : List ListedStart) (bs : List (Violation ℕ)) → map (λ b. saying_of g (with_starts starts b)) bs ≡ map (saying_of g) (map (with_starts starts) bs)
   map_twice starts [] = refl
-  map_twice starts (b ∷ bs) = ap (λ ss. saying_of g (violation_of starts b) ∷ ss) (map_twice starts bs)
+  map_twice starts (b ∷ bs) = ap (λ ss. saying_of g (with_starts starts b) ∷ ss) (map_twice starts bs)
 
-  pub are_findings : (findings : List Finding) → map said findings ≡ map (λ b. saying_of g (violation_of facts.sets.starts b)) (noted_grammar g facts) → AreFindings g findings
+  pub are_findings : (findings : List Finding) → map said findings ≡ map (λ b. saying_of g (with_starts facts.sets.starts b)) (noted_grammar g facts) → AreFindings g findings
   are_findings findings e = record {
-    violations = map (violation_of facts.sets.starts) (noted_grammar g facts);
+    violations = map (with_starts facts.sets.starts) (noted_grammar g facts);
     all = are_violations;
     says = e ∙ map_twice facts.sets.starts (noted_grammar g facts);
   }
 
 -- where nothing is said, nothing is wrong
 pub faultless : (g : Grammar) (findings : List Finding) → AreFindings g findings → findings ≡ [] → IsFaultless g
-faultless g findings are none p condition is = nothing are.violations (sym are.says ∙ ap (map said) none) ((are.all.members (record { node = p; condition = condition })).1 is)
+faultless g findings are none p kind is = nothing are.violations (sym are.says ∙ ap (map said) none) ((are.all.members (record { node = p; kind = kind })).1 is)
   where
-    nothing : (vs : List Violation) → map (saying_of g) vs ≡ [] → Contains vs (record { node = p; condition = condition }) → ⊥
+    nothing : (vs : List (Violation ListedStart)) → map (saying_of g) vs ≡ [] → Contains vs (record { node = p; kind = kind }) → ⊥
     nothing [] e (k, below, at) = absurd (omega arith)
     nothing (v ∷ vs) e h = absurd cc

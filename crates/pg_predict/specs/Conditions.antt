@@ -17,21 +17,8 @@ use Rattle.pg_sets.specs.Nullable.{Nullable}
 use Rattle.pg_sets.specs.OwnStarts.{IsKeyed}
 use Rattle.pg_sets.specs.Ranks.{Chain}
 use Rattle.pg_sets.specs.declared.listed.ListedStart.{ListedStart}
-
--- what is wrong; alternatives count from 1
-pub data Condition : Type 0 where
-  LeftRecursion : Condition
-  EmptyRound : Condition
-  EmptyAlternative : ℕ → Condition
-  AlternativesMeet : ℕ → ℕ → ListedStart → ListedStart → Condition
-  AlternativeMeetsFollow : ℕ → ListedStart → ListedStart → Condition
-  RoundMeetsFollow : ListedStart → ListedStart → Condition
-  TryAroundMore : Condition
-
--- one thing that is wrong: the number of a node in the grammar, and what
-pub record Violation : Type 0 where
-  pub node : ℕ
-  pub condition : Condition
+use Rattle.pg_predict.specs.declared.violation.ViolationKind.{ViolationKind}
+use Rattle.pg_predict.specs.declared.violation.ViolationKind.TheVariants.{LeftRecursion, EmptyRound, EmptyAlternative, AlternativesMeet, AlternativeMeetsFollow, RoundMeetsFollow, TryAroundMore}
 
 -- ---- meetings
 
@@ -79,7 +66,7 @@ pub record EndsNullable (g : Grammar) (parts : List ℕ) : Type 0 where
 
 -- ---- what is wrong where
 
-pub data Violates (g : Grammar) : ℕ → Condition → Type 0 where
+pub data Violates (g : Grammar) : ℕ → ViolationKind ListedStart → Type 0 where
   -- the rule with this body heads itself, in one step or more
   left_recursion : {r : ℕ} {rule : declared.Rule} → slice_get g.rules r ≡ Some rule → Chain g r r → Violates g rule.body LeftRecursion
   -- a round of a repetition can be empty
@@ -105,4 +92,4 @@ pub data Violates (g : Grammar) : ℕ → Condition → Type 0 where
 
 -- nothing is wrong at any node: the grammar is predictive
 abbrev pub IsFaultless : Grammar → Type 0
-IsFaultless g = (p : ℕ) (condition : Condition) → Violates g p condition → ⊥
+IsFaultless g = (p : ℕ) (kind : ViolationKind ListedStart) → Violates g p kind → ⊥

@@ -12,13 +12,16 @@ use Rattle.pg_grammar.specs.Grammar.{Grammar, rule_body}
 use Rattle.pg_grammar.specs.declared.grammar.Rule.{Rule}
 use Rattle.pg_sets.specs.PrintedStarts.{start_text}
 use Rattle.pg_sets.specs.declared.listed.ListedStart.{ListedStart}
-use Rattle.pg_predict.specs.Conditions.{Condition, LeftRecursion, EmptyRound, EmptyAlternative, AlternativesMeet, AlternativeMeetsFollow, RoundMeetsFollow, TryAroundMore, Violation, Violates}
+use Rattle.pg_predict.specs.Conditions.{Violates}
+use Rattle.pg_predict.specs.declared.violation.Violation.{Violation}
+use Rattle.pg_predict.specs.declared.violation.ViolationKind.{ViolationKind}
+use Rattle.pg_predict.specs.declared.violation.ViolationKind.TheVariants.{LeftRecursion, EmptyRound, EmptyAlternative, AlternativesMeet, AlternativeMeetsFollow, RoundMeetsFollow, TryAroundMore}
 use Rattle.pg_predict.specs.declared.finding.Finding.{Finding}
 
 -- ---- the order
 
--- the number of a condition
-abbrev pub condition_number : Condition → ℕ
+-- the number of the condition that is broken
+abbrev pub condition_number : {S : Type 0} → ViolationKind S → ℕ
 condition_number LeftRecursion = 1
 condition_number EmptyRound = 2
 condition_number (EmptyAlternative k) = 3
@@ -28,7 +31,7 @@ condition_number (RoundMeetsFollow s t) = 6
 condition_number TryAroundMore = 10
 
 -- the alternatives that it names
-abbrev pub alternatives_of : Condition → List ℕ
+abbrev pub alternatives_of : {S : Type 0} → ViolationKind S → List ℕ
 alternatives_of LeftRecursion = []
 alternatives_of EmptyRound = []
 alternatives_of (EmptyAlternative k) = k ∷ []
@@ -37,17 +40,17 @@ alternatives_of (AlternativeMeetsFollow k s t) = k ∷ []
 alternatives_of (RoundMeetsFollow s t) = []
 alternatives_of TryAroundMore = []
 
--- by the number of the node, which stand rule by rule, then by the number of the condition, then by the alternatives
-abbrev pub violation_key : Violation → List ℕ
-violation_key violation = violation.node ∷ condition_number violation.condition ∷ alternatives_of violation.condition
+-- by the number of the node, which stand rule by rule, then by that of the condition, then by the alternatives
+abbrev pub violation_key : {S : Type 0} → Violation S → List ℕ
+violation_key violation = violation.node ∷ condition_number violation.kind ∷ alternatives_of violation.kind
 
-abbrev pub violation_order : Violation → Violation → Ordering
+abbrev pub violation_order : {S : Type 0} → Violation S → Violation S → Ordering
 violation_order = on violation_key (slice_cmp nat_cmp)
 
 -- all that is wrong with a grammar, each once and in order
-pub record AreViolations (g : Grammar) (violations : List Violation) : Type 0 where
+pub record AreViolations (g : Grammar) (violations : List (Violation ListedStart)) : Type 0 where
   pub ordered : IsStrictlySortedBy violation_order violations
-  pub members : (v : Violation) → Contains violations v ↔ Violates g v.node v.condition
+  pub members : (v : Violation ListedStart) → Contains violations v ↔ Violates g v.node v.kind
 
 -- ---- the texts
 
@@ -55,18 +58,18 @@ pub record AreViolations (g : Grammar) (violations : List Violation) : Type 0 wh
 abbrev pub meeting_text : Grammar → ListedStart → ListedStart → List ℕ
 meeting_text g s t = start_text g s ++ (codes " and " ++ start_text g t)
 
-abbrev pub condition_text : Grammar → Condition → List ℕ
-condition_text g LeftRecursion = codes "C1 left recursion"
-condition_text g EmptyRound = codes "C2 repeated part can be empty"
-condition_text g (EmptyAlternative k) = codes "C3 alternative " ++ (decimal k ++ codes " can be empty and is not last")
-condition_text g (AlternativesMeet j k s t) = codes "C4 alternatives " ++ (decimal j ++ (codes " and " ++ (decimal k ++ (codes " meet at " ++ meeting_text g s t))))
-condition_text g (AlternativeMeetsFollow k s t) = codes "C5 alternative " ++ (decimal k ++ (codes " meets the follow set at " ++ meeting_text g s t))
-condition_text g (RoundMeetsFollow s t) = codes "C6 repetition meets its follow set at " ++ meeting_text g s t
-condition_text g TryAroundMore = codes "C10 try around more than a lexeme"
+abbrev pub violation_text : Grammar → ViolationKind ListedStart → List ℕ
+violation_text g LeftRecursion = codes "C1 left recursion"
+violation_text g EmptyRound = codes "C2 repeated part can be empty"
+violation_text g (EmptyAlternative k) = codes "C3 alternative " ++ (decimal k ++ codes " can be empty and is not last")
+violation_text g (AlternativesMeet j k s t) = codes "C4 alternatives " ++ (decimal j ++ (codes " and " ++ (decimal k ++ (codes " meet at " ++ meeting_text g s t))))
+violation_text g (AlternativeMeetsFollow k s t) = codes "C5 alternative " ++ (decimal k ++ (codes " meets the follow set at " ++ meeting_text g s t))
+violation_text g (RoundMeetsFollow s t) = codes "C6 repetition meets its follow set at " ++ meeting_text g s t
+violation_text g TryAroundMore = codes "C10 try around more than a lexeme"
 
 -- ---- the places
 
--- the number of the rule that a node stands in: the last whose body isn't behind the node
+-- the number of the rule that a node stands in: the last whose body isn't after the node
 abbrev pub rule_of : List Rule → ℕ → ℕ
 rule_of rules p = count_by (λ rule. nat_le (rule_body rule) p) rules - 1
 
@@ -103,20 +106,20 @@ said finding = record { rule = finding.rule; node = finding.node; number = findi
 abbrev pub placed_text : List ℕ → ℕ → List ℕ → List ℕ
 placed_text name node text = name ++ (codes ":" ++ (decimal node ++ (codes ": " ++ text)))
 
-abbrev pub line_of : Grammar → Violation → List ℕ
-line_of g v = placed_text (name_of g.rules (rule_of g.rules v.node)) (number_in_rule g.rules v.node) (condition_text g v.condition)
+abbrev pub line_of : Grammar → Violation ListedStart → List ℕ
+line_of g v = placed_text (name_of g.rules (rule_of g.rules v.node)) (number_in_rule g.rules v.node) (violation_text g v.kind)
 
 -- what is said of a violation
-abbrev pub saying_of : Grammar → Violation → Saying
+abbrev pub saying_of : Grammar → Violation ListedStart → Saying
 saying_of g v = record {
   rule = rule_of g.rules v.node;
   node = number_in_rule g.rules v.node;
-  number = condition_number v.condition;
+  number = condition_number v.kind;
   line = line_of g v;
 }
 
 -- all findings of a grammar
 pub record AreFindings (g : Grammar) (findings : List Finding) : Type 0 where
-  pub violations : List Violation
+  pub violations : List (Violation ListedStart)
   pub all : AreViolations g violations
   pub says : map said findings ≡ map (saying_of g) violations

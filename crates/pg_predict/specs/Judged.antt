@@ -6,15 +6,15 @@ use Rattle.pg_grammar.specs.Forms.{Node}
 use Rattle.pg_grammar.specs.declared.form.Form.TheVariants as form
 use Rattle.pg_grammar.specs.declared.form.Around.{Around}
 use Rattle.pg_grammar.specs.declared.form.Around.TheVariants as around
-use Rattle.pg_numbers.specs.Numbers.{set_at}
+use Rattle.pg_bit_set.specs.Numbers.{set_at}
 use Rattle.pg_sets.specs.Marks.{is_marked}
 use Rattle.pg_sets.specs.Sets.{Sets}
 use Rattle.pg_predict.specs.Lexemes.{is_lexeme}
 use Rattle.pg_predict.specs.Meetings.{first_meeting, earlier}
-use Rattle.pg_predict.specs.declared.breach.Breach.{Breach}
-use Rattle.pg_predict.specs.declared.breach.BreachKind.{BreachKind}
-use Rattle.pg_predict.specs.declared.breach.BreachKind.TheVariants as kind
-use Rattle.pg_predict.specs.declared.breach.Meeting.{Meeting}
+use Rattle.pg_predict.specs.declared.violation.Violation.{Violation}
+use Rattle.pg_predict.specs.declared.violation.ViolationKind.{ViolationKind}
+use Rattle.pg_predict.specs.declared.violation.ViolationKind.TheVariants.{LeftRecursion, EmptyRound, EmptyAlternative, AlternativesMeet, AlternativeMeetsFollow, RoundMeetsFollow, TryAroundMore}
+use Rattle.pg_predict.specs.declared.meetings.Meeting.{Meeting}
 
 -- ---- what is asked
 
@@ -38,18 +38,18 @@ link_meeting facts operand separator p =
 
 -- ---- what is noted
 
--- a breach where a test holds
-abbrev pub noted : Bool → ℕ → BreachKind → List Breach
+-- a violation where a test holds
+abbrev pub noted : Bool → ℕ → ViolationKind ℕ → List (Violation ℕ)
 noted true p what = record { node = p; kind = what } ∷ []
 noted false p what = []
 
--- a breach of a meeting, if there is one
-abbrev pub noted_meeting : Option Meeting → ℕ → (Meeting → BreachKind) → List Breach
+-- a violation at the starts that meet, if there are any
+abbrev pub noted_meeting : Option Meeting → ℕ → (ℕ → ℕ → ViolationKind ℕ) → List (Violation ℕ)
 noted_meeting None p what = []
-noted_meeting (Some meeting) p what = record { node = p; kind = what meeting } ∷ []
+noted_meeting (Some meeting) p what = record { node = p; kind = what meeting.one meeting.other } ∷ []
 
 -- what is noted for the numbers below a limit, one after another
-abbrev pub all_below : (ℕ → List Breach) → ℕ → List Breach
+abbrev pub all_below : (ℕ → List (Violation ℕ)) → ℕ → List (Violation ℕ)
 all_below note zero = []
 all_below note (suc n) = all_below note n ++ note n
 
@@ -58,53 +58,53 @@ all_below note (suc n) = all_below note n ++ note n
 abbrev pub part_at : List ℕ → ℕ → ℕ
 part_at parts k = slice_index_or parts k 0
 
-abbrev pub empty_alternative : Facts → ℕ → List ℕ → ℕ → List Breach
-empty_alternative facts p parts k = noted (is_marked facts.sets.nullable (part_at parts k)) p (kind.EmptyAlternative (k + 1))
+abbrev pub empty_alternative : Facts → ℕ → List ℕ → ℕ → List (Violation ℕ)
+empty_alternative facts p parts k = noted (is_marked facts.sets.nullable (part_at parts k)) p (EmptyAlternative (k + 1))
 
-abbrev pub meeting_alternatives : Facts → ℕ → List ℕ → ℕ → ℕ → List Breach
+abbrev pub meeting_alternatives : Facts → ℕ → List ℕ → ℕ → ℕ → List (Violation ℕ)
 meeting_alternatives facts p parts j k =
-    if nat_lt j k then noted_meeting (node_meeting facts (part_at parts j) (part_at parts k)) p (kind.AlternativesMeet (j + 1) (k + 1)) else []
+    if nat_lt j k then noted_meeting (node_meeting facts (part_at parts j) (part_at parts k)) p (AlternativesMeet (j + 1) (k + 1)) else []
 
-abbrev pub meetings_of_alternative : Facts → ℕ → List ℕ → ℕ → List Breach
+abbrev pub meetings_of_alternative : Facts → ℕ → List ℕ → ℕ → List (Violation ℕ)
 meetings_of_alternative facts p parts j = all_below (meeting_alternatives facts p parts j) (length parts)
 
-abbrev pub alternative_and_follow : Facts → ℕ → List ℕ → ℕ → List Breach
-alternative_and_follow facts p parts k = noted_meeting (follow_meeting facts (part_at parts k) p) p (kind.AlternativeMeetsFollow (k + 1))
+abbrev pub alternative_and_follow : Facts → ℕ → List ℕ → ℕ → List (Violation ℕ)
+alternative_and_follow facts p parts k = noted_meeting (follow_meeting facts (part_at parts k) p) p (AlternativeMeetsFollow (k + 1))
 
 -- whether the last alternative is nullable
 abbrev pub ends_nullable : Facts → List ℕ → Bool
 ends_nullable facts parts = is_marked facts.sets.nullable (part_at parts (length parts - 1))
 
 -- the three conditions on choices
-abbrev pub empty_alternatives : Facts → ℕ → List ℕ → List Breach
+abbrev pub empty_alternatives : Facts → ℕ → List ℕ → List (Violation ℕ)
 empty_alternatives facts p parts = all_below (empty_alternative facts p parts) (length parts - 1)
 
-abbrev pub alternatives_that_meet : Facts → ℕ → List ℕ → List Breach
+abbrev pub alternatives_that_meet : Facts → ℕ → List ℕ → List (Violation ℕ)
 alternatives_that_meet facts p parts = all_below (meetings_of_alternative facts p parts) (length parts)
 
-abbrev pub alternatives_and_follow : Facts → ℕ → List ℕ → List Breach
+abbrev pub alternatives_and_follow : Facts → ℕ → List ℕ → List (Violation ℕ)
 alternatives_and_follow facts p parts = if ends_nullable facts parts then all_below (alternative_and_follow facts p parts) (length parts - 1) else []
 
-abbrev pub noted_choice : Facts → ℕ → List ℕ → List Breach
+abbrev pub noted_choice : Facts → ℕ → List ℕ → List (Violation ℕ)
 noted_choice facts p parts = empty_alternatives facts p parts ++ (alternatives_that_meet facts p parts ++ alternatives_and_follow facts p parts)
 
 -- ---- repetitions
 
-abbrev pub noted_many : Facts → ℕ → ℕ → List Breach
-noted_many facts p q = noted (is_marked facts.sets.nullable q) p kind.EmptyRound ++ noted_meeting (follow_meeting facts q p) p kind.RoundMeetsFollow
+abbrev pub noted_many : Facts → ℕ → ℕ → List (Violation ℕ)
+noted_many facts p q = noted (is_marked facts.sets.nullable q) p EmptyRound ++ noted_meeting (follow_meeting facts q p) p RoundMeetsFollow
 
-abbrev pub noted_chain : Facts → ℕ → ℕ → ℕ → List Breach
+abbrev pub noted_chain : Facts → ℕ → ℕ → ℕ → List (Violation ℕ)
 noted_chain facts p operand separator =
-    noted (is_marked facts.sets.nullable separator && is_marked facts.sets.nullable operand) p kind.EmptyRound
-    ++ noted_meeting (link_meeting facts operand separator p) p kind.RoundMeetsFollow
+    noted (is_marked facts.sets.nullable separator && is_marked facts.sets.nullable operand) p EmptyRound
+    ++ noted_meeting (link_meeting facts operand separator p) p RoundMeetsFollow
 
 -- ---- tries
 
-abbrev pub noted_try : Grammar → ℕ → ℕ → List Breach
-noted_try g p q = noted (not (is_lexeme g q)) p kind.TryAroundMore
+abbrev pub noted_try : Grammar → ℕ → ℕ → List (Violation ℕ)
+noted_try g p q = noted (not (is_lexeme g q)) p TryAroundMore
 
 -- of what stands around a part
-abbrev pub noted_around : Grammar → ℕ → Around → ℕ → List Breach
+abbrev pub noted_around : Grammar → ℕ → Around → ℕ → List (Violation ℕ)
 noted_around g p around.Try q = noted_try g p q
 noted_around g p around.Text q = []
 noted_around g p around.Skip q = []
@@ -113,7 +113,7 @@ noted_around g p (around.Label message) q = []
 
 -- ---- all forms
 
-abbrev pub noted_form : Grammar → Facts → ℕ → Node → List Breach
+abbrev pub noted_form : Grammar → Facts → ℕ → Node → List (Violation ℕ)
 noted_form g facts p (form.Leaf leaf) = []
 noted_form g facts p (form.Seq parts) = []
 noted_form g facts p (form.Choice parts) = noted_choice facts p parts
@@ -124,9 +124,9 @@ noted_form g facts p (form.Expression builders term) = []
 noted_form g facts p (form.Around around part) = noted_around g p around part
 
 -- what is noted at a node: first whether it is the body of a rule that heads itself
-abbrev pub noted_node : Grammar → Facts → ℕ → List Breach
-noted_node g facts p = noted (is_marked facts.recursive p) p kind.LeftRecursion ++ option_map_or (noted_form g facts p) (slice_get g.nodes p) []
+abbrev pub noted_node : Grammar → Facts → ℕ → List (Violation ℕ)
+noted_node g facts p = noted (is_marked facts.recursive p) p LeftRecursion ++ option_map_or (noted_form g facts p) (slice_get g.nodes p) []
 
 -- at all nodes
-abbrev pub noted_grammar : Grammar → Facts → List Breach
+abbrev pub noted_grammar : Grammar → Facts → List (Violation ℕ)
 noted_grammar g facts = all_below (noted_node g facts) (length g.nodes)

@@ -1,7 +1,7 @@
 pub mod Operators
 pub mod Conditions
 pub mod Findings
-pub mod Breaches
+pub mod WithStarts
 pub mod Lexemes
 pub mod Meetings
 pub mod Judged

@@ -1,8 +1,8 @@
 -- The first two starts of two sets that meet, by their numbers.
 use Rattle.std.specs.Prelude.{ℕ, zero, suc, Bool, ◌&&◌, nat_le, if◌then◌else◌, List, length, Option, Some, None, is_some}
 use Rattle.std.specs.Option.{option_map, option_and_then}
-use Rattle.pg_numbers.specs.Numbers.{contains, in_both, set_at}
-use Rattle.pg_predict.specs.declared.breach.Meeting.{Meeting}
+use Rattle.pg_bit_set.specs.Numbers.{contains, in_both, set_at}
+use Rattle.pg_predict.specs.declared.meetings.Meeting.{Meeting}
 
 -- the least number below a limit that passes a test
 abbrev pub least : (ℕ → Bool) → ℕ → Option ℕ

@@ -2,7 +2,7 @@
 use Rattle.std.specs.Prelude.{◌≡◌, ◌↔◌, ℕ, Bool, true, List, Some, slice_get, length}
 use Rattle.pg_grammar.specs.Grammar.{Grammar}
 use Rattle.pg_grammar.specs.declared.grammar.Rule as declared
-use Rattle.pg_numbers.specs.Numbers.{contains, set_at}
+use Rattle.pg_bit_set.specs.Numbers.{contains, set_at}
 use Rattle.pg_start.specs.Apart.{Apart}
 use Rattle.pg_start.specs.declared.kind.StartKind.{StartKind}
 use Rattle.pg_sets.specs.Marks.{is_marked}

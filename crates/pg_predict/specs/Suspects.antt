@@ -1,6 +1,6 @@
--- Alternatives that may meet one behind them.
+-- Alternatives that may meet one after them.
 use Rattle.std.specs.Prelude.{◌≡◌, ◌<◌, ℕ, Bool, false, List, None, length}
-use Rattle.pg_numbers.specs.Numbers.{set_at}
+use Rattle.pg_bit_set.specs.Numbers.{set_at}
 use Rattle.pg_sets.specs.Marks.{is_marked}
 use Rattle.pg_predict.specs.Judged.{Facts, part_at, node_meeting}
 
@@ -8,6 +8,6 @@ use Rattle.pg_predict.specs.Judged.{Facts, part_at, node_meeting}
 abbrev pub HaveLimits : Facts → List ℕ → Type 0
 HaveLimits facts parts = (k : ℕ) → k < length parts → length (set_at facts.sets.firsts (part_at parts k)) ≡ length facts.sets.starts
 
--- an alternative without a mark meets none behind it
+-- an alternative without a mark meets none after it
 abbrev pub MarksSuspects : Facts → List ℕ → List Bool → Type 0
 MarksSuspects facts parts marks = (j k : ℕ) → j < k → k < length parts → is_marked marks j ≡ false → node_meeting facts (part_at parts j) (part_at parts k) ≡ None

@@ -69,8 +69,8 @@ fn judge(alloc: Global, grammar: &Grammar) -> Result<Judged, AllocError>
     ensures findings { IfOk result (λ judged. AreFindings grammar.now judged.findings.items) }
 {
     let facts = Judge::of(alloc, grammar)?;
-    let breaches = judge_grammar(alloc, grammar, &facts)?;
-    let findings = findings_of(alloc, grammar, facts.starts(), breaches.as_slice())?;
+    let violations = judge_grammar(alloc, grammar, &facts)?;
+    let findings = findings_of(alloc, grammar, facts.starts(), violations.as_slice())?;
     Ok(Judged {
         sets: facts.into_sets(),
         findings,

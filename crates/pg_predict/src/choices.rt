@@ -4,11 +4,11 @@ ghost use Rattle.std.specs.Prelude.{◌≡◌, ◌<◌, ◌++◌, [], false, len
 ghost use Rattle.pg_predict.specs.Suspects.{HaveLimits};
 ghost use Rattle.pg_predict.specs.Judged.{ends_nullable, noted_meeting, empty_alternatives, meetings_of_alternative, alternatives_that_meet, alternatives_and_follow, alternative_and_follow, meeting_alternatives, noted_choice, node_meeting};
 
-use crate::breach::{Breach, BreachKind};
 use crate::judge::Judge;
 use crate::marks::is_marked;
 use crate::noting::note_where;
 use crate::suspects::suspects;
+use crate::violation::{Violation, ViolationKind};
 use pg_grammar::NodeId;
 use std::alloc::{AllocError, Global};
 
@@ -18,14 +18,14 @@ pub(crate) fn judge_choice(
     judge: &Judge,
     node: NodeId,
     parts: &[NodeId],
-    breaches: &mut Vec<Breach>,
+    violations: &mut Vec<Violation<usize>>,
 ) -> Result<(), AllocError>
     requires { HaveLimits judge.now parts.now }
-    ensures { OnOk result (breaches.new.items ≡ breaches.old.items ++ noted_choice judge.now node parts.now) }
+    ensures { OnOk result (violations.new.items ≡ violations.old.items ++ noted_choice judge.now node parts.now) }
 {
-    judge_empty_alternatives(judge, node, parts, breaches)?;
-    judge_meetings(alloc, judge, node, parts, breaches)?;
-    judge_follow(judge, node, parts, breaches)
+    judge_empty_alternatives(judge, node, parts, violations)?;
+    judge_meetings(alloc, judge, node, parts, violations)?;
+    judge_follow(judge, node, parts, violations)
 }
 
 /// Notes each alternative but the last that is nullable. The only error is that memory ran out.
@@ -34,17 +34,17 @@ fn judge_empty_alternatives(
     judge: &Judge,
     node: NodeId,
     parts: &[NodeId],
-    breaches: &mut Vec<Breach>,
+    violations: &mut Vec<Violation<usize>>,
 ) -> Result<(), AllocError>
-    ensures { OnOk result (breaches.new.items ≡ breaches.old.items ++ empty_alternatives judge.now node parts.now) }
+    ensures { OnOk result (violations.new.items ≡ violations.old.items ++ empty_alternatives judge.now node parts.now) }
 {
     for k in 0..parts.len().saturating_sub(1) {
         let empty = judge.is_nullable(parts[k]);
         note_where(
             empty,
             node.index(),
-            BreachKind::EmptyAlternative(k + 1),
-            breaches,
+            ViolationKind::EmptyAlternative(k + 1),
+            violations,
         )?;
     }
     Ok(())
@@ -57,51 +57,51 @@ fn judge_meetings(
     judge: &Judge,
     node: NodeId,
     parts: &[NodeId],
-    breaches: &mut Vec<Breach>,
+    violations: &mut Vec<Violation<usize>>,
 ) -> Result<(), AllocError>
     requires { HaveLimits judge.now parts.now }
-    ensures { OnOk result (breaches.new.items ≡ breaches.old.items ++ alternatives_that_meet judge.now node parts.now) }
+    ensures { OnOk result (violations.new.items ≡ violations.old.items ++ alternatives_that_meet judge.now node parts.now) }
 {
     let marks = suspects(alloc, judge, parts)?;
     for j in 0..parts.len() {
-        judge_suspect(judge, node, parts, j, is_marked(&marks, j), breaches)?;
+        judge_suspect(judge, node, parts, j, is_marked(&marks, j), violations)?;
     }
     Ok(())
 }
 
-/// Notes each alternative behind this one that meets it, if one may. The only error is that memory ran out.
+/// Notes each alternative after this one that meets it, if one may. The only error is that memory ran out.
 fn judge_suspect(
     judge: &Judge,
     node: NodeId,
     parts: &[NodeId],
     j: usize,
     suspect: bool,
-    breaches: &mut Vec<Breach>,
+    violations: &mut Vec<Violation<usize>>,
 ) -> Result<(), AllocError>
     requires alternative { j < length parts.now }
     requires apart { suspect ≡ false → meetings_of_alternative judge.now node parts.now j ≡ [] }
-    ensures { OnOk result (breaches.new.items ≡ breaches.old.items ++ meetings_of_alternative judge.now node parts.now j) }
+    ensures { OnOk result (violations.new.items ≡ violations.old.items ++ meetings_of_alternative judge.now node parts.now j) }
 {
     if suspect {
-        judge_alternative(judge, node, parts, j, breaches)?;
+        judge_alternative(judge, node, parts, j, violations)?;
     }
     Ok(())
 }
 
-/// Notes each alternative behind this one that meets it. The only error is that memory ran out.
+/// Notes each alternative after this one that meets it. The only error is that memory ran out.
 #[tactic(auto, using(crate::proofs::AllBelow::all_below_step, crate::proofs::AllBelow::none_before))]
 fn judge_alternative(
     judge: &Judge,
     node: NodeId,
     parts: &[NodeId],
     j: usize,
-    breaches: &mut Vec<Breach>,
+    violations: &mut Vec<Violation<usize>>,
 ) -> Result<(), AllocError>
     requires { j < length parts.now }
-    ensures { OnOk result (breaches.new.items ≡ breaches.old.items ++ meetings_of_alternative judge.now node parts.now j) }
+    ensures { OnOk result (violations.new.items ≡ violations.old.items ++ meetings_of_alternative judge.now node parts.now j) }
 {
     for k in j + 1..parts.len() {
-        judge_pair(judge, node, parts, j, k, breaches)?;
+        judge_pair(judge, node, parts, j, k, violations)?;
     }
     Ok(())
 }
@@ -113,16 +113,16 @@ fn judge_pair(
     parts: &[NodeId],
     j: usize,
     k: usize,
-    breaches: &mut Vec<Breach>,
+    violations: &mut Vec<Violation<usize>>,
 ) -> Result<(), AllocError>
     requires first { j < k }
     requires second { k < length parts.now }
-    ensures { OnOk result (breaches.new.items ≡ breaches.old.items ++ meeting_alternatives judge.now node parts.now j k) }
+    ensures { OnOk result (violations.new.items ≡ violations.old.items ++ meeting_alternatives judge.now node parts.now j k) }
 {
     if let Some(met) = judge.node_meeting(parts[j], parts[k]) {
-        breaches.push(Breach {
+        violations.push(Violation {
             node: node.index(),
-            kind: BreachKind::AlternativesMeet(j + 1, k + 1, met),
+            kind: ViolationKind::AlternativesMeet(j + 1, k + 1, met.one, met.other),
         })?;
     }
     Ok(())
@@ -135,15 +135,15 @@ fn judge_follow(
     judge: &Judge,
     node: NodeId,
     parts: &[NodeId],
-    breaches: &mut Vec<Breach>,
+    violations: &mut Vec<Violation<usize>>,
 ) -> Result<(), AllocError>
-    ensures { OnOk result (breaches.new.items ≡ breaches.old.items ++ alternatives_and_follow judge.now node parts.now) }
+    ensures { OnOk result (violations.new.items ≡ violations.old.items ++ alternatives_and_follow judge.now node parts.now) }
 {
     if let Some(last) = parts.last()
         && judge.is_nullable(*last)
     {
         for k in 0..parts.len() - 1 {
-            judge_alternative_and_follow(judge, node, parts, k, breaches)?;
+            judge_alternative_and_follow(judge, node, parts, k, violations)?;
         }
     }
     Ok(())
@@ -155,15 +155,15 @@ fn judge_alternative_and_follow(
     node: NodeId,
     parts: &[NodeId],
     k: usize,
-    breaches: &mut Vec<Breach>,
+    violations: &mut Vec<Violation<usize>>,
 ) -> Result<(), AllocError>
     requires { k < length parts.now }
-    ensures { OnOk result (breaches.new.items ≡ breaches.old.items ++ alternative_and_follow judge.now node parts.now k) }
+    ensures { OnOk result (violations.new.items ≡ violations.old.items ++ alternative_and_follow judge.now node parts.now k) }
 {
     if let Some(met) = judge.follow_meeting(parts[k], node) {
-        breaches.push(Breach {
+        violations.push(Violation {
             node: node.index(),
-            kind: BreachKind::AlternativeMeetsFollow(k + 1, met),
+            kind: ViolationKind::AlternativeMeetsFollow(k + 1, met.one, met.other),
         })?;
     }
     Ok(())

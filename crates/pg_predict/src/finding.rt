@@ -1,24 +1,23 @@
-//! Findings: what is said of a broken condition.
-ghost use Rattle.std.specs.Prelude.{◌≡◌, ◌<◌, List, map, IfOk, string_bytes};
+//! Findings: violations as they are reported, with their rule and their node in the rule.
+ghost use Rattle.std.specs.Prelude.{◌≡◌, ◌<◌, map, IfOk, string_bytes};
 ghost use Rattle.std.specs.List.{All};
-ghost use Rattle.pg_sets.specs.declared.listed.ListedStart.{ListedStart};
-ghost use Rattle.pg_predict.specs.Breaches.{condition_of, violation_of};
+ghost use Rattle.pg_predict.specs.WithStarts.{with_starts};
 ghost use Rattle.pg_predict.specs.Findings.{condition_number, rule_of, name_of, body_of, number_in_rule, placed_text, said, saying_of};
 
-use crate::breach::{Breach, BreachKind};
-use crate::texts::breach_text;
+use crate::texts::violation_text;
+use crate::violation::{Violation, ViolationKind};
 use pg_grammar::{Grammar, Rule};
 use pg_sets::ListedStart;
 use std::alloc::{AllocError, Global};
 
-/// What is wrong at a node of a grammar, and what to print of it.
+/// A violation with its rule and its node in the rule, and what to print of it.
 #[derive(Debug, Drop)]
 pub struct Finding {
     /// The number of the rule, from 0 in file order.
     pub rule: usize,
     /// The node's number in the rule's body, from 1, in preorder.
     pub node: usize,
-    /// The number of the condition: 1 to 6, or 10.
+    /// The number of the condition that is broken: 1 to 6, or 10.
     pub number: usize,
     /// The rule's name, the node's number and the text of what is wrong, without a line feed.
     pub line: String,
@@ -29,37 +28,38 @@ pub(crate) fn findings_of(
     alloc: Global,
     grammar: &Grammar,
     starts: &[ListedStart],
-    breaches: &[Breach],
+    violations: &[Violation<usize>],
 ) -> Result<Vec<Finding>, AllocError>
-    requires { All (λ breach. breach.node < 8192) breaches.now }
-    ensures { IfOk result (λ findings. map said findings.items ≡ map (λ breach. saying_of grammar.now (violation_of starts.now breach)) breaches.now) }
+    requires { All (λ violation. violation.node < 8192) violations.now }
+    ensures { IfOk result (λ findings. map said findings.items ≡ map (λ violation. saying_of grammar.now (with_starts starts.now violation)) violations.now) }
 {
     let mut findings = Vec::new(alloc);
-    for breach in breaches {
-        findings.push(finding_of(alloc, grammar, starts, breach)?)?;
+    for violation in violations {
+        findings.push(finding_of(alloc, grammar, starts, violation)?)?;
     }
     Ok(findings)
 }
 
-/// What is said of a broken condition. The only error is that memory ran out.
+/// What is said of a violation. The only error is that memory ran out.
+#[tactic(auto, using(crate::proofs::Lists::same_number))]
 fn finding_of(
     alloc: Global,
     grammar: &Grammar,
     starts: &[ListedStart],
-    breach: &Breach,
+    violation: &Violation<usize>,
 ) -> Result<Finding, AllocError>
-    requires { breach.now.node < 8192 }
-    ensures { IfOk result (λ finding. said finding ≡ saying_of grammar.now (violation_of starts.now breach.now)) }
+    requires { violation.now.node < 8192 }
+    ensures { IfOk result (λ finding. said finding ≡ saying_of grammar.now (with_starts starts.now violation.now)) }
 {
     let rules = grammar.rules();
-    let rule = rule_of(rules, breach.node);
-    let node = number_in_rule(rules, breach.node);
-    let text = breach_text(alloc, grammar, starts, &breach.kind)?;
+    let rule = rule_of(rules, violation.node);
+    let node = number_in_rule(rules, violation.node);
+    let text = violation_text(alloc, grammar, starts, &violation.kind)?;
     let line = line_of(alloc, rules, rule, node, text.as_str())?;
     Ok(Finding {
         rule,
         node,
-        number: condition_number(&breach.kind),
+        number: condition_number(&violation.kind),
         line,
     })
 }
@@ -96,7 +96,7 @@ fn number_in_rule(rules: &[Rule], node: usize) -> usize
     node.saturating_sub(body_of(rules, rule_of(rules, node))) + 1
 }
 
-/// The number of the last rule whose body isn't behind a node.
+/// The number of the last rule whose body isn't after a node.
 fn rule_of(rules: &[Rule], node: usize) -> usize
     ensures { result ≡ rule_of rules.now node }
 {
@@ -119,17 +119,17 @@ fn body_of(rules: &[Rule], rule: usize) -> usize
     }
 }
 
-/// The number of a condition.
-fn condition_number(kind: &BreachKind) -> usize
-    ensures { (starts : List ListedStart) → result ≡ condition_number (condition_of starts kind.now) }
+/// The number of the condition that is broken.
+fn condition_number(kind: &ViolationKind<usize>) -> usize
+    ensures { result ≡ condition_number kind.now }
 {
     match kind {
-        BreachKind::LeftRecursion => 1,
-        BreachKind::EmptyRound => 2,
-        BreachKind::EmptyAlternative(_) => 3,
-        BreachKind::AlternativesMeet(_, _, _) => 4,
-        BreachKind::AlternativeMeetsFollow(_, _) => 5,
-        BreachKind::RoundMeetsFollow(_) => 6,
-        BreachKind::TryAroundMore => 10,
+        ViolationKind::LeftRecursion => 1,
+        ViolationKind::EmptyRound => 2,
+        ViolationKind::EmptyAlternative(_) => 3,
+        ViolationKind::AlternativesMeet(_, _, _, _) => 4,
+        ViolationKind::AlternativeMeetsFollow(_, _, _) => 5,
+        ViolationKind::RoundMeetsFollow(_, _) => 6,
+        ViolationKind::TryAroundMore => 10,
     }
 }

@@ -2,19 +2,18 @@
 //!
 //! Each question of a condition is answered here, and in one place.
 ghost use Rattle.std.specs.Prelude.{◌≡◌, IfOk, is_some};
-ghost use Rattle.pg_numbers.specs.Numbers.{set_at};
+ghost use Rattle.pg_bit_set.specs.Numbers.{set_at};
 ghost use Rattle.pg_sets.specs.Marks.{is_marked};
 ghost use Rattle.pg_predict.specs.Judged.{node_meeting, follow_meeting, link_meeting};
 ghost use Rattle.pg_predict.specs.Meetings.{first_meeting};
 ghost use Rattle.pg_predict.specs.Shown.{AreFacts};
 
-use crate::breach::Meeting;
 use crate::marks::is_marked;
-use crate::meetings::{earlier, first_meeting};
+use crate::meetings::{Meeting, earlier, first_meeting};
 use crate::met_starts::met_starts;
 use crate::recursion::recursive_bodies;
+use pg_bit_set::BitSet;
 use pg_grammar::{Grammar, NodeId};
-use pg_numbers::NumberSet;
 use pg_sets::{ListedStart, Sets};
 use std::alloc::{AllocError, Global};
 use std::marker::Model;
@@ -24,7 +23,7 @@ use std::marker::Model;
 pub(crate) struct Judge {
     sets: Sets,
     recursive: Vec<bool>,
-    meetings: Vec<NumberSet>,
+    meetings: Vec<BitSet>,
 }
 
 impl Model for Judge {
@@ -65,14 +64,14 @@ impl Judge {
     }
 
     /// The starts of a node.
-    pub(crate) fn first(&self, node: NodeId) -> &NumberSet
+    pub(crate) fn first(&self, node: NodeId) -> &BitSet
         ensures { result.now ≡ set_at self.now.sets.firsts node }
     {
         self.sets.first(node)
     }
 
     /// Whether a start of the one set meets one of the other.
-    pub(crate) fn meets(&self, one: &NumberSet, other: &NumberSet) -> bool
+    pub(crate) fn meets(&self, one: &BitSet, other: &BitSet) -> bool
         ensures { result ≡ is_some (first_meeting self.now.meetings one.now other.now) }
     {
         first_meeting(&self.meetings, one, other).is_some()

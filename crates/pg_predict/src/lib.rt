@@ -2,11 +2,11 @@
 //! wrong with it.
 //!
 //! [`check`] works out the sets of a grammar (`pg_sets`) and then judges each node by the conditions on its form, a module
-//! for each kind: `choices.rt`, `repetitions.rt`, `tries.rt` and `recursion.rt`. What is broken is noted in numbers
-//! (`breach.rt`), and put into words in one place (`texts.rt`). A grammar that is accepted keeps its sets.
+//! for each kind: `choices.rt`, `repetitions.rt`, `tries.rt` and `recursion.rt`. A condition that is broken at a node is
+//! noted as a violation (`violation.rt`); it is reported as a finding (`finding.rt`), and put into words in one place
+//! (`texts.rt`). A grammar that is accepted keeps its sets.
 #![tactic(auto)]
 
-mod breach;
 mod checked;
 mod checking;
 mod choices;
@@ -23,6 +23,7 @@ mod repetitions;
 mod suspects;
 mod texts;
 mod tries;
+mod violation;
 
 pub use checked::Checked;
 pub use checking::{CheckFault, Refused, check};

@@ -5,16 +5,18 @@
 ghost use Rattle.std.specs.Prelude.{◌≡◌};
 ghost use Rattle.pg_predict.specs.Meetings.{least_met, first_meeting, earlier};
 
-use crate::breach::Meeting;
-use pg_numbers::NumberSet;
+use pg_bit_set::BitSet;
+
+/// Two starts that aren't apart, by their numbers.
+#[derive(Debug, Clone, Copy)]
+pub(crate) struct Meeting {
+    pub(crate) one: usize,
+    pub(crate) other: usize,
+}
 
 /// The first start of the one set that meets one of the other, and the first of the other that it meets. For each start the
 /// meetings have those that meet it.
-pub(crate) fn first_meeting(
-    meetings: &[NumberSet],
-    one: &NumberSet,
-    other: &NumberSet,
-) -> Option<Meeting>
+pub(crate) fn first_meeting(meetings: &[BitSet], one: &BitSet, other: &BitSet) -> Option<Meeting>
     ensures { result ≡ first_meeting meetings.now one.now other.now }
 {
     let mut from = 0;
@@ -37,7 +39,7 @@ pub(crate) fn first_meeting(
 
 /// The first start of the set that a start meets.
 #[tactic(auto, using(crate::proofs::FirstMeetings::common_least, crate::proofs::FirstMeetings::past_least))]
-fn least_met(meetings: &[NumberSet], other: &NumberSet, start: usize) -> Option<usize>
+fn least_met(meetings: &[BitSet], other: &BitSet, start: usize) -> Option<usize>
     ensures { result ≡ least_met meetings.now other.now start }
 {
     match meetings.get(start) {

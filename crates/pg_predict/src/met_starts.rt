@@ -4,16 +4,13 @@
 ghost use Rattle.std.specs.Prelude.{IfOk};
 ghost use Rattle.pg_predict.specs.Shown.{IsMetSet, AreMeetings};
 
-use pg_numbers::NumberSet;
+use pg_bit_set::BitSet;
 use pg_sets::ListedStart;
 use pg_start::{Start, apart};
 use std::alloc::{AllocError, Global};
 
 /// For each of the starts the set of those that it meets. The only error is that memory ran out.
-pub(crate) fn met_starts(
-    alloc: Global,
-    starts: &[ListedStart],
-) -> Result<Vec<NumberSet>, AllocError>
+pub(crate) fn met_starts(alloc: Global, starts: &[ListedStart]) -> Result<Vec<BitSet>, AllocError>
     ensures { IfOk result (λ meetings. AreMeetings starts.now meetings.items) }
 {
     let mut meetings = Vec::new(alloc);
@@ -24,10 +21,10 @@ pub(crate) fn met_starts(
 }
 
 /// Those of the starts that a start meets. The only error is that memory ran out.
-fn met_by(alloc: Global, starts: &[ListedStart], start: &Start) -> Result<NumberSet, AllocError>
+fn met_by(alloc: Global, starts: &[ListedStart], start: &Start) -> Result<BitSet, AllocError>
     ensures { IfOk result (λ met. IsMetSet starts.now start.now met) }
 {
-    let mut met = NumberSet::new(alloc, starts.len())?;
+    let mut met = BitSet::new(alloc, starts.len())?;
     for (number, other) in starts.iter().enumerate() {
         if !apart(start, &other.start) {
             met.insert(number);

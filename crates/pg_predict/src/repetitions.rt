@@ -2,9 +2,10 @@
 ghost use Rattle.std.specs.Prelude.{◌≡◌, ◌++◌, OnOk};
 ghost use Rattle.pg_predict.specs.Judged.{noted_meeting, noted_many, noted_chain};
 
-use crate::breach::{Breach, BreachKind, Meeting};
 use crate::judge::Judge;
+use crate::meetings::Meeting;
 use crate::noting::note_where;
+use crate::violation::{Violation, ViolationKind};
 use pg_grammar::NodeId;
 use std::alloc::AllocError;
 
@@ -13,13 +14,13 @@ pub(crate) fn judge_many(
     judge: &Judge,
     node: NodeId,
     part: NodeId,
-    breaches: &mut Vec<Breach>,
+    violations: &mut Vec<Violation<usize>>,
 ) -> Result<(), AllocError>
-    ensures { OnOk result (breaches.new.items ≡ breaches.old.items ++ noted_many judge.now node part) }
+    ensures { OnOk result (violations.new.items ≡ violations.old.items ++ noted_many judge.now node part) }
 {
     let empty = judge.is_nullable(part);
-    note_where(empty, node.index(), BreachKind::EmptyRound, breaches)?;
-    note_round(judge.follow_meeting(part, node), node, breaches)
+    note_where(empty, node.index(), ViolationKind::EmptyRound, violations)?;
+    note_round(judge.follow_meeting(part, node), node, violations)
 }
 
 /// Judges a chain, whose round is a separator and an operand. The only error is that memory ran out.
@@ -28,27 +29,36 @@ pub(crate) fn judge_chain(
     node: NodeId,
     operand: NodeId,
     separator: NodeId,
-    breaches: &mut Vec<Breach>,
+    violations: &mut Vec<Violation<usize>>,
 ) -> Result<(), AllocError>
-    ensures { OnOk result (breaches.new.items ≡ breaches.old.items ++ noted_chain judge.now node operand separator) }
+    ensures { OnOk result (violations.new.items ≡ violations.old.items ++ noted_chain judge.now node operand separator) }
 {
     let empty_link = judge.is_nullable(separator) && judge.is_nullable(operand);
-    note_where(empty_link, node.index(), BreachKind::EmptyRound, breaches)?;
-    note_round(judge.link_meeting(operand, separator, node), node, breaches)
+    note_where(
+        empty_link,
+        node.index(),
+        ViolationKind::EmptyRound,
+        violations,
+    )?;
+    note_round(
+        judge.link_meeting(operand, separator, node),
+        node,
+        violations,
+    )
 }
 
 /// Notes that a round meets what follows the repetition, if it does. The only error is that memory ran out.
 fn note_round(
     meeting: Option<Meeting>,
     node: NodeId,
-    breaches: &mut Vec<Breach>,
+    violations: &mut Vec<Violation<usize>>,
 ) -> Result<(), AllocError>
-    ensures { OnOk result (breaches.new.items ≡ breaches.old.items ++ noted_meeting meeting node BreachKind.RoundMeetsFollow) }
+    ensures { OnOk result (violations.new.items ≡ violations.old.items ++ noted_meeting meeting node ViolationKind.RoundMeetsFollow) }
 {
     if let Some(met) = meeting {
-        breaches.push(Breach {
+        violations.push(Violation {
             node: node.index(),
-            kind: BreachKind::RoundMeetsFollow(met),
+            kind: ViolationKind::RoundMeetsFollow(met.one, met.other),
         })?;
     }
     Ok(())

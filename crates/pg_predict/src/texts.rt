@@ -1,42 +1,42 @@
-//! The texts of broken conditions: the one place where they are written.
+//! The texts of violations: the one place where they are written.
 ghost use Rattle.std.specs.Prelude.{◌≡◌, IfOk, string_bytes};
 ghost use Rattle.pg_sets.specs.PrintedStarts.{start_text};
-ghost use Rattle.pg_predict.specs.Breaches.{condition_of, start_at};
-ghost use Rattle.pg_predict.specs.Findings.{condition_text, meeting_text};
+ghost use Rattle.pg_predict.specs.WithStarts.{kind_with_starts, start_at};
+ghost use Rattle.pg_predict.specs.Findings.{violation_text, meeting_text};
 
-use crate::breach::{BreachKind, Meeting};
+use crate::violation::ViolationKind;
 use pg_grammar::Grammar;
 use pg_sets::{ListedStart, printed_start};
 use std::alloc::{AllocError, Global};
 
 /// What is wrong, in words. The only error is that memory ran out.
-pub(crate) fn breach_text(
+pub(crate) fn violation_text(
     alloc: Global,
     grammar: &Grammar,
     starts: &[ListedStart],
-    kind: &BreachKind,
+    kind: &ViolationKind<usize>,
 ) -> Result<String, AllocError>
-    ensures { IfOk result (λ text. string_bytes text ≡ condition_text grammar.now (condition_of starts.now kind.now)) }
+    ensures { IfOk result (λ text. string_bytes text ≡ violation_text grammar.now (kind_with_starts starts.now kind.now)) }
 {
     match kind {
-        BreachKind::LeftRecursion => String::from_str(alloc, "C1 left recursion"),
-        BreachKind::EmptyRound => String::from_str(alloc, "C2 repeated part can be empty"),
-        BreachKind::EmptyAlternative(k) => {
+        ViolationKind::LeftRecursion => String::from_str(alloc, "C1 left recursion"),
+        ViolationKind::EmptyRound => String::from_str(alloc, "C2 repeated part can be empty"),
+        ViolationKind::EmptyAlternative(k) => {
             format!(in alloc; "C3 alternative {k} can be empty and is not last")
         }
-        BreachKind::AlternativesMeet(j, k, meeting) => {
-            let met = meeting_text(alloc, grammar, starts, *meeting)?;
+        ViolationKind::AlternativesMeet(j, k, one, other) => {
+            let met = meeting_text(alloc, grammar, starts, *one, *other)?;
             format!(in alloc; "C4 alternatives {j} and {k} meet at {met}")
         }
-        BreachKind::AlternativeMeetsFollow(k, meeting) => {
-            let met = meeting_text(alloc, grammar, starts, *meeting)?;
+        ViolationKind::AlternativeMeetsFollow(k, one, other) => {
+            let met = meeting_text(alloc, grammar, starts, *one, *other)?;
             format!(in alloc; "C5 alternative {k} meets the follow set at {met}")
         }
-        BreachKind::RoundMeetsFollow(meeting) => {
-            let met = meeting_text(alloc, grammar, starts, *meeting)?;
+        ViolationKind::RoundMeetsFollow(one, other) => {
+            let met = meeting_text(alloc, grammar, starts, *one, *other)?;
             format!(in alloc; "C6 repetition meets its follow set at {met}")
         }
-        BreachKind::TryAroundMore => {
+        ViolationKind::TryAroundMore => {
             String::from_str(alloc, "C10 try around more than a lexeme")
         }
     }
@@ -47,12 +47,13 @@ fn meeting_text(
     alloc: Global,
     grammar: &Grammar,
     starts: &[ListedStart],
-    meeting: Meeting,
+    one: usize,
+    other: usize,
 ) -> Result<String, AllocError>
-    ensures { IfOk result (λ text. string_bytes text ≡ meeting_text grammar.now (start_at starts.now meeting.one) (start_at starts.now meeting.other)) }
+    ensures { IfOk result (λ text. string_bytes text ≡ meeting_text grammar.now (start_at starts.now one) (start_at starts.now other)) }
 {
-    let one = start_at(alloc, grammar, starts, meeting.one)?;
-    let other = start_at(alloc, grammar, starts, meeting.other)?;
+    let one = start_at(alloc, grammar, starts, one)?;
+    let other = start_at(alloc, grammar, starts, other)?;
     format!(in alloc; "{one} and {other}")
 }
 

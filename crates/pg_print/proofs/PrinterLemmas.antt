@@ -1,5 +1,6 @@
 -- What is so of tokens that are laid out, and of parts that nest.
 pub mod Tokens
+pub mod Texts
 pub mod Nested
 pub mod Classes
 pub mod Names

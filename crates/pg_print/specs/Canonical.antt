@@ -18,15 +18,11 @@ use Rattle.pg_grammar.specs.declared.form.Leaf.{Leaf}
 use Rattle.pg_grammar.specs.declared.form.Leaf.TheVariants as leaf
 use Rattle.pg_grammar.specs.declared.form.Around.{Around}
 use Rattle.pg_grammar.specs.declared.form.Around.TheVariants as around
-use Rattle.pg_grammar.specs.declared.side.Side.{Side}
-use Rattle.pg_grammar.specs.declared.side.Side.TheVariants as side
 use Rattle.pg_grammar.specs.declared.operators_item.OperatorsItem.{OperatorsItem}
 use Rattle.pg_grammar.specs.declared.word_item.WordItem.{WordItem}
 use Rattle.pg_items.specs.declared.words.ClassForm.TheVariants as class_form
 use Rattle.pg_items.specs.declared.words.SomeForm.TheVariants as some_form
 use Rattle.pg_items.specs.declared.words.OneForm.TheVariants as one_form
-use Rattle.pg_items.specs.declared.words.ChainForm.{ChainForm}
-use Rattle.pg_items.specs.declared.words.ChainForm.TheVariants as chain_form
 use Rattle.pg_items.specs.Tree.{Atom, Set, Range, Name, Not, Group, Class, Of, Atoms, No_atom, Or, Value, Of_class, String, Seq, Of_some, Of_one, Chain, Expression, Build, Build_symbol, Label, End_of_text, Word, Rule, Values, No_value, And, Item, Class_item, Word_item, Operators, Table, Start, Rule_item}
 
 -- ---- class expressions
@@ -111,18 +107,13 @@ around_value around.Skip part = Of_one one_form.Skip part
 around_value (around.Build used symbol) part = build_from (chars used.name) (chars symbol) part
 around_value (around.Label message) part = Label part message
 
--- the chain that is folded from a side
-abbrev pub chain_form_of : Side → ChainForm
-chain_form_of side.Left = chain_form.Left
-chain_form_of side.Right = chain_form.Right
-
 -- the value of a base form, over those that are its parts, where the class items have these names
 abbrev pub value_of_form : List names.Name → BaseForm → List Value → Value
 value_of_form items (form.Leaf leaf) parts = leaf_value items leaf
 value_of_form items (form.Seq n) parts = Seq (values_from parts)
 value_of_form items (form.Choice n) parts = choice_from parts
 value_of_form items (form.Many part) parts = Of_one one_form.Many (value_at 0 parts)
-value_of_form items (form.Chain side used operand separator) parts = Chain (chain_form_of side) (chars used.name) (value_at 0 parts) (value_at 1 parts)
+value_of_form items (form.Chain side used operand separator) parts = Chain side (chars used.name) (value_at 0 parts) (value_at 1 parts)
 value_of_form items (form.Rule s) parts = Rule s
 value_of_form items (form.Expression builders part) parts = Expression (chars builders.«infix».name) (chars builders.prefix.name) (chars builders.postfix.name) (value_at 0 parts)
 value_of_form items (form.Around around part) parts = around_value around (value_at 0 parts)

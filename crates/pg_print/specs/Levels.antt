@@ -28,10 +28,10 @@ use Rattle.pg_print.specs.declared.levels.Level.{Level}
 use Rattle.pg_tokens.specs.Tokens.{Token, name, literal, mark}
 use Rattle.pg_items.specs.Syntax.{class_word, chain_word, class_written, opened}
 use Rattle.pg_items.specs.Tree.{Value}
-use Rattle.pg_print.specs.Canonical.{class_from, class_names, chain_form_of, values_of}
-use Rattle.pg_print.specs.Printed.{Laid, with_tokens}
+use Rattle.pg_print.specs.Canonical.{class_from, class_names, values_of}
+use Rattle.pg_print.specs.Layout.{Laid, with_tokens}
 
--- ---- behind a part
+-- ---- after a part
 
 -- what a form ends with
 abbrev pub ending_tokens : Ending → List Token
@@ -39,7 +39,7 @@ ending_tokens ending.Nothing = []
 ending_tokens ending.Close = mark Close ∷ []
 ending_tokens (ending.Message message) = mark Comma ∷ literal message ∷ mark Close ∷ []
 
--- behind a part with so many more to come at its level, where this is what stands behind the level
+-- after a part with so many more to come at its level, where this is what stands after the level
 abbrev pub end_at : ℕ → Level → List Token → List Token
 end_at zero level rest = ending_tokens level.ending ++ rest
 end_at (suc n) level rest = mark level.separator ∷ []
@@ -60,14 +60,14 @@ left_over (level ∷ levels) = left_at level.left level levels (left_over levels
 
 -- ---- a form
 
--- the tokens in front of a form's parts, how many parts there are, what stands between two, and how the form ends
+-- the tokens before a form's parts, how many parts there are, what stands between two, and how the form ends
 pub record Piece : Type 0 where
   pub front : List Token
   pub count : ℕ
   pub separator : Mark
   pub ending : Ending
 
--- behind what stands in front of a form's parts: nothing, or how a form without parts ends
+-- after what stands before a form's parts: nothing, or how a form without parts ends
 abbrev pub closing : ℕ → Ending → List Level → List Token
 closing zero end levels = ending_tokens end ++ ended levels
 closing (suc n) end levels = []
@@ -81,23 +81,23 @@ entered (suc n) separator end levels = record { left = n; separator = separator;
 abbrev pub with_piece : Laid → Piece → List Level → Laid
 with_piece laid piece levels = with_tokens laid (piece.front ++ closing piece.count piece.ending levels)
 
--- the levels of the part behind that
-abbrev pub levels_behind : Piece → List Level → List Level
-levels_behind piece levels = entered piece.count piece.separator piece.ending levels
+-- the levels of the part after that
+abbrev pub levels_after : Piece → List Level → List Level
+levels_after piece levels = entered piece.count piece.separator piece.ending levels
 
 -- ---- what is still to come
 
--- how a part is written in front of a rest
+-- how a part is written before a rest
 abbrev pub Writer : Type 0 → Type 0
 Writer A = A → List Token → List Token
 
--- so many parts, each behind a separator, and then the rest
+-- so many parts, each after a separator, and then the rest
 abbrev pub more : {A : Type 0} → Writer A → (List A → List Token) → Mark → ℕ → List A → List Token
 more writes tail separator zero parts = tail parts
 more writes tail separator (suc n) [] = []
 more writes tail separator (suc n) (p ∷ parts) = mark separator ∷ writes p (more writes tail separator n parts)
 
--- what is still to be written behind a part
+-- what is still to be written after a part
 abbrev pub awaited : {A : Type 0} → Writer A → List Level → List A → List Token
 awaited writes [] parts = []
 awaited writes (level ∷ levels) parts = more writes (λ rest. ending_tokens level.ending ++ awaited writes levels rest) level.separator level.left parts
@@ -108,7 +108,7 @@ coming writes [] parts = []
 coming writes (level ∷ levels) [] = []
 coming writes (level ∷ levels) (p ∷ parts) = writes p (awaited writes (level ∷ levels) parts)
 
--- how many parts belong to the levels behind the next one
+-- how many parts belong to the levels after the next one
 abbrev pub owed : List Level → ℕ
 owed [] = 0
 owed (level ∷ levels) = level.left + owed levels
@@ -183,7 +183,7 @@ around_piece (around.Build used symbol) = form_piece (codes "build") (builder_to
 around_piece (around.Label message) = label_piece message
 
 abbrev pub chain_piece : Side → BuilderUse → Piece
-chain_piece side used = form_piece (chain_word (chain_form_of side)) (builder_tokens (chars used.name) []) 2
+chain_piece side used = form_piece (chain_word side) (builder_tokens (chars used.name) []) 2
 
 abbrev pub base_piece : List names.Name → BaseForm → Piece
 base_piece items (form.Leaf leaf) = leaf_piece items leaf

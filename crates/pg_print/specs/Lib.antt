@@ -1,3 +1,4 @@
 pub mod Canonical
 pub mod Printed
+pub mod Layout
 pub mod Levels

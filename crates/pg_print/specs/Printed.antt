@@ -1,17 +1,12 @@
--- The characters that tokens are printed as: a line for each item, and in it a space between any two tokens but before
--- `)`, `,`, `;` and `..`, behind `(` and `..`, and between a form's word and its parenthesis.
-use Rattle.std.specs.Prelude.{◌≤◌, ℕ, ◌==◌, ◌&&◌, nat_le, if◌then◌else◌, false, List, [], ◌∷◌, ◌++◌, length, codes}
-use Rattle.std.specs.List.{AllByRecursion}
-use Rattle.std.specs.Str.{bytes_eq, encode_utf8_all}
+-- The characters that a grammar is printed as: a line for each item, and in it a space between any two tokens but before
+-- `)`, `,`, `;` and `..`, after `(` and `..`, and between a form's word and its parenthesis.
+use Rattle.std.specs.Prelude.{◌≤◌, ℕ, ◌==◌, ◌&&◌, nat_le, if◌then◌else◌, false, List, [], ◌∷◌, ◌++◌, Option, Some, None, length, codes}
+use Rattle.std.specs.List.{AllByRecursion, flat_map}
+use Rattle.std.specs.Str.{encode_utf8_all}
 use Rattle.std.specs.Fmt.{digits}
 use Rattle.pg_grammar.specs.Grammar.{Grammar}
-use Rattle.pg_tokens.specs.declared.token.Mark.{Mark}
-use Rattle.pg_tokens.specs.declared.token.Mark.TheVariants.{Open, Close, Comma, Semicolon, Equals, Bar, Dots}
-use Rattle.pg_print.specs.declared.layout.Edge.{Edge}
-use Rattle.pg_print.specs.declared.layout.Edge.TheVariants.{Tight, Word, Loose}
-use Rattle.pg_tokens.specs.Tokens.{Token, name, number, literal, mark, wrong, bad}
-use Rattle.pg_tokens.specs.Lexical.{mark_text}
-use Rattle.pg_items.specs.Syntax.{file_written}
+use Rattle.pg_items.specs.Tree.{Atom, Set, Range, Name, Not, Group, Class, Of, Atoms, No_atom, Or, Value, Of_class, String, Seq, Of_some, Of_one, Of_two, Between, Chain, Expression, Build, Build_symbol, Label, End_of_text, Word, Rule, Values, No_value, And, Item, Class_item, Word_item, Operators, Table, Start, Rule_item}
+use Rattle.pg_items.specs.Syntax.{class_word, some_word, one_word, two_word, chain_word, role_word}
 use Rattle.pg_items.specs.Depth.{IsShallow}
 use Rattle.pg_print.specs.Canonical.{items_of}
 
@@ -35,86 +30,97 @@ all_escaped (c ∷ s) = escaped c ++ all_escaped s
 abbrev pub quoted : List ℕ → List ℕ
 quoted s = 34 ∷ (all_escaped s ++ 34 ∷ [])
 
--- ---- tokens
+-- ---- class expressions
 
--- the characters of a mark; each item ends its line
-abbrev pub printed_mark : Mark → List ℕ
-printed_mark Open = mark_text Open
-printed_mark Close = mark_text Close
-printed_mark Comma = mark_text Comma
-printed_mark Semicolon = mark_text Semicolon ++ 10 ∷ []
-printed_mark Equals = mark_text Equals
-printed_mark Bar = mark_text Bar
-printed_mark Dots = mark_text Dots
+abbrev mutual
+  pub atom_text : Atom → List ℕ
+  atom_text (Set s) = quoted s
+  atom_text (Range low high) = quoted (low ∷ []) ++ (codes ".." ++ quoted (high ∷ []))
+  atom_text (Name s) = s
+  atom_text (Not a) = codes "not " ++ atom_text a
+  atom_text (Group c) = codes "(" ++ (class_text c ++ codes ")")
 
-abbrev pub token_text : Token → List ℕ
-token_text (name s) = s
-token_text (number s) = s
-token_text (literal s) = quoted s
-token_text (mark m) = printed_mark m
-token_text wrong = []
-token_text bad = []
+  pub class_text : Class → List ℕ
+  class_text (Of a others) = atom_text a ++ others_text others
 
--- ---- spaces
+  -- the atoms after another one
+  pub others_text : Atoms → List ℕ
+  others_text No_atom = []
+  others_text (Or a others) = codes " | " ++ (atom_text a ++ others_text others)
 
-abbrev pub mark_edge : Mark → Edge
-mark_edge Open = Tight
-mark_edge Close = Loose
-mark_edge Comma = Loose
-mark_edge Semicolon = Tight
-mark_edge Equals = Loose
-mark_edge Bar = Loose
-mark_edge Dots = Tight
+-- ---- values
 
--- what the text ends with, behind a token
-abbrev pub edge_behind : Token → Edge
-edge_behind (name s) = if bytes_eq (codes "not") s then Loose else Word
-edge_behind (number s) = Loose
-edge_behind (literal s) = Loose
-edge_behind (mark m) = mark_edge m
-edge_behind wrong = Loose
-edge_behind bad = Loose
+-- a form: its word, and its arguments in parentheses
+abbrev pub form_text : List ℕ → List ℕ → List ℕ
+form_text word arguments = word ++ (codes "(" ++ (arguments ++ codes ")"))
 
--- a space, unless none follows here
-abbrev pub space : Edge → List ℕ
-space Tight = []
-space Word = 32 ∷ []
-space Loose = 32 ∷ []
+-- an argument and further ones
+abbrev pub with_more : List ℕ → List ℕ → List ℕ
+with_more argument others = argument ++ (codes ", " ++ others)
 
--- the space before a parenthesis that opens
-abbrev pub opening_space : Edge → List ℕ
-opening_space Tight = []
-opening_space Word = []
-opening_space Loose = 32 ∷ []
+abbrev mutual
+  pub value_text : Value → List ℕ
+  value_text (Of_class form c) = form_text (class_word form) (class_text c)
+  value_text (String s) = form_text (codes "string") (quoted s)
+  value_text (Seq vs) = form_text (codes "seq") (values_text vs)
+  value_text (Of_some form v vs) = form_text (some_word form) (value_text v ++ more_text vs)
+  value_text (Of_one form v) = form_text (one_word form) (value_text v)
+  value_text (Of_two form v separator) = form_text (two_word form) (with_more (value_text v) (value_text separator))
+  value_text (Between before after inner) =
+      form_text (codes "between") (with_more (value_text before) (with_more (value_text after) (value_text inner)))
+  value_text (Chain side builder operand separator) =
+      form_text (chain_word side) (with_more builder (with_more (value_text operand) (value_text separator)))
+  value_text (Expression infixes prefixes postfixes term) =
+      form_text (codes "expr") (with_more infixes (with_more prefixes (with_more postfixes (value_text term))))
+  value_text (Build builder v) = form_text (codes "build") (with_more builder (value_text v))
+  value_text (Build_symbol builder symbol v) = form_text (codes "build") (with_more builder (with_more (quoted symbol) (value_text v)))
+  value_text (Label v message) = form_text (codes "label") (with_more (value_text v) (quoted message))
+  value_text End_of_text = codes "eof"
+  value_text (Word s) = form_text (codes "word") s
+  value_text (Rule s) = s
 
-abbrev pub mark_space : Edge → Mark → List ℕ
-mark_space edge Open = opening_space edge
-mark_space edge Close = []
-mark_space edge Comma = []
-mark_space edge Semicolon = []
-mark_space edge Equals = space edge
-mark_space edge Bar = space edge
-mark_space edge Dots = []
+  pub values_text : Values → List ℕ
+  values_text No_value = []
+  values_text (And v vs) = value_text v ++ more_text vs
 
--- the space before a token
-abbrev pub space_before : Edge → Token → List ℕ
-space_before edge (name s) = space edge
-space_before edge (number s) = space edge
-space_before edge (literal s) = space edge
-space_before edge (mark m) = mark_space edge m
-space_before edge wrong = []
-space_before edge bad = []
+  -- the values after another one
+  pub more_text : Values → List ℕ
+  more_text No_value = []
+  more_text (And v vs) = codes ", " ++ (value_text v ++ more_text vs)
 
--- the tokens behind a text that ends so
-abbrev pub laid_out : Edge → List Token → List ℕ
-laid_out edge [] = []
-laid_out edge (t ∷ ts) = space_before edge t ++ (token_text t ++ laid_out (edge_behind t) ts)
+-- ---- items
+
+abbrev pub literals_text : List (List ℕ) → List ℕ
+literals_text [] = []
+literals_text (s ∷ texts) = codes " " ++ (quoted s ++ literals_text texts)
+
+-- the reserved texts after their word, if there are any
+abbrev pub reserved_text : List (List ℕ) → List ℕ
+reserved_text [] = []
+reserved_text (s ∷ texts) = codes " reserved" ++ literals_text (s ∷ texts)
+
+-- the most operators after their word, if that is said
+abbrev pub most_text : Option (List ℕ) → List ℕ
+most_text None = []
+most_text (Some number) = codes " max " ++ number
+
+-- the line of an item
+abbrev pub item_text : Item → List ℕ
+item_text (Class_item s c) = codes "class " ++ (s ++ (codes " = " ++ (class_text c ++ codes ";\n")))
+item_text (Word_item s head after reserved) =
+    codes "word " ++ (s ++ (codes " head " ++ (class_text head ++ (codes " rest " ++ (class_text after ++ (reserved_text reserved ++ codes ";\n"))))))
+item_text (Operators class gap reserved most) =
+    codes "operators " ++ (class_text class ++ (codes " gap " ++ (class_text gap ++ (reserved_text reserved ++ (most_text most ++ codes ";\n")))))
+item_text (Table role precedence symbol) =
+    codes "table " ++ (role_word role ++ (codes " " ++ (precedence ++ (codes " " ++ (quoted symbol ++ codes ";\n")))))
+item_text (Start s) = codes "start " ++ (s ++ codes ";\n")
+item_text (Rule_item s v) = s ++ (codes " = " ++ (value_text v ++ codes ";\n"))
 
 -- ---- a grammar
 
 -- the characters that a grammar is printed as
 abbrev pub characters_printed : Grammar → List ℕ
-characters_printed g = laid_out Tight (file_written (items_of g))
+characters_printed g = flat_map item_text (items_of g)
 
 -- and their bytes
 abbrev pub printed : Grammar → List ℕ
@@ -124,23 +130,3 @@ printed g = encode_utf8_all (characters_printed g)
 pub record PrintKeepsLimits (g : Grammar) : Type 0 where
   pub short : length (printed g) ≤ 262144
   pub shallow : AllByRecursion IsShallow (items_of g)
-
--- ---- token by token
-
--- characters that are printed so far, and what they end with
-pub record Laid : Type 0 where
-  pub text : List ℕ
-  pub edge : Edge
-
--- nothing yet
-abbrev pub nothing_laid : Laid
-nothing_laid = record { text = []; edge = Tight }
-
--- a token more
-abbrev pub with_token : Laid → Token → Laid
-with_token laid t = record { text = laid.text ++ (space_before laid.edge t ++ token_text t); edge = edge_behind t }
-
--- these tokens more
-abbrev pub with_tokens : Laid → List Token → Laid
-with_tokens laid [] = laid
-with_tokens laid (t ∷ ts) = with_tokens (with_token laid t) ts

@@ -8,9 +8,9 @@ ghost use Rattle.pg_grammar.specs.Names.{name_at};
 ghost use Rattle.pg_tokens.specs.Tokens.{name, literal};
 ghost use Rattle.pg_items.specs.Syntax as syntax;
 ghost use Rattle.pg_items.specs.Syntax.{class_written, opened, written};
-ghost use Rattle.pg_print.specs.Canonical.{class_from, class_names, chain_form_of, value_at};
-ghost use Rattle.pg_print.specs.Printed.{with_tokens};
-ghost use Rattle.pg_print.specs.Levels.{tokens_alone, leaf_piece, around_piece, chain_piece, form_piece, builder_tokens, symbol_tokens, expression_piece, label_piece, left_over, with_piece, levels_behind, node_piece, node_values, AreBodies};
+ghost use Rattle.pg_print.specs.Canonical.{class_from, class_names, value_at};
+ghost use Rattle.pg_print.specs.Layout.{with_tokens};
+ghost use Rattle.pg_print.specs.Levels.{tokens_alone, leaf_piece, around_piece, chain_piece, form_piece, builder_tokens, symbol_tokens, expression_piece, label_piece, left_over, with_piece, levels_after, node_piece, node_values, AreBodies};
 
 use crate::class::put_class;
 use crate::layout::Layout;
@@ -24,7 +24,7 @@ use pg_tokens::{Mark, characters_of, copied};
 use std::alloc::{AllocError, Global};
 use std::collections::VecDeque;
 
-/// The first whole body of some nodes; gives the nodes behind it.
+/// The first whole body of some nodes; gives the nodes after it.
 pub fn put_body<'a>(
     alloc: Global,
     out: &mut Layout,
@@ -40,12 +40,12 @@ pub fn put_body<'a>(
     let mut levels = VecDeque::new(alloc);
     enter(alloc, out, &mut levels, 1, Mark::Comma, Ending::Nothing)?;
     let mut rest = nodes;
-    while let Some((node, behind)) = rest.split_first() {
+    while let Some((node, after)) = rest.split_first() {
         if levels.is_empty() {
             break;
         }
         put_node(alloc, out, grammar, node, &mut levels)?;
-        rest = behind;
+        rest = after;
     }
     Ok(rest)
 }
@@ -59,7 +59,7 @@ fn put_node(
     levels: &mut VecDeque<Level>,
 ) -> Result<(), AllocError>
     ensures text { OnOk result (out.new ≡ with_piece out.old (node_piece grammar.now node.now) levels.old.items) }
-    ensures levels { OnOk result (levels.new.items ≡ levels_behind (node_piece grammar.now node.now) levels.old.items) }
+    ensures levels { OnOk result (levels.new.items ≡ levels_after (node_piece grammar.now node.now) levels.old.items) }
 {
     match node {
         Form::Leaf(leaf) => put_leaf(alloc, out, grammar, leaf, levels),
@@ -108,7 +108,7 @@ fn put_around(
     levels: &mut VecDeque<Level>,
 ) -> Result<(), AllocError>
     ensures text { OnOk result (out.new ≡ with_piece out.old (around_piece around.now) levels.old.items) }
-    ensures levels { OnOk result (levels.new.items ≡ levels_behind (around_piece around.now) levels.old.items) }
+    ensures levels { OnOk result (levels.new.items ≡ levels_after (around_piece around.now) levels.old.items) }
 {
     match around {
         Around::Try => put_form(alloc, out, "try", 1, levels),
@@ -119,7 +119,7 @@ fn put_around(
     }
 }
 
-/// A form's word and the parenthesis behind it.
+/// A form's word and the parenthesis after it.
 fn put_opened(alloc: Global, out: &mut Layout, word: &str) -> Result<(), AllocError>
     ensures { OnOk result (out.new ≡ with_tokens out.old (opened word.now [])) }
 {
@@ -136,7 +136,7 @@ fn put_form(
     levels: &mut VecDeque<Level>,
 ) -> Result<(), AllocError>
     ensures text { OnOk result (out.new ≡ with_piece out.old (form_piece word.now [] count) levels.old.items) }
-    ensures levels { OnOk result (levels.new.items ≡ levels_behind (form_piece word.now [] count) levels.old.items) }
+    ensures levels { OnOk result (levels.new.items ≡ levels_after (form_piece word.now [] count) levels.old.items) }
 {
     put_opened(alloc, out, word)?;
     enter(alloc, out, levels, count, Mark::Comma, Ending::Close)
@@ -215,7 +215,7 @@ fn put_rule(
     put_end(alloc, out, levels)
 }
 
-/// A builder and the comma behind it.
+/// A builder and the comma after it.
 fn put_builder(alloc: Global, out: &mut Layout, used: &BuilderUse) -> Result<(), AllocError>
     ensures { OnOk result (out.new ≡ with_tokens out.old (builder_tokens (chars used.now.name) [])) }
 {
@@ -231,7 +231,7 @@ fn put_chain(
     levels: &mut VecDeque<Level>,
 ) -> Result<(), AllocError>
     ensures text { OnOk result (out.new ≡ with_piece out.old (chain_piece side used.now) levels.old.items) }
-    ensures levels { OnOk result (levels.new.items ≡ levels_behind (chain_piece side used.now) levels.old.items) }
+    ensures levels { OnOk result (levels.new.items ≡ levels_after (chain_piece side used.now) levels.old.items) }
 {
     put_opened(alloc, out, chain_word(side))?;
     put_builder(alloc, out, used)?;
@@ -240,7 +240,7 @@ fn put_chain(
 
 /// The word for a chain that is folded from a side.
 fn chain_word(side: Side) -> &'static str
-    ensures { result.now ≡ syntax.chain_word (chain_form_of side) }
+    ensures { result.now ≡ syntax.chain_word side }
 {
     match side {
         Side::Left => "chainl1",
@@ -255,7 +255,7 @@ fn put_expression(
     levels: &mut VecDeque<Level>,
 ) -> Result<(), AllocError>
     ensures text { OnOk result (out.new ≡ with_piece out.old (expression_piece builders.now) levels.old.items) }
-    ensures levels { OnOk result (levels.new.items ≡ levels_behind (expression_piece builders.now) levels.old.items) }
+    ensures levels { OnOk result (levels.new.items ≡ levels_after (expression_piece builders.now) levels.old.items) }
 {
     put_opened(alloc, out, "expr")?;
     put_builder(alloc, out, &builders.infix)?;
@@ -264,7 +264,7 @@ fn put_expression(
     enter(alloc, out, levels, 1, Mark::Comma, Ending::Close)
 }
 
-/// A symbol and the comma behind it, unless it is empty.
+/// A symbol and the comma after it, unless it is empty.
 fn put_symbol(alloc: Global, out: &mut Layout, symbol: &str) -> Result<(), AllocError>
     ensures { OnOk result (out.new ≡ with_tokens out.old (symbol_tokens (chars symbol.now))) }
 {
@@ -287,7 +287,7 @@ fn put_build(
     levels: &mut VecDeque<Level>,
 ) -> Result<(), AllocError>
     ensures text { OnOk result (out.new ≡ with_piece out.old (form_piece (codes "build") (builder_tokens (chars used.now.name) (chars symbol.now)) 1) levels.old.items) }
-    ensures levels { OnOk result (levels.new.items ≡ levels_behind (form_piece (codes "build") (builder_tokens (chars used.now.name) (chars symbol.now)) 1) levels.old.items) }
+    ensures levels { OnOk result (levels.new.items ≡ levels_after (form_piece (codes "build") (builder_tokens (chars used.now.name) (chars symbol.now)) 1) levels.old.items) }
 {
     put_opened(alloc, out, "build")?;
     put_builder(alloc, out, used)?;
@@ -302,7 +302,7 @@ fn put_label(
     levels: &mut VecDeque<Level>,
 ) -> Result<(), AllocError>
     ensures text { OnOk result (out.new ≡ with_piece out.old (label_piece message.now) levels.old.items) }
-    ensures levels { OnOk result (levels.new.items ≡ levels_behind (label_piece message.now) levels.old.items) }
+    ensures levels { OnOk result (levels.new.items ≡ levels_after (label_piece message.now) levels.old.items) }
 {
     put_opened(alloc, out, "label")?;
     let message = copied(alloc, message.as_slice())?;

@@ -1,4 +1,4 @@
-//! Class expressions as they are printed: atoms with `|` between them, and parentheses round a union in a union or behind
+//! Class expressions as they are printed: atoms with `|` between them, and parentheses round a union in a union or after
 //! `not`.
 
 ghost use Rattle.std.specs.Prelude.{◌≡◌, ◌∷◌, [], map, OnOk};
@@ -11,8 +11,8 @@ ghost use Rattle.pg_grammar.specs.Classes.{member_count, IsProperUnion};
 ghost use Rattle.pg_grammar.specs.ClassItems.{item_name};
 ghost use Rattle.pg_items.specs.Syntax.{atom_written, class_written};
 ghost use Rattle.pg_print.specs.Canonical.{atoms_of, class_from};
-ghost use Rattle.pg_print.specs.Printed.{with_tokens};
-ghost use Rattle.pg_print.specs.Levels.{first_piece, part_piece, with_piece, levels_behind, needed, coming};
+ghost use Rattle.pg_print.specs.Layout.{with_tokens};
+ghost use Rattle.pg_print.specs.Levels.{first_piece, part_piece, with_piece, levels_after, needed, coming};
 
 use crate::layout::Layout;
 use crate::levels::{Ending, Level, enter, put_end};
@@ -48,7 +48,7 @@ fn put_first(
     levels: &mut VecDeque<Level>,
 ) -> Result<(), AllocError>
     ensures text { OnOk result (out.new ≡ with_piece out.old (first_piece (map item_name items.now) part.now) levels.old.items) }
-    ensures levels { OnOk result (levels.new.items ≡ levels_behind (first_piece (map item_name items.now) part.now) levels.old.items) }
+    ensures levels { OnOk result (levels.new.items ≡ levels_after (first_piece (map item_name items.now) part.now) levels.old.items) }
 {
     match part {
         ClassPart::Union(count) => { enter(alloc, out, levels, *count, Mark::Bar, Ending::Nothing) }
@@ -88,7 +88,7 @@ fn put_part(
     levels: &mut VecDeque<Level>,
 ) -> Result<(), AllocError>
     ensures text { OnOk result (out.new ≡ with_piece out.old (part_piece (map item_name items.now) part.now) levels.old.items) }
-    ensures levels { OnOk result (levels.new.items ≡ levels_behind (part_piece (map item_name items.now) part.now) levels.old.items) }
+    ensures levels { OnOk result (levels.new.items ≡ levels_after (part_piece (map item_name items.now) part.now) levels.old.items) }
 {
     match part {
         ClassPart::Literal(characters) => out.put_literal(alloc, characters.as_slice())?,

@@ -8,7 +8,8 @@ ghost use Rattle.pg_items.specs.Tree.{Start};
 ghost use Rattle.pg_items.specs.Syntax as syntax;
 ghost use Rattle.pg_items.specs.Syntax.{item_written, file_written, reserved_written};
 ghost use Rattle.pg_print.specs.Canonical.{class_names, class_item, word_item, operators_item, operators_items, table_item, rule_items, items_of};
-ghost use Rattle.pg_print.specs.Printed.{printed, with_tokens};
+ghost use Rattle.pg_print.specs.Printed.{printed};
+ghost use Rattle.pg_print.specs.Layout.{with_tokens};
 ghost use Rattle.pg_print.specs.Levels.{node_values};
 
 use crate::body::{put_body, rule_name};
@@ -125,7 +126,7 @@ fn put_operators_item(
     out.put_mark(Mark::Semicolon)
 }
 
-/// The reserved texts behind their word, if there are any.
+/// The reserved texts after their word, if there are any.
 fn put_reserved(alloc: Global, out: &mut Layout, reserved: &Texts) -> Result<(), AllocError>
     ensures { OnOk result (out.new ≡ with_tokens out.old (reserved_written reserved.now [])) }
 {

@@ -1,4 +1,4 @@
-//! Tokens as they are printed, one behind another, with a space between two where one belongs.
+//! Tokens as they are printed, one after another, with a space between two where one belongs.
 //!
 //! Whether a space stands before a token depends on the token and on what the text ends with, so that is kept beside the
 //! text.
@@ -7,7 +7,8 @@ ghost use Rattle.std.specs.Prelude.{◌≡◌, ◌++◌, ◌∷◌, [], false, O
 ghost use Rattle.std.specs.Fmt.{digits, decimal};
 ghost use Rattle.std.specs.Str.{chars, bytes_eq};
 ghost use Rattle.pg_tokens.specs.Tokens as tokens;
-ghost use Rattle.pg_print.specs.Printed.{nothing_laid, with_token, escaped, quoted, printed_mark, mark_edge, edge_behind, space, mark_space};
+ghost use Rattle.pg_print.specs.Printed.{escaped, quoted};
+ghost use Rattle.pg_print.specs.Layout.{comes_before_class, nothing_laid, with_token, printed_mark, mark_edge, edge_after, space, mark_space};
 
 use pg_tokens::{Mark, characters_of, is_word};
 use std::alloc::{AllocError, Global};
@@ -18,7 +19,7 @@ use std::marker::Model;
 pub enum Edge {
     /// Nothing yet, `(`, `..` or the end of a line: no space follows.
     Tight,
-    /// A name other than `not`: no space follows before a parenthesis.
+    /// A name after which no class expression comes: no space follows before a parenthesis.
     Word,
     /// Anything else.
     Loose,
@@ -32,7 +33,7 @@ pub struct Layout {
 }
 
 impl Model for Layout {
-    ghost use Rattle.pg_print.specs.Printed.{Laid};
+    ghost use Rattle.pg_print.specs.Layout.{Laid};
 
     ghost Value = { Laid };
 
@@ -175,13 +176,24 @@ fn edge_of_mark(mark: Mark) -> Edge
 }
 
 fn edge_of_name(text: &[char]) -> Edge
-    ensures { result ≡ edge_behind (tokens.name text.now) }
+    ensures { result ≡ edge_after (tokens.name text.now) }
 {
-    if is_word("not", text) {
+    if comes_before_class(text) {
         Edge::Loose
     } else {
         Edge::Word
     }
+}
+
+/// Whether a class expression may come after this word, and with it a parenthesis.
+fn comes_before_class(word: &[char]) -> bool
+    ensures { result ≡ comes_before_class word.now }
+{
+    is_word("not", word)
+        || is_word("head", word)
+        || is_word("rest", word)
+        || is_word("operators", word)
+        || is_word("gap", word)
 }
 
 /// A literal, in quotes.

@@ -1,10 +1,10 @@
 //! The forms that are open while their parts are printed, the innermost first: how many parts of each are still to come
-//! behind the one that is being printed, and how it ends.
+//! after the one that is being printed, and how it ends.
 //!
-//! There is none behind the last part of the whole.
+//! There is none after the last part of the whole.
 
 ghost use Rattle.std.specs.Prelude.{◌≡◌, OnOk};
-ghost use Rattle.pg_print.specs.Printed.{with_tokens};
+ghost use Rattle.pg_print.specs.Layout.{with_tokens};
 ghost use Rattle.pg_print.specs.Levels.{ending_tokens, ended, left_over, closing, entered};
 
 use crate::layout::Layout;
@@ -27,7 +27,7 @@ pub enum Ending {
 /// A form that is open.
 #[derive(Debug, Drop)]
 pub struct Level {
-    /// How many of its parts come behind the one that is being printed.
+    /// How many of its parts come after the one that is being printed.
     pub left: usize,
     /// What stands between two parts.
     pub separator: Mark,
@@ -49,7 +49,7 @@ fn put_ending(alloc: Global, out: &mut Layout, ending: &Ending) -> Result<(), Al
     }
 }
 
-/// Behind a part: what ends with it, and the mark before the next part.
+/// After a part: what ends with it, and the mark before the next part.
 #[tactic(auto, using(crate::proofs::PrinterLemmas::Tokens::laid_both))]
 pub fn put_end(
     alloc: Global,
@@ -79,7 +79,7 @@ pub fn put_end(
     Ok(())
 }
 
-/// Behind what stands in front of a form's parts, of which there are so many.
+/// After what stands before a form's parts, of which there are so many.
 #[tactic(auto, using(crate::proofs::PrinterLemmas::Tokens::laid_both))]
 pub fn enter(
     alloc: Global,

@@ -2,6 +2,7 @@
 use Rattle.std.proofs.Common.{◌≡◌, ℕ, zero, suc, ◌≤◌, Bool, true, false, ◌||◌, ◌&&◌, List, [], ◌∷◌, ◌++◌, Some, slice_get, length, map, take, drop, nat_le, refl, sym, ap, ◌∙◌, arith, inl, inr}
 use Rattle.std.specs.Prelude.{◌==◌, All}
 use Rattle.std.specs.List.{list_any}
+use Rattle.std.proofs.Math.Bool.{or_assoc}
 use Rattle.std.proofs.lemmas.Bool.{cases_order, eq-eqb, ne_eqb, le-leb, lt-leb, and_left, and_right, and_from}
 use Rattle.std.proofs.lemmas.List.Elements.{All-nil, All-cons}
 use Rattle.pg_class.specs.Ranges.{Range, has, in_range}
@@ -40,9 +41,9 @@ answer_past (x ∷ xs) zero c past = absurd (omega arith)
 answer_past (x ∷ xs) (suc k) c past = let less : length xs ≤ k = omega arith in answer_past xs k c less
 
 -- the first class out
-pub answers_behind_first : (classes : List (List Range)) (c : ℕ) → answers_of (drop 1 classes) c ≡ drop 1 (answers_of classes c)
-answers_behind_first [] c = refl
-answers_behind_first (x ∷ xs) c = refl
+pub answers_after_first : (classes : List (List Range)) (c : ℕ) → answers_of (drop 1 classes) c ≡ drop 1 (answers_of classes c)
+answers_after_first [] c = refl
+answers_after_first (x ∷ xs) c = refl
 
 -- each character as a range of its own
 pub alone_has : (x c : ℕ) → in_range c (x, x) ≡ (x == c)
@@ -80,12 +81,4 @@ pub one_further : (k : ℕ) (bs : List Bool) → (one_holds (take k bs) || one_h
 one_further zero [] = refl
 one_further zero (b ∷ bs) = refl
 one_further (suc k) [] = refl
-one_further (suc k) (b ∷ bs) = or_behind b (one_holds (take k bs)) (one_holds (take 1 (drop k bs))) ∙ ap (λ x. b || x) (one_further k bs)
-  where
-    or_behind : (a b c : Bool) → ((a || b) || c) ≡ (a || (b || c))
-    or_behind true b c = refl
-    or_behind false b c = refl
-
-pub empty_is : {X : Type 0} (xs : List X) → length xs ≡ 0 → xs ≡ []
-empty_is [] e = refl
-empty_is (x ∷ xs) e = absurd (omega arith)
+one_further (suc k) (b ∷ bs) = or_assoc b (one_holds (take k bs)) (one_holds (take 1 (drop k bs))) ∙ ap (λ x. b || x) (one_further k bs)

@@ -16,7 +16,7 @@ use Rattle.pg_grammar.proofs.Numbers.{bodies_are_nodes}
 use Rattle.pg_start.specs.declared.kind.StartKind.{StartKind}
 use Rattle.pg_sets.specs.First.{IsFirst, IsFirstOf}
 use Rattle.pg_sets.specs.First as first_of
-use Rattle.pg_sets.specs.Flows.{Flow, follow_of, flows_of_all, flows_of_some, flows_of_next, flows_behind_parts, flows_of_alternatives, flows_of_chain, flows_of_only, try_flows, node_flows, with_flows, all_flows}
+use Rattle.pg_sets.specs.Flows.{Flow, follow_of, flows_of_all, flows_of_some, flows_of_next, flows_after_parts, flows_of_alternatives, flows_of_chain, flows_of_only, try_flows, node_flows, with_flows, all_flows}
 use Rattle.pg_sets.specs.Follow.{StandsBefore, IsChain, HasOnly, IsFollow}
 use Rattle.pg_sets.specs.Follow as follow
 use Rattle.pg_sets.specs.Graphs.{has, numbers_at, IsReached}
@@ -40,7 +40,7 @@ use Rattle.pg_sets.proofs.Walking.{reached_below}
 -- ---- edges that are there
 
 module _ (g : Grammar) (nullable : List Bool) (on : MarksNullable g nullable) where
-  -- behind a nullable part
+  -- after a nullable part
   over : (q u x : ℕ) (flows : List Flow) → Nullable g q → IsIn u x flows → IsIn u x (cond (is_marked nullable q) flows [])
   over q u x flows null is = subst (λ b. IsIn u x (cond b flows [])) (sym ((on q).1 null)) is
 
@@ -51,18 +51,18 @@ module _ (g : Grammar) (nullable : List Bool) (on : MarksNullable g nullable) wh
   first_in_some : {start : StartKind} {parts : List ℕ} {R : Type 0} (to : ℕ) → IsFirstOf g start parts
       → ((u : ℕ) → IsIn u to (flows_of_some nullable parts to) → IsFirst g start u → R) → R
   first_in_some to (first_of.here {part = p} is) then_so = then_so p here is
-  first_in_some to (first_of.behind {part = p} {parts = ps} null later) then_so =
+  first_in_some to (first_of.after {part = p} {parts = ps} null later) then_so =
       first_in_some to later (λ u among is. then_so u (further (over p u to (flows_of_some nullable ps to) null among)) is)
 
-  behind_all : {parts : List ℕ} (behind to : ℕ) → AllNullable g parts → IsIn behind to (flows_of_all nullable parts behind to)
-  behind_all behind to nullable_of.none = here
-  behind_all behind to (nullable_of.first {part = p} {parts = ps} null all) = further (over p behind to (flows_of_all nullable ps behind to) null (behind_all behind to all))
+  after_all : {parts : List ℕ} (after to : ℕ) → AllNullable g parts → IsIn after to (flows_of_all nullable parts after to)
+  after_all after to nullable_of.none = here
+  after_all after to (nullable_of.first {part = p} {parts = ps} null all) = further (over p after to (flows_of_all nullable ps after to) null (after_all after to all))
 
-  behind_part : {q : ℕ} {rest parts : List ℕ} (p u x : ℕ) → StandsBefore q rest parts
-      → IsIn u x (flows_of_next nullable (length g.nodes) rest (follow_of (length g.nodes) p) (follow_of (length g.nodes) q)) → IsIn u x (flows_behind_parts nullable (length g.nodes) p parts)
-  behind_part {q} {rest} p u x follow.here is = in_left (flows_behind_parts nullable (length g.nodes) p rest) is
-  behind_part p u x (follow.further {first = r} {parts = ps} stands) is =
-      in_right (flows_of_next nullable (length g.nodes) ps (follow_of (length g.nodes) p) (follow_of (length g.nodes) r)) (behind_part p u x stands is)
+  after_part : {q : ℕ} {rest parts : List ℕ} (p u x : ℕ) → StandsBefore q rest parts
+      → IsIn u x (flows_of_next nullable (length g.nodes) rest (follow_of (length g.nodes) p) (follow_of (length g.nodes) q)) → IsIn u x (flows_after_parts nullable (length g.nodes) p parts)
+  after_part {q} {rest} p u x follow.here is = in_left (flows_after_parts nullable (length g.nodes) p rest) is
+  after_part p u x (follow.further {first = r} {parts = ps} stands) is =
+      in_right (flows_of_next nullable (length g.nodes) ps (follow_of (length g.nodes) p) (follow_of (length g.nodes) r)) (after_part p u x stands is)
 
   alternative_first : (p : ℕ) (parts : List ℕ) (k q : ℕ) → slice_get parts k ≡ Some q → IsIn q p (flows_of_alternatives (length g.nodes) p parts)
   alternative_first p [] zero q e = absurd cc
@@ -135,7 +135,7 @@ module _ (g : Grammar) (start : StartKind) (nullable keys : List Bool) (on : Mar
     | inr e ↦ subst (λ b. IsIn q p (cond b ((follow_of (length g.nodes) p, follow_of (length g.nodes) q) ∷ []) (flows_of_only (length g.nodes) p q))) (sym e) here
   ]
 
-  -- the five lists of edges of a chain, one behind another
+  -- the five lists of edges of a chain, one after another
   chain_1 : (p o s u x : ℕ) → IsIn u x (flows_of_some nullable (o ∷ s ∷ []) p) → IsIn u x (flows_of_chain nullable (length g.nodes) p o s)
   chain_1 p o s u x is = in_left _ (in_left _ (in_left _ (in_left _ is)))
 
@@ -169,7 +169,7 @@ module _ (g : Grammar) (start : StartKind) (nullable keys : List Bool) (on : Mar
 
   -- what is told of a part that is reached
   reached_flow : {n : Node} {q : ℕ} (p : ℕ) → slice_get g.nodes p ≡ Some n → (IsKeyTry g n → ⊥) → ReachedPart g n q → IsIn q p (node_flows g.rules nullable keys (length g.nodes) p n)
-  reached_flow p at no_key (reached.seq {parts = parts} r) = in_left (flows_behind_parts nullable (length g.nodes) p parts) (reached_in g nullable on p r)
+  reached_flow p at no_key (reached.seq {parts = parts} r) = in_left (flows_after_parts nullable (length g.nodes) p parts) (reached_in g nullable on p r)
   reached_flow p at no_key (reached.choice {parts = parts} k {part = q} e) = alternative_first g nullable on p parts k q e
   reached_flow p at no_key (reached.chain {operand = o} {separator = s} {part = q} r) = chain_1 p o s q p (reached_in g nullable on p (again_left r))
   reached_flow p at no_key reached.many = further here
@@ -206,15 +206,15 @@ module _ (g : Grammar) (start : StartKind) (nullable keys : List Bool) (on : Mar
       → IsReached graph roots u → IsReached graph roots (follow_of (length g.nodes) q)
   along_part {q} {rest} {parts} p u at stands is from =
       to_follow_set p (form.Seq parts) u q at (stands_below g stands (below p (form.Seq parts) at))
-      (in_right (flows_of_some nullable parts p) (behind_part g nullable on p u (follow_of (length g.nodes) q) stands is)) from
+      (in_right (flows_of_some nullable parts p) (after_part g nullable on p u (follow_of (length g.nodes) q) stands is)) from
 
-  over_next : (q r : ℕ) (rs : List ℕ) (behind : ℕ) → Nullable g r → IsIn (follow_of (length g.nodes) r) (follow_of (length g.nodes) q) (flows_of_next nullable (length g.nodes) (r ∷ rs) behind (follow_of (length g.nodes) q))
-  over_next q r rs behind null = further (over g nullable on r (follow_of (length g.nodes) r) (follow_of (length g.nodes) q) ((follow_of (length g.nodes) r, follow_of (length g.nodes) q) ∷ []) null here)
+  over_next : (q r : ℕ) (rs : List ℕ) (after : ℕ) → Nullable g r → IsIn (follow_of (length g.nodes) r) (follow_of (length g.nodes) q) (flows_of_next nullable (length g.nodes) (r ∷ rs) after (follow_of (length g.nodes) q))
+  over_next q r rs after null = further (over g nullable on r (follow_of (length g.nodes) r) (follow_of (length g.nodes) q) ((follow_of (length g.nodes) r, follow_of (length g.nodes) q) ∷ []) null here)
 
   next_met : {s : StartKind} {q : ℕ} {rest parts : List ℕ} (p : ℕ) → slice_get g.nodes p ≡ Some (form.Seq parts) → StandsBefore q rest parts → s ≡ start → IsFirstOf g s rest
       → IsReached graph roots (follow_of (length g.nodes) q)
   next_met p at stands same (first_of.here {part = r} is) = along_part p r at stands here (first_as same is)
-  next_met {q = q} p at stands same (first_of.behind {part = r} {parts = rs} null later) =
+  next_met {q = q} p at stands same (first_of.after {part = r} {parts = rs} null later) =
       along_part p (follow_of (length g.nodes) r) at stands (over_next q r rs (follow_of (length g.nodes) p) null) (next_met p at (stands_next stands) same later)
 
   last_met : {q : ℕ} {rest parts : List ℕ} (p : ℕ) → slice_get g.nodes p ≡ Some (form.Seq parts) → StandsBefore q rest parts → AllNullable g rest
@@ -255,15 +255,15 @@ module _ (g : Grammar) (start : StartKind) (nullable keys : List Bool) (on : Mar
   follow_as same (follow.over_operand p {o = o} {s = s} {n = n} at chain null (first_of.here f)) =
       to_follow_set p n s s at (chain_below chain (below p n at)).1
       (chain_flows p s (follow_of (length g.nodes) s) chain (chain_5 p o s null)) (first_as same f)
-  follow_as same (follow.over_operand p {o = o} {s = s} {n = n} at chain null (first_of.behind other (first_of.here f))) =
+  follow_as same (follow.over_operand p {o = o} {s = s} {n = n} at chain null (first_of.after other (first_of.here f))) =
       to_follow_set p n o s at (chain_below chain (below p n at)).1
       (chain_flows p o (follow_of (length g.nodes) s) chain (chain_3 p o s o (follow_of (length g.nodes) s) here)) (first_as same f)
-  follow_as same (follow.over_operand p at chain null (first_of.behind other (first_of.behind again none))) = elim none [ ]
+  follow_as same (follow.over_operand p at chain null (first_of.after other (first_of.after again none))) = elim none [ ]
   follow_as same (follow.last_operand {p = p} {o = o} {s = s} {n = n} at chain null f) =
       to_follow_set p n (follow_of (length g.nodes) p) s at (chain_below chain (below p n at)).1
       (chain_flows p (follow_of (length g.nodes) p) (follow_of (length g.nodes) s) chain
       (chain_3 p o s (follow_of (length g.nodes) p) (follow_of (length g.nodes) s)
-      (behind_all g nullable on (follow_of (length g.nodes) p) (follow_of (length g.nodes) s) (nullable_of.first null nullable_of.none))))
+      (after_all g nullable on (follow_of (length g.nodes) p) (follow_of (length g.nodes) s) (nullable_of.first null nullable_of.none))))
       (follow_as same f)
   follow_as same (follow.operator p {term = term} {builders = builders} at is) =
       let v = follow_of (length g.nodes) term in

@@ -13,7 +13,7 @@ use Rattle.pg_grammar.specs.declared.grammar.Rule as declared
 use Rattle.pg_start.specs.declared.kind.StartKind.{StartKind}
 use Rattle.pg_sets.specs.First.{IsFirst, IsFirstOf}
 use Rattle.pg_sets.specs.First as first_of
-use Rattle.pg_sets.specs.Flows.{Flow, follow_of, flows_of_all, flows_of_some, flows_of_next, flows_behind_parts, flows_of_alternatives, flows_of_chain, flows_of_only, around_flows, node_flows, with_flows, all_flows}
+use Rattle.pg_sets.specs.Flows.{Flow, follow_of, flows_of_all, flows_of_some, flows_of_next, flows_after_parts, flows_of_alternatives, flows_of_chain, flows_of_only, around_flows, node_flows, with_flows, all_flows}
 use Rattle.pg_sets.specs.Follow.{StandsBefore, IsChain, HasOnly, IsFollow}
 use Rattle.pg_sets.specs.Follow as follow
 use Rattle.pg_sets.specs.Marks.{is_marked}
@@ -29,7 +29,7 @@ use Rattle.pg_sets.proofs.Joining.{none_at}
 use Rattle.pg_sets.proofs.Lists.{all_get}
 use Rattle.pg_sets.proofs.Placing.{follow_comes, stands_next}
 use Rattle.pg_grammar.proofs.Each.{all-weaker}
-use Rattle.pg_grammar.proofs.Numbers.{parts_are_behind, bodies_are_nodes}
+use Rattle.pg_grammar.proofs.Numbers.{parts_are_after, bodies_are_nodes}
 use Rattle.pg_sets.proofs.Heading.{MarksNullable, again_shown}
 
 -- the start is in the set with this number
@@ -80,32 +80,32 @@ module _ (g : Grammar) (start : StartKind) (nullable : List Bool) (on : MarksNul
   some_sound [] to u x below lead is from = elim is [ ]
   some_sound (q ∷ qs) to u x below lead here from = lead (first_of.here (from.first below.0))
   some_sound (q ∷ qs) to u x below lead (further is) from =
-      go (is_marked nullable q) refl is (λ e i. some_sound qs to u x below.1 (λ f. lead (first_of.behind ((on q).0 e) f)) i from)
+      go (is_marked nullable q) refl is (λ e i. some_sound qs to u x below.1 (λ f. lead (first_of.after ((on q).0 e) f)) i from)
     where
       go : (b : Bool) → is_marked nullable q ≡ b → IsIn u x (cond b (flows_of_some nullable qs to) [])
           → (is_marked nullable q ≡ true → IsIn u x (flows_of_some nullable qs to) → Holds g start x) → Holds g start x
       go true e i ih = ih e i
       go false e i ih = elim i [ ]
 
-  -- and from another set behind them
-  all_sound : (parts : List ℕ) (behind to u x : ℕ) → Below g parts → (IsFirstOf g start parts → Holds g start to)
-      → (AllNullable g parts → Holds g start behind → Holds g start to) → IsIn u x (flows_of_all nullable parts behind to) → Holds g start u → Holds g start x
-  all_sound [] behind to u x below lead over here from = over nullable_of.none from
-  all_sound [] behind to u x below lead over (further is) from = elim is [ ]
-  all_sound (q ∷ qs) behind to u x below lead over here from = lead (first_of.here (from.first below.0))
-  all_sound (q ∷ qs) behind to u x below lead over (further is) from =
+  -- and from another set after them
+  all_sound : (parts : List ℕ) (after to u x : ℕ) → Below g parts → (IsFirstOf g start parts → Holds g start to)
+      → (AllNullable g parts → Holds g start after → Holds g start to) → IsIn u x (flows_of_all nullable parts after to) → Holds g start u → Holds g start x
+  all_sound [] after to u x below lead over here from = over nullable_of.none from
+  all_sound [] after to u x below lead over (further is) from = elim is [ ]
+  all_sound (q ∷ qs) after to u x below lead over here from = lead (first_of.here (from.first below.0))
+  all_sound (q ∷ qs) after to u x below lead over (further is) from =
       go (is_marked nullable q) refl is
-      (λ e i. all_sound qs behind to u x below.1 (λ f. lead (first_of.behind ((on q).0 e) f)) (λ all h. over (nullable_of.first ((on q).0 e) all) h) i from)
+      (λ e i. all_sound qs after to u x below.1 (λ f. lead (first_of.after ((on q).0 e) f)) (λ all h. over (nullable_of.first ((on q).0 e) all) h) i from)
     where
-      go : (b : Bool) → is_marked nullable q ≡ b → IsIn u x (cond b (flows_of_all nullable qs behind to) [])
-          → (is_marked nullable q ≡ true → IsIn u x (flows_of_all nullable qs behind to) → Holds g start x) → Holds g start x
+      go : (b : Bool) → is_marked nullable q ≡ b → IsIn u x (cond b (flows_of_all nullable qs after to) [])
+          → (is_marked nullable q ≡ true → IsIn u x (flows_of_all nullable qs after to) → Holds g start x) → Holds g start x
       go true e i ih = ih e i
       go false e i ih = elim i [ ]
 
   -- the first of a sequence's parts are those of the parts that are reached in it
   first_in : {parts : List ℕ} {R : Type 0} → IsFirstOf g start parts → ((q : ℕ) → ReachedIn g parts q → IsFirst g start q → R) → R
   first_in (first_of.here {part = q} is) then_so = then_so q reached.first is
-  first_in (first_of.behind null later) then_so = first_in later (λ q in_rest is. then_so q (reached.later null in_rest) is)
+  first_in (first_of.after null later) then_so = first_in later (λ q in_rest is. then_so q (reached.later null in_rest) is)
 
   -- from what stands next in a sequence
   next_sound : IsGrammar g → (p : ℕ) (whole : List ℕ) (q : ℕ) (qs : List ℕ) → slice_get g.nodes p ≡ Some (form.Seq whole) → StandsBefore q qs whole → Below g qs → p < length g.nodes
@@ -120,7 +120,7 @@ module _ (g : Grammar) (start : StartKind) (nullable : List Bool) (on : MarksNul
           to_follow g start q
           (λ few.
           elim (follow_comes g grammar p whole at (stands_next stands) (from_follow g start r below.0 h)) [
-            | inl first ↦ follow.next p at stands (first_of.behind null first)
+            | inl first ↦ follow.next p at stands (first_of.after null first)
             | inr last ↦ follow.last at stands (nullable_of.first null last.0) last.1
           ])
       over null (further none) h = elim none [ ]
@@ -129,15 +129,15 @@ module _ (g : Grammar) (start : StartKind) (nullable : List Bool) (on : MarksNul
       go true e i = over ((on r).0 e) i from
       go false e i = elim i [ ]
 
-  -- behind the parts of a sequence
-  behind_sound : IsGrammar g → (p : ℕ) (whole parts : List ℕ) → slice_get g.nodes p ≡ Some (form.Seq whole)
+  -- after the parts of a sequence
+  past_sound : IsGrammar g → (p : ℕ) (whole parts : List ℕ) → slice_get g.nodes p ≡ Some (form.Seq whole)
       → ((q : ℕ) (rest : List ℕ) → StandsBefore q rest parts → StandsBefore q rest whole) → Below g parts → p < length g.nodes → (u x : ℕ)
-      → IsIn u x (flows_behind_parts nullable (length g.nodes) p parts) → Holds g start u → Holds g start x
-  behind_sound grammar p whole [] at tail below inside u x is from = elim is [ ]
-  behind_sound grammar p whole (q ∷ qs) at tail below inside u x is from =
-      elim (in_cases u x (flows_of_next nullable (length g.nodes) qs (follow_of (length g.nodes) p) (follow_of (length g.nodes) q)) (flows_behind_parts nullable (length g.nodes) p qs) is) [
+      → IsIn u x (flows_after_parts nullable (length g.nodes) p parts) → Holds g start u → Holds g start x
+  past_sound grammar p whole [] at tail below inside u x is from = elim is [ ]
+  past_sound grammar p whole (q ∷ qs) at tail below inside u x is from =
+      elim (in_cases u x (flows_of_next nullable (length g.nodes) qs (follow_of (length g.nodes) p) (follow_of (length g.nodes) q)) (flows_after_parts nullable (length g.nodes) p qs) is) [
         | inl one ↦ next_sound grammar p whole q qs at (tail q qs follow.here) below.1 inside u x one from
-        | inr later ↦ behind_sound grammar p whole qs at (λ r rest s. tail r rest (follow.further s)) below.1 inside u x later from
+        | inr later ↦ past_sound grammar p whole qs at (λ r rest s. tail r rest (follow.further s)) below.1 inside u x later from
       ]
 
   -- of alternatives
@@ -173,19 +173,19 @@ module _ (g : Grammar) (start : StartKind) (nullable : List Bool) (on : MarksNul
 
   only_first : {o : ℕ} → IsFirstOf g start (o ∷ []) → IsFirst g start o
   only_first (first_of.here is) = is
-  only_first (first_of.behind null none) = elim none [ ]
+  only_first (first_of.after null none) = elim none [ ]
 
   chain_sound : (p o s : ℕ) (n : Node) → slice_get g.nodes p ≡ Some n → IsChain o s n → o < length g.nodes → s < length g.nodes → p < length g.nodes → (u x : ℕ)
       → IsIn u x (flows_of_chain nullable (length g.nodes) p o s) → Holds g start u → Holds g start x
   chain_sound p o s n at chain operand separator inside u x is from =
       let count = length g.nodes in
-      let behind = follow_of count p in
+      let after = follow_of count p in
       let after_operand = follow_of count o in
       let after_separator = follow_of count s in
       let a = flows_of_some nullable (o ∷ s ∷ []) p in
       let b = flows_of_some nullable (s ∷ o ∷ []) after_operand in
-      let c = flows_of_all nullable (o ∷ []) behind after_separator in
-      let d : List Flow = (behind, after_operand) ∷ [] in
+      let c = flows_of_all nullable (o ∷ []) after after_separator in
+      let d : List Flow = (after, after_operand) ∷ [] in
       let e = cond (is_marked nullable o) (flows_of_some nullable (s ∷ []) after_separator) [] in
       elim (in_cases u x (a ++ b ++ c ++ d) e is) [
         | inr last ↦
@@ -196,7 +196,7 @@ module _ (g : Grammar) (start : StartKind) (nullable : List Bool) (on : MarksNul
               | inl three ↦
                   elim (in_cases u x (a ++ b) c three) [
                     | inr third ↦
-                        all_sound (o ∷ []) behind after_separator u x (operand, tt) (λ f. to_follow g start s (λ few. follow.operand p at chain (only_first f)))
+                        all_sound (o ∷ []) after after_separator u x (operand, tt) (λ f. to_follow g start s (λ few. follow.operand p at chain (only_first f)))
                         (λ all h. to_follow g start s (λ few. follow.last_operand at chain (head_nullable all) (from_follow g start p inside h))) third from
                     | inl two ↦
                         elim (in_cases u x a b two) [
@@ -230,7 +230,7 @@ module _ (g : Grammar) (start : StartKind) (nullable : List Bool) (on : MarksNul
 
 module _ (g : Grammar) (start : StartKind) (nullable keys : List Bool) (on : MarksNullable g nullable) (tries : MarksKeys g keys) (grammar : IsGrammar g) where
   pub parts_below : (p : ℕ) (n : Node) → slice_get g.nodes p ≡ Some n → Below g (parts_of n)
-  parts_below p n at = all-weaker (λ q. (p < q) × (q < length g.nodes)) (λ q. q < length g.nodes) (λ q h. h.1) (parts_of n) (parts_are_behind g.nodes p n grammar.preorder at)
+  parts_below p n at = all-weaker (λ q. (p < q) × (q < length g.nodes)) (λ q. q < length g.nodes) (λ q h. h.1) (parts_of n) (parts_are_after g.nodes p n grammar.preorder at)
 
   only_at : (p q : ℕ) (n : Node) → slice_get g.nodes p ≡ Some n → (IsKeyTry g n → ⊥) → ReachedPart g n q → (IsFollow g start p → IsFollow g start q) → q < length g.nodes
       → (u x : ℕ) → IsIn u x (flows_of_only (length g.nodes) p q) → Holds g start u → Holds g start x
@@ -264,11 +264,11 @@ module _ (g : Grammar) (start : StartKind) (nullable keys : List Bool) (on : Mar
   node_sound p (form.Seq parts) at u x is from =
       let inside = slice_get_within g.nodes p (form.Seq parts) at in
       let below = parts_below p (form.Seq parts) at in
-      elim (in_cases u x (flows_of_some nullable parts p) (flows_behind_parts nullable (length g.nodes) p parts) is) [
+      elim (in_cases u x (flows_of_some nullable parts p) (flows_after_parts nullable (length g.nodes) p parts) is) [
         | inl first ↦
             some_sound g start nullable on parts p u x below
             (λ f. to_first g start p inside (first_in g start nullable on f (λ q r i. first_of.part at (λ k. elim k [ ]) (reached.seq r) i))) first from
-        | inr behind ↦ behind_sound g start nullable on grammar p parts parts at (λ q rest s. s) below inside u x behind from
+        | inr after ↦ past_sound g start nullable on grammar p parts parts at (λ q rest s. s) below inside u x after from
       ]
   node_sound p (form.Choice parts) at u x is from =
       alternatives_sound g start nullable on p parts parts at (λ k q e. record { place = k; there = e }) (parts_below p (form.Choice parts) at)

@@ -1,14 +1,13 @@
 -- What a graph has when edges were added to it.
 use Rattle.std.proofs.Common.{◌≡◌, ℕ, zero, suc, ◌+◌, ◌<◌, Bool, true, ◌⊎◌, inl, inr, List, [], ◌∷◌, ◌++◌, Some, slice_get, length, refl, sym, subst, ◌∙◌, arith, length-set}
-use Rattle.std.proofs.lemmas.Bool.{true≢false}
 use Rattle.pg_grammar.specs.Forms.{Node}
 use Rattle.pg_grammar.specs.declared.grammar.Rule.{Rule}
 use Rattle.pg_sets.specs.Graphs.{has, numbers_at, joined}
 use Rattle.pg_sets.specs.Flows.{Flow, with_flows, node_flows, all_flows}
-use Rattle.pg_sets.proofs.Lists.{has_first, has_cases}
+use Rattle.pg_sets.proofs.Lists.{has_first, only_one}
 use Rattle.pg_sets.proofs.Joining.{each_cases, each_kept, each_new}
 
--- one list of edges behind another
+-- one list of edges after another
 pub with_flows-append : (graph : List (List ℕ)) (flows others : List Flow) → with_flows graph (flows ++ others) ≡ with_flows (with_flows graph flows) others
 with_flows-append graph [] others = refl
 with_flows-append graph (flow ∷ flows) others = with_flows-append (joined graph flow.0 flow.1) flows others
@@ -41,13 +40,10 @@ edge_cases graph (flow ∷ flows) u x h =
       | inl old ↦
           elim (each_cases graph (flow.0 ∷ []) flow.1 u x old) [
             | inl before ↦ inl before
-            | inr new ↦ inr (same flow u x (from_first flow.0 u new.0) new.1)
+            | inr new ↦ inr (same flow u x (only_one flow.0 u new.0) new.1)
           ]
     ]
   where
-    from_first : (a u : ℕ) → has (a ∷ []) u ≡ true → a ≡ u
-    from_first a u h = elim (has_cases [] a u h) [ inl e ↦ e | inr none ↦ absurd (true≢false (sym none)) ]
-
     same : (flow : Flow) (u x : ℕ) → flow.0 ≡ u → flow.1 ≡ x → IsIn u x (flow ∷ flows)
     same flow u x e f = subst (λ a. IsIn a x (flow ∷ flows)) e (subst (λ b. IsIn flow.0 b (flow ∷ flows)) f here)
 

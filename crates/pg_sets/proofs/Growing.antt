@@ -1,13 +1,8 @@
 -- Sets that grow lack fewer numbers.
-use Rattle.std.proofs.Common.{◌≡◌, ℕ, zero, suc, ◌+◌, ◌<◌, ◌≤◌, Bool, true, false, not, inl, inr, List, [], ◌∷◌, length, count_by, cond, zero-add, refl, sym, ◌∙◌, arith}
-use Rattle.std.proofs.lemmas.Bool.{cases_lt, true≢false}
-use Rattle.std.proofs.lemmas.List.{get_or_past}
+use Rattle.std.proofs.Common.{◌≡◌, ℕ, zero, suc, ◌+◌, ◌<◌, ◌≤◌, Bool, true, false, not, List, [], ◌∷◌, length, count_by, cond, zero-add, refl, sym, ◌∙◌, arith}
+use Rattle.std.proofs.lemmas.Bool.{true≢false}
 use Rattle.std.proofs.lemmas.List.Sums.{sum_by-append}
-use Rattle.pg_numbers.specs.Numbers.{contains, set_at}
-
--- a number in a set is below its limit
-pub contains_below : (set : List Bool) (k : ℕ) → contains set k ≡ true → k < length set
-contains_below set k h = elim (cases_lt k (length set)) [ inl below ↦ below | inr past ↦ absurd (true≢false (sym h ∙ get_or_past set k false past)) ]
+use Rattle.pg_bit_set.specs.Numbers.{contains, set_at}
 
 -- a set that has a number is there
 pub set_below : (sets : List (List Bool)) (v k : ℕ) → contains (set_at sets v) k ≡ true → v < length sets

@@ -16,7 +16,7 @@ use Rattle.pg_sets.specs.Nullable.{Nullable}
 use Rattle.pg_sets.specs.Parts.{up_to_unmarked, reached_parts, used_rules, all_joined}
 use Rattle.pg_sets.specs.Reached as reached_by
 use Rattle.pg_sets.specs.Reached.{ReachedIn, first, later, ReachedPart, seq, choice, many, expression, ReachesUse, here, through, Heads, AreHeads}
-use Rattle.pg_sets.proofs.Lists.{has_first, has_behind, has_cases, has_at, stands, all_get, map_at, map_past}
+use Rattle.pg_sets.proofs.Lists.{has_first, has_after, has_cases, has_at, only_one, stands, all_get, map_at, map_past}
 use Rattle.pg_sets.proofs.Walking.{reached_below}
 use Rattle.pg_sets.proofs.Joining.{Names, all_cases, all_new, all_length, none_at}
 
@@ -26,7 +26,7 @@ MarksNullable g marks = (p : ℕ) → (is_marked marks p ≡ true) ↔ Nullable 
 
 -- ---- parts that are reached
 
--- of a list that is cut behind its first number without a mark
+-- of a list that is cut after its first number without a mark
 in_shown : (g : Grammar) (marks : List Bool) → MarksNullable g marks → (parts : List ℕ) (q : ℕ) → has (up_to_unmarked marks parts) q ≡ true → ReachedIn g parts q
 in_shown g marks on [] q h = absurd (true≢false (sym h))
 in_shown g marks on (p ∷ ps) q h = go (is_marked marks p) refl h (λ e. in_shown g marks on ps q e)
@@ -36,14 +36,14 @@ in_shown g marks on (p ∷ ps) q h = go (is_marked marks p) refl h (λ e. in_sho
 
     go : (b : Bool) → is_marked marks p ≡ b → has (p ∷ cond b (up_to_unmarked marks ps) []) q ≡ true → (has (up_to_unmarked marks ps) q ≡ true → ReachedIn g ps q)
         → ReachedIn g (p ∷ ps) q
-    go true is e ih = elim (has_cases (up_to_unmarked marks ps) p q e) [ inl same ↦ one same | inr behind ↦ later ((on p).0 is) (ih behind) ]
-    go false is e ih = elim (has_cases [] p q e) [ inl same ↦ one same | inr behind ↦ absurd (true≢false (sym behind)) ]
+    go true is e ih = elim (has_cases (up_to_unmarked marks ps) p q e) [ inl same ↦ one same | inr after ↦ later ((on p).0 is) (ih after) ]
+    go false is e ih = elim (has_cases [] p q e) [ inl same ↦ one same | inr after ↦ absurd (true≢false (sym after)) ]
 
 in_noted : {g : Grammar} (marks : List Bool) {parts : List ℕ} {q : ℕ} → MarksNullable g marks → ReachedIn g parts q → has (up_to_unmarked marks parts) q ≡ true
 in_noted marks on (first {part} {parts}) = has_first (cond (is_marked marks part) (up_to_unmarked marks parts) []) part
 in_noted marks on (later {part} {reached} {parts} nullable is) =
     let e : cond (is_marked marks part) (up_to_unmarked marks parts) [] ≡ up_to_unmarked marks parts = ap (λ b. cond b (up_to_unmarked marks parts) []) ((on part).1 nullable) in
-    has_behind (cond (is_marked marks part) (up_to_unmarked marks parts) []) part reached (ap (λ xs. has xs reached) e ∙ in_noted marks on is)
+    has_after (cond (is_marked marks part) (up_to_unmarked marks parts) []) part reached (ap (λ xs. has xs reached) e ∙ in_noted marks on is)
 
 -- a third part that is the first again adds none
 pub again_shown : {g : Grammar} {p s q : ℕ} → ReachedIn g (p ∷ s ∷ []) q → ReachedIn g (p ∷ s ∷ p ∷ []) q
@@ -56,9 +56,6 @@ again_left first = first
 again_left (later n first) = later n first
 again_left (later n (later m first)) = first
 again_left (later n (later m (later l none))) = elim none [ ]
-
-only_one : (part q : ℕ) → has (part ∷ []) q ≡ true → part ≡ q
-only_one part q h = elim (has_cases [] part q h) [ inl e ↦ e | inr none ↦ absurd (true≢false (sym none)) ]
 
 -- what is shown by the marks is reached
 pub part_shown : (g : Grammar) (marks : List Bool) → MarksNullable g marks → (n : Node) (q : ℕ) → has (reached_parts marks n) q ≡ true → ReachedPart g n q
@@ -82,7 +79,8 @@ part_noted marks on (reached_by.around {part = part}) = has_first [] part
 
 -- ---- uses that are reached
 
-used_is : (n : Node) (r : ℕ) → has (used_rules n) r ≡ true → n ≡ form.Rule r
+-- a rule that is used stands there
+pub used_is : (n : Node) (r : ℕ) → has (used_rules n) r ≡ true → n ≡ form.Rule r
 used_is (form.Leaf leaf) r h = absurd (true≢false (sym h))
 used_is (form.Seq parts) r h = absurd (true≢false (sym h))
 used_is (form.Choice parts) r h = absurd (true≢false (sym h))

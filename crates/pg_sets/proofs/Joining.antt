@@ -8,7 +8,7 @@ use Rattle.std.proofs.lemmas.Option.{slice_get-get_or}
 use Rattle.pg_grammar.specs.Forms.{Node}
 use Rattle.pg_sets.specs.Graphs.{has, AreOnce, numbers_at, joined, joined_each, IsReached, IsGathered}
 use Rattle.pg_sets.specs.Parts.{all_joined}
-use Rattle.pg_sets.proofs.Lists.{has_push, has_first, has_behind, has_cases, has_other, has_at}
+use Rattle.pg_sets.proofs.Lists.{has_push, has_first, has_after, has_cases, has_other, has_at}
 
 -- ---- one number more
 
@@ -43,8 +43,8 @@ each_at lists (k ∷ ks) n u once below =
           ∙ (here ∙ ap (λ b. cond b (numbers_at lists u ++ n ∷ []) (numbers_at lists u)) (sym first)))
       | inr ne ↦
           let same = joined_other lists k n u ne in
-          let behind : has ks u ≡ has (k ∷ ks) u = sym (has_other ks k u (λ e. ne (sym e))) in
-          rest ∙ (ap (λ xs. cond (has ks u) (xs ++ n ∷ []) xs) same ∙ ap (λ b. cond b (numbers_at lists u ++ n ∷ []) (numbers_at lists u)) behind)
+          let after : has ks u ≡ has (k ∷ ks) u = sym (has_other ks k u (λ e. ne (sym e))) in
+          rest ∙ (ap (λ xs. cond (has ks u) (xs ++ n ∷ []) xs) same ∙ ap (λ b. cond b (numbers_at lists u ++ n ∷ []) (numbers_at lists u)) after)
     ]
 
 -- what stands in a list then: what stood there, or the number, if it was added there
@@ -53,7 +53,7 @@ pub each_cases : (lists : List (List ℕ)) (ks : List ℕ) (n u x : ℕ) → has
 each_cases lists [] n u x h = inl h
 each_cases lists (k ∷ ks) n u x h =
     elim (each_cases (joined lists k n) ks n u x h) [
-      | inr new ↦ inr (has_behind ks k u new.0, new.1)
+      | inr new ↦ inr (has_after ks k u new.0, new.1)
       | inl old ↦
           elim (cases_eq u k) [
             | inr ne ↦ inl (ap (λ xs. has xs x) (sym (joined_other lists k n u ne)) ∙ old)

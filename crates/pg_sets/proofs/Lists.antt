@@ -2,6 +2,7 @@
 use Rattle.std.proofs.Common.{◌≡◌, ◌≢◌, ℕ, zero, suc, Bool, true, false, ◌||◌, ◌⊎◌, inl, inr, List, [], ◌∷◌, ◌++◌, Some, None, slice_get, map, length, ◌<◌, arith, subst, refl, ap, sym, ◌∙◌}
 use Rattle.std.specs.Prelude.{◌==◌}
 use Rattle.std.specs.List.{list_any, AllByRecursion}
+use Rattle.std.proofs.Math.Bool.{or-false}
 use Rattle.std.proofs.lemmas.Bool.{eq-eqb, eqb-true, ne_eqb, or_left, or_right, or_cases, or_parts, or_from, true≢false}
 use Rattle.std.proofs.lemmas.List.Folds.{list_any-append}
 use Rattle.pg_sets.specs.Graphs.{has, numbers_at, AreOnce}
@@ -45,10 +46,6 @@ map_past f (y ∷ ys) (suc k) e = map_past f ys k e
 
 -- ---- numbers among others
 
-or_false : (b : Bool) → (b || false) ≡ b
-or_false true = refl
-or_false false = refl
-
 -- a number that stands at a place is there
 pub has_at : (xs : List ℕ) (k n : ℕ) → slice_get xs k ≡ Some n → has xs n ≡ true
 has_at [] zero n e = absurd cc
@@ -68,7 +65,7 @@ stands xs n e =
 
 -- one number more
 pub has_push : (xs : List ℕ) (n m : ℕ) → has (xs ++ n ∷ []) m ≡ (has xs m || (n == m))
-has_push xs n m = list_any-append (λ x. x == m) xs (n ∷ []) ∙ ap (λ b. has xs m || b) (or_false (n == m))
+has_push xs n m = list_any-append (λ x. x == m) xs (n ∷ []) ∙ ap (λ b. has xs m || b) (or-false (n == m))
 
 pub has_append : (xs ys : List ℕ) (m : ℕ) → has (xs ++ ys) m ≡ (has xs m || has ys m)
 has_append xs ys m = list_any-append (λ x. x == m) xs ys
@@ -76,15 +73,19 @@ has_append xs ys m = list_any-append (λ x. x == m) xs ys
 pub has_first : (xs : List ℕ) (n : ℕ) → has (n ∷ xs) n ≡ true
 has_first xs n = or_left (n == n) (has xs n) (eq-eqb n n refl)
 
-pub has_behind : (xs : List ℕ) (n m : ℕ) → has xs m ≡ true → has (n ∷ xs) m ≡ true
-has_behind xs n m h = or_right (n == m) (has xs m) h
+pub has_after : (xs : List ℕ) (n m : ℕ) → has xs m ≡ true → has (n ∷ xs) m ≡ true
+has_after xs n m h = or_right (n == m) (has xs m) h
 
--- the first, or one behind it
+-- the first, or one after it
 pub has_cases : (xs : List ℕ) (n m : ℕ) → has (n ∷ xs) m ≡ true → (n ≡ m) ⊎ (has xs m ≡ true)
 has_cases xs n m h = elim (or_cases (n == m) (has xs m) h) [ inl e ↦ inl (eqb-true n m e) | inr e ↦ inr e ]
 
 pub has_other : (xs : List ℕ) (n m : ℕ) → n ≢ m → has (n ∷ xs) m ≡ has xs m
 has_other xs n m ne = ap (λ b. b || has xs m) (ne_eqb n m ne)
+
+-- a number among one is that one
+pub only_one : (n m : ℕ) → has (n ∷ []) m ≡ true → n ≡ m
+only_one n m h = elim (has_cases [] n m h) [ inl e ↦ e | inr none ↦ absurd (true≢false (sym none)) ]
 
 -- a number more that isn't among those that stand once
 pub once_push : (xs : List ℕ) (x : ℕ) → AreOnce xs → has xs x ≡ false → AreOnce (xs ++ x ∷ [])

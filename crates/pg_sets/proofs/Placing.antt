@@ -16,7 +16,7 @@ use Rattle.pg_sets.specs.Follow.{StandsBefore, here, further, IsChain, HasOnly, 
 use Rattle.pg_sets.specs.Follow as follow
 use Rattle.pg_sets.specs.Graphs.{has, AreOnce}
 use Rattle.pg_sets.specs.Nullable.{AllNullable}
-use Rattle.pg_sets.proofs.Lists.{all_get, has_at, has_behind, has_cases, has_first, stands}
+use Rattle.pg_sets.proofs.Lists.{all_get, has_at, has_after, has_cases, has_first, stands}
 
 -- ---- numbers that stand once
 
@@ -24,12 +24,12 @@ has_take : (n : ℕ) (xs : List ℕ) (j : ℕ) → has (take n xs) j ≡ true �
 has_take zero xs j h = absurd (true≢false (sym h))
 has_take (suc n) [] j h = absurd (true≢false (sym h))
 has_take (suc n) (x ∷ xs) j h =
-    elim (has_cases (take n xs) x j h) [ inl e ↦ subst (λ k. has (x ∷ xs) k ≡ true) e (has_first xs x) | inr later ↦ has_behind xs x j (has_take n xs j later) ]
+    elim (has_cases (take n xs) x j h) [ inl e ↦ subst (λ k. has (x ∷ xs) k ≡ true) e (has_first xs x) | inr later ↦ has_after xs x j (has_take n xs j later) ]
 
 has_drop : (n : ℕ) (xs : List ℕ) (j : ℕ) → has (drop n xs) j ≡ true → has xs j ≡ true
 has_drop zero xs j h = h
 has_drop (suc n) [] j h = absurd (true≢false (sym h))
-has_drop (suc n) (x ∷ xs) j h = has_behind xs x j (has_drop n xs j h)
+has_drop (suc n) (x ∷ xs) j h = has_after xs x j (has_drop n xs j h)
 
 out_of : (xs ys : List ℕ) (j : ℕ) → (has ys j ≡ true → has xs j ≡ true) → has xs j ≡ false → has ys j ≡ false
 out_of xs ys j within out = elim (cases_Bool (has ys j)) [ inl is ↦ absurd (true≢false (sym (within is) ∙ out)) | inr none ↦ none ]
@@ -65,19 +65,19 @@ once_at (y ∷ ys) (suc k) (suc m) x once at also = ap suc (once_at ys k m x onc
 
 -- ---- roots and parts
 
-root_behind : (i j : ℕ) (counts : List ℕ) → has (roots i counts) j ≡ true → i ≤ j
-root_behind i j counts h =
+root_after : (i j : ℕ) (counts : List ℕ) → has (roots i counts) j ≡ true → i ≤ j
+root_after i j counts h =
     let at = stands (roots i counts) j h in
     (all_get (λ q. (i ≤ q) × (q < i + length counts)) (roots i counts) at.place j (roots_within i counts) at.there).0
 
 roots_once : (i : ℕ) (counts : List ℕ) → AreOnce (roots i counts)
 roots_once i [] = tt
 roots_once i (n ∷ counts) = (
-  out_of [] (drop n (roots (suc i) counts)) i (λ h. let low = root_behind (suc i) i counts (has_drop n (roots (suc i) counts) i h) in absurd (omega arith)) refl,
+  out_of [] (drop n (roots (suc i) counts)) i (λ h. let low = root_after (suc i) i counts (has_drop n (roots (suc i) counts) i h) in absurd (omega arith)) refl,
   once_drop n (roots (suc i) counts) (roots_once (suc i) counts),
 )
 
--- the first node's parts are roots behind it
+-- the first node's parts are roots after it
 first_parts : (i : ℕ) (m : Node) (nodes : List Node) (j : ℕ) → InPreorder i (m ∷ nodes) → has (parts_of m) j ≡ true
     → has (take (node_part_count m) (roots (suc i) (map node_part_count nodes))) j ≡ true
 first_parts i m nodes j h is = ap (λ xs. has xs j) (sym h.0) ∙ is
@@ -92,7 +92,7 @@ part_no_root i (m ∷ nodes) zero n j h at is root =
     let taken = first_parts i m nodes j h (subst (λ x. has (parts_of x) j ≡ true) same is) in
     let all = roots (suc i) (map node_part_count nodes) in
     elim (has_cases (drop (node_part_count m) all) i j root) [
-      | inl e ↦ let low = root_behind (suc i) j (map node_part_count nodes) (has_take (node_part_count m) all j taken) in absurd (omega arith)
+      | inl e ↦ let low = root_after (suc i) j (map node_part_count nodes) (has_take (node_part_count m) all j taken) in absurd (omega arith)
       | inr remains ↦ taken_or_left (node_part_count m) all j (roots_once (suc i) (map node_part_count nodes)) taken remains
     ]
 part_no_root i (m ∷ nodes) (suc k) n j h at is root =
@@ -100,8 +100,8 @@ part_no_root i (m ∷ nodes) (suc k) n j h at is root =
     elim (has_cases (drop (node_part_count m) all) i j root) [
       | inl e ↦
           let place = stands (parts_of n) j is in
-          let behind = all_get (λ q. (suc i + k < q) × (q < suc i + length nodes)) (parts_of n) place.place j (parts_follow (suc i) nodes k n h.1 at) place.there in
-          let low = behind.0 in
+          let after = all_get (λ q. (suc i + k < q) × (q < suc i + length nodes)) (parts_of n) place.place j (parts_follow (suc i) nodes k n h.1 at) place.there in
+          let low = after.0 in
           absurd (omega arith)
       | inr remains ↦ part_no_root (suc i) nodes k n j h.1 at is (has_drop (node_part_count m) all j remains)
     ]
@@ -137,17 +137,17 @@ parts_once i (m ∷ nodes) (suc k) n h at = parts_once (suc i) nodes k n h.1 at
 record Place (parts : List ℕ) (q : ℕ) (rest : List ℕ) : Type 0 where
   place : ℕ
   there : slice_get parts place ≡ Some q
-  behind : rest ≡ drop (suc place) parts
+  after : rest ≡ drop (suc place) parts
 
 place_of : {q : ℕ} {rest parts : List ℕ} → StandsBefore q rest parts → Place parts q rest
-place_of here = record { place = zero; there = refl; behind = refl }
-place_of (further stands) = let later = place_of stands in record { place = suc later.place; there = later.there; behind = later.behind }
+place_of here = record { place = zero; there = refl; after = refl }
+place_of (further stands) = let later = place_of stands in record { place = suc later.place; there = later.there; after = later.after }
 
 stands_once : {q : ℕ} {rest others parts : List ℕ} → AreOnce parts → StandsBefore q rest parts → StandsBefore q others parts → rest ≡ others
 stands_once {q} {rest} {others} {parts} once one other =
     let first = place_of one in
     let second = place_of other in
-    first.behind ∙ (ap (λ k. drop (suc k) parts) (once_at parts first.place second.place q once first.there second.there) ∙ sym second.behind)
+    first.after ∙ (ap (λ k. drop (suc k) parts) (once_at parts first.place second.place q once first.there second.there) ∙ sym second.after)
 
 has_standing : {q : ℕ} {rest parts : List ℕ} → StandsBefore q rest parts → has parts q ≡ true
 has_standing {q} {rest} {parts} stands = let at = place_of stands in has_at parts at.place q at.there
@@ -160,7 +160,7 @@ stands_next (further stands) = further (stands_next stands)
 -- ---- what follows a part of a sequence
 
 chain_parts : {o s : ℕ} {n : Node} → IsChain o s n → (has (parts_of n) o ≡ true) × (has (parts_of n) s ≡ true)
-chain_parts {o} {s} follow.chain = (has_first (s ∷ []) o, has_behind (s ∷ []) o s (has_first [] s))
+chain_parts {o} {s} follow.chain = (has_first (s ∷ []) o, has_after (s ∷ []) o s (has_first [] s))
 
 chain_no_seq : {o s : ℕ} {parts : List ℕ} → IsChain o s (form.Seq parts) → ⊥
 chain_no_seq is = elim is [ ]
@@ -183,18 +183,18 @@ module _ (g : Grammar) (grammar : IsGrammar g) (p : ℕ) (parts : List ℕ) (at 
       part_no_root 0 g.nodes p (form.Seq parts) (rule_body named) grammar.preorder at body
       (ap (λ xs. has xs (rule_body named)) (sym grammar.bodies) ∙ has_at (map rule_body g.rules) r (rule_body named) (slice_get-map rule_body g.rules r ∙ ap (option_map rule_body) is))
 
-  -- it begins what stands behind the part, or follows the sequence if all of that is nullable
+  -- it begins what stands after the part, or follows the sequence if all of that is nullable
   pub follow_comes : {start : StartKind} {q : ℕ} {rest : List ℕ} → StandsBefore q rest parts → IsFollow g start q → IsFirstOf g start rest ⊎ (AllNullable g rest × IsFollow g start p)
   follow_comes stands (follow.at_end {named} e) = absurd (no_body g.start named e (has_standing stands))
   follow_comes stands (follow.used {named = named} also e f) = absurd (no_body _ named e (has_standing stands))
-  follow_comes {start} {q} stands (follow.next l {parts = others} {rest = behind} also standing f) =
+  follow_comes {start} {q} stands (follow.next l {parts = others} {rest = after} also standing f) =
       let node = same_node q l (form.Seq others) (has_standing stands) also (has_standing standing) in
       let same : others ≡ parts = cc in
-      inl (subst (IsFirstOf g start) (stands_once (parts_once 0 g.nodes p (form.Seq parts) grammar.preorder at) (subst (StandsBefore q behind) same standing) stands) f)
-  follow_comes {start} {q} stands (follow.last {p = l} {parts = others} {rest = behind} also standing all f) =
+      inl (subst (IsFirstOf g start) (stands_once (parts_once 0 g.nodes p (form.Seq parts) grammar.preorder at) (subst (StandsBefore q after) same standing) stands) f)
+  follow_comes {start} {q} stands (follow.last {p = l} {parts = others} {rest = after} also standing all f) =
       let node = same_node q l (form.Seq others) (has_standing stands) also (has_standing standing) in
       let same : others ≡ parts = cc in
-      let rests = stands_once (parts_once 0 g.nodes p (form.Seq parts) grammar.preorder at) (subst (StandsBefore q behind) same standing) stands in
+      let rests = stands_once (parts_once 0 g.nodes p (form.Seq parts) grammar.preorder at) (subst (StandsBefore q after) same standing) stands in
       inr (subst (AllNullable g) rests all, subst (IsFollow g start) (sym (same_place q l (form.Seq others) (has_standing stands) also (has_standing standing))) f)
   follow_comes {start} {q} stands (follow.alternative {p = l} {parts = others} k also e f) =
       let node = same_node q l (form.Choice others) (has_standing stands) also (has_at others k q e) in absurd cc

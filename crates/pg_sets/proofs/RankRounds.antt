@@ -14,7 +14,7 @@ use Rattle.pg_sets.specs.Graphs.{has, AreOnce, numbers_at}
 use Rattle.pg_sets.specs.Reached.{AreHeads}
 use Rattle.pg_sets.specs.Ranks.{IsRank, no_heads, above, up_to, Chain, head, ReachesCycle, on_cycle, leads_to, rank_at, AreRanks}
 use Rattle.pg_sets.specs.Ranking.{rank_above, unranked, AreSoFar}
-use Rattle.pg_sets.proofs.Lists.{has_first, has_behind, has_cases}
+use Rattle.pg_sets.proofs.Lists.{has_first, has_after, has_cases}
 use Rattle.pg_sets.proofs.RankLaws.{one_rank, ranked_no_cycle, chain_on}
 
 -- ---- the rank above some rules
@@ -53,10 +53,10 @@ above_is ranks least (b ∷ bs) s e = go (rank_at ranks b) refl e (λ r h. above
         let high = rest.high in
         record {
           high = omega arith;
-          each = λ a among. elim (has_cases bs b a among) [ inl same ↦ subst (Below ranks s) same (record { rank = r; ranked = at; less = omega arith }) | inr behind ↦ rest.each a behind ];
+          each = λ a among. elim (has_cases bs b a among) [ inl same ↦ subst (Below ranks s) same (record { rank = r; ranked = at; less = omega arith }) | inr after ↦ rest.each a after ];
           top =
               elim rest.top [
-                | inr tops ↦ inr (record { rule = tops.rule; among = has_behind bs b tops.rule tops.among; rank = tops.rank; ranked = tops.ranked; is = tops.is })
+                | inr tops ↦ inr (record { rule = tops.rule; among = has_after bs b tops.rule tops.among; rank = tops.rank; ranked = tops.ranked; is = tops.is })
                 | inl same ↦ either r at same
               ];
         }
@@ -81,7 +81,7 @@ none_above ranks least (b ∷ bs) e = go (rank_at ranks b) refl e (λ r h. none_
     go : (found : Option ℕ) → rank_at ranks b ≡ found → option_and_then (λ r. rank_above ranks (max least (r + 1)) bs) found ≡ None
         → ((r : ℕ) → rank_above ranks (max least (r + 1)) bs ≡ None → Lacks ranks bs) → Lacks ranks (b ∷ bs)
     go None at h ih = record { rule = b; among = has_first bs b; none = at }
-    go (Some r) at h ih = let rest = ih r h in record { rule = rest.rule; among = has_behind bs b rest.rule rest.among; none = rest.none }
+    go (Some r) at h ih = let rest = ih r h in record { rule = rest.rule; among = has_after bs b rest.rule rest.among; none = rest.none }
 
 -- ---- a rule more
 
@@ -161,7 +161,7 @@ too_many xs n once below = length-le_from_distinct_below xs n (once_is_distinct 
     flipped (x ∷ xs) q h =
         elim (or_cases (q == x) (list_any (λ x. q == x) xs) h) [
           | inl e ↦ ap (λ y. has (x ∷ xs) y) (eqb-true q x e) ∙ has_first xs x
-          | inr later ↦ has_behind xs x q (flipped xs q later)
+          | inr later ↦ has_after xs x q (flipped xs q later)
         ]
 
 -- when no round ranks a rule more, each rule without a rank heads another one

@@ -8,7 +8,7 @@ use Rattle.pg_class.specs.Ranges.{Range}
 use Rattle.pg_class.proofs.Unique.{same_class}
 use Rattle.pg_grammar.specs.Grammar.{Grammar}
 use Rattle.pg_grammar.specs.declared.class.ClassPart.{ClassPart}
-use Rattle.pg_start.specs.Fronts.{is_reserved}
+use Rattle.pg_start.specs.Prefixes.{is_reserved}
 use Rattle.pg_sets.specs.OwnStarts.{IsClassOf, SameTexts}
 
 -- a class expression has one class

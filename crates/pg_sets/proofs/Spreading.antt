@@ -3,12 +3,13 @@ use Rattle.std.proofs.Common.{◌≡◌, ℕ, ◌+◌, ◌-◌, ◌/◌, ◌<◌
 use Rattle.std.specs.Prelude.{◌↔◌}
 use Rattle.std.proofs.lemmas.Bool.{cases_eq, cases_lt, true≢false, lt-ltb, le-ltb}
 use Rattle.std.proofs.lemmas.List.{get_or-set_same, get_or-set_other, get_or-replicate, get_or_past, length-replicate}
-use Rattle.pg_numbers.specs.Numbers.{contains, set_at}
+use Rattle.pg_bit_set.specs.Numbers.{contains, set_at}
 use Rattle.pg_sets.specs.Graphs.{has, numbers_at, IsReached, root, onward, AreSpread}
 use Rattle.pg_sets.specs.Marks.{is_marked}
 use Rattle.pg_sets.specs.Spread.{with_number, with_number_each, vertex_at, IsHandedOn}
-use Rattle.pg_sets.proofs.Growing.{contains_below, set_below}
-use Rattle.pg_sets.proofs.Lists.{has_first, has_behind, has_cases}
+use Rattle.pg_bit_set.proofs.Inside.{contains_below, contains_none}
+use Rattle.pg_sets.proofs.Growing.{set_below}
+use Rattle.pg_sets.proofs.Lists.{has_first, has_after, has_cases}
 
 -- ---- a number more
 
@@ -91,7 +92,7 @@ each_cases : (sets : List (List Bool)) (ks : List ℕ) (n v m : ℕ) → contain
 each_cases sets [] n v m h = inl h
 each_cases sets (k ∷ ks) n v m h =
     elim (each_cases (with_number sets k n) ks n v m h) [
-      | inr later ↦ inr (has_behind ks k v later.0, later.1)
+      | inr later ↦ inr (has_after ks k v later.0, later.1)
       | inl old ↦
           elim (with_cases sets k n v m old) [
             | inl before ↦ inl before
@@ -115,17 +116,10 @@ rooted_none graph roots sets empty =
       long = ap length empty ∙ length-replicate {A = List Bool} (length graph) (replicate (length roots) false);
       limit = λ v below. ap length (at v below) ∙ length-replicate {A = Bool} (length roots) false;
       members = λ v k below. (
-        λ h. absurd (true≢false (sym h ∙ (ap (λ set. contains set k) (at v below) ∙ none (length roots) k))),
+        λ h. absurd (true≢false (sym h ∙ (ap (λ set. contains set k) (at v below) ∙ contains_none (length roots) k))),
         λ h. let few = h.0 in absurd (omega arith),
       );
     }
-  where
-    none : (n k : ℕ) → contains (replicate n false) k ≡ false
-    none n k =
-        elim (cases_lt k n) [
-          | inl below ↦ get_or-replicate n k false false below
-          | inr past ↦ let long = length-replicate {A = Bool} n false in get_or_past (replicate n false) k false (omega arith)
-        ]
 
 pub rooted_more : (graph roots : List (List ℕ)) (n : ℕ) (sets : List (List Bool)) → n < length roots → AreRooted graph roots n sets
     → AreRooted graph roots (n + 1) (with_number_each sets (numbers_at roots n) n)

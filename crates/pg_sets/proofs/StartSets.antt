@@ -3,7 +3,7 @@ use Rattle.std.proofs.Common.{◌≡◌, ℕ, zero, suc, ◌+◌, ◌<◌, Bool,
 use Rattle.std.specs.Prelude.{◌↔◌}
 use Rattle.std.proofs.lemmas.List.{length-map, length-replicate}
 use Rattle.pg_grammar.specs.Grammar.{Grammar, IsGrammar}
-use Rattle.pg_numbers.specs.Numbers.{contains, set_at}
+use Rattle.pg_bit_set.specs.Numbers.{contains, set_at}
 use Rattle.pg_start.specs.declared.kind.StartKind.{StartKind}
 use Rattle.pg_sets.specs.First.{IsFirst, IsFirstOf}
 use Rattle.pg_sets.specs.First as first_of
@@ -76,7 +76,7 @@ first_comes (first_of.rule at e is) = first_comes is
 
 some_comes : {g : Grammar} {start : StartKind} {parts : List ℕ} → IsFirstOf g start parts → Comes g start
 some_comes (first_of.here is) = first_comes is
-some_comes (first_of.behind null is) = some_comes is
+some_comes (first_of.after null is) = some_comes is
 
 follow_comes : {g : Grammar} {start : StartKind} {p : ℕ} → IsFollow g start p → Comes g start
 follow_comes (follow_of_node.at_end e) = record { set = _; source = source.at_end e refl }

@@ -1,13 +1,14 @@
 -- What is known while a graph is walked, and what is when the walk has ended.
 use Rattle.std.proofs.Common.{◌≡◌, ℕ, zero, suc, ◌+◌, ◌<◌, ◌≤◌, Bool, true, false, not, cond, ◌||◌, inl, inr, List, [], ◌∷◌, ◌++◌, Some, slice_get, slice_set, slice_index_or, length, count_by, refl, sym, ap, subst, ◌∙◌, arith, append-nil, append_assoc, length-append, length-set, replicate}
 use Rattle.std.specs.Prelude.{◌==◌}
+use Rattle.std.proofs.Math.Bool.{or-false}
 use Rattle.std.proofs.lemmas.Bool.{cases_eq, cases_lt, true≢false, eq-eqb, ne_eqb, or_cases, or_right, not-true, not-false}
 use Rattle.std.proofs.lemmas.List.{get_or_past, get_or_default, get_or-replicate, length-replicate}
 use Rattle.std.proofs.lemmas.Option.{slice_get_within}
 use Rattle.pg_sets.specs.Graphs.{has, numbers_at, AreOnce, IsReached, root, onward}
 use Rattle.pg_sets.specs.Marks.{is_marked}
 use Rattle.pg_sets.specs.Walk.{Met, is_new, with_all_met}
-use Rattle.pg_sets.proofs.Lists.{has_push, has_append, has_first, has_behind, has_cases, has_at, stands, once_push}
+use Rattle.pg_sets.proofs.Lists.{has_push, has_append, has_first, has_after, has_cases, has_at, stands, once_push}
 use Rattle.pg_sets.proofs.Marking.{marked_same, marked_kept, marked_others, one_fewer}
 
 -- the vertices that are marked are those that were met, each once
@@ -21,7 +22,7 @@ pub record Meets (vs : List ℕ) (m after : Met) : Type 0 where
   pub long : length after.marks ≡ length m.marks
   pub kept : (u : ℕ) → is_marked m.marks u ≡ true → is_marked after.marks u ≡ true
   pub further : List ℕ
-  pub behind : after.met ≡ m.met ++ further
+  pub following : after.met ≡ m.met ++ further
   pub only : (u : ℕ) → has further u ≡ true → has vs u ≡ true
   pub below : (u : ℕ) → has further u ≡ true → u < length m.marks
   pub all : (u : ℕ) → has vs u ≡ true → u < length m.marks → is_marked after.marks u ≡ true
@@ -53,14 +54,10 @@ tidy_more v m tidy new =
                 left ∙ sym right
             | inr ne ↦
                 let left : has (m.met ++ v ∷ []) u ≡ (has m.met u || false) = has_push m.met v u ∙ ap (λ b. has m.met u || b) (ne_eqb v u (λ e. ne (sym e))) in
-                left ∙ (or_none (has m.met u) ∙ (tidy.agrees u ∙ sym (marked_others m.marks v u ne)))
+                left ∙ (or-false (has m.met u) ∙ (tidy.agrees u ∙ sym (marked_others m.marks v u ne)))
           ];
       once = once_push m.met v tidy.once out;
     }
-  where
-    or_none : (b : Bool) → (b || false) ≡ b
-    or_none true = refl
-    or_none false = refl
 
 -- meeting vertices one after another
 pub meets_all : (vs : List ℕ) (m : Met) → IsTidy m → Meets vs m (with_all_met vs m)
@@ -69,7 +66,7 @@ meets_all [] m tidy = record {
   long = refl;
   kept = λ u h. h;
   further = [];
-  behind = sym (append-nil m.met);
+  following = sym (append-nil m.met);
   only = λ u h. absurd (true≢false (sym h));
   below = λ u h. absurd (true≢false (sym h));
   all = λ u h. absurd (true≢false (sym h));
@@ -89,8 +86,8 @@ meets_all (v ∷ vs) m tidy = go (is_new m.marks v) refl (λ n t. meets_all vs n
           long = rest.long ∙ same;
           kept = λ u h. rest.kept u (marked_kept m.marks v u below h);
           further = v ∷ rest.further;
-          behind = rest.behind ∙ append_assoc m.met (v ∷ []) rest.further;
-          only = λ u h. elim (has_cases rest.further v u h) [ inl e ↦ subst (λ w. has (v ∷ vs) w ≡ true) e (has_first vs v) | inr later ↦ has_behind vs v u (rest.only u later) ];
+          following = rest.following ∙ append_assoc m.met (v ∷ []) rest.further;
+          only = λ u h. elim (has_cases rest.further v u h) [ inl e ↦ subst (λ w. has (v ∷ vs) w ≡ true) e (has_first vs v) | inr later ↦ has_after vs v u (rest.only u later) ];
           below = λ u h. elim (has_cases rest.further v u h) [ inl e ↦ subst (λ w. w < length m.marks) e below | inr later ↦ subst (λ n. u < n) same (rest.below u later) ];
           all = λ u h within.
               elim (has_cases vs v u h) [
@@ -106,8 +103,8 @@ meets_all (v ∷ vs) m tidy = go (is_new m.marks v) refl (λ n t. meets_all vs n
           long = rest.long;
           kept = rest.kept;
           further = rest.further;
-          behind = rest.behind;
-          only = λ u h. has_behind vs v u (rest.only u h);
+          following = rest.following;
+          only = λ u h. has_after vs v u (rest.only u h);
           below = rest.below;
           all = λ u h within.
               elim (has_cases vs v u h) [
@@ -119,7 +116,7 @@ meets_all (v ∷ vs) m tidy = go (is_new m.marks v) refl (λ n t. meets_all vs n
 
 -- ---- the walk
 
--- a walk from the roots has met these vertices, and has followed the edges behind the first of them, so many
+-- a walk from the roots has met these vertices, and has followed the edges after the first of them, so many
 pub record HasWalked (graph : List (List ℕ)) (roots : List ℕ) (m : Met) (next : ℕ) : Type 0 where
   pub tidy : IsTidy m
   pub long : length m.marks ≡ length graph
@@ -143,7 +140,7 @@ pub walk_begins : (graph : List (List ℕ)) (roots : List ℕ) (m : Met) → IsT
     → HasWalked graph roots (with_all_met roots m) 0
 walk_begins graph roots m tidy long nothing =
     let meets = meets_all roots m tidy in
-    let all : (with_all_met roots m).met ≡ meets.further = meets.behind ∙ ap (λ xs. xs ++ meets.further) nothing in
+    let all : (with_all_met roots m).met ≡ meets.further = meets.following ∙ ap (λ xs. xs ++ meets.further) nothing in
     record {
       tidy = meets.tidy;
       long = meets.long ∙ long;
@@ -171,7 +168,7 @@ walk_starts graph roots marks met unmarked nothing =
     } in
     walk_begins graph roots (record { marks = marks; met = met }) tidy (ap length unmarked ∙ length-replicate (length graph) false) nothing
 
--- the edges behind one vertex more are followed
+-- the edges after one vertex more are followed
 pub walk_goes_on : (graph : List (List ℕ)) (roots : List ℕ) (m : Met) (next at : ℕ) → HasWalked graph roots m next → slice_get m.met next ≡ Some at
     → HasWalked graph roots (with_all_met (numbers_at graph at) m) (next + 1)
 walk_goes_on graph roots m next at walked there =
@@ -183,7 +180,7 @@ walk_goes_on graph roots m next at walked there =
       tidy = meets.tidy;
       long = meets.long ∙ walked.long;
       reached = λ v h.
-          let either : (has m.met v || has meets.further v) ≡ true = sym (has_append m.met meets.further v) ∙ (sym (ap (λ xs. has xs v) meets.behind) ∙ h) in
+          let either : (has m.met v || has meets.further v) ≡ true = sym (has_append m.met meets.further v) ∙ (sym (ap (λ xs. has xs v) meets.following) ∙ h) in
           elim (or_cases (has m.met v) (has meets.further v) either) [
             | inl before ↦ walked.reached v before
             | inr new ↦ onward is_reached (meets.only v new) (subst (λ n. v < n) walked.long (meets.below v new))
@@ -191,7 +188,7 @@ walk_goes_on graph roots m next at walked there =
       rooted = λ v h inside. meets.kept v (walked.rooted v h inside);
       followed = λ k w v few e edge inside.
           let first : k < length m.met = omega arith in
-          let stood : slice_get m.met k ≡ Some w = front_at m.met meets.further k w first (sym (ap (λ xs. slice_get xs k) meets.behind) ∙ e) in
+          let stood : slice_get m.met k ≡ Some w = front_at m.met meets.further k w first (sym (ap (λ xs. slice_get xs k) meets.following) ∙ e) in
           elim (cases_eq k next) [
             | inl last ↦
                 let same : Some at ≡ Some w = sym there ∙ (sym (ap (slice_get m.met) last) ∙ stood) in
@@ -203,7 +200,7 @@ walk_goes_on graph roots m next at walked there =
           ];
     }
 
--- when the edges behind all were followed, whatever is reached was met
+-- when the edges after all were followed, whatever is reached was met
 all_met : {graph : List (List ℕ)} {roots : List ℕ} (m : Met) {v : ℕ} → HasWalked graph roots m (length m.met) → IsReached graph roots v → has m.met v ≡ true
 all_met m walked (root {v} is below) = walked.tidy.agrees v ∙ walked.rooted v is below
 all_met {graph} m walked (onward {w} {v} from edge below) =

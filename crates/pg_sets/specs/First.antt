@@ -18,7 +18,7 @@ pub data IsFirst (g : Grammar) (start : StartKind) : ℕ → Type 0 where
   -- it is among the first of the rule's body
   rule : {p r : ℕ} {named : declared.Rule} → slice_get g.nodes p ≡ Some (form.Rule r) → slice_get g.rules r ≡ Some named → IsFirst g start named.body → IsFirst g start p
 
--- the start is among the first of these nodes, one behind another
+-- the start is among the first of these nodes, one after another
 pub data IsFirstOf (g : Grammar) (start : StartKind) : List ℕ → Type 0 where
   here : {part : ℕ} {parts : List ℕ} → IsFirst g start part → IsFirstOf g start (part ∷ parts)
-  behind : {part : ℕ} {parts : List ℕ} → Nullable g part → IsFirstOf g start parts → IsFirstOf g start (part ∷ parts)
+  after : {part : ℕ} {parts : List ℕ} → Nullable g part → IsFirstOf g start parts → IsFirstOf g start (part ∷ parts)

@@ -22,26 +22,26 @@ abbrev pub with_flows : List (List ℕ) → List Flow → List (List ℕ)
 with_flows graph [] = graph
 with_flows graph (flow ∷ flows) = with_flows (joined graph flow.0 flow.1) flows
 
--- to a set from the first of these nodes, one behind another, and from another set behind them all: first sets have the
+-- to a set from the first of these nodes, one after another, and from another set after them all: first sets have the
 -- numbers of their nodes
 abbrev pub flows_of_all : List Bool → List ℕ → ℕ → ℕ → List Flow
-flows_of_all nullable [] behind to = (behind, to) ∷ []
-flows_of_all nullable (q ∷ qs) behind to = (q, to) ∷ (if is_marked nullable q then flows_of_all nullable qs behind to else [])
+flows_of_all nullable [] after to = (after, to) ∷ []
+flows_of_all nullable (q ∷ qs) after to = (q, to) ∷ (if is_marked nullable q then flows_of_all nullable qs after to else [])
 
--- the same without another set behind them
+-- the same without another set after them
 abbrev pub flows_of_some : List Bool → List ℕ → ℕ → List Flow
 flows_of_some nullable [] to = []
 flows_of_some nullable (q ∷ qs) to = (q, to) ∷ (if is_marked nullable q then flows_of_some nullable qs to else [])
 
 -- to a set from what stands next, and from what follows that if it is nullable; from another set where nothing stands next
 abbrev pub flows_of_next : List Bool → ℕ → List ℕ → ℕ → ℕ → List Flow
-flows_of_next nullable count [] behind to = (behind, to) ∷ []
-flows_of_next nullable count (q ∷ qs) behind to = (q, to) ∷ (if is_marked nullable q then (follow_of count q, to) ∷ [] else [])
+flows_of_next nullable count [] after to = (after, to) ∷ []
+flows_of_next nullable count (q ∷ qs) after to = (q, to) ∷ (if is_marked nullable q then (follow_of count q, to) ∷ [] else [])
 
 -- to the follow set of each part of a sequence
-abbrev pub flows_behind_parts : List Bool → ℕ → ℕ → List ℕ → List Flow
-flows_behind_parts nullable count p [] = []
-flows_behind_parts nullable count p (q ∷ qs) = flows_of_next nullable count qs (follow_of count p) (follow_of count q) ++ flows_behind_parts nullable count p qs
+abbrev pub flows_after_parts : List Bool → ℕ → ℕ → List ℕ → List Flow
+flows_after_parts nullable count p [] = []
+flows_after_parts nullable count p (q ∷ qs) = flows_of_next nullable count qs (follow_of count p) (follow_of count q) ++ flows_after_parts nullable count p qs
 
 -- to and from the sets of each alternative
 abbrev pub flows_of_alternatives : ℕ → ℕ → List ℕ → List Flow
@@ -80,7 +80,7 @@ flows_of_use rules count p r = option_map_or (λ rule. flows_of_only count p rul
 -- those that a node tells, whose number is p
 abbrev pub node_flows : List Rule → List Bool → List Bool → ℕ → ℕ → Node → List Flow
 node_flows rules nullable keys count p (form.Leaf leaf) = []
-node_flows rules nullable keys count p (form.Seq parts) = flows_of_some nullable parts p ++ flows_behind_parts nullable count p parts
+node_flows rules nullable keys count p (form.Seq parts) = flows_of_some nullable parts p ++ flows_after_parts nullable count p parts
 node_flows rules nullable keys count p (form.Choice parts) = flows_of_alternatives count p parts
 node_flows rules nullable keys count p (form.Many part) = (part, follow_of count part) ∷ flows_of_only count p part
 node_flows rules nullable keys count p (form.Chain side used operand separator) = flows_of_chain nullable count p operand separator

@@ -15,7 +15,7 @@ use Rattle.pg_sets.specs.First.{IsFirst, IsFirstOf}
 use Rattle.pg_sets.specs.Nullable.{Nullable, AllNullable}
 use Rattle.pg_sets.specs.OwnStarts.{IsOperatorStart}
 
--- a part stands in a sequence, with these behind it
+-- a part stands in a sequence, with these after it
 pub data StandsBefore (part : ℕ) (rest : List ℕ) : List ℕ → Type 0 where
   here : StandsBefore part rest (part ∷ rest)
   further : {first : ℕ} {parts : List ℕ} → StandsBefore part rest parts → StandsBefore part rest (first ∷ parts)
@@ -35,7 +35,7 @@ pub data IsFollow (g : Grammar) : StartKind → ℕ → Type 0 where
   -- a rule's body has what follows its uses
   used : {start : StartKind} {p r : ℕ} {named : declared.Rule} → slice_get g.nodes p ≡ Some (form.Rule r) → slice_get g.rules r ≡ Some named
       → IsFollow g start p → IsFollow g start named.body
-  -- a part of a sequence has the first of what stands behind it, and what follows the sequence if all of that is nullable
+  -- a part of a sequence has the first of what stands after it, and what follows the sequence if all of that is nullable
   next : {start : StartKind} (p : ℕ) {q : ℕ} {parts rest : List ℕ} → slice_get g.nodes p ≡ Some (form.Seq parts) → StandsBefore q rest parts
       → IsFirstOf g start rest → IsFollow g start q
   last : {start : StartKind} {p q : ℕ} {parts rest : List ℕ} → slice_get g.nodes p ≡ Some (form.Seq parts) → StandsBefore q rest parts

@@ -1,5 +1,5 @@
 -- The own starts of a node, as sets list them.
-use Rattle.std.specs.Prelude.{◌≡◌, ◌↔◌, ◌⊎◌, ℕ, List, [], ◌∷◌, Some, slice_get}
+use Rattle.std.specs.Prelude.{◌≡◌, ◌↔◌, ◌⊎◌, ℕ, List, [], ◌∷◌, Some, map, slice_get}
 use Rattle.pg_grammar.specs.Grammar.{Grammar}
 use Rattle.pg_grammar.specs.declared.class.ClassPart.{ClassPart}
 use Rattle.pg_grammar.specs.Forms.{Node}
@@ -7,6 +7,7 @@ use Rattle.pg_grammar.specs.declared.form.Form.TheVariants as form
 use Rattle.pg_grammar.specs.declared.form.Leaf.TheVariants as leaf
 use Rattle.pg_grammar.specs.declared.word_item.WordItem.{WordItem}
 use Rattle.pg_class.specs.Ranges.{Range}
+use Rattle.pg_grammar.specs.declared.decl.Role.{Role}
 use Rattle.pg_grammar.specs.declared.decl.Role.TheVariants.{InfixLeft, InfixRight, InfixNone, Prefix, Postfix}
 use Rattle.pg_start.specs.declared.kind.StartKind.{StartKind}
 use Rattle.pg_start.specs.declared.kind.StartKind.TheVariants.{Key}
@@ -35,9 +36,9 @@ pub record AreOwn (g : Grammar) (n : Node) (own : List ListedStart) : Type 0 whe
   pub members : (listed : ListedStart) → IsAmong own listed ↔ OwnListed g n listed
   pub there : IsPlain g n → (start : StartKind) × OwnStart g n start
 
--- the keys of a declaration, in each role
+-- the key of a declaration in a role, and in each role
+abbrev pub keyword_key : List Range → Role → ListedStart
+keyword_key excluded role = record { start = Key (role_keyword role) excluded; word = 0 }
+
 abbrev pub keyword_keys : List Range → List ListedStart
-keyword_keys excluded =
-    record { start = Key (role_keyword InfixLeft) excluded; word = 0 } ∷ record { start = Key (role_keyword InfixRight) excluded; word = 0 }
-    ∷ record { start = Key (role_keyword InfixNone) excluded; word = 0 } ∷ record { start = Key (role_keyword Prefix) excluded; word = 0 }
-    ∷ record { start = Key (role_keyword Postfix) excluded; word = 0 } ∷ []
+keyword_keys excluded = map (keyword_key excluded) (InfixLeft ∷ InfixRight ∷ InfixNone ∷ Prefix ∷ Postfix ∷ [])

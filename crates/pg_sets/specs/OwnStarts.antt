@@ -15,7 +15,7 @@ use Rattle.pg_grammar.specs.declared.operators_item.OperatorsItem.{OperatorsItem
 use Rattle.pg_grammar.specs.declared.used.OperatorBuilders.{OperatorBuilders}
 use Rattle.pg_grammar.specs.declared.word_item.WordItem.{WordItem}
 use Rattle.pg_sets.specs.Marks.{is_marked}
-use Rattle.pg_start.specs.Fronts.{is_reserved}
+use Rattle.pg_start.specs.Prefixes.{is_reserved}
 use Rattle.pg_start.specs.declared.kind.StartKind.{StartKind}
 use Rattle.pg_start.specs.declared.kind.StartKind.TheVariants.{Class, Key, Word}
 
@@ -98,11 +98,11 @@ pub data OwnStart (g : Grammar) : Node → StartKind → Type 0 where
       → OwnStart g (form.Leaf (leaf.Word w)) (Word heads rest reserved)
   -- the whole string that is tried
   key : {part : ℕ} {characters : List ℕ} → slice_get g.nodes part ≡ Some (form.Leaf (leaf.String characters)) → OwnStart g (form.Around around.Try part) (Key characters [])
-  -- the whole string, without a character of the class behind it
+  -- the whole string, without a character of the class after it
   key_that_ends : {part : ℕ} {characters : List ℕ} {excluded : List ClassPart} {class : List Range} → IsKeyed g part characters excluded
       → IsClassOf g excluded class → OwnStart g (form.Around around.Try part) (Key characters class)
   -- the operators
   expression : {builders : OperatorBuilders} {term : ℕ} {start : StartKind} → IsOperatorStart g start → OwnStart g (form.Expression builders term) start
-  -- the keyword of each role, without a character of the class or one of a to z behind it
+  -- the keyword of each role, without a character of the class or one of a to z after it
   declare : {excluded : List ClassPart} {class : List Range} (role : Role) → IsExcludedBy g excluded class
       → OwnStart g (form.Leaf (leaf.Declare excluded)) (Key (role_keyword role) class)

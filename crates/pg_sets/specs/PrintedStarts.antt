@@ -11,7 +11,7 @@ use Rattle.pg_start.specs.declared.kind.StartKind.TheVariants.{Class, Key, Word,
 use Rattle.pg_tree.specs.Json.{quoted}
 use Rattle.pg_sets.specs.declared.listed.ListedStart.{ListedStart}
 
--- a number in base sixteen, in upper case, with zeros in front up to four digits
+-- a number in base sixteen, in upper case, with zeros before up to four digits
 abbrev pub hexadecimal : ℕ → List ℕ
 hexadecimal n = replicate (4 - length (digits 16 true n)) 48 ++ digits 16 true n
 

@@ -1,7 +1,7 @@
 -- How sets of numbers are handed on from vertex to vertex of a graph.
 use Rattle.std.specs.Prelude.{◌≡◌, ◌⊎◌, ◌<◌, ◌≤◌, ◌+◌, ◌*◌, ◌/◌, ◌-◌, nat_lt, ℕ, Bool, true, false, not, if◌then◌else◌, List, [], ◌∷◌, length, slice_set}
 use Rattle.std.specs.List.{sum_by, count_by}
-use Rattle.pg_numbers.specs.Numbers.{contains, set_at}
+use Rattle.pg_bit_set.specs.Numbers.{contains, set_at}
 use Rattle.pg_sets.specs.Graphs.{has}
 use Rattle.pg_sets.specs.Marks.{is_marked}
 

@@ -1,7 +1,7 @@
 //! The classes of class expressions.
 //!
 //! An expression is gone through from its last part to its first, with a stack of the classes of the whole expressions
-//! that stand behind: a union takes its members from it, a complement the expression that it is of.
+//! that stand after: a union takes its members from it, a complement the expression that it is of.
 ghost use Rattle.std.specs.Prelude.{◌≡◌, ◌≤◌, ◌==◌, ◌&&◌, ◌∷◌, ℕ, nat_le, take, drop, length, All, IfOk, OnOk};
 ghost use Rattle.std.specs.Char.{IsScalar};
 ghost use Rattle.std.specs.List.{list_any};
@@ -74,7 +74,7 @@ fn first_of(alloc: Global, stack: &mut VecDeque<Class>) -> Result<Class, AllocEr
     }
 }
 
-/// Puts what a part spells with those behind it in front of them. The only error is that memory ran out.
+/// Puts what a part spells with those after it before them. The only error is that memory ran out.
 fn push_part(
     alloc: Global,
     items: &[Class],
@@ -96,7 +96,7 @@ fn push_part(
     }
 }
 
-/// Puts a class in front. The only error is that memory ran out.
+/// Puts a class before. The only error is that memory ran out.
 fn push(stack: &mut VecDeque<Class>, class: Class) -> Result<(), AllocError>
     ensures { OnOk result (stack.new.items ≡ class ∷ stack.old.items) }
 {
@@ -104,7 +104,7 @@ fn push(stack: &mut VecDeque<Class>, class: Class) -> Result<(), AllocError>
     Ok(())
 }
 
-/// Takes so many classes out, and puts their union in front of the others.
+/// Takes so many classes out, and puts their union before the others.
 fn push_union(alloc: Global, count: usize, stack: &mut VecDeque<Class>) -> Result<(), AllocError>
     ensures { OnOk result ((c : ℕ) → IsScalar c → answers_of stack.new.items c ≡
         one_holds (take count (answers_of stack.old.items c)) ∷ drop count (answers_of stack.old.items c)) }

@@ -1,10 +1,10 @@
 //! Which first and follow sets are contained in which, as the edges of a graph.
 //!
-//! A first set has the number of its node, a follow set a number behind those of all first sets. Each node tells the edges
-//! to its own first set and to the follow sets of its parts. A part that can be empty lets through what is behind it.
+//! A first set has the number of its node, a follow set a number after those of all first sets. Each node tells the edges
+//! to its own first set and to the follow sets of its parts. A part that can be empty lets through what is after it.
 ghost use Rattle.std.specs.Prelude.{◌≡◌, ◌≤◌, ◌+◌, [], ◌∷◌, ◌++◌, replicate, length, IfOk, OnOk};
 ghost use Rattle.pg_grammar.specs.Grammar.{IsGrammar};
-ghost use Rattle.pg_sets.specs.Flows.{follow_of, with_flows, flows_of_all, flows_of_some, flows_of_next, flows_behind_parts, flows_of_alternatives, flows_of_chain, flows_of_only, flows_of_use, try_flows, around_flows, node_flows, all_flows};
+ghost use Rattle.pg_sets.specs.Flows.{follow_of, with_flows, flows_of_all, flows_of_some, flows_of_next, flows_after_parts, flows_of_alternatives, flows_of_chain, flows_of_only, flows_of_use, try_flows, around_flows, node_flows, all_flows};
 
 use crate::marks::is_marked;
 use crate::numbers::{Numbers, empty_lists, join};
@@ -95,15 +95,15 @@ fn join_around(
     }
 }
 
-/// Adds the edges to a set from the first of these nodes, one behind another, and from another set behind them all.
+/// Adds the edges to a set from the first of these nodes, one after another, and from another set after them all.
 fn join_all(
     graph: &mut [Numbers],
     nullable: &[bool],
     parts: &[NodeId],
-    behind: usize,
+    after: usize,
     to: usize,
 ) -> Result<(), AllocError>
-    ensures { OnOk result (graph.new ≡ with_flows graph.old (flows_of_all nullable.now parts.now behind to)) }
+    ensures { OnOk result (graph.new ≡ with_flows graph.old (flows_of_all nullable.now parts.now after to)) }
 {
     for part in parts {
         join(graph, part.index(), to)?;
@@ -111,10 +111,10 @@ fn join_all(
             return Ok(());
         }
     }
-    join(graph, behind, to)
+    join(graph, after, to)
 }
 
-/// The same without another set behind them.
+/// The same without another set after them.
 fn join_some(
     graph: &mut [Numbers],
     nullable: &[bool],
@@ -139,14 +139,14 @@ fn join_next(
     nullable: &[bool],
     count: usize,
     parts: &[NodeId],
-    behind: usize,
+    after: usize,
     to: usize,
 ) -> Result<(), AllocError>
     requires { count ≤ 8192 }
-    ensures { OnOk result (graph.new ≡ with_flows graph.old (flows_of_next nullable.now count parts.now behind to)) }
+    ensures { OnOk result (graph.new ≡ with_flows graph.old (flows_of_next nullable.now count parts.now after to)) }
 {
     match parts {
-        [] => join(graph, behind, to),
+        [] => join(graph, after, to),
         [next, ..] => {
             join(graph, next.index(), to)?;
             if is_marked(nullable, next.index()) {
@@ -167,20 +167,20 @@ fn join_seq(
 ) -> Result<(), AllocError>
     requires { count ≤ 8192 }
     ensures { OnOk result (graph.new ≡
-        with_flows graph.old (flows_of_some nullable.now parts.now number ++ flows_behind_parts nullable.now count number parts.now)) }
+        with_flows graph.old (flows_of_some nullable.now parts.now number ++ flows_after_parts nullable.now count number parts.now)) }
 {
     join_some(graph, nullable, parts, number)?;
     let mut rest = parts;
-    while let Some((part, behind)) = rest.split_first() {
+    while let Some((part, after)) = rest.split_first() {
         join_next(
             graph,
             nullable,
             count,
-            behind,
+            after,
             follow_of(count, number),
             follow_of(count, part.index()),
         )?;
-        rest = behind;
+        rest = after;
     }
     Ok(())
 }
@@ -220,7 +220,7 @@ fn join_many(
     join_only(graph, count, number, part)
 }
 
-/// Adds the edges of a chain: its operand stands at the start and behind each separator.
+/// Adds the edges of a chain: its operand stands at the start and after each separator.
 fn join_chain(
     graph: &mut [Numbers],
     nullable: &[bool],
@@ -232,15 +232,15 @@ fn join_chain(
     requires { count ≤ 8192 }
     ensures { OnOk result (graph.new ≡ with_flows graph.old (flows_of_chain nullable.now count number operand separator)) }
 {
-    let behind_operand = follow_of(count, operand.index());
-    let behind_separator = follow_of(count, separator.index());
-    let behind = follow_of(count, number);
+    let past_operand = follow_of(count, operand.index());
+    let past_separator = follow_of(count, separator.index());
+    let after = follow_of(count, number);
     join_some(graph, nullable, &[operand, separator], number)?;
-    join_some(graph, nullable, &[separator, operand], behind_operand)?;
-    join_all(graph, nullable, &[operand], behind, behind_separator)?;
-    join(graph, behind, behind_operand)?;
+    join_some(graph, nullable, &[separator, operand], past_operand)?;
+    join_all(graph, nullable, &[operand], after, past_separator)?;
+    join(graph, after, past_operand)?;
     if is_marked(nullable, operand.index()) {
-        join_some(graph, nullable, &[separator], behind_separator)?;
+        join_some(graph, nullable, &[separator], past_separator)?;
     }
     Ok(())
 }

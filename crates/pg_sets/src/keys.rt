@@ -5,7 +5,7 @@ ghost use Rattle.std.specs.Prelude.{◌≡◌, ◌↔◌, ◌∷◌, [], true, �
 ghost use Rattle.pg_grammar.specs.declared.class.ClassPart.{ClassPart};
 ghost use Rattle.pg_sets.specs.OwnStarts.{IsKeyTry, IsKeyed, MarksKeys};
 
-use pg_grammar::{Around, ClassExpression, Form, Grammar, Leaf, Node, NodeId};
+use pg_grammar::{Around, ClassExpression, Form, Grammar, Leaf, Node, NodeId, WordId};
 use pg_text::Characters;
 use std::alloc::{AllocError, Global};
 
@@ -25,18 +25,24 @@ fn is_key_try(grammar: &Grammar, node: &Node) -> bool
     ensures { (result ≡ true) ↔ IsKeyTry grammar.now node.now }
 {
     match node {
-        Form::Around(Around::Try, part) => gives_key(grammar, *part),
+        Form::Around(around, part) => is_key_around(grammar, around, *part),
         Form::Leaf(_)
         | Form::Seq(_)
         | Form::Choice(_)
         | Form::Many(_)
         | Form::Chain(_, _, _, _)
         | Form::Rule(_)
-        | Form::Expression(_, _)
-        | Form::Around(Around::Text, _)
-        | Form::Around(Around::Skip, _)
-        | Form::Around(Around::Build(_, _), _)
-        | Form::Around(Around::Label(_), _) => false,
+        | Form::Expression(_, _) => false,
+    }
+}
+
+/// Whether this makes a try around the part that gives a key.
+fn is_key_around(grammar: &Grammar, around: &Around, part: NodeId) -> bool
+    ensures { (result ≡ true) ↔ IsKeyTry grammar.now (Form.Around around.now part) }
+{
+    match around {
+        Around::Try => gives_key(grammar, part),
+        Around::Text | Around::Skip | Around::Build(_, _) | Around::Label(_) => false,
     }
 }
 
@@ -58,28 +64,7 @@ pub(crate) fn tried_string(grammar: &Grammar, node: NodeId) -> Option<&Character
     ensures { MatchOption result ((text : List ℕ) → slice_get grammar.now.nodes node ≡ Some (Form.Leaf (Leaf.String text)) → ⊥)
         (λ text. slice_get grammar.now.nodes node ≡ Some (Form.Leaf (Leaf.String text.now))) }
 {
-    match grammar.nodes().get(node.index()) {
-        Some(Form::Leaf(Leaf::String(text))) => Some(text),
-        Some(
-            Form::Leaf(Leaf::Satisfy(_))
-            | Form::Seq(_)
-            | Form::Choice(_)
-            | Form::Many(_)
-            | Form::Chain(_, _, _, _)
-            | Form::Around(Around::Try, _)
-            | Form::Leaf(Leaf::NotFollowedBy(_))
-            | Form::Leaf(Leaf::EndOfText)
-            | Form::Leaf(Leaf::Word(_))
-            | Form::Rule(_)
-            | Form::Expression(_, _)
-            | Form::Leaf(Leaf::Declare(_))
-            | Form::Around(Around::Text, _)
-            | Form::Around(Around::Skip, _)
-            | Form::Around(Around::Build(_, _), _)
-            | Form::Around(Around::Label(_), _),
-        )
-        | None => None,
-    }
+    read_string(leaf_at(grammar, node)?)
 }
 
 /// The class at a node, if characters of a class may not follow there.
@@ -87,25 +72,24 @@ fn excluded_class(grammar: &Grammar, node: NodeId) -> Option<&ClassExpression>
     ensures { MatchOption result ((class : List ClassPart) → slice_get grammar.now.nodes node ≡ Some (Form.Leaf (Leaf.NotFollowedBy class)) → ⊥)
         (λ class. slice_get grammar.now.nodes node ≡ Some (Form.Leaf (Leaf.NotFollowedBy class.now))) }
 {
+    refused_class(leaf_at(grammar, node)?)
+}
+
+/// The leaf at a node, if one stands there.
+fn leaf_at(grammar: &Grammar, node: NodeId) -> Option<&Leaf<WordId>>
+    ensures { MatchOption result ((leaf : Leaf ℕ) → slice_get grammar.now.nodes node ≡ Some (Form.Leaf leaf) → ⊥)
+        (λ leaf. slice_get grammar.now.nodes node ≡ Some (Form.Leaf leaf.now)) }
+{
     match grammar.nodes().get(node.index()) {
-        Some(Form::Leaf(Leaf::NotFollowedBy(class))) => Some(class),
+        Some(Form::Leaf(leaf)) => Some(leaf),
         Some(
-            Form::Leaf(Leaf::Satisfy(_))
-            | Form::Leaf(Leaf::String(_))
-            | Form::Seq(_)
+            Form::Seq(_)
             | Form::Choice(_)
             | Form::Many(_)
             | Form::Chain(_, _, _, _)
-            | Form::Around(Around::Try, _)
-            | Form::Leaf(Leaf::EndOfText)
-            | Form::Leaf(Leaf::Word(_))
             | Form::Rule(_)
             | Form::Expression(_, _)
-            | Form::Leaf(Leaf::Declare(_))
-            | Form::Around(Around::Text, _)
-            | Form::Around(Around::Skip, _)
-            | Form::Around(Around::Build(_, _), _)
-            | Form::Around(Around::Label(_), _),
+            | Form::Around(_, _),
         )
         | None => None,
     }
@@ -123,15 +107,36 @@ fn sequence_parts(grammar: &Grammar, node: NodeId) -> Option<&[NodeId]>
             | Form::Choice(_)
             | Form::Many(_)
             | Form::Chain(_, _, _, _)
-            | Form::Around(Around::Try, _)
             | Form::Rule(_)
             | Form::Expression(_, _)
-            | Form::Around(Around::Text, _)
-            | Form::Around(Around::Skip, _)
-            | Form::Around(Around::Build(_, _), _)
-            | Form::Around(Around::Label(_), _),
+            | Form::Around(_, _),
         )
         | None => None,
+    }
+}
+
+/// The string that a leaf reads, if it reads one.
+fn read_string(leaf: &Leaf<WordId>) -> Option<&Characters>
+    ensures { MatchOption result ((text : List ℕ) → leaf.now ≡ Leaf.String text → ⊥) (λ text. leaf.now ≡ Leaf.String text.now) }
+{
+    match leaf {
+        Leaf::String(text) => Some(text),
+        Leaf::Satisfy(_)
+        | Leaf::Word(_)
+        | Leaf::NotFollowedBy(_)
+        | Leaf::EndOfText
+        | Leaf::Declare(_) => None,
+    }
+}
+
+/// The class of which a leaf lets no character follow, if it is such a leaf.
+fn refused_class(leaf: &Leaf<WordId>) -> Option<&ClassExpression>
+    ensures { MatchOption result ((class : List ClassPart) → leaf.now ≡ Leaf.NotFollowedBy class → ⊥) (λ class. leaf.now ≡ Leaf.NotFollowedBy class.now) }
+{
+    match leaf {
+        Leaf::NotFollowedBy(class) => Some(class),
+        Leaf::Satisfy(_) | Leaf::String(_) | Leaf::Word(_) | Leaf::EndOfText | Leaf::Declare(_) =>
+            None,
     }
 }
 

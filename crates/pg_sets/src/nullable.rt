@@ -1,15 +1,15 @@
 //! Which nodes can succeed without a character.
 //!
-//! Nodes are marked in rounds, until a round marks none. A node's parts stand behind it, so a round goes from the last node
+//! Nodes are marked in rounds, until a round marks none. A node's parts stand after it, so a round goes from the last node
 //! to the first, and only rules that lead back take more rounds than one.
 ghost use Rattle.std.specs.Prelude.{◌≡◌, ◌<◌, ◌↔◌, ℕ, true, not, length, count_by, slice_get, Some, IfOk};
 ghost use Rattle.std.specs.Bool.{OnTrue, OnFalse};
 ghost use Rattle.pg_grammar.specs.Forms.{Node};
-ghost use Rattle.pg_sets.specs.Marks.{is_marked, looks_nullable};
+ghost use Rattle.pg_sets.specs.Marks.{is_marked, reads_nothing, looks_nullable};
 ghost use Rattle.pg_sets.specs.Nullable.{Nullable};
 
 use crate::marks::{all_are_marked, body_is_marked, is_marked, one_is_marked};
-use pg_grammar::{Around, Form, Grammar, Leaf, Node, Rule};
+use pg_grammar::{Form, Grammar, Leaf, Node, Rule, WordId};
 use std::alloc::{AllocError, Global};
 
 /// For each node whether it is nullable. The only error is that memory ran out.
@@ -47,17 +47,24 @@ fn looks_nullable(rules: &[Rule], marks: &[bool], node: &Node) -> bool
     ensures { result ≡ looks_nullable rules.now marks.now node.now }
 {
     match node {
-        Form::Many(_) | Form::Leaf(Leaf::NotFollowedBy(_)) | Form::Leaf(Leaf::EndOfText) => true,
+        Form::Leaf(leaf) => reads_nothing(leaf),
         Form::Seq(parts) => all_are_marked(marks, parts.as_slice()),
         Form::Choice(parts) => one_is_marked(marks, parts.as_slice()),
+        Form::Many(_) => true,
         Form::Chain(_, _, part, _) | Form::Around(_, part) | Form::Expression(_, part) => is_marked(
             marks,
             part.index(),
         ),
         Form::Rule(rule) => body_is_marked(rules, marks, *rule),
-        Form::Leaf(Leaf::Satisfy(_))
-        | Form::Leaf(Leaf::String(_))
-        | Form::Leaf(Leaf::Word(_))
-        | Form::Leaf(Leaf::Declare(_)) => false,
+    }
+}
+
+/// Whether a leaf reads no character.
+fn reads_nothing(leaf: &Leaf<WordId>) -> bool
+    ensures { result ≡ reads_nothing leaf.now }
+{
+    match leaf {
+        Leaf::NotFollowedBy(_) | Leaf::EndOfText => true,
+        Leaf::Satisfy(_) | Leaf::String(_) | Leaf::Word(_) | Leaf::Declare(_) => false,
     }
 }

@@ -1,6 +1,6 @@
 //! Which sets hold each start by themselves, and not by another set.
 //!
-//! First sets have the numbers of their nodes, follow sets numbers behind those (`flows.rt`). A start that several nodes
+//! First sets have the numbers of their nodes, follow sets numbers after those (`flows.rt`). A start that several nodes
 //! give is kept once, and the map has the starts in their order.
 ghost use Rattle.std.specs.Prelude.{◌≡◌, false, ◌↔◌, ◌⊎◌, ◌≤◌, ℕ, length, IfOk, OnOk, MatchOption};
 ghost use Rattle.std.specs.BTreeMap.{get, keys, values, IsOrdered};
@@ -141,7 +141,7 @@ fn add_end(
 }
 
 /// The starts of a grammar in their order, each with the sets that hold it by themselves.
-#[derive(Debug, Drop)]
+#[derive(Drop)]
 pub(crate) struct Listing {
     /// The starts.
     pub(crate) starts: Vec<ListedStart>,

@@ -1,7 +1,7 @@
 //! The starts that a node gives by itself, and not by its parts.
-ghost use Rattle.std.specs.Prelude.{◌≡◌, ◌<◌, ◌∷◌, [], ℕ, length, IfOk};
+ghost use Rattle.std.specs.Prelude.{◌≡◌, ◌<◌, ◌∷◌, [], ℕ, length, map, IfOk};
 ghost use Rattle.pg_grammar.specs.declared.used.OperatorBuilders.{OperatorBuilders};
-ghost use Rattle.pg_sets.specs.Own.{AreOwn, keyword_keys};
+ghost use Rattle.pg_sets.specs.Own.{AreOwn, keyword_key};
 ghost use Rattle.pg_sets.specs.OwnStarts.{role_keyword};
 ghost use Rattle.pg_sets.specs.Words.{AreClassesOf, AreWordClasses};
 
@@ -29,23 +29,49 @@ pub(crate) fn own_starts(
     ensures { IfOk result (λ own. AreOwn grammar.now node.now own.items) }
 {
     match node {
-        Form::Leaf(Leaf::Satisfy(expression)) => class_starts(alloc, grammar, classes, expression),
-        Form::Leaf(Leaf::String(text)) => string_starts(alloc, grammar, text),
-        Form::Leaf(Leaf::Word(word)) => word_starts(alloc, grammar, words, *word),
-        Form::Around(Around::Try, part) => key_starts(alloc, grammar, classes, *part),
+        Form::Leaf(leaf) => leaf_starts(alloc, grammar, classes, words, leaf),
         Form::Expression(_, _) => operator_starts(alloc, grammar, classes, words),
-        Form::Leaf(Leaf::Declare(excluded)) => keyword_starts(alloc, grammar, classes, excluded),
-        Form::Seq(_)
-        | Form::Choice(_)
-        | Form::Many(_)
-        | Form::Chain(_, _, _, _)
-        | Form::Leaf(Leaf::NotFollowedBy(_))
-        | Form::Leaf(Leaf::EndOfText)
-        | Form::Rule(_)
-        | Form::Around(Around::Text, _)
-        | Form::Around(Around::Skip, _)
-        | Form::Around(Around::Build(_, _), _)
-        | Form::Around(Around::Label(_), _) => Ok(Vec::new(alloc)),
+        Form::Around(around, part) => around_starts(alloc, grammar, classes, around, *part),
+        Form::Seq(_) | Form::Choice(_) | Form::Many(_) | Form::Chain(_, _, _, _) | Form::Rule(_) =>
+            Ok(Vec::new(alloc)),
+    }
+}
+
+/// The starts that a leaf gives.
+fn leaf_starts(
+    alloc: Global,
+    grammar: &Grammar,
+    classes: &[Class],
+    words: &[WordClasses],
+    leaf: &Leaf<WordId>,
+) -> Result<Vec<ListedStart>, AllocError>
+    requires classes { AreClassesOf grammar.now classes.now }
+    requires words { AreWordClasses grammar.now words.now }
+    ensures { IfOk result (λ own. AreOwn grammar.now (Form.Leaf leaf.now) own.items) }
+{
+    match leaf {
+        Leaf::Satisfy(expression) => class_starts(alloc, grammar, classes, expression),
+        Leaf::String(text) => string_starts(alloc, grammar, text),
+        Leaf::Word(word) => word_starts(alloc, grammar, words, *word),
+        Leaf::Declare(excluded) => keyword_starts(alloc, grammar, classes, excluded),
+        Leaf::NotFollowedBy(_) | Leaf::EndOfText => Ok(Vec::new(alloc)),
+    }
+}
+
+/// The starts that a form around a part gives: a try may give a key.
+fn around_starts(
+    alloc: Global,
+    grammar: &Grammar,
+    classes: &[Class],
+    around: &Around,
+    part: NodeId,
+) -> Result<Vec<ListedStart>, AllocError>
+    requires { AreClassesOf grammar.now classes.now }
+    ensures { IfOk result (λ own. AreOwn grammar.now (Form.Around around.now part) own.items) }
+{
+    match around {
+        Around::Try => key_starts(alloc, grammar, classes, part),
+        Around::Text | Around::Skip | Around::Build(_, _) | Around::Label(_) => Ok(Vec::new(alloc)),
     }
 }
 
@@ -128,7 +154,7 @@ fn word_starts(
     Ok(Vec::new(alloc))
 }
 
-/// The whole string that is tried, without a character of the class behind it if there is one.
+/// The whole string that is tried, without a character of the class after it if there is one.
 fn key_starts(
     alloc: Global,
     grammar: &Grammar,
@@ -189,7 +215,7 @@ fn operator_starts(
     }
 }
 
-/// The keyword of each role, without a character of the class or one of a to z behind it.
+/// The keyword of each role, without a character of the class or one of a to z after it.
 fn keyword_starts(
     alloc: Global,
     grammar: &Grammar,
@@ -203,26 +229,35 @@ fn keyword_starts(
     let letters = class_between(alloc, 'a', 'z')?;
     let excluded = class.union(alloc, &letters)?;
     let _ranges = excluded.ranges();
-    let own = keyword_keys(alloc, &excluded)?;
+    let roles = [
+        Role::InfixLeft,
+        Role::InfixRight,
+        Role::InfixNone,
+        Role::Prefix,
+        Role::Postfix,
+    ];
+    let own = keyword_keys(alloc, &roles, &excluded)?;
     Ok(own)
 }
 
-/// The keyword of each role as a key.
-fn keyword_keys(alloc: Global, excluded: &Class) -> Result<Vec<ListedStart>, AllocError>
-    ensures { IfOk result (λ own. own.items ≡ keyword_keys excluded.now) }
+/// The keyword of each of these roles as a key.
+fn keyword_keys(
+    alloc: Global,
+    roles: &[Role],
+    excluded: &Class,
+) -> Result<Vec<ListedStart>, AllocError>
+    ensures { IfOk result (λ own. own.items ≡ map (keyword_key excluded.now) roles.now) }
 {
     let mut own = Vec::new(alloc);
-    own.push(keyword_key(alloc, Role::InfixLeft, excluded)?)?;
-    own.push(keyword_key(alloc, Role::InfixRight, excluded)?)?;
-    own.push(keyword_key(alloc, Role::InfixNone, excluded)?)?;
-    own.push(keyword_key(alloc, Role::Prefix, excluded)?)?;
-    own.push(keyword_key(alloc, Role::Postfix, excluded)?)?;
+    for role in roles {
+        own.push(keyword_key(alloc, *role, excluded)?)?;
+    }
     Ok(own)
 }
 
 /// The keyword of a role as a key.
 fn keyword_key(alloc: Global, role: Role, excluded: &Class) -> Result<ListedStart, AllocError>
-    ensures { IfOk result (λ listed. listed ≡ record { start = StartKind.Key (role_keyword role) excluded.now; word = 0 }) }
+    ensures { IfOk result (λ listed. listed ≡ keyword_key excluded.now role) }
 {
     let start = Start::key(alloc, keyword(role), excluded)?;
     Ok(ListedStart { start, word: 0 })

@@ -1,12 +1,13 @@
 //! Which parts of a node are reached, and which rule a node uses.
 //!
 //! Nothing need be consumed before a part that is reached, which the marks of the nullable nodes tell.
-ghost use Rattle.std.specs.Prelude.{◌≡◌, ◌∷◌, [], ◌++◌, replicate, length, IfOk, OnOk, MatchOption};
+ghost use Rattle.std.specs.Prelude.{◌≡◌, ◌∷◌, [], replicate, length, IfOk, OnOk, MatchOption};
 ghost use Rattle.pg_grammar.specs.Grammar.{IsGrammar};
+ghost use Rattle.pg_sets.specs.Graphs.{joined_each};
 ghost use Rattle.pg_sets.specs.Parts.{up_to_unmarked, reached_parts, used_rules, all_joined};
 
 use crate::marks::is_marked;
-use crate::numbers::{Numbers, empty_lists, join, join_each};
+use crate::numbers::{Numbers, empty_lists, join};
 use pg_grammar::{Around, Form, Grammar, Leaf, Node, NodeId, RuleId};
 use std::alloc::{AllocError, Global};
 
@@ -23,8 +24,7 @@ pub(crate) fn reached_from(
     let nodes = grammar.nodes();
     let mut graph = empty_lists(alloc, nodes.len())?;
     for (number, node) in nodes.iter().enumerate() {
-        let parts = reached_parts(alloc, node, nullable)?;
-        join_each(&mut graph, parts.as_slice(), number)?;
+        join_node(&mut graph, nullable, number, node)?;
     }
     Ok(graph)
 }
@@ -43,35 +43,39 @@ pub(crate) fn uses_of_rules(alloc: Global, grammar: &Grammar) -> Result<Vec<Numb
     Ok(uses)
 }
 
-/// The parts of a node that are reached. The only error is that memory ran out.
-fn reached_parts(alloc: Global, node: &Node, nullable: &[bool]) -> Result<Vec<usize>, AllocError>
-    ensures { IfOk result (λ parts. parts.items ≡ reached_parts nullable.now node.now) }
+/// Adds a node to the lists of its parts that are reached. The only error is that memory ran out.
+fn join_node(
+    graph: &mut [Numbers],
+    nullable: &[bool],
+    number: usize,
+    node: &Node,
+) -> Result<(), AllocError>
+    ensures { OnOk result (graph.new ≡ joined_each graph.old (reached_parts nullable.now node.now) number) }
 {
-    let mut reached = Vec::new(alloc);
     match node {
-        Form::Seq(parts) => push_reached(&mut reached, parts.as_slice(), nullable)?,
-        Form::Choice(parts) => push_all(&mut reached, parts.as_slice())?,
+        Form::Seq(parts) => join_reached(graph, nullable, number, parts.as_slice()),
+        Form::Choice(parts) => join_all(graph, number, parts.as_slice()),
         Form::Chain(_, _, operand, separator) => {
-            push_reached(&mut reached, &[*operand, *separator], nullable)?;
+            join_reached(graph, nullable, number, &[*operand, *separator])
         }
-        Form::Many(part) | Form::Around(_, part) | Form::Expression(_, part) => reached.push(
-            part.index(),
-        )?,
-        Form::Leaf(_) | Form::Rule(_) => {}
+        Form::Many(part) | Form::Around(_, part) | Form::Expression(_, part) => {
+            join(graph, part.index(), number)
+        }
+        Form::Leaf(_) | Form::Rule(_) => Ok(()),
     }
-    Ok(reached)
 }
 
-/// Adds the numbers of these nodes, up to the first that isn't nullable. The only error is that memory ran out.
-fn push_reached(
-    reached: &mut Vec<usize>,
-    parts: &[NodeId],
+/// Adds a number to the lists of these nodes, up to the first that isn't nullable. The only error is that memory ran out.
+fn join_reached(
+    graph: &mut [Numbers],
     nullable: &[bool],
+    number: usize,
+    parts: &[NodeId],
 ) -> Result<(), AllocError>
-    ensures { OnOk result (reached.new.items ≡ reached.old.items ++ up_to_unmarked nullable.now parts.now) }
+    ensures { OnOk result (graph.new ≡ joined_each graph.old (up_to_unmarked nullable.now parts.now) number) }
 {
     for part in parts {
-        reached.push(part.index())?;
+        join(graph, part.index(), number)?;
         if !is_marked(nullable, part.index()) {
             return Ok(());
         }
@@ -79,12 +83,12 @@ fn push_reached(
     Ok(())
 }
 
-/// Adds the numbers of all these nodes. The only error is that memory ran out.
-fn push_all(numbers: &mut Vec<usize>, parts: &[NodeId]) -> Result<(), AllocError>
-    ensures { OnOk result (numbers.new.items ≡ numbers.old.items ++ parts.now) }
+/// Adds a number to the lists of all these nodes. The only error is that memory ran out.
+fn join_all(graph: &mut [Numbers], number: usize, parts: &[NodeId]) -> Result<(), AllocError>
+    ensures { OnOk result (graph.new ≡ joined_each graph.old parts.now number) }
 {
     for part in parts {
-        numbers.push(part.index())?;
+        join(graph, part.index(), number)?;
     }
     Ok(())
 }

@@ -13,7 +13,7 @@ use pg_text::Characters;
 use serde_json::Value;
 use std::alloc::{AllocError, Global};
 
-/// How many ranges of a class are printed; `,..` stands for those behind them.
+/// How many ranges of a class are printed; `,..` stands for those after them.
 const MOST_RANGES: usize = 4;
 
 /// The start in words: a class by its first ranges, a key in the quotes of JSON, a word by the name of its word item,

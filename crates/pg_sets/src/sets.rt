@@ -3,7 +3,7 @@
 //! Callers see them as lists by the numbers of nodes and rules; `compute` says whose they are. Nothing writes them
 //! once they are made, and no call but `compute` takes memory.
 ghost use Rattle.std.specs.Prelude.{◌≡◌, [], IfOk};
-ghost use Rattle.pg_numbers.specs.Numbers.{set_at};
+ghost use Rattle.pg_bit_set.specs.Numbers.{set_at};
 ghost use Rattle.pg_sets.specs.Graphs.{numbers_at};
 ghost use Rattle.pg_sets.specs.Marks.{is_marked};
 ghost use Rattle.pg_sets.specs.Ranks.{rank_at};
@@ -15,8 +15,8 @@ use crate::nullable::nullable_nodes;
 use crate::ranks::{rank_at, ranks_of_rules};
 use crate::rules::{Rules, rules_at};
 use crate::start_sets::start_sets;
+use pg_bit_set::BitSet;
 use pg_grammar::{Grammar, NodeId, RuleId};
-use pg_numbers::NumberSet;
 use std::alloc::{AllocError, Global};
 use std::marker::Model;
 
@@ -25,12 +25,12 @@ use std::marker::Model;
 pub struct Sets {
     nullable: Vec<bool>,
     starts: Vec<ListedStart>,
-    firsts: Vec<NumberSet>,
-    follows: Vec<NumberSet>,
+    firsts: Vec<BitSet>,
+    follows: Vec<BitSet>,
     heads: Vec<Rules>,
     ranks: Vec<Option<u32>>,
     /// The set of a node that isn't there.
-    none: NumberSet,
+    none: BitSet,
 }
 
 impl Model for Sets {
@@ -55,7 +55,7 @@ impl Sets {
         let found = start_sets(alloc, grammar, &nullable)?;
         let heads = heads_of_rules(alloc, grammar, &nullable)?;
         let ranks = ranks_of_rules(alloc, grammar, &heads)?;
-        let none = NumberSet::new(alloc, 0)?;
+        let none = BitSet::new(alloc, 0)?;
         Ok(Sets {
             nullable,
             starts: found.starts,
@@ -83,14 +83,14 @@ impl Sets {
     }
 
     /// The numbers of the starts that can begin what the node reads.
-    pub fn first(&self, node: NodeId) -> &NumberSet
+    pub fn first(&self, node: NodeId) -> &BitSet
         ensures { result.now ≡ set_at self.now.firsts node }
     {
         set_at(&self.firsts, node.index(), &self.none)
     }
 
     /// The numbers of the starts that can follow what the node reads.
-    pub fn follow(&self, node: NodeId) -> &NumberSet
+    pub fn follow(&self, node: NodeId) -> &BitSet
         ensures { result.now ≡ set_at self.now.follows node }
     {
         set_at(&self.follows, node.index(), &self.none)
@@ -113,7 +113,7 @@ impl Sets {
 }
 
 /// One of the sets; a set that isn't there is the one with no number.
-fn set_at<'a>(sets: &'a [NumberSet], set: usize, none: &'a NumberSet) -> &'a NumberSet
+fn set_at<'a>(sets: &'a [BitSet], set: usize, none: &'a BitSet) -> &'a BitSet
     requires { none.now ≡ [] }
     ensures { result.now ≡ set_at sets.now set }
 {

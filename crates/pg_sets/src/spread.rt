@@ -2,15 +2,15 @@
 //!
 //! Each vertex has a set of numbers. One that waits hands its set on along its edges, and whichever set grows by that waits
 //! in turn. Any order of turns gives the same sets. In this one most sets have all that they get before they hand it on:
-//! first sets get theirs from nodes behind, follow sets from nodes before and, in sequences, from those behind.
+//! first sets get theirs from nodes after, follow sets from nodes before and, in sequences, from those after.
 ghost use Rattle.std.specs.Prelude.{◌≡◌, ◌<◌, ◌≤◌, ◌+◌, ◌/◌, ℕ, [], false, true, length, replicate, IfOk, MatchOption};
-ghost use Rattle.pg_numbers.specs.Numbers.{set_at};
+ghost use Rattle.pg_bit_set.specs.Numbers.{set_at};
 ghost use Rattle.pg_sets.specs.Graphs.{AreSpread};
 ghost use Rattle.pg_sets.specs.Marks.{is_marked};
 ghost use Rattle.pg_sets.specs.Spread.{with_number_each, vertex_at, IsHandedOn};
 
 use crate::numbers::Numbers;
-use pg_numbers::{NumberSet, unite_within};
+use pg_bit_set::{BitSet, unite_within};
 use std::alloc::{AllocError, Global};
 
 /// For each vertex the numbers of those lists of roots from which it is reached. The only error is that memory ran out.
@@ -18,7 +18,7 @@ pub(crate) fn spread(
     alloc: Global,
     graph: &[Numbers],
     roots: &[Numbers],
-) -> Result<Vec<NumberSet>, AllocError>
+) -> Result<Vec<BitSet>, AllocError>
     ensures { IfOk result (λ sets. AreSpread graph.now roots.now sets.items) }
 {
     let mut sets = empty_sets(alloc, graph.len(), roots.len())?;
@@ -37,18 +37,18 @@ pub(crate) fn spread(
 }
 
 /// So many sets without a number, each for numbers below the limit. The only error is that memory ran out.
-fn empty_sets(alloc: Global, count: usize, limit: usize) -> Result<Vec<NumberSet>, AllocError>
+fn empty_sets(alloc: Global, count: usize, limit: usize) -> Result<Vec<BitSet>, AllocError>
     ensures { IfOk result (λ sets. sets.items ≡ replicate count (replicate limit false)) }
 {
     let mut sets = Vec::new(alloc);
     for _ in 0..count {
-        sets.push(NumberSet::new(alloc, limit)?)?;
+        sets.push(BitSet::new(alloc, limit)?)?;
     }
     Ok(sets)
 }
 
 /// Adds a number to each of these sets that is there.
-fn insert_each(sets: &mut [NumberSet], at: &[usize], number: usize)
+fn insert_each(sets: &mut [BitSet], at: &[usize], number: usize)
     requires { (v : ℕ) → v < length sets.old → number < length (set_at sets.old v) }
     ensures { sets.new ≡ with_number_each sets.old at.now number }
 {
@@ -93,7 +93,7 @@ fn next_waiting(waits: &[bool], place: usize) -> Option<usize>
 }
 
 /// Hands a set on along these edges; sets that grow by that wait.
-fn hand_on(edges: &[usize], from: usize, sets: &mut [NumberSet], waits: &mut [bool])
+fn hand_on(edges: &[usize], from: usize, sets: &mut [BitSet], waits: &mut [bool])
     requires from { from < length sets.old }
     requires waits { length waits.old ≡ length sets.old }
     requires limit { (v : ℕ) → v < length sets.old → length (set_at sets.old v) ≡ length (set_at sets.old from) }

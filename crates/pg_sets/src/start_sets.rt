@@ -10,19 +10,19 @@ use crate::keys::key_tries;
 use crate::listed::ListedStart;
 use crate::origins::listed_starts;
 use crate::spread::spread;
+use pg_bit_set::BitSet;
 use pg_grammar::Grammar;
-use pg_numbers::NumberSet;
 use std::alloc::{AllocError, Global};
 
 /// The starts of a grammar, and for each node the numbers of those that are in its sets.
-#[derive(Debug, Drop)]
+#[derive(Drop)]
 pub(crate) struct StartSets {
     /// The starts in their order.
     pub(crate) starts: Vec<ListedStart>,
     /// For each node its first set.
-    pub(crate) firsts: Vec<NumberSet>,
+    pub(crate) firsts: Vec<BitSet>,
     /// For each node its follow set.
-    pub(crate) follows: Vec<NumberSet>,
+    pub(crate) follows: Vec<BitSet>,
 }
 
 /// The first and the follow sets of the grammar, by the marks of its nullable nodes. The only error is that memory ran

@@ -1,6 +1,6 @@
 //! The walk over a graph: which vertices are reached from some.
 //!
-//! Each vertex that is reached is met once, and marked then; the edges behind it are followed in the order in which the
+//! Each vertex that is reached is met once, and marked then; the edges after it are followed in the order in which the
 //! vertices were met. Heads are found so; sets that name many numbers are handed on instead (`spread.rt`).
 ghost use Rattle.std.specs.Prelude.{◌≡◌, ◌<◌, ◌↔◌, ℕ, true, length, OnOk, IfOk};
 ghost use Rattle.std.specs.Bool.{OnTrue};

@@ -3,7 +3,7 @@
 //! Word items that read the same words, and the operators where they are read as a word item says, are one start.
 ghost use Rattle.std.specs.Prelude.{◌≡◌, ◌↔◌, ℕ, List, true, IfOk};
 ghost use Rattle.std.specs.List.{list_all};
-ghost use Rattle.pg_start.specs.Fronts.{is_reserved};
+ghost use Rattle.pg_start.specs.Prefixes.{is_reserved};
 ghost use Rattle.pg_sets.specs.OwnStarts.{IsClassOf, SameTexts};
 ghost use Rattle.pg_sets.specs.Listed.{IsFirstReader};
 ghost use Rattle.pg_sets.specs.Words.{AreClassesOf, AreWordClasses, ListsWords};
@@ -17,7 +17,7 @@ use pg_text::Characters;
 use std::alloc::{AllocError, Global};
 
 /// The two classes of a word item.
-#[derive(Debug, Drop)]
+#[derive(Drop)]
 pub(crate) struct WordClasses {
     /// The characters that a word begins with.
     pub(crate) head: Class,
@@ -36,11 +36,25 @@ pub(crate) fn classes_of_words(
 {
     let mut words = Vec::new(alloc);
     for item in grammar.word_items() {
-        let head = class_in_grammar(alloc, grammar, classes, &item.head)?;
-        let rest = class_in_grammar(alloc, grammar, classes, &item.rest)?;
-        words.push(WordClasses { head, rest })?;
+        let word = classes_of_word(alloc, grammar, classes, item)?;
+        words.push(word)?;
     }
     Ok(words)
+}
+
+/// The classes of a word item. The only error is that memory ran out.
+fn classes_of_word(
+    alloc: Global,
+    grammar: &Grammar,
+    classes: &[Class],
+    item: &WordItem,
+) -> Result<WordClasses, AllocError>
+    requires { AreClassesOf grammar.now classes.now }
+    ensures { IfOk result (λ word. IsClassOf grammar.now item.now.head word.head × IsClassOf grammar.now item.now.rest word.rest) }
+{
+    let head = class_in_grammar(alloc, grammar, classes, &item.head)?;
+    let rest = class_in_grammar(alloc, grammar, classes, &item.rest)?;
+    Ok(WordClasses { head, rest })
 }
 
 /// The start of words of these classes, these texts reserved. The only error is that memory ran out.

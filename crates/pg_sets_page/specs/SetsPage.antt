@@ -12,7 +12,7 @@ use Rattle.pg_grammar.specs.declared.form.Around.{Around}
 use Rattle.pg_grammar.specs.declared.form.Around.TheVariants as around
 use Rattle.pg_grammar.specs.declared.side.Side.{Side}
 use Rattle.pg_grammar.specs.declared.side.Side.TheVariants as side
-use Rattle.pg_numbers.specs.Numbers.{contains, set_at}
+use Rattle.pg_bit_set.specs.Numbers.{contains, set_at}
 use Rattle.pg_predict.specs.Findings.{name_text, body_of}
 use Rattle.pg_sets.specs.Graphs.{numbers_at}
 use Rattle.pg_sets.specs.Marks.{is_marked}
@@ -112,7 +112,7 @@ rule_line names sets r =
 
 -- ---- the page
 
--- the node behind the last of a rule: the body of the next rule, or behind all nodes
+-- the node after the last of a rule: the body of the next rule, or after all nodes
 abbrev pub end_of : Grammar → ℕ → ℕ
 end_of g r = option_map_or rule_body (slice_get g.rules (r + 1)) (length g.nodes)
 

@@ -5,13 +5,13 @@
 
 ghost use Rattle.std.specs.Prelude.{◌≡◌, ◌++◌, ◌+◌, ◌^◌, ◌<◌, ◌≤◌, codes, length, map, string_bytes, IfOk, OnOk};
 ghost use Rattle.std.specs.List.{filter, join_by, range_with_len};
-ghost use Rattle.pg_numbers.specs.Numbers.{contains};
+ghost use Rattle.pg_bit_set.specs.Numbers.{contains};
 ghost use Rattle.pg_predict.specs.Findings.{name_text, body_of};
 ghost use Rattle.pg_sets.specs.PrintedStarts.{start_text};
 ghost use Rattle.pg_sets_page.specs.SetsPage.{IsSetsPage, text_at, list_text, set_text, leaf_word, chain_word, around_word, form_word, word_of, nullable_text, place_text, sets_text, node_line, rank_text, rule_line, end_of, node_lines, rule_text, page_text};
 
+use pg_bit_set::BitSet;
 use pg_grammar::{Around, Form, Grammar, Leaf, Node, NodeId, Rule, RuleId, Side, WordId};
-use pg_numbers::NumberSet;
 use pg_sets::{ListedStart, Sets, printed_start};
 use std::alloc::{AllocError, Global};
 
@@ -81,7 +81,7 @@ fn body_of(rules: &[Rule], rule: usize) -> usize
     }
 }
 
-/// The node behind the last of a rule.
+/// The node after the last of a rule.
 fn end_of(grammar: &Grammar, rule: usize) -> usize
     requires { rule < length grammar.now.rules }
     ensures { result ≡ end_of grammar.now rule }
@@ -154,7 +154,7 @@ fn push_node_lines(
     Ok(())
 }
 
-/// Pushes a node's number behind the body, from 1, and the word of its form.
+/// Pushes a node's number after the body, from 1, and the word of its form.
 fn push_place(
     alloc: Global,
     page: &mut Vec<u8>,
@@ -162,7 +162,7 @@ fn push_place(
     body: usize,
     node: usize,
 ) -> Result<(), AllocError>
-    requires behind { body ≤ node }
+    requires after { body ≤ node }
     requires fits { node + 1 < 2 ^ 64 }
     ensures { OnOk result (page.new.items ≡ page.old.items ++ place_text grammar.now body node) }
 {
@@ -261,7 +261,7 @@ fn push_set(
     alloc: Global,
     page: &mut Vec<u8>,
     texts: &[String],
-    set: &NumberSet,
+    set: &BitSet,
 ) -> Result<(), AllocError>
     ensures { OnOk result (page.new.items ≡ page.old.items ++ set_text (map string_bytes texts.now) set.now) }
 {
@@ -270,7 +270,7 @@ fn push_set(
 }
 
 /// The numbers in a set below a limit.
-fn members(alloc: Global, set: &NumberSet, limit: usize) -> Result<Vec<usize>, AllocError>
+fn members(alloc: Global, set: &BitSet, limit: usize) -> Result<Vec<usize>, AllocError>
     ensures { IfOk result (λ numbers. numbers.items ≡ filter (contains set.now) (range_with_len 0 limit)) }
 {
     let mut numbers = Vec::new(alloc);

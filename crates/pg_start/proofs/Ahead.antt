@@ -3,7 +3,7 @@ use Rattle.std.proofs.Common.{◌≡◌, ℕ, zero, suc, ◌+◌, ◌<◌, true,
 use Rattle.std.proofs.lemmas.Bool.{false≢true}
 use Rattle.std.proofs.lemmas.List.{drop-drop}
 use Rattle.pg_class.specs.Ranges.{Range, has}
-use Rattle.pg_start.specs.Fronts.{begins_in, IsFront, word_front, is_reserved}
+use Rattle.pg_start.specs.Prefixes.{begins_in, IsPrefix, word_prefix, is_reserved}
 use Rattle.pg_start.specs.Starts.{HasAt, IsKeyAt, IsWordAt}
 
 -- from the place of a character on
@@ -39,7 +39,7 @@ begins_from_none (x ∷ xs) (suc i) class h = begins_from_none xs i class h
 
 -- ---- a key
 
-pub key_from_ahead : (text : List ℕ) (i : ℕ) (key : List ℕ) (excluded : List Range) → 0 < length key → IsFront key (drop i text)
+pub key_from_ahead : (text : List ℕ) (i : ℕ) (key : List ℕ) (excluded : List Range) → 0 < length key → IsPrefix key (drop i text)
     → begins_in excluded (drop (length key) (drop i text)) ≡ false → IsKeyAt text i key excluded
 key_from_ahead text i key excluded spelled there e = record {
   spelled = spelled;
@@ -54,19 +54,19 @@ ends_from_key text i key class h = ap (begins_in class) (drop-drop (length key) 
 -- ---- a word
 
 pub word_from_ahead : (text : List ℕ) (i : ℕ) (heads rest : List Range) (reserved : List (List ℕ)) → begins_in heads (drop i text) ≡ true
-    → is_reserved reserved (word_front rest (drop i text)) ≡ false → IsWordAt text i heads rest reserved
+    → is_reserved reserved (word_prefix rest (drop i text)) ≡ false → IsWordAt text i heads rest reserved
 word_from_ahead text i heads rest reserved e f =
     let h = has_from_begins text i heads e in
     record {
       head = h.character;
       there = h.there;
       member = h.member;
-      free = sym (ap (λ a. is_reserved reserved (word_front rest a)) (drop_at text i h.character h.there)) ∙ f;
+      free = sym (ap (λ a. is_reserved reserved (word_prefix rest a)) (drop_at text i h.character h.there)) ∙ f;
     }
 
 pub head_of_word : (text : List ℕ) (i : ℕ) (heads rest : List Range) (reserved : List (List ℕ)) → IsWordAt text i heads rest reserved → HasAt text i heads
 head_of_word text i heads rest reserved w = record { character = w.head; there = w.there; member = w.member }
 
 pub free_of_word : (text : List ℕ) (i : ℕ) (heads rest : List Range) (reserved : List (List ℕ)) → IsWordAt text i heads rest reserved
-    → is_reserved reserved (word_front rest (drop i text)) ≡ false
-free_of_word text i heads rest reserved w = ap (λ a. is_reserved reserved (word_front rest a)) (drop_at text i w.head w.there) ∙ w.free
+    → is_reserved reserved (word_prefix rest (drop i text)) ≡ false
+free_of_word text i heads rest reserved w = ap (λ a. is_reserved reserved (word_prefix rest a)) (drop_at text i w.head w.there) ∙ w.free

@@ -6,19 +6,17 @@ use Rattle.std.proofs.lemmas.Option.{slice_get_within}
 use Rattle.std.specs.Char.{IsScalar}
 use Rattle.std.specs.Str.{all_scalars}
 use Rattle.pg_class.specs.Ranges.{Range, AreDisjoint, has}
-use Rattle.pg_start.specs.Fronts.{begins_in, IsFront, is_reserved}
+use Rattle.pg_class.proofs.Disjoint.{AreDisjoint-swap}
+use Rattle.pg_start.specs.Prefixes.{begins_in, IsPrefix, is_reserved}
 use Rattle.pg_start.specs.Starts.{HasAt, IsKeyAt, IsWordAt, MatchesAt}
 use Rattle.pg_start.specs.Apart.{Apart, KeysApart, differ, other_goes_on, key_goes_on, KeyWordApart, begins_outside, goes_on, ends}
 use Rattle.pg_start.specs.declared.kind.StartKind.{StartKind}
 use Rattle.pg_start.specs.declared.kind.StartKind.TheVariants.{Class, Key, Word, End}
 use Rattle.pg_start.proofs.Ahead.{begins_from_has, ends_from_key, head_of_word, free_of_word}
-use Rattle.pg_start.proofs.Keys.{front_of_front, read_of_front, slice_get-drop, front_begins, front_not_empty, KeysApart-swap}
+use Rattle.pg_start.proofs.Keys.{prefix_of_prefix, read_of_prefix, slice_get-drop, prefix_begins, prefix_not_empty, KeysApart-swap}
 use Rattle.pg_start.proofs.Runs.{word_inside, word_ends}
 
 -- ---- symmetry
-
-AreDisjoint-swap : (xs ys : List Range) → AreDisjoint xs ys → AreDisjoint ys xs
-AreDisjoint-swap xs ys h c sc p q = h c sc q p
 
 pub Apart-swap : (one other : StartKind) → Apart one other → Apart other one
 Apart-swap (Class a) (Class b) h = AreDisjoint-swap a b h
@@ -59,13 +57,13 @@ classes_never a b text i apart s h k =
 class_key_never : (a : List Range) (key : List ℕ) (excluded : List Range) (text : List ℕ) (i : ℕ) → begins_in a key ≡ false
     → HasAt text i a → IsKeyAt text i key excluded → ⊥
 class_key_never a key excluded text i apart h k =
-    false≢true (sym apart ∙ sym (front_begins key (drop i text) a k.spelled k.there) ∙ begins_from_has text i a h)
+    false≢true (sym apart ∙ sym (prefix_begins key (drop i text) a k.spelled k.there) ∙ begins_from_has text i a h)
 
 -- keys, of which the other goes on with a character that the first excludes
 longer_never : (key : List ℕ) (excluded : List Range) (other : List ℕ) (others : List Range) (text : List ℕ) (i : ℕ)
     → HasAt other (length key) excluded → IsKeyAt text i key excluded → IsKeyAt text i other others → ⊥
 longer_never key excluded other others text i h k l =
-    let ahead = read_of_front other (drop i text) (length key) h.character l.there h.there in
+    let ahead = read_of_prefix other (drop i text) (length key) h.character l.there h.there in
     let there = sym (slice_get-drop text i (length key)) ∙ ahead in
     false≢true (sym (k.ends h.character there) ∙ h.member)
 
@@ -73,8 +71,8 @@ keys_never : (key : List ℕ) (excluded : List Range) (other : List ℕ) (others
     → KeysApart key excluded other others → IsKeyAt text i key excluded → IsKeyAt text i other others → ⊥
 keys_never key excluded other others text i (differ n m) k l =
     ⊎_elim
-    (λ (below : length key < length other). n (front_of_front key other (drop i text) (omega arith) k.there l.there))
-    (λ (above : length other ≤ length key). m (front_of_front other key (drop i text) above l.there k.there))
+    (λ (below : length key < length other). n (prefix_of_prefix key other (drop i text) (omega arith) k.there l.there))
+    (λ (above : length other ≤ length key). m (prefix_of_prefix other key (drop i text) above l.there k.there))
     (cases_lt (length key) (length other))
 keys_never key excluded other others text i (other_goes_on f h) k l = longer_never key excluded other others text i h k l
 keys_never key excluded other others text i (key_goes_on f h) k l = longer_never other others key excluded text i h l k
@@ -99,8 +97,8 @@ key_word_never key excluded heads rest reserved text i (goes_on r n) s k w =
     let same = word_inside rest key (drop i text) k.spelled k.there n in
     false≢true (sym (free_of_word text i heads rest reserved w) ∙ ap (is_reserved reserved) same ∙ r)
 key_word_never key excluded heads rest reserved text i (ends r within) s k w =
-    let behind = ends_from_key text i key rest (rest_ends key excluded rest text i within s k) in
-    let same = word_ends rest key (drop i text) k.spelled k.there behind in
+    let after = ends_from_key text i key rest (rest_ends key excluded rest text i within s k) in
+    let same = word_ends rest key (drop i text) k.spelled k.there after in
     false≢true (sym (free_of_word text i heads rest reserved w) ∙ ap (is_reserved reserved) same ∙ r)
 
 class_end_never : (a : List Range) (text : List ℕ) (i : ℕ) → HasAt text i a → i ≡ length text → ⊥
@@ -108,7 +106,7 @@ class_end_never a text i h e = let within = slice_get_within text i h.character 
 
 key_end_never : (key : List ℕ) (excluded : List Range) (text : List ℕ) (i : ℕ) → IsKeyAt text i key excluded → i ≡ length text → ⊥
 key_end_never key excluded text i k e =
-    front_not_empty key k.spelled (subst (IsFront key) (drop_all i text (omega arith)) k.there)
+    prefix_not_empty key k.spelled (subst (IsPrefix key) (drop_all i text (omega arith)) k.there)
 
 pub never_meet : (one other : StartKind) → Apart one other → (text : List ℕ) → all_scalars text ≡ true → (i : ℕ)
     → MatchesAt one text i → MatchesAt other text i → ⊥

@@ -3,7 +3,7 @@ use Rattle.std.proofs.Common.{◌≡◌, ℕ, ◌-◌, Bool, true, false, not, L
 use Rattle.std.proofs.lemmas.Bool.{false≢true}
 use Rattle.std.proofs.lemmas.List.{take_all, length-drop}
 use Rattle.pg_class.specs.Ranges.{Range}
-use Rattle.pg_start.specs.Fronts.{begins_in, IsFront, word_front, is_reserved}
+use Rattle.pg_start.specs.Prefixes.{begins_in, IsPrefix, word_prefix, is_reserved}
 use Rattle.pg_start.specs.Starts.{IsStart, MatchesAt}
 use Rattle.pg_start.specs.declared.kind.StartKind.{StartKind}
 use Rattle.pg_start.specs.declared.kind.StartKind.TheVariants.{Class, Key, Word}
@@ -19,9 +19,9 @@ class_told start text i class r e is =
     subst (λ (s : StartKind). (r ≡ true → MatchesAt s text i) × (MatchesAt s text i → r ≡ true)) (sym e)
     (λ t. has_from_begins text i class (sym is ∙ t), λ h. is ∙ begins_from_has text i class h)
 
--- the key stands ahead, with no excluded character behind it
+-- the key stands ahead, with no excluded character after it
 abbrev pub KeyAhead : List ℕ → List Range → List ℕ → Type 0
-KeyAhead key excluded ahead = IsFront key ahead × (begins_in excluded (drop (length key) ahead) ≡ false)
+KeyAhead key excluded ahead = IsPrefix key ahead × (begins_in excluded (drop (length key) ahead) ≡ false)
 
 pub key_told : (start : StartKind) (text : List ℕ) (i : ℕ) (key : List ℕ) (excluded : List Range) (k ahead : List ℕ) (r : Bool)
     → start ≡ Key key excluded → IsStart start → k ≡ key → ahead ≡ drop i text
@@ -46,7 +46,7 @@ not_false false e = refl
 
 -- where the text goes on with a head
 pub word_told : (start : StartKind) (text : List ℕ) (i : ℕ) (heads rest : List Range) (reserved : List (List ℕ)) (r : Bool)
-    → start ≡ Word heads rest reserved → begins_in heads (drop i text) ≡ true → r ≡ is_reserved reserved (word_front rest (drop i text))
+    → start ≡ Word heads rest reserved → begins_in heads (drop i text) ≡ true → r ≡ is_reserved reserved (word_prefix rest (drop i text))
     → (not r ≡ true → MatchesAt start text i) × (MatchesAt start text i → not r ≡ true)
 word_told start text i heads rest reserved r e begins is =
     subst (λ (s : StartKind). (not r ≡ true → MatchesAt s text i) × (MatchesAt s text i → not r ≡ true)) (sym e) (

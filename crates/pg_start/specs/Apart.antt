@@ -1,7 +1,7 @@
 -- When two starts are apart, so that no place of a text has both.
 use Rattle.std.specs.Prelude.{◌≡◌, ◌≢◌, ℕ, false, true, List, length}
 use Rattle.pg_class.specs.Ranges.{Range, AreDisjoint, IsWithin}
-use Rattle.pg_start.specs.Fronts.{begins_in, IsFront, word_front, is_reserved}
+use Rattle.pg_start.specs.Prefixes.{begins_in, IsPrefix, word_prefix, is_reserved}
 use Rattle.pg_start.specs.Starts.{HasAt}
 use Rattle.pg_start.specs.declared.kind.StartKind.{StartKind}
 use Rattle.pg_start.specs.declared.kind.StartKind.TheVariants.{Class, Key, Word, End}
@@ -9,19 +9,19 @@ use Rattle.pg_start.specs.declared.kind.StartKind.TheVariants.{Class, Key, Word,
 -- two keys are apart
 pub data KeysApart (key : List ℕ) (excluded : List Range) (other : List ℕ) (other_excluded : List Range) : Type 0 where
   -- neither begins with the other
-  differ : ¬ (IsFront key other) → ¬ (IsFront other key) → KeysApart key excluded other other_excluded
+  differ : ¬ (IsPrefix key other) → ¬ (IsPrefix other key) → KeysApart key excluded other other_excluded
   -- the one is longer than the other, and goes on with a character that the other excludes
-  other_goes_on : IsFront key other → HasAt other (length key) excluded → KeysApart key excluded other other_excluded
-  key_goes_on : IsFront other key → HasAt key (length other) other_excluded → KeysApart key excluded other other_excluded
+  other_goes_on : IsPrefix key other → HasAt other (length key) excluded → KeysApart key excluded other other_excluded
+  key_goes_on : IsPrefix other key → HasAt key (length other) other_excluded → KeysApart key excluded other other_excluded
 
 -- a key and words are apart
 pub data KeyWordApart (key : List ℕ) (excluded heads rest : List Range) (reserved : List (List ℕ)) : Type 0 where
   -- the key doesn't begin with a head
   begins_outside : begins_in heads key ≡ false → KeyWordApart key excluded heads rest reserved
   -- the word that the key begins with is reserved, and isn't the whole key
-  goes_on : is_reserved reserved (word_front rest key) ≡ true → word_front rest key ≢ key → KeyWordApart key excluded heads rest reserved
+  goes_on : is_reserved reserved (word_prefix rest key) ≡ true → word_prefix rest key ≢ key → KeyWordApart key excluded heads rest reserved
   -- the word that the key begins with is reserved, and the key excludes whatever a word may go on with
-  ends : is_reserved reserved (word_front rest key) ≡ true → IsWithin rest excluded → KeyWordApart key excluded heads rest reserved
+  ends : is_reserved reserved (word_prefix rest key) ≡ true → IsWithin rest excluded → KeyWordApart key excluded heads rest reserved
 
 -- two starts are apart
 abbrev pub Apart : StartKind → StartKind → Type 0

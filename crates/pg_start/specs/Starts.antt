@@ -1,7 +1,7 @@
 -- What a start matches at a place of a text.
 use Rattle.std.specs.Prelude.{◌≡◌, ◌<◌, ◌+◌, ℕ, suc, false, true, List, ◌∷◌, Some, length, drop, slice_get}
 use Rattle.pg_class.specs.Ranges.{Range, has}
-use Rattle.pg_start.specs.Fronts.{IsFront, run, is_reserved}
+use Rattle.pg_start.specs.Prefixes.{IsPrefix, run, is_reserved}
 use Rattle.pg_start.specs.declared.kind.StartKind.{StartKind}
 use Rattle.pg_start.specs.declared.kind.StartKind.TheVariants.{Class, Key, Word, End}
 
@@ -21,10 +21,10 @@ pub record HasAt (text : List ℕ) (place : ℕ) (class : List Range) : Type 0 w
 -- the key, which isn't empty, stands at the place, and no excluded character follows it
 pub record IsKeyAt (text : List ℕ) (place : ℕ) (key : List ℕ) (excluded : List Range) : Type 0 where
   pub spelled : 0 < length key
-  pub there : IsFront key (drop place text)
+  pub there : IsPrefix key (drop place text)
   pub ends : (c : ℕ) → slice_get text (place + length key) ≡ Some c → has excluded c ≡ false
 
--- a word stands at the place: a character of the heads and the run of the rest behind it, which aren't reserved
+-- a word stands at the place: a character of the heads and the run of the rest after it, which aren't reserved
 pub record IsWordAt (text : List ℕ) (place : ℕ) (heads rest : List Range) (reserved : List (List ℕ)) : Type 0 where
   pub head : ℕ
   pub there : slice_get text place ≡ Some head

@@ -11,9 +11,9 @@ use pg_text::Characters;
 pub enum StartKind {
     /// A character of the class.
     Class(Class),
-    /// This text, with no character of the class behind it.
+    /// This text, with no character of the class after it.
     Key(Characters, Class),
-    /// A word: a character of the first class with the longest run of the second behind it, unless that is reserved.
+    /// A word: a character of the first class with the longest run of the second after it, unless that is reserved.
     Word(Class, Class, Reserved),
     /// The end of the text.
     End,

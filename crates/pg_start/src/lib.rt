@@ -1,4 +1,4 @@
-//! Starts: what a parser can meet first where it begins, or right behind where it ends.
+//! Starts: what a parser can meet first where it begins, or right after where it ends.
 //!
 //! A start is one character of a class, a key (a text with characters that may not follow it), a word, or the end of the
 //! text. `matches_at` asks whether one matches at a place of a text, and `apart` whether two are told apart by their looks
@@ -6,11 +6,11 @@
 //! choose between them.
 #![tactic(auto)]
 
-mod front;
 mod kind;
 mod laws;
 mod matching;
 mod pairs;
+mod prefix;
 mod reserved;
 mod start;
 #[cfg(test)]

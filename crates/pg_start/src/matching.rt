@@ -2,11 +2,11 @@
 //!
 //! Only the characters from the place on count, so each kind looks at what the rest of the text begins with.
 ghost use Rattle.std.specs.Prelude.{◌≡◌, ◌↔◌, ◌≤◌, drop, false, length, IsTrue};
-ghost use Rattle.pg_start.specs.Fronts.{begins_in, IsFront};
+ghost use Rattle.pg_start.specs.Prefixes.{begins_in, IsPrefix};
 ghost use Rattle.pg_start.specs.Starts.{MatchesAt};
 
-use crate::front::{begins_in, begins_with, word_front};
 use crate::kind::StartKind;
+use crate::prefix::{begins_in, begins_with, word_prefix};
 use crate::start::Start;
 use pg_class::Class;
 use pg_text::Text;
@@ -21,7 +21,7 @@ pub fn matches_at(start: &Start, text: &Text, place: usize) -> bool
         StartKind::Class(class) => begins_in(ahead, class),
         StartKind::Key(key, excluded) => begins_with_key(ahead, key.as_slice(), excluded),
         StartKind::Word(heads, rest, reserved) => {
-            begins_in(ahead, heads) && !reserved.has(word_front(ahead, rest))
+            begins_in(ahead, heads) && !reserved.has(word_prefix(ahead, rest))
         }
         StartKind::End => ahead.is_empty(),
     }
@@ -29,7 +29,7 @@ pub fn matches_at(start: &Start, text: &Text, place: usize) -> bool
 
 /// Whether the text begins with the key, and no excluded character follows it.
 fn begins_with_key(text: &[char], key: &[char], excluded: &Class) -> bool
-    ensures { IsTrue result ↔ (IsFront key.now text.now × (begins_in excluded.now (drop (length key.now) text.now) ≡ false)) }
+    ensures { IsTrue result ↔ (IsPrefix key.now text.now × (begins_in excluded.now (drop (length key.now) text.now) ≡ false)) }
 {
     begins_with(text, key) && !begins_in(&text[key.len()..], excluded)
 }

@@ -4,8 +4,8 @@
 ghost use Rattle.std.specs.Prelude.{◌↔◌, IsTrue};
 ghost use Rattle.pg_start.specs.Apart.{Apart, KeysApart, KeyWordApart};
 
-use crate::front::{begins_in, begins_with, word_front};
 use crate::kind::StartKind;
+use crate::prefix::{begins_in, begins_with, word_prefix};
 use crate::reserved::Reserved;
 use crate::start::Start;
 use pg_class::Class;
@@ -100,6 +100,6 @@ fn key_and_word_are_apart(
     if !begins_in(key, heads) {
         return true;
     }
-    let word = word_front(key, rest);
+    let word = word_prefix(key, rest);
     reserved.has(word) && (word != key || rest.within(excluded))
 }

@@ -2,7 +2,7 @@
 //!
 //! Contracts see them as a list of lists of characters. An empty one is of no consequence, as no word is empty.
 ghost use Rattle.std.specs.Prelude.{◌≡◌, IfOk};
-ghost use Rattle.pg_start.specs.Fronts.{is_reserved};
+ghost use Rattle.pg_start.specs.Prefixes.{is_reserved};
 
 use pg_text::Characters;
 use std::alloc::{AllocError, Global};

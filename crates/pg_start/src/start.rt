@@ -40,7 +40,7 @@ impl Start {
         })
     }
 
-    /// This text, with no excluded character behind it. The only error is that memory ran out.
+    /// This text, with no excluded character after it. The only error is that memory ran out.
     pub fn key(alloc: Global, key: &[char], excluded: &Class) -> Result<Start, AllocError>
         requires { 0 < length key.now }
         ensures { IfOk result (λ start. start ≡ StartKind.Key key.now excluded.now) }

@@ -63,10 +63,14 @@ with_operator table d = record { operators = table.operators ++ d ∷ []; reserv
 
 -- ---- tables of a grammar
 
--- a table without operators: without an operators item it may hold none
+-- a table without operators, in which these symbols are reserved and which may hold so many
+abbrev pub without_operators : List (List ℕ) → ℕ → Table
+without_operators reserved most = record { operators = []; reserved = reserved; most = most }
+
+-- that of an operators item: without one it may hold none
 abbrev pub empty_table : Option OperatorsItem → Table
-empty_table None = record { operators = []; reserved = []; most = 0 }
-empty_table (Some item) = record { operators = []; reserved = item.reserved; most = item.max }
+empty_table None = without_operators [] 0
+empty_table (Some item) = without_operators item.reserved item.max
 
 -- what becomes of a table when operators are added in order, of which the first has the number k: the table with all of
 -- them, or the first that isn't admitted, and why

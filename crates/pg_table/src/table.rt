@@ -5,7 +5,7 @@
 //! operator comes into a table only by [`Table::admit`]'s leave, so no symbol in the table of a grammar is reserved, and
 //! none stands for two operators in one position.
 
-ghost use Rattle.std.specs.Prelude.{◌≡◌, ◌↔◌, ◌&&◌, not, IfOk, IfErr, IsErrOf, OnOk, OnErr, Some, length};
+ghost use Rattle.std.specs.Prelude.{◌≡◌, ◌≤◌, ◌↔◌, ◌&&◌, not, IfOk, IfErr, IsErrOf, OnOk, OnErr, Some, length};
 ghost use Rattle.std.specs.List.{list_any};
 ghost use Rattle.std.specs.Str.{bytes_eq};
 ghost use Rattle.pg_table.specs.Tables.{is_prefix};
@@ -35,25 +35,41 @@ impl Model for Table {
 }
 
 impl Table {
-    ghost use Rattle.pg_table.specs.Tables.{IsTable, whole, Admits, admit_fault, has_prefix, has_other, with_operator, first_operators, empty_table, initial, IsRefusal, ComesFrom};
+    ghost use Rattle.pg_table.specs.Tables.{IsTable, whole, Admits, admit_fault, has_prefix, has_other, with_operator, first_operators, empty_table, without_operators, added_from, initial, IsRefusal, ComesFrom};
     ghost use Rattle.pg_table.specs.Rows.{holds, rows};
 
     /// The initial table of a grammar: its initial declarations in file order, each admitted by those before it.
     ///
     /// Else the index of the first that isn't admitted, and why.
+    #[tactic(auto, using(crate::proofs::Added::own_table))]
     pub fn of(alloc: Global, grammar: &Grammar) -> Result<Table, InitialFault>
         ensures ok { IfOk result (λ table. initial grammar.now ≡ whole table) }
         ensures comes { IfOk result (ComesFrom grammar.now) }
         ensures err { IfErr result (IsRefusal (initial grammar.now)) }
     {
-        let mut table = Table::empty(alloc, grammar)?;
-        for (index, decl) in grammar.initials().iter().enumerate() {
-            if let Err(fault) = table.admit(decl) {
-                return Err(InitialFault::NotAdmitted { index, fault });
-            }
-            table.extend(decl.copy(alloc)?)?;
-        }
-        Ok(table)
+        Table::empty(alloc, grammar)?.extended(alloc, grammar.initials())
+    }
+
+    /// The table with these declarations in their order, each admitted by those before it, where these symbols are reserved
+    /// and there may be so many operators, 64 at most. So a reader can judge what a file declares without a grammar.
+    ///
+    /// Else the index of the first that isn't admitted, and why.
+    pub fn of_declarations(
+        alloc: Global,
+        reserved: Texts,
+        most: usize,
+        decls: &[Decl],
+    ) -> Result<Table, InitialFault>
+        requires { most ≤ 64 }
+        ensures ok { IfOk result (λ table. added_from 0 (without_operators reserved most) decls.now ≡ whole table) }
+        ensures err { IfErr result (IsRefusal (added_from 0 (without_operators reserved most) decls.now)) }
+    {
+        let table = Table {
+            operators: Vec::new(alloc),
+            reserved,
+            most,
+        };
+        table.extended(alloc, decls)
     }
 
     /// Whether an operator may be added, and if not, why not: the first of A1 to A5 that holds. It takes no memory.
@@ -112,7 +128,7 @@ impl Table {
         Ok(())
     }
 
-    /// Drops the operators behind the first `count`; where there are no more than these, nothing changes. It takes no memory,
+    /// Drops the operators after the first `count`; where there are no more than these, nothing changes. It takes no memory,
     /// so that a parser that failed can take back what it declared.
     #[tactic(auto, using(crate::proofs::Cut::still_table))]
     pub fn cut(&mut self, count: usize)
@@ -144,6 +160,21 @@ impl Table {
             reserved: self.reserved.copy(alloc)?,
             most: self.most,
         })
+    }
+
+    /// The table with these declarations after its own, each admitted by those before it, or the first that isn't.
+    fn extended(self, alloc: Global, decls: &[Decl]) -> Result<Table, InitialFault>
+        ensures ok { IfOk result (λ table. added_from 0 self decls.now ≡ whole table) }
+        ensures err { IfErr result (IsRefusal (added_from 0 self decls.now)) }
+    {
+        let mut table = self;
+        for (index, decl) in decls.iter().enumerate() {
+            if let Err(fault) = table.admit(decl) {
+                return Err(InitialFault::NotAdmitted { index, fault });
+            }
+            table.extend(decl.copy(alloc)?)?;
+        }
+        Ok(table)
     }
 
     /// A grammar's table without operators, which may hold none where there is no operators item.

@@ -35,7 +35,7 @@ fn class_of(alloc: Global, c: char) -> Result<ClassExpression, AllocError> {
     ClassExpression::new(alloc, vec![in alloc; part]?)
 }
 
-/// A grammar with these initial declarations. Its tables may hold so many operators; `=`, and `=` behind 16 times `x`, are
+/// A grammar with these initial declarations. Its tables may hold so many operators; `=`, and `=` after 16 times `x`, are
 /// reserved.
 fn grammar_of(alloc: Global, most: usize, initials: &[(Role, Symbol)]) -> Result<Grammar, Fail> {
     let mut maker = Maker::new(alloc);
@@ -95,7 +95,7 @@ fn admissions(alloc: Global, table: &Table, operators: &[(Role, Symbol)]) -> Res
     Ok(text)
 }
 
-/// The symbols of a table in order, each with a blank behind it.
+/// The symbols of a table in order, each with a blank after it.
 fn symbols(alloc: Global, table: &Table) -> Result<String, Fail> {
     let mut text = String::new(alloc);
     for operator in table.operators() {

@@ -14,7 +14,7 @@ pub struct Pos {
 }
 
 /// The position of a place: where the next character would stand once those before it are written.
-/// A place behind the last character is allowed, and is where an early end of input is reported.
+/// A place after the last character is allowed, and is where an early end of input is reported.
 pub fn position_in(characters: &[char], place: usize) -> Pos
     requires within { place ≤ length characters.now }
     requires fits { place < 2 ^ 28 }

@@ -83,7 +83,7 @@ impl Text {
         self.characters.is_empty()
     }
 
-    /// The character at a place, or `None` behind the last one.
+    /// The character at a place, or `None` after the last one.
     pub fn char_at(&self, place: usize) -> Option<char>
         ensures { result ≡ slice_get self.now place }
     {

@@ -2,7 +2,7 @@
 pub mod Hex
 pub mod Runs
 pub mod Turns
-pub mod Fronts
+pub mod Prefixes
 pub mod Sound
 pub mod Complete
 pub mod Places

@@ -49,7 +49,7 @@ mark_text Equals = 61 ∷ []
 mark_text Bar = 124 ∷ []
 mark_text Dots = 46 ∷ 46 ∷ []
 
--- what the character behind a backslash stands for: `"`, `\`, `n`, `t`, `r`
+-- what the character after a backslash stands for: `"`, `\`, `n`, `t`, `r`
 abbrev pub short_escape : ℕ → Option ℕ
 short_escape c =
     if c == 34 then Some 34
@@ -75,16 +75,16 @@ is_code ds = nat_le 1 (length ds) && (nat_le (length ds) 6 && (passes is_hex ds 
 abbrev pub is_plain : ℕ → Bool
 is_plain c = not (c == 34 || c == 92 || c == 10)
 
--- behind a backslash: the character that is named, and the rest
+-- after a backslash: the character that is named, and the rest
 pub data Escape : List ℕ → ℕ → List ℕ → Type 0 where
   short : {e c : ℕ} {rest : List ℕ} → short_escape e ≡ Some c → Escape (e ∷ rest) c rest
   unicode : (ds rest : List ℕ) → is_code ds ≡ true → Escape (117 ∷ 123 ∷ (ds ++ 125 ∷ rest)) (digits_value 16 ds) rest
 
--- behind a quote: the text up to the closing quote, and the rest
+-- after a quote: the text up to the closing quote, and the rest
 pub data Literal : List ℕ → List ℕ → List ℕ → Type 0 where
   closed : {rest : List ℕ} → Literal (34 ∷ rest) [] rest
   plain : {c : ℕ} {cs s rest : List ℕ} → is_plain c ≡ true → Literal cs s rest → Literal (c ∷ cs) (c ∷ s) rest
-  escaped : {c : ℕ} {cs behind s rest : List ℕ} → Escape cs c behind → Literal behind s rest → Literal (92 ∷ cs) (c ∷ s) rest
+  escaped : {c : ℕ} {cs after s rest : List ℕ} → Escape cs c after → Literal after s rest → Literal (92 ∷ cs) (c ∷ s) rest
 
 -- the characters spell the tokens: white space and comments (`#` to the end of the line) separate them,
 -- and a name or a number ends where its characters do

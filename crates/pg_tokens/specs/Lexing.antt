@@ -17,24 +17,24 @@ hex_value ds = if passes is_hex ds then Some (digits_value 16 ds) else None
 abbrev pub code_point : List ℕ → Option ℕ
 code_point ds = if is_code ds then Some (digits_value 16 ds) else None
 
--- a character, and what stands behind it
+-- a character, and what stands after it
 abbrev pub with_rest : List ℕ → Option ℕ → Option (ℕ × List ℕ)
 with_rest rest (Some c) = Some (c, rest)
 with_rest rest None = None
 
--- behind the digits: the closing brace
+-- after the digits: the closing brace
 abbrev pub brace_at : Option ℕ → List ℕ → Option (ℕ × List ℕ)
 brace_at code [] = None
 brace_at code (c ∷ cs) = if c == 125 then with_rest cs code else None
 
--- behind `\u`
+-- after `\u`
 abbrev pub unicode_at : List ℕ → Option (ℕ × List ℕ)
 unicode_at [] = None
 unicode_at (c ∷ cs) =
     if c == 123 then brace_at (code_point (take (prefix_len is_hex cs) cs)) (drop (prefix_len is_hex cs) cs)
     else None
 
--- behind a backslash
+-- after a backslash
 abbrev pub escape_at : List ℕ → Option (ℕ × List ℕ)
 escape_at [] = None
 escape_at (c ∷ cs) = if c == 117 then unicode_at cs else with_rest cs (short_escape c)
@@ -58,7 +58,7 @@ without_text (text s rest) = spoilt rest
 without_text (spoilt rest) = spoilt rest
 without_text unclosed = unclosed
 
--- a backslash with cs behind it: a wrong escape's characters are read as plain ones
+-- a backslash with cs after it: a wrong escape's characters are read as plain ones
 abbrev pub after_escape : (List ℕ → Quoted) → List ℕ → Option (ℕ × List ℕ) → Quoted
 after_escape others cs (Some x) = with_char x.0 (others x.1)
 after_escape others cs None = without_text (others cs)
@@ -71,44 +71,44 @@ literal_turn others c cs =
     else if c == 92 then after_escape others cs (escape_at cs)
     else with_char c (others cs)
 
--- behind a quote; n bounds the turns
+-- after a quote; n bounds the turns
 unfoldable pub literal_within : ℕ → List ℕ → Quoted
 literal_within n [] = unclosed
 literal_within zero (c ∷ cs) = unclosed
 literal_within (suc n) (c ∷ cs) = literal_turn (literal_within n) c cs
 
--- behind a quote
+-- after a quote
 unfoldable pub literal_at : List ℕ → Quoted
 literal_at cs = literal_within (length cs) cs
 
 -- what stands at the front
-pub data Front : Type 0 where
-  nothing : Front
+pub data Prefix : Type 0 where
+  nothing : Prefix
   -- white space or a comment, and what follows
-  blank : List ℕ → Front
-  token : Token → List ℕ → Front
-  broken : Front
+  blank : List ℕ → Prefix
+  token : Token → List ℕ → Prefix
+  broken : Prefix
 
-abbrev pub literal_front : Quoted → Front
-literal_front (text s rest) = token (literal s) rest
-literal_front (spoilt rest) = token wrong rest
-literal_front unclosed = broken
+abbrev pub literal_prefix : Quoted → Prefix
+literal_prefix (text s rest) = token (literal s) rest
+literal_prefix (spoilt rest) = token wrong rest
+literal_prefix unclosed = broken
 
-abbrev pub behind_line : List ℕ → List ℕ
-behind_line cs = drop (prefix_len isnt_line_feed cs) cs
+abbrev pub after_line : List ℕ → List ℕ
+after_line cs = drop (prefix_len isnt_line_feed cs) cs
 
-abbrev pub name_at : List ℕ → Front
+abbrev pub name_at : List ℕ → Prefix
 name_at cs = token (name (take (prefix_len goes_in_name cs) cs)) (drop (prefix_len goes_in_name cs) cs)
 
-abbrev pub number_at : List ℕ → Front
+abbrev pub number_at : List ℕ → Prefix
 number_at cs = token (number (take (prefix_len is_ascii_digit cs) cs)) (drop (prefix_len is_ascii_digit cs) cs)
 
--- behind a dot: a second one
+-- after a dot: a second one
 abbrev pub dots_at : List ℕ → Option (Mark × List ℕ)
 dots_at [] = None
 dots_at (c ∷ cs) = if c == 46 then Some (Dots, cs) else None
 
--- a mark, and what stands behind it
+-- a mark, and what stands after it
 unfoldable pub mark_at : List ℕ → Option (Mark × List ℕ)
 mark_at [] = None
 mark_at (c ∷ cs) =
@@ -121,21 +121,21 @@ mark_at (c ∷ cs) =
     else if c == 46 then dots_at cs
     else None
 
-abbrev pub mark_front : Option (Mark × List ℕ) → Front
-mark_front (Some x) = token (mark x.0) x.1
-mark_front None = broken
+abbrev pub mark_prefix : Option (Mark × List ℕ) → Prefix
+mark_prefix (Some x) = token (mark x.0) x.1
+mark_prefix None = broken
 
-abbrev pub front_at : List ℕ → Front
-front_at [] = nothing
-front_at (c ∷ cs) =
-    if c == 35 then blank (behind_line cs)
-    else if c == 34 then literal_front (literal_at cs)
+abbrev pub prefix_at : List ℕ → Prefix
+prefix_at [] = nothing
+prefix_at (c ∷ cs) =
+    if c == 35 then blank (after_line cs)
+    else if c == 34 then literal_prefix (literal_at cs)
     else if is_blank c then blank cs
     else if is_ascii_alphabetic c then name_at (c ∷ cs)
     else if is_ascii_digit c then number_at (c ∷ cs)
-    else mark_front (mark_at (c ∷ cs))
+    else mark_prefix (mark_at (c ∷ cs))
 
-abbrev pub after : (List ℕ → List Token) → Front → List Token
+abbrev pub after : (List ℕ → List Token) → Prefix → List Token
 after others nothing = []
 after others (blank rest) = others rest
 after others (token t rest) = t ∷ others rest
@@ -144,15 +144,15 @@ after others broken = bad ∷ []
 -- n bounds the tokens, blanks and comments
 unfoldable pub lex_within : ℕ → List ℕ → List Token
 lex_within zero cs = []
-lex_within (suc n) cs = after (lex_within n) (front_at cs)
+lex_within (suc n) cs = after (lex_within n) (prefix_at cs)
 
 -- the tokens, up to and with the first that is bad
 unfoldable pub lex_of : List ℕ → List Token
 lex_of cs = lex_within (length cs) cs
 
 -- the token at the front
-abbrev pub token_front : Front → Option Token
-token_front nothing = None
-token_front (blank rest) = None
-token_front (token t rest) = Some t
-token_front broken = Some bad
+abbrev pub token_prefix : Prefix → Option Token
+token_prefix nothing = None
+token_prefix (blank rest) = None
+token_prefix (token t rest) = Some t
+token_prefix broken = Some bad

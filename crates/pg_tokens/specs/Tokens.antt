@@ -12,7 +12,7 @@ pub data Token : Type 0 where
   mark : Mark → Token
   -- a closed literal with an escape that is none
   wrong : Token
-  -- no token: nothing behind it is read
+  -- no token: nothing after it is read
   bad : Token
 
 -- neither wrong nor bad

@@ -5,10 +5,10 @@ use Rattle.pg_tokens.specs.declared.token.Mark.{Mark}
 use Rattle.pg_tokens.specs.declared.token.Token as declared
 use Rattle.pg_tokens.specs.declared.token.Token.TheVariants.{Name, Number, Literal, Mark as MarkToken, WrongLiteral, Bad}
 use Rattle.pg_tokens.specs.declared.token.Lexeme.{Lexeme}
-use Rattle.pg_tokens.specs.declared.token.Front as fronts
-use Rattle.pg_tokens.specs.declared.token.Front.TheVariants as front
+use Rattle.pg_tokens.specs.declared.token.Prefix as prefixes
+use Rattle.pg_tokens.specs.declared.token.Prefix.TheVariants as prefix
 use Rattle.pg_tokens.specs.Tokens.{Token, name, number, literal, mark, wrong, bad}
-use Rattle.pg_tokens.specs.Lexing.{Front, nothing, blank, token, broken, front_at, token_front}
+use Rattle.pg_tokens.specs.Lexing.{Prefix, nothing, blank, token, broken, prefix_at, token_prefix}
 
 abbrev pub token_of : declared.Token → Token
 token_of (Name s) = name s.items
@@ -24,13 +24,13 @@ tokens_of lexemes = map (λ (l : Lexeme). token_of l.token) lexemes
 
 -- the token is the one that stands at its place
 abbrev pub StandsIn : List ℕ → Lexeme → Type 0
-StandsIn cs l = token_front (front_at (drop l.place cs)) ≡ Some (token_of l.token)
+StandsIn cs l = token_prefix (prefix_at (drop l.place cs)) ≡ Some (token_of l.token)
 
-abbrev pub front_of : fronts.Front → Front
-front_of front.End = nothing
-front_of (front.Blank rest) = blank rest.now
-front_of (front.Token t rest) = token (token_of t) rest.now
-front_of front.Bad = broken
+abbrev pub prefix_of : prefixes.Prefix → Prefix
+prefix_of prefix.End = nothing
+prefix_of (prefix.Blank rest) = blank rest.now
+prefix_of (prefix.Token t rest) = token (token_of t) rest.now
+prefix_of prefix.Bad = broken
 
 abbrev pub mark_read : Option (Mark × Bor (List ℕ)) → Option (Mark × List ℕ)
 mark_read (Some x) = Some (x.0, x.1.now)

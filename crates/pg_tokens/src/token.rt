@@ -1,7 +1,7 @@
 //! The tokens of a grammar file.
 //!
 //! A reserved word is a name here: the parser tells it by its text. `Bad` stands last in a list of
-//! tokens, if it stands there at all, since nothing behind it is read. The parser relies on both.
+//! tokens, if it stands there at all, since nothing after it is read. The parser relies on both.
 
 ghost use Rattle.std.specs.Prelude.{◌≡◌};
 ghost use Rattle.pg_tokens.specs.View.{token_of};
@@ -53,9 +53,9 @@ pub struct Lexeme {
     pub place: usize,
 }
 
-/// What stands at the front of some characters.
+/// What stands at the prefix of some characters.
 #[derive(Debug, Drop)]
-pub enum Front<'a> {
+pub enum Prefix<'a> {
     /// The end of the file.
     End,
     /// White space or a comment, and what follows it.

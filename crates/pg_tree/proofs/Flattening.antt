@@ -1,15 +1,15 @@
--- Kids behind other kids, and the flattened kids of both.
+-- Kids after other kids, and the flattened kids of both.
 use Rattle.std.proofs.Common.{◌≡◌, ℕ, Bool, true, false, cond, List, [], ◌∷◌, ◌++◌, refl, ap, sym, ◌∙◌}
 use Rattle.std.specs.Str.{bytes_eq}
 use Rattle.pg_tree.specs.Trees.{Tree, Trees, leaf, node, no_trees, tree, kids_of}
 use Rattle.pg_tree.specs.Built.{with_kids, flattened}
 
--- no kids behind kids
+-- no kids after kids
 pub with_kids-no_trees : (ts : Trees) → with_kids ts no_trees ≡ ts
 with_kids-no_trees no_trees = refl
 with_kids-no_trees (tree t ts) = ap (λ us. tree t us) (with_kids-no_trees ts)
 
--- kids behind two rows of kids
+-- kids after two rows of kids
 pub with_kids-assoc : (ts us vs : Trees) → with_kids (with_kids ts us) vs ≡ with_kids ts (with_kids us vs)
 with_kids-assoc no_trees us vs = refl
 with_kids-assoc (tree t ts) us vs = ap (λ ws. tree t ws) (with_kids-assoc ts us vs)
@@ -31,7 +31,7 @@ pub flattened-tree : (label : List ℕ) (t : Tree) (ts : Trees)
 flattened-tree label (leaf text) ts = refl
 flattened-tree label (node other kids) ts = node_step (node other kids) kids (flattened label ts) (bytes_eq other label)
 
--- the kids of one more tree are flattened behind those of the trees before it
+-- the kids of one more tree are flattened after those of the trees before it
 pub flattened-append : (label : List ℕ) (ts : List Tree) (t : Tree)
     → flattened label (kids_of (ts ++ t ∷ [])) ≡ with_kids (flattened label (kids_of ts)) (flattened label (tree t no_trees))
 flattened-append label [] t = refl
@@ -47,7 +47,7 @@ pub flattened-more : (label : List ℕ) (ts : List Tree) (t : Tree) (flat more :
 flattened-more label ts t flat more e f =
     f ∙ ap (λ ws. with_kids ws (flattened label (tree t no_trees))) e ∙ sym (flattened-append label ts t)
 
--- a leaf is put behind the others
+-- a leaf is put after the others
 pub flattened-leaf : (label text : List ℕ) (kid : Tree) (flat more : List Tree) → kid ≡ leaf text → more ≡ flat ++ leaf text ∷ []
     → kids_of more ≡ with_kids (kids_of flat) (flattened label (tree kid no_trees))
 flattened-leaf label text kid flat more is e =

@@ -15,7 +15,7 @@ abbrev mutual
   kids_text no_trees = []
   kids_text (tree t ts) = tree_text t ++ kids_text ts
 
--- kids behind other kids
+-- kids after other kids
 abbrev pub with_kids : Trees → Trees → Trees
 with_kids no_trees more = more
 with_kids (tree t ts) more = tree t (with_kids ts more)

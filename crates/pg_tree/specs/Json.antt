@@ -8,7 +8,7 @@ use Rattle.pg_tree.specs.Trees.{Tree, Trees, leaf, node, no_trees, tree, kids_of
 abbrev pub quoted : List ℕ → List ℕ
 quoted text = compact_text (string text)
 
--- a tree, trees with commas between them, and the trees behind the first with a comma before each
+-- a tree, trees with commas between them, and the trees after the first with a comma before each
 abbrev mutual
   pub json_tree : Tree → List ℕ
   json_tree (leaf text) = quoted text

@@ -23,7 +23,7 @@ abbrev pub with_node : List ℕ → List Trees → List Trees
 with_node label [] = []
 with_node label (kids ∷ stack) = tree (node label kids) no_trees ∷ stack
 
--- the tree on top of the stack put in front of the kids below it
+-- the tree on top of the stack put before the kids below it
 abbrev pub with_kid : List Trees → List Trees
 with_kid (tree t no_trees ∷ ts ∷ stack) = tree t ts ∷ stack
 with_kid _ = []

@@ -65,7 +65,7 @@ impl Forest {
         self.trees.len()
     }
 
-    /// Drops the trees behind the first `count`, which the caller owes to be there. It takes no memory, so that a parser
+    /// Drops the trees after the first `count`, which the caller owes to be there. It takes no memory, so that a parser
     /// that failed can take back what it read.
     pub fn cut(&mut self, count: usize)
         requires { count ≤ length self.old }
@@ -74,7 +74,7 @@ impl Forest {
         self.trees.truncate(count);
     }
 
-    /// Moves the trees behind the first `count`, which the caller owes to be there, into a forest of their own. The only
+    /// Moves the trees after the first `count`, which the caller owes to be there, into a forest of their own. The only
     /// error is that memory ran out; all trees then stay.
     pub fn split_off(&mut self, count: usize) -> Result<Forest, AllocError>
         requires { count ≤ length self.old }

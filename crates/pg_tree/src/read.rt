@@ -33,7 +33,7 @@ const CHUNK: usize = 4096;
 
 /// Reads to the end. The limit is in bytes, and a reader that gives just as many is read whole.
 ///
-/// After an error the bytes that were read are gone, and the reader stands behind them.
+/// After an error the bytes that were read are gone, and the reader stands after them.
 pub fn read_bytes<R: Read>(
     alloc: Global,
     reader: &mut Meter<R>,

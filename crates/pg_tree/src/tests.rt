@@ -209,7 +209,7 @@ fn writes_json(rt: HostRuntime) -> Result<(), Fail> {
 }
 
 #[test]
-fn writes_a_front_where_the_writer_fails(rt: HostRuntime) -> Result<(), Fail> {
+fn writes_a_prefix_where_the_writer_fails(rt: HostRuntime) -> Result<(), Fail> {
     let alloc = rt.alloc();
     let mut forest = Forest::new(alloc);
     forest.push(Tree::leaf(alloc, "é")?)?;

@@ -1,6 +1,6 @@
 //! Writing bytes, and forests as JSON, to a metered writer.
 //!
-//! Either everything is written, or the writer failed and has a front of it. A text is made whole
+//! Either everything is written, or the writer failed and has a prefix of it. A text is made whole
 //! before its first byte is written, so running out of memory leaves the writer as it was. What a
 //! run prints of its results goes through here.
 
@@ -8,7 +8,7 @@ ghost use Rattle.std.specs.Prelude.{◌≡◌, true, false, length, OnOk, OnErr,
 ghost use Rattle.std.specs.Io.KnownBytes.{Appends};
 ghost use Rattle.pg_tree.specs.Json.{json};
 ghost use Rattle.pg_tree.specs.Meter.{saturating_sum};
-ghost use Rattle.pg_tree.specs.Bytes.{AppendsFront};
+ghost use Rattle.pg_tree.specs.Bytes.{AppendsPrefix};
 
 use crate::forest::Forest;
 use crate::json::json_text;
@@ -42,8 +42,8 @@ pub fn write_bytes<W: Write>(bytes: &[u8], writer: &mut Meter<W>) -> Result<(), 
     // The only error is the writer's.
     ensures only { OnErr result (IsErrOf result WriteFault.Writer) }
     ensures failed { OnErr result (writer.new.failed ≡ true) }
-    ensures front { OnErr result
-        (AppendsFront (W.contents writer.old.inner) (W.contents writer.new.inner) bytes.now) }
+    ensures prefix { OnErr result
+        (AppendsPrefix (W.contents writer.old.inner) (W.contents writer.new.inner) bytes.now) }
 {
     let mut written = 0;
     while written < bytes.len() {
@@ -55,7 +55,7 @@ pub fn write_bytes<W: Write>(bytes: &[u8], writer: &mut Meter<W>) -> Result<(), 
     Ok(())
 }
 
-/// Writes the text in JSON of a forest, with no line end behind it.
+/// Writes the text in JSON of a forest, with no line end after it.
 pub fn write_json<W: Write>(
     alloc: Global,
     forest: &Forest,
@@ -70,10 +70,10 @@ pub fn write_json<W: Write>(
         (writer.new.bytes ≡ saturating_sum writer.old.bytes (length (json forest.now))) }
     ensures stays { OnOk result (writer.new.failed ≡ false) }
 
-    // The writer failed, after a front of the text.
+    // The writer failed, after a prefix of the text.
     ensures failed { IsErrOf result WriteFault.Writer → writer.new.failed ≡ true }
-    ensures front { IsErrOf result WriteFault.Writer →
-        AppendsFront (W.contents writer.old.inner) (W.contents writer.new.inner) (json forest.now) }
+    ensures prefix { IsErrOf result WriteFault.Writer →
+        AppendsPrefix (W.contents writer.old.inner) (W.contents writer.new.inner) (json forest.now) }
 
     // Memory ran out before the first byte.
     ensures memory { IsErrOf result WriteFault.Memory → writer.new ≡ writer.old }

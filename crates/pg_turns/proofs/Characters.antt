@@ -70,7 +70,7 @@ matched_less xs ys i x (Some y) e f h = common_less xs ys i x y e f (differ x y 
 again : (p : ℕ → Bool) (xs : List ℕ) → take (prefix_len p xs) xs ≡ take_while p xs
 again p xs = refl
 
--- a word is its head and the run behind it
+-- a word is its head and the run after it
 pub word_taken : (p : ℕ → Bool) (text : List ℕ) (i c count : ℕ) → slice_get text i ≡ Some c → count ≡ prefix_len p (drop (i + 1) text) →
     take (count + 1) (drop i text) ≡ c ∷ take_while p (drop (suc i) text)
 word_taken p text i c count there e =

@@ -16,13 +16,13 @@ use Rattle.pg_table.specs.Tables.{Table}
 use Rattle.pg_language.specs.Errors.{quote, next_text, seen_at, stopped_before}
 use Rattle.pg_language.specs.Leaves.{taken, satisfy_outcome, string_outcome, word_outcome, word_read, matched}
 use Rattle.pg_language.specs.Outcomes.{failed}
-use Rattle.pg_turns.specs.Messages.{Said}
+use Rattle.pg_turns.specs.Messages.{TapeMessage}
 use Rattle.pg_turns.specs.Tape.{OnFrame, Tape, spot_at, tape_leaf}
 
 pub other_length : (n m : ℕ) → (n ≡ m → ⊥) → (n == m) ≡ false
 other_length n m h = grind (arith, nat_tests)
 
-module _ (fs : List OnFrame) (v : List Tree) (t : List TrailItem) (x : List Said) (table : Table) (tape : Tape) where
+module _ (fs : List OnFrame) (v : List Tree) (t : List TrailItem) (x : List TapeMessage) (table : Table) (tape : Tape) where
   pub satisfy_taken : (g : Grammar) (text : List ℕ) (class : List ClassPart) (i c : ℕ) → slice_get text i ≡ Some c → has_character g.classes class c ≡ true →
       tape ≡ tape_leaf (taken (spot_at table i) (c ∷ [])) fs v t x table → tape ≡ tape_leaf (satisfy_outcome g text class (spot_at table i)) fs v t x table
   satisfy_taken g text class i c there member is = rw (there, member) is

@@ -1,10 +1,10 @@
 pub mod Stack
 pub mod Characters
 pub mod LeavesRead
-pub mod Said
+pub mod MessageLists
 pub mod Joined
-pub mod Back
-pub mod Forth
+pub mod SoundTurns
+pub mod CompleteTurns
 pub mod Runs
 pub mod Merged
 pub mod Shown

@@ -1,5 +1,5 @@
 -- A turn of the machine over lists is a turn of the machine on plain values: what is handed to frames.
-use Rattle.std.proofs.Common.{◌≡◌, ℕ, suc, List, [], ◌∷◌, ◌++◌, Bool, true, false, ap, sym, ◌∙◌, subst, append_assoc, append-nil, length, take, drop}
+use Rattle.std.proofs.Common.{◌≡◌, ℕ, suc, List, [], ◌∷◌, ◌++◌, Bool, true, false, refl, ap, sym, ◌∙◌, subst, append_assoc, append-nil, length, take, drop}
 use Rattle.std.proofs.Math.Seq.{set-append_seam}
 use Rattle.std.specs.Prelude.{slice_set, Option, ◌||◌}
 use Rattle.pg_tree.specs.Trees.{Tree}
@@ -11,16 +11,16 @@ use Rattle.pg_language.specs.Errors.{Error}
 use Rattle.pg_language.specs.Outcomes.{ok, failed}
 use Rattle.pg_language.specs.declared.reading.Reading.{Reading}
 use Rattle.pg_language.specs.declared.reading.Reading.TheVariants.{Library, Report}
-use Rattle.pg_turns.specs.Frames.{Before, Kept, behind_kept, with_failure, with_empty_ok, Frame}
-use Rattle.pg_turns.specs.Messages.{Said}
-use Rattle.pg_turns.specs.Shows.{with_operators, Extends, same_table, more_operators, ShowsBefore, no_parts, some_parts, ShowsKept, nothing_kept, a_failure, an_empty_ok, Stands, stands_parts, stands_choice, stands_rounds, Shows, shows_at, shows_fine, shows_failed, shows_stuck}
-use Rattle.pg_turns.specs.Tape.{spot_at, OnKept, OnFrame, Tape, tape_to_parts, tape_settled, tape_next_alternative, kept_messages, kept_with_failure, kept_with_empty_ok, kept_held, tape_empty_ok, tape_to_choice, tape_to_rounds}
+use Rattle.pg_turns.specs.Frames.{Before, Tried, after_tried, with_failure, with_empty_ok, Frame}
+use Rattle.pg_turns.specs.Messages.{TapeMessage}
+use Rattle.pg_turns.specs.Shows.{with_operators, Extends, same_table, more_operators, ShowsBefore, no_parts, some_parts, ShowsTried, nothing_tried, a_failure, an_empty_ok, Stands, no_frames, stands_parts, stands_choice, stands_rounds, stands_first, stands_separator, stands_operand, stands_rule, stands_around, Shows, shows_at, shows_succeeded, shows_failed, shows_stuck}
+use Rattle.pg_turns.specs.Tape.{spot_at, OnTried, OnFrame, Tape, tape_to_parts, tape_settled, tape_next_alternative, tried_messages, tried_with_failure, tried_with_empty_ok, tried_kept, tape_empty_ok, tape_to_choice, tape_to_rounds}
 use Rattle.pg_turns.specs.Turns.{State, with_outcome, next_alternative, hand_empty_ok, hand_to_choice, hand_to_parts, hand_to_rounds}
-use Rattle.pg_turns.specs.Why.{Says}
+use Rattle.pg_turns.specs.TapeErrors.{Says}
 use Rattle.pg_turns.specs.declared.frame.Before as declared
-use Rattle.pg_turns.specs.declared.frame.Reply.TheVariants.{Fine, Failed}
-use Rattle.pg_turns.specs.declared.message_tape.Why.{Why}
-use Rattle.pg_turns.proofs.Merged.{drop_seam, take_seam, hold, nothing_says, alone, cut_said, merge_says, behind_says}
+use Rattle.pg_turns.specs.declared.frame.Reply.TheVariants.{Succeeded, Failed}
+use Rattle.pg_turns.specs.declared.message_tape.TapeError.{TapeError}
+use Rattle.pg_turns.proofs.Merged.{drop_seam, take_seam, hold, nothing_says, alone, cut_messages, merge_says, after_says}
 
 -- ---- the same lists in another form
 
@@ -30,17 +30,29 @@ moved {st = st} s e = subst (Shows st) e s
 pub turned : {st up : State} {a : Tape} → Shows st a → st ≡ up → Shows up a
 turned {a = a} s e = subst (λ (st : State). Shows st a) e s
 
+-- there are as many frames
+stands_length : {fs : List Frame} {gs : List OnFrame} {v : List Tree} {t : List TrailItem} {x : List TapeMessage} {T : Table} → Stands fs gs v t x T → length fs ≡ length gs
+stands_length no_frames = refl
+stands_length (stands_parts h k) = ap suc (stands_length h)
+stands_length (stands_choice h k) = ap suc (stands_length h)
+stands_length (stands_rounds item h k) = ap suc (stands_length h)
+stands_length (stands_first item h) = ap suc (stands_length h)
+stands_length (stands_separator h k) = ap suc (stands_length h)
+stands_length (stands_operand h k l m) = ap suc (stands_length h)
+stands_length (stands_rule h) = ap suc (stands_length h)
+stands_length (stands_around h) = ap suc (stands_length h)
+
 -- the last of three lists
 pub three : {A : Type 0} (a b c : List A) → a ++ (b ++ c) ≡ a ++ b ++ c
 three a b c = sym (append_assoc a b c)
 
--- the trail behind an alternative's item
+-- the trail after an alternative's item
 pub item_seam : (t : List TrailItem) (item : TrailItem) (r : List TrailItem) → t ++ (item ∷ r) ≡ t ++ item ∷ [] ++ r
 item_seam t item r = sym (append_assoc t (item ∷ []) r)
 
 -- ---- tables
 
--- what was said of two runs one behind the other
+-- what was said of two runs one after the other
 pub extends_any : {c : Bool} {T U : Table} → Extends c T U → Extends true T U
 extends_any same_table = same_table
 extends_any (more_operators ds) = more_operators ds
@@ -65,70 +77,70 @@ given_back {T = T} (more_operators ds) =
 module _ {T : Table} where
   -- ---- sequences
 
-  pub parts_fine : {fs : List Frame} {gs : List OnFrame} {v w : List Tree} {t u : List TrailItem} {x y z : List Said} {U W : Table} {done : Before} {b : Option declared.Before} {why : Why} {f : Error}
-      (ps : List ℕ) (c : Bool) (j : ℕ) (s : List Tree) (r : List TrailItem) → Stands fs gs v t x T → ShowsBefore x T done w u b y U → Says y why f z → Extends c U W →
-      Shows (hand_to_parts ps done (ok c (spot_at W j) s r f) fs) (tape_to_parts ps b (Fine c j why) gs (v ++ w ++ s) (t ++ u ++ r) z W)
-  parts_fine {v = v} {t = t} [] c j s r h no_parts q m =
-      let a = append-nil v in let d = append-nil t in moved (shows_fine h q m) cc
-  parts_fine {v = v} {t = t} (p ∷ ps) c j s r h no_parts q m =
+  pub parts_succeeded : {fs : List Frame} {gs : List OnFrame} {v w : List Tree} {t u : List TrailItem} {x y z : List TapeMessage} {U W : Table} {done : Before} {b : Option declared.Before} {error : TapeError} {f : Error}
+      (ps : List ℕ) (c : Bool) (j : ℕ) (s : List Tree) (r : List TrailItem) → Stands fs gs v t x T → ShowsBefore x T done w u b y U → Says y error f z → Extends c U W →
+      Shows (hand_to_parts ps done (ok c (spot_at W j) s r f) fs) (tape_to_parts ps b (Succeeded c j error) gs (v ++ w ++ s) (t ++ u ++ r) z W)
+  parts_succeeded {v = v} {t = t} [] c j s r h no_parts q m =
+      let a = append-nil v in let d = append-nil t in moved (shows_succeeded h q m) cc
+  parts_succeeded {v = v} {t = t} (p ∷ ps) c j s r h no_parts q m =
       let a = append-nil v in let d = append-nil t in moved (shows_at (stands_parts h (some_parts (hold q) m))) cc
-  parts_fine {v = v} {w = w} {t = t} {u = u} [] c j s r h (some_parts {c = b} k l) q m =
-      let a = three v w s in let d = three t u r in moved (shows_fine h (behind_says c k q) (extends_both b c l m)) cc
-  parts_fine {v = v} {w = w} {t = t} {u = u} (p ∷ ps) c j s r h (some_parts {c = b} k l) q m =
-      let a = three v w s in let d = three t u r in moved (shows_at (stands_parts h (some_parts (hold (behind_says c k q)) (extends_both b c l m)))) cc
+  parts_succeeded {v = v} {w = w} {t = t} {u = u} [] c j s r h (some_parts {c = b} k l) q m =
+      let a = three v w s in let d = three t u r in moved (shows_succeeded h (after_says c k q) (extends_both b c l m)) cc
+  parts_succeeded {v = v} {w = w} {t = t} {u = u} (p ∷ ps) c j s r h (some_parts {c = b} k l) q m =
+      let a = three v w s in let d = three t u r in moved (shows_at (stands_parts h (some_parts (hold (after_says c k q)) (extends_both b c l m)))) cc
 
-  pub parts_failed : {fs : List Frame} {gs : List OnFrame} {v w : List Tree} {t u : List TrailItem} {x y z : List Said} {U W : Table} {done : Before} {b : Option declared.Before} {why : Why} {f : Error}
-      (ps : List ℕ) (c : Bool) (s : List Tree) (r : List TrailItem) → Stands fs gs v t x T → ShowsBefore x T done w u b y U → Says y why f z → Extends true U W →
-      Shows (hand_to_parts ps done (failed c f) fs) (tape_to_parts ps b (Failed c why) gs (v ++ w ++ s) (t ++ u ++ r) z W)
+  pub parts_failed : {fs : List Frame} {gs : List OnFrame} {v w : List Tree} {t u : List TrailItem} {x y z : List TapeMessage} {U W : Table} {done : Before} {b : Option declared.Before} {error : TapeError} {f : Error}
+      (ps : List ℕ) (c : Bool) (s : List Tree) (r : List TrailItem) → Stands fs gs v t x T → ShowsBefore x T done w u b y U → Says y error f z → Extends true U W →
+      Shows (hand_to_parts ps done (failed c f) fs) (tape_to_parts ps b (Failed c error) gs (v ++ w ++ s) (t ++ u ++ r) z W)
   parts_failed {v = v} {t = t} [] c s r h no_parts q m = let a = append-nil v in let d = append-nil t in moved (shows_failed s r h q m) cc
   parts_failed {v = v} {t = t} (p ∷ ps) c s r h no_parts q m = let a = append-nil v in let d = append-nil t in moved (shows_failed s r h q m) cc
   parts_failed {v = v} {w = w} {t = t} {u = u} [] c s r h (some_parts k l) q m =
-      let a = three v w s in let d = three t u r in moved (shows_failed (w ++ s) (u ++ r) h (behind_says c k q) (extends_both true true (extends_any l) m)) cc
+      let a = three v w s in let d = three t u r in moved (shows_failed (w ++ s) (u ++ r) h (after_says c k q) (extends_both true true (extends_any l) m)) cc
   parts_failed {v = v} {w = w} {t = t} {u = u} (p ∷ ps) c s r h (some_parts k l) q m =
-      let a = three v w s in let d = three t u r in moved (shows_failed (w ++ s) (u ++ r) h (behind_says c k q) (extends_both true true (extends_any l) m)) cc
+      let a = three v w s in let d = three t u r in moved (shows_failed (w ++ s) (u ++ r) h (after_says c k q) (extends_both true true (extends_any l) m)) cc
 
   -- ---- choices
 
-  settled_fine : {fs : List Frame} {gs : List OnFrame} {v : List Tree} {t : List TrailItem} {x y z : List Said} {U : Table} {kept : Kept} {q : OnKept} {why : Why} {f : Error}
-      (c : Bool) (j : ℕ) (s : List Tree) (r : List TrailItem) → Stands fs gs v t x T → ShowsKept T x kept q y → Says y why f z → Extends c T U →
-      Shows (with_outcome (behind_kept kept (ok c (spot_at U j) s r f)) fs) (tape_settled q (length v) (length t) (length T.operators) (Fine c j why) gs (v ++ s) (t ++ r) z U)
-  settled_fine c j s r h nothing_kept o m = shows_fine h o m
-  settled_fine c j s r h (a_failure k) o m = shows_fine h (behind_says c k o) m
-  settled_fine true j s r h (an_empty_ok k) o m = shows_fine h (alone k o) m
-  settled_fine {v = v} {t = t} false j s r h (an_empty_ok k) o m =
-      let a = take_seam v s in let d = take_seam t r in let g = given_back m in moved (shows_fine h (merge_says k o) same_table) cc
+  settled_succeeded : {fs : List Frame} {gs : List OnFrame} {v : List Tree} {t : List TrailItem} {x y z : List TapeMessage} {U : Table} {tried : Tried} {q : OnTried} {error : TapeError} {f : Error}
+      (c : Bool) (j : ℕ) (s : List Tree) (r : List TrailItem) → Stands fs gs v t x T → ShowsTried T x tried q y → Says y error f z → Extends c T U →
+      Shows (with_outcome (after_tried tried (ok c (spot_at U j) s r f)) fs) (tape_settled q (length v) (length t) (length T.operators) (Succeeded c j error) gs (v ++ s) (t ++ r) z U)
+  settled_succeeded c j s r h nothing_tried o m = shows_succeeded h o m
+  settled_succeeded c j s r h (a_failure k) o m = shows_succeeded h (after_says c k o) m
+  settled_succeeded true j s r h (an_empty_ok k) o m = shows_succeeded h (alone k o) m
+  settled_succeeded {v = v} {t = t} false j s r h (an_empty_ok k) o m =
+      let a = take_seam v s in let d = take_seam t r in let g = given_back m in moved (shows_succeeded h (merge_says k o) same_table) cc
 
-  settled_failed : {fs : List Frame} {gs : List OnFrame} {v : List Tree} {t : List TrailItem} {x y z : List Said} {U : Table} {kept : Kept} {q : OnKept} {why : Why} {f : Error}
-      (c : Bool) (s : List Tree) (r : List TrailItem) → Stands fs gs v t x T → ShowsKept T x kept q y → Says y why f z → Extends true T U →
-      Shows (with_outcome (behind_kept kept (failed c f)) fs) (tape_settled q (length v) (length t) (length T.operators) (Failed c why) gs (v ++ s) (t ++ r) z U)
-  settled_failed c s r h nothing_kept o m = shows_failed s r h o m
-  settled_failed c s r h (a_failure k) o m = shows_failed s r h (behind_says c k o) m
+  settled_failed : {fs : List Frame} {gs : List OnFrame} {v : List Tree} {t : List TrailItem} {x y z : List TapeMessage} {U : Table} {tried : Tried} {q : OnTried} {error : TapeError} {f : Error}
+      (c : Bool) (s : List Tree) (r : List TrailItem) → Stands fs gs v t x T → ShowsTried T x tried q y → Says y error f z → Extends true T U →
+      Shows (with_outcome (after_tried tried (failed c f)) fs) (tape_settled q (length v) (length t) (length T.operators) (Failed c error) gs (v ++ s) (t ++ r) z U)
+  settled_failed c s r h nothing_tried o m = shows_failed s r h o m
+  settled_failed c s r h (a_failure k) o m = shows_failed s r h (after_says c k o) m
   settled_failed true s r h (an_empty_ok k) o m = shows_failed s r h (alone k o) m
   settled_failed {v = v} {t = t} false s r h (an_empty_ok k) o m =
-      let a = take_seam v s in let d = take_seam t r in let g = given_back m in moved (shows_fine h (merge_says k o) same_table) cc
+      let a = take_seam v s in let d = take_seam t r in let g = given_back m in moved (shows_succeeded h (merge_says k o) same_table) cc
 
-  pub next_shown : {fs : List Frame} {gs : List OnFrame} {v : List Tree} {t : List TrailItem} {x y : List Said} {kept : Kept} {q : OnKept}
-      (k : ℕ) (ps : List ℕ) (i : ℕ) → Stands fs gs v t x T → ShowsKept T x kept q y →
-      Shows (next_alternative k ps (spot_at T i) kept fs) (tape_next_alternative k ps i q gs v t y T)
+  pub next_shown : {fs : List Frame} {gs : List OnFrame} {v : List Tree} {t : List TrailItem} {x y : List TapeMessage} {tried : Tried} {q : OnTried}
+      (k : ℕ) (ps : List ℕ) (i : ℕ) → Stands fs gs v t x T → ShowsTried T x tried q y →
+      Shows (next_alternative k ps (spot_at T i) tried fs) (tape_next_alternative k ps i q gs v t y T)
   next_shown {v = v} {t = t} {y = y} k [] i h o = let a = append-nil v in let d = append-nil t in moved (settled_failed false [] [] h o (nothing_says y i) same_table) cc
   next_shown k (p ∷ ps) i h o = shows_at (stands_choice h o)
 
-  one_failed : {x y z : List Said} {kept : Kept} {q : OnKept} {why : Why} {f : Error} → ShowsKept T x kept q y → Says y why f z →
-      ShowsKept T x (with_failure kept f) (kept_with_failure q (kept_held q why z)) (kept_messages q why z)
-  one_failed nothing_kept o = a_failure (hold o)
+  one_failed : {x y z : List TapeMessage} {tried : Tried} {q : OnTried} {error : TapeError} {f : Error} → ShowsTried T x tried q y → Says y error f z →
+      ShowsTried T x (with_failure tried f) (tried_with_failure q (tried_kept q error z)) (tried_messages q error z)
+  one_failed nothing_tried o = a_failure (hold o)
   one_failed (a_failure k) o = a_failure (hold (merge_says k o))
   one_failed (an_empty_ok k) o = an_empty_ok (hold (merge_says k o))
 
-  one_empty_ok : {x y z : List Said} {kept : Kept} {q : OnKept} {why : Why} {f : Error} (j : ℕ) (s : List Tree) (r : List TrailItem) → ShowsKept T x kept q y → Says y why f z →
-      ShowsKept T x (with_empty_ok kept (spot_at T j) s r f) (kept_with_empty_ok q j s r (kept_held q why z)) (kept_messages q why z)
-  one_empty_ok j s r nothing_kept o = an_empty_ok (hold o)
+  one_empty_ok : {x y z : List TapeMessage} {tried : Tried} {q : OnTried} {error : TapeError} {f : Error} (j : ℕ) (s : List Tree) (r : List TrailItem) → ShowsTried T x tried q y → Says y error f z →
+      ShowsTried T x (with_empty_ok tried (spot_at T j) s r f) (tried_with_empty_ok q j s r (tried_kept q error z)) (tried_messages q error z)
+  one_empty_ok j s r nothing_tried o = an_empty_ok (hold o)
   one_empty_ok j s r (a_failure k) o = an_empty_ok (hold (merge_says k o))
   one_empty_ok j s r (an_empty_ok k) o = an_empty_ok (hold (merge_says k o))
 
-  empty_ok_shown : {fs : List Frame} {gs : List OnFrame} {v : List Tree} {t : List TrailItem} {x y z : List Said} {U : Table} {kept : Kept} {q : OnKept} {why : Why} {f : Error}
-      (reading : Reading) (k : ℕ) (ps : List ℕ) (i j : ℕ) (s : List Tree) (r : List TrailItem) → Stands fs gs v t x T → ShowsKept T x kept q y → Says y why f z → Extends false T U →
-      Shows (hand_empty_ok reading k ps (spot_at T i) kept (spot_at U j) s r f fs) (tape_empty_ok reading k ps i q (length v) (length t) (length T.operators) j why gs (v ++ s) (t ++ Alt k ∷ [] ++ r) z U)
-  empty_ok_shown {v = v} {t = t} Library k ps i j s r h o e m = let d = item_seam t (Alt k) r in moved (settled_fine false j s (Alt k ∷ r) h o e m) cc
+  empty_ok_shown : {fs : List Frame} {gs : List OnFrame} {v : List Tree} {t : List TrailItem} {x y z : List TapeMessage} {U : Table} {tried : Tried} {q : OnTried} {error : TapeError} {f : Error}
+      (reading : Reading) (k : ℕ) (ps : List ℕ) (i j : ℕ) (s : List Tree) (r : List TrailItem) → Stands fs gs v t x T → ShowsTried T x tried q y → Says y error f z → Extends false T U →
+      Shows (hand_empty_ok reading k ps (spot_at T i) tried (spot_at U j) s r f fs) (tape_empty_ok reading k ps i q (length v) (length t) (length T.operators) j error gs (v ++ s) (t ++ Alt k ∷ [] ++ r) z U)
+  empty_ok_shown {v = v} {t = t} Library k ps i j s r h o e m = let d = item_seam t (Alt k) r in moved (settled_succeeded false j s (Alt k ∷ r) h o e m) cc
   empty_ok_shown {v = v} {t = t} Report k ps i j s r h o e same_table =
       let a = take_seam v s in
       let b = drop_seam v s in
@@ -138,15 +150,15 @@ module _ {T : Table} where
       let back : first_operators (length T.operators) T ≡ T = given_back {c = false} same_table in
       moved (next_shown (suc k) ps i h (one_empty_ok j s (Alt k ∷ r) o e)) cc
 
-  pub choice_fine : {fs : List Frame} {gs : List OnFrame} {v : List Tree} {t : List TrailItem} {x y z : List Said} {U : Table} {kept : Kept} {q : OnKept} {why : Why} {f : Error}
-      (reading : Reading) (k : ℕ) (ps : List ℕ) (i : ℕ) (c : Bool) (j : ℕ) (s : List Tree) (r : List TrailItem) → Stands fs gs v t x T → ShowsKept T x kept q y → Says y why f z → Extends c T U →
-      Shows (hand_to_choice reading k ps (spot_at T i) kept (ok c (spot_at U j) s r f) fs) (tape_to_choice reading k ps i q (length v) (length t) (length T.operators) (Fine c j why) gs (v ++ s) (t ++ Alt k ∷ [] ++ r) z U)
-  choice_fine {t = t} reading k ps i true j s r h o e m = let d = item_seam t (Alt k) r in moved (settled_fine true j s (Alt k ∷ r) h o e m) cc
-  choice_fine reading k ps i false j s r h o e m = empty_ok_shown reading k ps i j s r h o e m
+  pub choice_succeeded : {fs : List Frame} {gs : List OnFrame} {v : List Tree} {t : List TrailItem} {x y z : List TapeMessage} {U : Table} {tried : Tried} {q : OnTried} {error : TapeError} {f : Error}
+      (reading : Reading) (k : ℕ) (ps : List ℕ) (i : ℕ) (c : Bool) (j : ℕ) (s : List Tree) (r : List TrailItem) → Stands fs gs v t x T → ShowsTried T x tried q y → Says y error f z → Extends c T U →
+      Shows (hand_to_choice reading k ps (spot_at T i) tried (ok c (spot_at U j) s r f) fs) (tape_to_choice reading k ps i q (length v) (length t) (length T.operators) (Succeeded c j error) gs (v ++ s) (t ++ Alt k ∷ [] ++ r) z U)
+  choice_succeeded {t = t} reading k ps i true j s r h o e m = let d = item_seam t (Alt k) r in moved (settled_succeeded true j s (Alt k ∷ r) h o e m) cc
+  choice_succeeded reading k ps i false j s r h o e m = empty_ok_shown reading k ps i j s r h o e m
 
-  pub choice_failed : {fs : List Frame} {gs : List OnFrame} {v : List Tree} {t : List TrailItem} {x y z : List Said} {U : Table} {kept : Kept} {q : OnKept} {why : Why} {f : Error}
-      (reading : Reading) (k : ℕ) (ps : List ℕ) (i : ℕ) (c : Bool) (s : List Tree) (r : List TrailItem) → Stands fs gs v t x T → ShowsKept T x kept q y → Says y why f z → Extends true T U →
-      Shows (hand_to_choice reading k ps (spot_at T i) kept (failed c f) fs) (tape_to_choice reading k ps i q (length v) (length t) (length T.operators) (Failed c why) gs (v ++ s) (t ++ Alt k ∷ [] ++ r) z U)
+  pub choice_failed : {fs : List Frame} {gs : List OnFrame} {v : List Tree} {t : List TrailItem} {x y z : List TapeMessage} {U : Table} {tried : Tried} {q : OnTried} {error : TapeError} {f : Error}
+      (reading : Reading) (k : ℕ) (ps : List ℕ) (i : ℕ) (c : Bool) (s : List Tree) (r : List TrailItem) → Stands fs gs v t x T → ShowsTried T x tried q y → Says y error f z → Extends true T U →
+      Shows (hand_to_choice reading k ps (spot_at T i) tried (failed c f) fs) (tape_to_choice reading k ps i q (length v) (length t) (length T.operators) (Failed c error) gs (v ++ s) (t ++ Alt k ∷ [] ++ r) z U)
   choice_failed {t = t} reading k ps i true s r h o e m = let d = item_seam t (Alt k) r in moved (settled_failed true s (Alt k ∷ r) h o e m) cc
   choice_failed {v = v} {t = t} reading k ps i false s r h o e m =
       let a = take_seam v s in
@@ -157,21 +169,21 @@ module _ {T : Table} where
 
   -- ---- repetitions
 
-  pub rounds_fine : {fs : List Frame} {gs : List OnFrame} {v : List Tree} {t : List TrailItem} {x z : List Said} {U W : Table} {why : Why} {f : Error} (w : List Tree) (u : List TrailItem)
-      (p k : ℕ) (b : Bool) (i : ℕ) (item : TrailItem) (c : Bool) (j : ℕ) (s : List Tree) (r : List TrailItem) → Stands fs gs v t x T → Extends b T U → Says x why f z → Extends c U W →
+  pub rounds_succeeded : {fs : List Frame} {gs : List OnFrame} {v : List Tree} {t : List TrailItem} {x z : List TapeMessage} {U W : Table} {error : TapeError} {f : Error} (w : List Tree) (u : List TrailItem)
+      (p k : ℕ) (b : Bool) (i : ℕ) (item : TrailItem) (c : Bool) (j : ℕ) (s : List Tree) (r : List TrailItem) → Stands fs gs v t x T → Extends b T U → Says x error f z → Extends c U W →
       Shows (hand_to_rounds p k b (spot_at U i) w u (ok c (spot_at W j) s r f) fs)
-      (tape_to_rounds p k b i (length t) (length (v ++ w)) (length (t ++ item ∷ u)) (length U.operators) (length x) (Fine c j why) gs (v ++ w ++ s) (t ++ item ∷ u ++ r) z W)
-  rounds_fine {v = v} {t = t} {x = x} w u p k b i item true j s r h l o m =
+      (tape_to_rounds p k b i (length t) (length (v ++ w)) (length (t ++ item ∷ u)) (length U.operators) (length x) (Succeeded c j error) gs (v ++ w ++ s) (t ++ item ∷ u ++ r) z W)
+  rounds_succeeded {v = v} {t = t} {x = x} w u p k b i item true j s r h l o m =
       let a = three v w s in
       let d : t ++ (item ∷ (u ++ r)) ≡ t ++ item ∷ u ++ r = three t (item ∷ u) r in
-      let g = cut_said o in
+      let g = cut_messages o in
       moved (shows_at (stands_rounds item h (extends_both true true (extends_any l) m))) cc
-  rounds_fine w u p k b i item false j s r h l o m = shows_stuck
+  rounds_succeeded w u p k b i item false j s r h l o m = shows_stuck (stands_length h)
 
-  pub rounds_failed : {fs : List Frame} {gs : List OnFrame} {v : List Tree} {t : List TrailItem} {x z : List Said} {U W : Table} {why : Why} {f : Error} (w : List Tree) (u : List TrailItem)
-      (p k : ℕ) (b : Bool) (i : ℕ) (item : TrailItem) (c : Bool) (s : List Tree) (r : List TrailItem) → Stands fs gs v t x T → Extends b T U → Says x why f z → Extends true U W →
+  pub rounds_failed : {fs : List Frame} {gs : List OnFrame} {v : List Tree} {t : List TrailItem} {x z : List TapeMessage} {U W : Table} {error : TapeError} {f : Error} (w : List Tree) (u : List TrailItem)
+      (p k : ℕ) (b : Bool) (i : ℕ) (item : TrailItem) (c : Bool) (s : List Tree) (r : List TrailItem) → Stands fs gs v t x T → Extends b T U → Says x error f z → Extends true U W →
       Shows (hand_to_rounds p k b (spot_at U i) w u (failed c f) fs)
-      (tape_to_rounds p k b i (length t) (length (v ++ w)) (length (t ++ item ∷ u)) (length U.operators) (length x) (Failed c why) gs (v ++ w ++ s) (t ++ item ∷ u ++ r) z W)
+      (tape_to_rounds p k b i (length t) (length (v ++ w)) (length (t ++ item ∷ u)) (length U.operators) (length x) (Failed c error) gs (v ++ w ++ s) (t ++ item ∷ u ++ r) z W)
   rounds_failed {v = v} {t = t} w u p k b i item true s r h l o m =
       let a = three v w s in
       let d : t ++ (item ∷ (u ++ r)) ≡ t ++ item ∷ u ++ r = three t (item ∷ u) r in
@@ -181,4 +193,4 @@ module _ {T : Table} where
       let d = take_seam (t ++ item ∷ u) r in
       let g : slice_set (t ++ item ∷ u) (length t) (Rounds k) ≡ t ++ Rounds k ∷ u = set-append_seam t item u (Rounds k) in
       let back = given_back m in
-      moved (shows_fine h o l) cc
+      moved (shows_succeeded h o l) cc

@@ -5,10 +5,9 @@ use Rattle.std.specs.Prelude.{◌==◌}
 use Rattle.pg_tree.specs.Trees.{Tree}
 use Rattle.pg_grammar.specs.declared.trail.TrailItem.{TrailItem}
 use Rattle.pg_table.specs.Tables.{Table}
-use Rattle.pg_turns.specs.Messages.{Said}
+use Rattle.pg_turns.specs.Messages.{TapeMessage}
 use Rattle.pg_turns.specs.Tape.{OnFrame, tape_with, tape_is_last}
-use Rattle.pg_turns.specs.declared.frame.Reply.TheVariants.{Fine, Failed}
-use Rattle.pg_turns.specs.declared.message_tape.Why.{Why}
+use Rattle.pg_turns.specs.declared.frame.Reply.{Reply}
 use Rattle.pg_turns.specs.View.{frame_of, stack_on, stack_of}
 use Rattle.pg_turns.specs.declared.frame.Frame.{Frame}
 
@@ -27,21 +26,12 @@ not_empty : (n : ℕ) → (suc n == 0) ≡ false
 not_empty n = grind (arith, nat_tests)
 
 -- an answer is the last one where no frame is left
-pub last_fine : (c : Bool) (j : ℕ) (why : Why) (fs : List Frame) (v : List Tree) (t : List TrailItem) (x : List Said) (T : Table) → (length fs == 0) ≡ tape_is_last (tape_with (Fine c j why) (stack_of fs) v t x T)
-last_fine c j why [] v t x T = refl
-last_fine c j why (f ∷ fs) v t x T =
-    let r = some_stack [] (frame_of f) fs in not_empty (length fs) ∙ ap (λ (gs : List OnFrame). tape_is_last (tape_with (Fine c j why) gs v t x T)) (sym r.2)
+pub last_reply : (reply : Reply) (fs : List Frame) (v : List Tree) (t : List TrailItem) (x : List TapeMessage) (T : Table) → (length fs == 0) ≡ tape_is_last (tape_with reply (stack_of fs) v t x T)
+last_reply reply [] v t x T = refl
+last_reply reply (f ∷ fs) v t x T =
+    let r = some_stack [] (frame_of f) fs in not_empty (length fs) ∙ ap (λ (gs : List OnFrame). tape_is_last (tape_with reply gs v t x T)) (sym r.2)
 
-pub last_failed : (c : Bool) (why : Why) (fs : List Frame) (v : List Tree) (t : List TrailItem) (x : List Said) (T : Table) → (length fs == 0) ≡ tape_is_last (tape_with (Failed c why) (stack_of fs) v t x T)
-last_failed c why [] v t x T = refl
-last_failed c why (f ∷ fs) v t x T =
-    let r = some_stack [] (frame_of f) fs in not_empty (length fs) ∙ ap (λ (gs : List OnFrame). tape_is_last (tape_with (Failed c why) gs v t x T)) (sym r.2)
-
--- no frame
-pub none_left : (fs : List Frame) → (length fs == 0) ≡ true → stack_of fs ≡ []
-none_left [] h = refl
-none_left (f ∷ fs) h = let z = not_empty (length fs) in cc
-
+-- some frame
 pub some_left : (fs : List Frame) → (length fs == 0) ≡ false → (g : OnFrame) × (gs : List OnFrame) × (stack_of fs ≡ g ∷ gs)
 some_left [] h = absurd cc
 some_left (f ∷ fs) h = some_stack [] (frame_of f) fs

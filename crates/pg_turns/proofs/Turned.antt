@@ -1,5 +1,5 @@
 -- A turn of the machine over lists is a turn of the machine on plain values.
-use Rattle.std.proofs.Common.{◌≡◌, ℕ, suc, ◌+◌, List, [], ◌∷◌, ◌++◌, Bool, true, false, refl, subst, append-nil, length}
+use Rattle.std.proofs.Common.{◌≡◌, ℕ, suc, ◌+◌, List, [], ◌∷◌, ◌++◌, Bool, true, false, refl, sym, ap, subst, append-nil, length}
 use Rattle.std.specs.Prelude.{Option, Some, None, slice_get, codes, ◌==◌, nat_lt, if◌then◌else◌}
 use Rattle.std.specs.List.{list_any}
 use Rattle.std.specs.Str.{bytes_eq}
@@ -20,17 +20,19 @@ use Rattle.pg_table.specs.Tables.{Table}
 use Rattle.pg_language.specs.Answers.{Given}
 use Rattle.pg_language.specs.Errors.{Error, quote, seen_at, stopped_by, stopped_before, refused, refused_before}
 use Rattle.pg_language.specs.Leaves.{taken, satisfy_next, word_read, word_next, not_followed_next, matched, string_outcome, end_outcome, some_word_outcome, leaf_outcome}
-use Rattle.pg_language.specs.Outcomes.{Outcome, ok, failed}
-use Rattle.pg_turns.specs.Frames.{Frame}
-use Rattle.pg_turns.specs.Messages.{Said, error_of}
-use Rattle.pg_turns.specs.Shows.{same_table, nothing_kept, Stands, no_frames, stands_parts, stands_choice, stands_rounds, stands_first, stands_separator, stands_operand, stands_rule, stands_around, no_parts, Shows, shows_at, shows_fine, shows_failed, shows_stuck, shows_endless}
-use Rattle.pg_turns.specs.Tape.{spot_at, OnFrame, Tape, tape_leaf, listed, tape_rule, tape_told, tape_enter, tape_enter_at, tape_turn, tape_is_last}
-use Rattle.pg_turns.specs.Why.{why_at, Says}
-use Rattle.pg_turns.specs.Turns.{State, with_outcome, told, enter_rule, enter_form, enter_node, turn, is_last}
-use Rattle.pg_turns.proofs.ChainsShown.{first_fine, first_failed, separator_fine, ended_shown, operand_fine, operand_failed}
-use Rattle.pg_turns.proofs.Labels.{around_fine_says, around_failed_says}
+use Rattle.pg_language.specs.Outcomes.{Outcome, ok, failed, empty_round}
+use Rattle.pg_turns.specs.Frames.{Frame, in_parts, in_choice, in_rounds, in_first, in_separator, in_operand, in_rule, in_around}
+use Rattle.pg_turns.specs.Messages.{TapeMessage, error_of}
+use Rattle.pg_turns.specs.Shows.{same_table, nothing_tried, Stands, no_frames, stands_parts, stands_choice, stands_rounds, stands_first, stands_separator, stands_operand, stands_rule, stands_around, no_parts, Shows, shows_at, shows_succeeded, shows_failed, shows_stuck, shows_endless}
+use Rattle.pg_turns.specs.Tape.{spot_at, OnFrame, on_parts, on_choice, on_rounds, on_first, on_separator, on_operand, on_rule, on_around, Tape, tape_with, tape_hand, tape_leaf, listed, tape_rule, tape_told, tape_enter, tape_enter_at, tape_turn, tape_is_last}
+use Rattle.pg_turns.specs.TapeErrors.{tape_error, Says}
+use Rattle.pg_turns.specs.declared.frame.Reply.TheVariants.{EmptyRound}
+use Rattle.pg_turns.specs.Turns.{State, with_outcome, told, enter_rule, enter_form, enter_node, hand, turn, is_last}
+use Rattle.pg_turns.proofs.ChainsShown.{first_succeeded, first_failed, separator_succeeded, ended_shown, operand_succeeded, operand_failed}
+use Rattle.pg_turns.proofs.Joined.{stuck_parts}
+use Rattle.pg_turns.proofs.Labels.{around_succeeded_says, around_failed_says}
 use Rattle.pg_turns.proofs.Merged.{take_seam, drop_seam, nothing_says, just_says}
-use Rattle.pg_turns.proofs.Shown.{moved, parts_fine, parts_failed, next_shown, choice_fine, choice_failed, rounds_fine, rounds_failed}
+use Rattle.pg_turns.proofs.Shown.{moved, turned, parts_succeeded, parts_failed, next_shown, choice_succeeded, choice_failed, rounds_succeeded, rounds_failed}
 
 -- ---- leaves
 
@@ -88,24 +90,24 @@ end_leaf T text i = either (i == length text)
     either false = leaf_failed refl
 
 module _ {T : Table} where
-  leaf_shown : {fs : List Frame} {gs : List OnFrame} {v : List Tree} {t : List TrailItem} {x : List Said} {o : Outcome} → IsLeaf T o → Stands fs gs v t x T → Shows (with_outcome o fs) (tape_leaf o gs v t x T)
-  leaf_shown {x = x} (leaf_ok {e = e} j is) h = shows_fine h (subst (λ (w : Error). Says x (why_at e.place (length x)) w (x ++ listed e.messages)) is (just_says x (listed e.messages) e.place)) same_table
+  leaf_shown : {fs : List Frame} {gs : List OnFrame} {v : List Tree} {t : List TrailItem} {x : List TapeMessage} {o : Outcome} → IsLeaf T o → Stands fs gs v t x T → Shows (with_outcome o fs) (tape_leaf o gs v t x T)
+  leaf_shown {x = x} (leaf_ok {e = e} j is) h = shows_succeeded h (subst (λ (w : Error). Says x (tape_error e.place (length x)) w (x ++ listed e.messages)) is (just_says x (listed e.messages) e.place)) same_table
   leaf_shown {v = v} {t = t} {x = x} (leaf_failed {e = e} is) h =
-      let a = append-nil v in let d = append-nil t in moved (shows_failed [] [] h (subst (λ (w : Error). Says x (why_at e.place (length x)) w (x ++ listed e.messages)) is (just_says x (listed e.messages) e.place)) same_table) cc
+      let a = append-nil v in let d = append-nil t in moved (shows_failed [] [] h (subst (λ (w : Error). Says x (tape_error e.place (length x)) w (x ++ listed e.messages)) is (just_says x (listed e.messages) e.place)) same_table) cc
 
   -- ---- nodes are entered
 
-  rule_shown : {fs : List Frame} {gs : List OnFrame} {v : List Tree} {t : List TrailItem} {x : List Said} (named : Option declared.Rule) (i : ℕ) → Stands fs gs v t x T →
+  rule_shown : {fs : List Frame} {gs : List OnFrame} {v : List Tree} {t : List TrailItem} {x : List TapeMessage} (named : Option declared.Rule) (i : ℕ) → Stands fs gs v t x T →
       Shows (enter_rule named (spot_at T i) fs) (tape_rule named i gs v t x T)
   rule_shown None i h = shows_endless
   rule_shown (Some named) i h = shows_at (stands_rule h)
 
-  word_shown : {fs : List Frame} {gs : List OnFrame} {v : List Tree} {t : List TrailItem} {x : List Said} (g : Grammar) (text : List ℕ) (item : Option WordItem) (i : ℕ) → Stands fs gs v t x T →
+  word_shown : {fs : List Frame} {gs : List OnFrame} {v : List Tree} {t : List TrailItem} {x : List TapeMessage} (g : Grammar) (text : List ℕ) (item : Option WordItem) (i : ℕ) → Stands fs gs v t x T →
       Shows (told (some_word_outcome g text (spot_at T i) item) fs) (tape_told (some_word_outcome g text (spot_at T i) item) gs v t x T)
   word_shown g text None i h = shows_endless
   word_shown g text (Some item) i h = leaf_shown (word_leaf T g text item i (slice_get text i)) h
 
-  told_shown : {fs : List Frame} {gs : List OnFrame} {v : List Tree} {t : List TrailItem} {x : List Said} (g : Grammar) (text : List ℕ) (l : Leaf ℕ) (i : ℕ) → Stands fs gs v t x T →
+  told_shown : {fs : List Frame} {gs : List OnFrame} {v : List Tree} {t : List TrailItem} {x : List TapeMessage} (g : Grammar) (text : List ℕ) (l : Leaf ℕ) (i : ℕ) → Stands fs gs v t x T →
       Shows (told (leaf_outcome g text l (spot_at T i)) fs) (tape_told (leaf_outcome g text l (spot_at T i)) gs v t x T)
   told_shown g text (leaf.Satisfy class) i h = leaf_shown (satisfy_leaf T g class i (slice_get text i)) h
   told_shown g text (leaf.String s) i h = leaf_shown (string_leaf T text s i) h
@@ -114,37 +116,70 @@ module _ {T : Table} where
   told_shown g text leaf.EndOfText i h = leaf_shown (end_leaf T text i) h
   told_shown g text (leaf.Declare class) i h = shows_endless
 
-  form_shown : {fs : List Frame} {gs : List OnFrame} {v : List Tree} {t : List TrailItem} {x : List Said} (G : Given) (f : Node) (i : ℕ) → Stands fs gs v t x T →
+  form_shown : {fs : List Frame} {gs : List OnFrame} {v : List Tree} {t : List TrailItem} {x : List TapeMessage} (G : Given) (f : Node) (i : ℕ) → Stands fs gs v t x T →
       Shows (enter_form G f (spot_at T i) fs) (tape_enter G f i gs v t x T)
   form_shown G (form.Leaf l) i h = told_shown G.grammar G.text l i h
-  form_shown {v = v} {t = t} {x = x} G (form.Seq []) i h = let a = append-nil v in let d = append-nil t in moved (shows_fine h (nothing_says x i) same_table) cc
+  form_shown {v = v} {t = t} {x = x} G (form.Seq []) i h = let a = append-nil v in let d = append-nil t in moved (shows_succeeded h (nothing_says x i) same_table) cc
   form_shown {v = v} {t = t} G (form.Seq (p ∷ ps)) i h = let a = append-nil v in let d = append-nil t in moved (shows_at (stands_parts h no_parts)) cc
-  form_shown G (form.Choice ps) i h = next_shown 1 ps i h nothing_kept
+  form_shown G (form.Choice ps) i h = next_shown 1 ps i h nothing_tried
   form_shown {v = v} G (form.Many p) i h = let a = append-nil v in moved (shows_at (stands_rounds {w = []} {u = []} (Rounds 0) h same_table)) cc
   form_shown G (form.Chain side used p s) i h = shows_at (stands_first (Rounds 0) h)
   form_shown G (form.Rule r) i h = rule_shown (slice_get G.grammar.rules r) i h
   form_shown G (form.Expression builders p) i h = shows_endless
   form_shown G (form.Around around p) i h = shows_at (stands_around h)
 
-  node_shown : {fs : List Frame} {gs : List OnFrame} {v : List Tree} {t : List TrailItem} {x : List Said} (G : Given) (f : Option Node) (i : ℕ) → Stands fs gs v t x T →
+  node_shown : {fs : List Frame} {gs : List OnFrame} {v : List Tree} {t : List TrailItem} {x : List TapeMessage} (G : Given) (f : Option Node) (i : ℕ) → Stands fs gs v t x T →
       Shows (enter_node G f (spot_at T i) fs) (tape_enter_at G f i gs v t x T)
   node_shown G None i h = shows_endless
   node_shown G (Some f) i h = form_shown G f i h
+
+-- ---- an empty round is handed on
+
+-- the frame is handed an empty round, and so is the next one
+round_handed : (G : Given) (f : Frame) (fs : List Frame) → hand G f empty_round fs ≡ with_outcome empty_round fs
+round_handed G (in_parts [] done) fs = ap (λ (o : Outcome). with_outcome o fs) (stuck_parts done)
+round_handed G (in_parts (q ∷ ps) done) fs = refl
+round_handed G (in_choice k ps a tried) fs = refl
+round_handed G (in_rounds p k c a v t) fs = refl
+round_handed G (in_first ch) fs = refl
+round_handed G (in_separator ch linked a) fs = refl
+round_handed G (in_operand ch linked a c v t e) fs = refl
+round_handed G in_rule fs = refl
+round_handed G (in_around around a) fs = refl
+
+round_lies : (G : Given) (g : OnFrame) (fs : List Frame) (gs : List OnFrame) (v : List Tree) (t : List TrailItem) (x : List TapeMessage) (T : Table) → length fs ≡ length gs →
+    Shows (with_outcome empty_round fs) (tape_hand G g EmptyRound gs v t x T)
+round_lies G (on_parts rest b) fs gs v t x T e = shows_stuck e
+round_lies G (on_choice k ps i tried n m o) fs gs v t x T e = shows_stuck e
+round_lies G (on_rounds p k c i slot n m o l) fs gs v t x T e = shows_stuck e
+round_lies G (on_first ch slot n) fs gs v t x T e = shows_stuck e
+round_lies G (on_separator links) fs gs v t x T e = shows_stuck e
+round_lies G (on_operand links b n) fs gs v t x T e = shows_stuck e
+round_lies G on_rule fs gs v t x T e = shows_stuck e
+round_lies G (on_around around i n) fs gs v t x T e = shows_stuck e
+
+stuck_shown : (G : Given) (fs : List Frame) (gs : List OnFrame) (v : List Tree) (t : List TrailItem) (x : List TapeMessage) (T : Table) → length fs ≡ length gs →
+    is_last (with_outcome empty_round fs) ≡ false → Shows (turn G (with_outcome empty_round fs)) (tape_turn G (tape_with EmptyRound gs v t x T))
+stuck_shown G [] gs v t x T e going = cc
+stuck_shown G (f ∷ fs) [] v t x T e going = absurd cc
+stuck_shown G (f ∷ fs) (g ∷ gs) v t x T e going =
+    let same : length fs ≡ length gs = cc in
+    turned (round_lies G g fs gs v t x T same) (sym (round_handed G f fs))
 
 -- ---- one turn
 
 pub turn_shown : (G : Given) {st : State} {x : Tape} → Shows st x → is_last st ≡ false → Shows (turn G st) (tape_turn G x)
 turn_shown G (shows_at {p = p} {i = i} h) going = node_shown G (slice_get G.grammar.nodes p) i h
-turn_shown G (shows_fine no_frames o e) going = cc
-turn_shown G (shows_fine {w = s} {u = r} {c = c} {j = j} (stands_parts {ps = ps} h k) o e) going = parts_fine ps c j s r h k o e
-turn_shown G (shows_fine {w = s} {u = r} {c = c} {j = j} (stands_choice {ps = ps} {k = k} {i = i} h q) o e) going = choice_fine G.reading k ps i c j s r h q o e
-turn_shown G (shows_fine {w = s} {u = r} {c = c} {j = j} (stands_rounds {w = w} {u = u} {p = p} {k = k} {i = i} {c = b} item h l) o e) going = rounds_fine w u p k b i item c j s r h l o e
-turn_shown G (shows_fine {w = s} {u = r} {c = c} {j = j} (stands_first {ch = ch} item h) o e) going = first_fine ch item c j s r h o e
-turn_shown G (shows_fine {w = s} {u = r} {c = c} {j = j} (stands_separator h k) o e) going = separator_fine c j s r h k o e
-turn_shown G (shows_fine {w = s} {u = r} {c = d} {j = j} (stands_operand {s = a} {r = q} {c = c} h k m l) o e) going = operand_fine a q c d j s r h k m l o e
-turn_shown G (shows_fine (stands_rule h) o e) going = shows_fine h o e
-turn_shown G (shows_fine {v = v} {w = s} {c = c} {j = j} (stands_around {around = around} h) o e) going =
-    let a = take_seam v s in let b = drop_seam v s in moved (shows_fine h (around_fine_says around c j o) e) cc
+turn_shown G (shows_succeeded no_frames o e) going = cc
+turn_shown G (shows_succeeded {w = s} {u = r} {c = c} {j = j} (stands_parts {ps = ps} h k) o e) going = parts_succeeded ps c j s r h k o e
+turn_shown G (shows_succeeded {w = s} {u = r} {c = c} {j = j} (stands_choice {ps = ps} {k = k} {i = i} h q) o e) going = choice_succeeded G.reading k ps i c j s r h q o e
+turn_shown G (shows_succeeded {w = s} {u = r} {c = c} {j = j} (stands_rounds {w = w} {u = u} {p = p} {k = k} {i = i} {c = b} item h l) o e) going = rounds_succeeded w u p k b i item c j s r h l o e
+turn_shown G (shows_succeeded {w = s} {u = r} {c = c} {j = j} (stands_first {ch = ch} item h) o e) going = first_succeeded ch item c j s r h o e
+turn_shown G (shows_succeeded {w = s} {u = r} {c = c} {j = j} (stands_separator h k) o e) going = separator_succeeded c j s r h k o e
+turn_shown G (shows_succeeded {w = s} {u = r} {c = d} {j = j} (stands_operand {s = a} {r = q} {c = c} h k m l) o e) going = operand_succeeded a q c d j s r h k m l o e
+turn_shown G (shows_succeeded (stands_rule h) o e) going = shows_succeeded h o e
+turn_shown G (shows_succeeded {v = v} {w = s} {c = c} {j = j} (stands_around {around = around} h) o e) going =
+    let a = take_seam v s in let b = drop_seam v s in moved (shows_succeeded h (around_succeeded_says around c j o) e) cc
 turn_shown G (shows_failed w u no_frames o e) going = cc
 turn_shown G (shows_failed {c = c} s r (stands_parts {ps = ps} h k) o e) going = parts_failed ps c s r h k o e
 turn_shown G (shows_failed {c = c} s r (stands_choice {ps = ps} {k = k} {i = i} h q) o e) going = choice_failed G.reading k ps i c s r h q o e
@@ -154,17 +189,24 @@ turn_shown G (shows_failed {c = c} s r (stands_separator h k) o e) going = ended
 turn_shown G (shows_failed {c = d} s r (stands_operand {s = a} {r = q} {c = c} h k m l) o e) going = operand_failed a q c d s r h k m l o e
 turn_shown G (shows_failed s r (stands_rule h) o e) going = shows_failed s r h o e
 turn_shown G (shows_failed {c = c} s r (stands_around {around = around} h) o e) going = shows_failed s r h (around_failed_says around c o) e
-turn_shown G shows_stuck going = cc
+turn_shown G (shows_stuck {fs = fs} {gs = gs} {v = v} {t = t} {x = x} {T = T} e) going = stuck_shown G fs gs v t x T e going
 turn_shown G shows_endless going = cc
+
+stuck_last : (fs : List Frame) (gs : List OnFrame) (v : List Tree) (t : List TrailItem) (x : List TapeMessage) (T : Table) → length fs ≡ length gs →
+    is_last (with_outcome empty_round fs) ≡ tape_is_last (tape_with EmptyRound gs v t x T)
+stuck_last [] [] v t x T e = refl
+stuck_last [] (g ∷ gs) v t x T e = absurd cc
+stuck_last (f ∷ fs) [] v t x T e = absurd cc
+stuck_last (f ∷ fs) (g ∷ gs) v t x T e = refl
 
 -- a state is the last one where its tape is
 pub last_shown : {st : State} {x : Tape} → Shows st x → is_last st ≡ tape_is_last x
 last_shown (shows_at h) = refl
-last_shown (shows_fine no_frames o e) = refl
-last_shown (shows_fine (stands_parts h k) o e) = refl
-last_shown (shows_fine _ o e) = refl
+last_shown (shows_succeeded no_frames o e) = refl
+last_shown (shows_succeeded (stands_parts h k) o e) = refl
+last_shown (shows_succeeded _ o e) = refl
 last_shown (shows_failed s r no_frames o e) = refl
 last_shown (shows_failed s r (stands_parts h k) o e) = refl
 last_shown (shows_failed s r _ o e) = refl
-last_shown shows_stuck = refl
+last_shown (shows_stuck {fs = fs} {gs = gs} {v = v} {t = t} {x = x} {T = T} e) = stuck_last fs gs v t x T e
 last_shown shows_endless = refl

@@ -9,26 +9,26 @@ use Rattle.pg_language.specs.Answers.{Given, Answers, AfterPart, AfterAlternativ
 use Rattle.pg_language.specs.Errors.{Error}
 use Rattle.pg_language.specs.Outcomes.{Outcome}
 use Rattle.pg_language.specs.Reactions.{noted, surrounded}
-use Rattle.pg_turns.specs.Frames.{Before, behind_parts, Kept, behind_kept, behind_rounds, Chain, Linked, behind_links, Frame, in_parts, in_choice, in_rounds, in_first, in_separator, in_operand, in_rule, in_around}
+use Rattle.pg_turns.specs.Frames.{Before, after_parts, Tried, after_tried, after_rounds, Chain, Linked, after_links, Frame, in_parts, in_choice, in_rounds, in_first, in_separator, in_operand, in_rule, in_around}
 use Rattle.pg_turns.specs.Turns.{State, at_node, with_outcome}
 
 -- the frame, handed the first outcome, comes to the second after so many nodes
 pub data Gives (G : Given) : Frame → Outcome → Outcome → ℕ → Type 0 where
   gives_parts : {ps : List ℕ} {x o : Outcome} {n : ℕ} (done : Before) → AfterPart G ps x o n →
-      Gives G (in_parts ps done) x (behind_parts done o) n
-  gives_choice : {k n : ℕ} {ps : List ℕ} {a : Spot} {x o : Outcome} (kept : Kept) → AfterAlternative G k ps a x o n →
-      Gives G (in_choice k ps a kept) x (behind_kept kept o) n
+      Gives G (in_parts ps done) x (after_parts done o) n
+  gives_choice : {k n : ℕ} {ps : List ℕ} {a : Spot} {x o : Outcome} (tried : Tried) → AfterAlternative G k ps a x o n →
+      Gives G (in_choice k ps a tried) x (after_tried tried o) n
   gives_rounds : {p l n : ℕ} {a : Spot} {x o : Outcome} (k : ℕ) (c : Bool) (v : List Tree) (t : List TrailItem) → AfterRound G p l a x o n →
-      Gives G (in_rounds p k c a v t) x (noted (Rounds (k + l)) (behind_rounds c v t o)) n
+      Gives G (in_rounds p k c a v t) x (noted (Rounds (k + l)) (after_rounds c v t o)) n
   gives_first : {chain : Chain} {k n : ℕ} {x o : Outcome} → AfterFirst G chain.side chain.shape chain.operand chain.separator k x o n →
       Gives G (in_first chain) x (noted (Rounds k) o) n
   gives_separator : {chain : Chain} {k n : ℕ} {a : Spot} {x o : Outcome} (linked : Linked) →
       AfterSeparator G chain.side chain.shape chain.operand chain.separator linked.left k a x o n →
-      Gives G (in_separator chain linked a) x (noted (Rounds (linked.count + k)) (behind_links chain linked o)) n
+      Gives G (in_separator chain linked a) x (noted (Rounds (linked.count + k)) (after_links chain linked o)) n
   gives_operand : {chain : Chain} {k n : ℕ} {a : Spot} {c : Bool} {v : List Tree} {t : List TrailItem} {e : Error}
       {x o : Outcome} (linked : Linked) →
       AfterOperand G chain.side chain.shape chain.operand chain.separator linked.left k a c v t e x o n →
-      Gives G (in_operand chain linked a c v t e) x (noted (Rounds (linked.count + k)) (behind_links chain linked o)) n
+      Gives G (in_operand chain linked a c v t e) x (noted (Rounds (linked.count + k)) (after_links chain linked o)) n
   gives_rule : {x : Outcome} → Gives G in_rule x x zero
   gives_around : {around : Around} {a : Spot} {x : Outcome} → Gives G (in_around around a) x (surrounded around G.text a x) zero
 

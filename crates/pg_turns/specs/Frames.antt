@@ -8,7 +8,7 @@ use Rattle.pg_grammar.specs.declared.trail.TrailItem.{TrailItem}
 use Rattle.pg_language.specs.Derives.{Spot}
 use Rattle.pg_language.specs.Errors.{Error, merge}
 use Rattle.pg_language.specs.Outcomes.{Outcome, ok, failed, empty_round}
-use Rattle.pg_language.specs.Reactions.{error_behind, then_rest, after_failure, unless_consumed, as_finished}
+use Rattle.pg_language.specs.Reactions.{error_after, then_rest, after_failure, unless_consumed, as_finished}
 
 -- ---- sequences
 
@@ -18,48 +18,48 @@ pub data Before : Type 0 where
   before : (c : Bool) (v : List Tree) (t : List TrailItem) (e : Error) → Before
 
 -- what the sequence answers where those from here on answer so
-abbrev pub behind_parts : Before → Outcome → Outcome
-behind_parts none_before o = o
-behind_parts (before c v t e) o = then_rest c v t e o
+abbrev pub after_parts : Before → Outcome → Outcome
+after_parts none_before o = o
+after_parts (before c v t e) o = then_rest c v t e o
 
 -- one part more
 abbrev pub with_part : Before → Bool → List Tree → List TrailItem → Error → Before
 with_part none_before d w u f = before d w u f
-with_part (before c v t e) d w u f = before (c || d) (v ++ w) (t ++ u) (error_behind d e f)
+with_part (before c v t e) d w u f = before (c || d) (v ++ w) (t ++ u) (error_after d e f)
 
 -- ---- choices
 
 -- what the alternatives before came to: there was none, or they failed with this error, or one of them was ok and empty
-pub data Kept : Type 0 where
-  none_kept : Kept
-  failed_kept : (e : Error) → Kept
-  ok_kept : (b : Spot) (v : List Tree) (t : List TrailItem) (e : Error) → Kept
+pub data Tried : Type 0 where
+  none_tried : Tried
+  failed_tried : (e : Error) → Tried
+  ok_tried : (b : Spot) (v : List Tree) (t : List TrailItem) (e : Error) → Tried
 
 -- what the choice answers where those from here on answer so
-abbrev pub behind_kept : Kept → Outcome → Outcome
-behind_kept none_kept o = o
-behind_kept (failed_kept e) o = after_failure e o
-behind_kept (ok_kept b v t e) o = unless_consumed b v t e o
+abbrev pub after_tried : Tried → Outcome → Outcome
+after_tried none_tried o = o
+after_tried (failed_tried e) o = after_failure e o
+after_tried (ok_tried b v t e) o = unless_consumed b v t e o
 
 -- one more that failed empty
-abbrev pub with_failure : Kept → Error → Kept
-with_failure none_kept f = failed_kept f
-with_failure (failed_kept e) f = failed_kept (merge e f)
-with_failure (ok_kept b v t e) f = ok_kept b v t (merge e f)
+abbrev pub with_failure : Tried → Error → Tried
+with_failure none_tried f = failed_tried f
+with_failure (failed_tried e) f = failed_tried (merge e f)
+with_failure (ok_tried b v t e) f = ok_tried b v t (merge e f)
 
 -- one more that was ok and empty: the first of these stands
-abbrev pub with_empty_ok : Kept → Spot → List Tree → List TrailItem → Error → Kept
-with_empty_ok none_kept d w u f = ok_kept d w u f
-with_empty_ok (failed_kept e) d w u f = ok_kept d w u (merge e f)
-with_empty_ok (ok_kept b v t e) d w u f = ok_kept b v t (merge e f)
+abbrev pub with_empty_ok : Tried → Spot → List Tree → List TrailItem → Error → Tried
+with_empty_ok none_tried d w u f = ok_tried d w u f
+with_empty_ok (failed_tried e) d w u f = ok_tried d w u (merge e f)
+with_empty_ok (ok_tried b v t e) d w u f = ok_tried b v t (merge e f)
 
 -- ---- repetitions
 
--- what a repetition answers, behind rounds that consumed so and came to this, where those from here on answer so
-abbrev pub behind_rounds : Bool → List Tree → List TrailItem → Outcome → Outcome
-behind_rounds c v t (ok d b w u f) = ok (c || d) b (v ++ w) (t ++ u) f
-behind_rounds c v t (failed d f) = failed (c || d) f
-behind_rounds c v t empty_round = empty_round
+-- what a repetition answers, after rounds that consumed so and came to this, where those from here on answer so
+abbrev pub after_rounds : Bool → List Tree → List TrailItem → Outcome → Outcome
+after_rounds c v t (ok d b w u f) = ok (c || d) b (v ++ w) (t ++ u) f
+after_rounds c v t (failed d f) = failed (c || d) f
+after_rounds c v t empty_round = empty_round
 
 -- ---- chains
 
@@ -69,13 +69,13 @@ pub record Chain : Type 0 where
   pub operand : ℕ
   pub separator : ℕ
 
--- what a chain came to behind its first operand and some links
+-- what a chain came to after its first operand and some links
 pub record Linked : Type 0 where
   pub count : ℕ
   pub consumed : Bool
   pub trail : List TrailItem
   pub error : Error
-  -- the forests of operands and of the separators behind them, the last ones first, that are still to be folded
+  -- the forests of operands and of the separators after them, the last ones first, that are still to be folded
   pub waiting : List (List Tree × List Tree)
   -- the forest on the left of the next separator
   pub left : List Tree
@@ -86,23 +86,23 @@ folded chain [] o = o
 folded chain (x ∷ waiting) o = folded chain waiting (as_finished chain.side chain.shape x.0 x.1 o)
 
 -- what the chain answers, but for its item, where the links from here on answer so
-abbrev pub behind_links : Chain → Linked → Outcome → Outcome
-behind_links chain linked o = then_rest linked.consumed [] linked.trail linked.error (folded chain linked.waiting o)
+abbrev pub after_links : Chain → Linked → Outcome → Outcome
+after_links chain linked o = then_rest linked.consumed [] linked.trail linked.error (folded chain linked.waiting o)
 
 -- ---- frames
 
 pub data Frame : Type 0 where
-  -- a part of a sequence runs, and these come behind it
+  -- a part of a sequence runs, and these come after it
   in_parts : (rest : List ℕ) (done : Before) → Frame
-  -- the alternative with this number runs, from the choice's start, and these come behind it
-  in_choice : (which : ℕ) (rest : List ℕ) (start : Spot) (kept : Kept) → Frame
-  -- a round of a repetition runs from this spot, behind so many
+  -- the alternative with this number runs, from the choice's start, and these come after it
+  in_choice : (which : ℕ) (rest : List ℕ) (start : Spot) (tried : Tried) → Frame
+  -- a round of a repetition runs from this spot, after so many
   in_rounds : (part count : ℕ) (c : Bool) (start : Spot) (v : List Tree) (t : List TrailItem) → Frame
   -- a chain's first operand runs
   in_first : Chain → Frame
   -- a separator runs from this spot
   in_separator : Chain → Linked → (start : Spot) → Frame
-  -- the operand of a link that began at this spot runs, behind a separator that was ok with this
+  -- the operand of a link that began at this spot runs, after a separator that was ok with this
   in_operand : Chain → Linked → (start : Spot) (c : Bool) (v : List Tree) (t : List TrailItem) (e : Error) → Frame
   -- the body of a rule runs
   in_rule : Frame

@@ -1,5 +1,5 @@
 pub mod Messages
-pub mod Why
+pub mod TapeErrors
 pub mod Frames
 pub mod Turns
 pub mod Finishes

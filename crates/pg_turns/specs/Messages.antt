@@ -9,7 +9,7 @@ use Rattle.pg_turns.specs.declared.message.Message.{Message}
 use Rattle.pg_turns.specs.declared.message.Message.TheVariants.{Stopped, Refused, Reserved, Wanted, WantedEnd, Named}
 
 -- a message's kind and text
-pub record Said : Type 0 where
+pub record TapeMessage : Type 0 where
   pub kind : MessageKind
   pub text : Text
 
@@ -29,24 +29,24 @@ message_text (Wanted s) = quote s.now
 message_text WantedEnd = codes "end of input"
 message_text (Named name) = encode_utf8_all name.now
 
-abbrev pub said_of : Message → Said
-said_of message = record { kind = message_kind message; text = message_text message }
+abbrev pub tape_message_of : Message → TapeMessage
+tape_message_of message = record { kind = message_kind message; text = message_text message }
 
 -- one message more, unless it is there already
-abbrev pub with_said : Messages → MessageKind → Text → Messages
-with_said m SystemUnexpected text = record m { system_unexpected = with_text m.system_unexpected text }
-with_said m Unexpected text = record m { unexpected = with_text m.unexpected text }
-with_said m Expected text = record m { expected = with_text m.expected text }
-with_said m Plain text = record m { plain = with_text m.plain text }
+abbrev pub with_message_once : Messages → MessageKind → Text → Messages
+with_message_once m SystemUnexpected text = record m { system_unexpected = with_text m.system_unexpected text }
+with_message_once m Unexpected text = record m { unexpected = with_text m.unexpected text }
+with_message_once m Expected text = record m { expected = with_text m.expected text }
+with_message_once m Plain text = record m { plain = with_text m.plain text }
 
 -- each of these in turn
-abbrev pub with_all_said : Messages → List Said → Messages
-with_all_said m [] = m
-with_all_said m (s ∷ ss) = with_all_said (with_said m s.kind s.text) ss
+abbrev pub with_messages_once : Messages → List TapeMessage → Messages
+with_messages_once m [] = m
+with_messages_once m (s ∷ ss) = with_messages_once (with_message_once m s.kind s.text) ss
 
 -- the error at a place of which all this is said
-abbrev pub error_of : ℕ → List Said → Error
-error_of place ss = record { place = place; messages = with_all_said no_messages ss }
+abbrev pub error_of : ℕ → List TapeMessage → Error
+error_of place ss = record { place = place; messages = with_messages_once no_messages ss }
 
 abbrev pub is_expected : MessageKind → Bool
 is_expected SystemUnexpected = false
@@ -55,15 +55,15 @@ is_expected Expected = true
 is_expected Plain = false
 
 -- those that aren't about what would have been taken
-abbrev pub unexpected : List Said → List Said
+abbrev pub unexpected : List TapeMessage → List TapeMessage
 unexpected ss = filter (λ s. not (is_expected s.kind)) ss
 
 -- a name as a message
-abbrev pub named : List ℕ → Said
+abbrev pub named : List ℕ → TapeMessage
 named name = record { kind = Expected; text = encode_utf8_all name }
 
--- behind the first messages, this name is all that is expected
-abbrev pub relabelled : List ℕ → ℕ → List Said → List Said
+-- after the first messages, this name is all that is expected
+abbrev pub relabelled : List ℕ → ℕ → List TapeMessage → List TapeMessage
 relabelled name from ss = take from ss ++ unexpected (drop from ss) ++ named name ∷ []
 
 -- what is said where the text has to end, at its end and before it

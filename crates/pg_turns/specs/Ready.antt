@@ -14,7 +14,7 @@ AroundFits offer _ = Unit {0}
 -- the counts of a frame can grow, and the builder that it names is offered
 abbrev pub IsReady : Offer → ℕ → OnFrame → Type 0
 IsReady offer most (on_parts rest before) = Unit {0}
-IsReady offer most (on_choice k ps i kept n m o) = k < most
+IsReady offer most (on_choice k ps i tried n m o) = k < most
 IsReady offer most (on_rounds p k c i slot n m o l) = k < most
 IsReady offer most (on_first chain slot n) = BuilderFits offer chain.used
 IsReady offer most (on_separator links) = (links.count < most) × BuilderFits offer links.chain.used

@@ -11,15 +11,15 @@ use Rattle.pg_grammar.specs.declared.trail.TrailItem.TheVariants.{Alt}
 use Rattle.pg_table.specs.Tables.{Table}
 use Rattle.pg_language.specs.Errors.{Error}
 use Rattle.pg_language.specs.Outcomes.{ok, failed, empty_round}
-use Rattle.pg_turns.specs.Frames.{Before, none_before, before, Kept, none_kept, failed_kept, ok_kept, Chain, Linked, Frame, in_parts, in_choice, in_rounds, in_first, in_separator, in_operand, in_rule, in_around}
-use Rattle.pg_turns.specs.Messages.{Said}
-use Rattle.pg_turns.specs.Tape.{spot_at, OnKept, no_kept, kept_failure, kept_empty_ok, OnChain, OnLinks, OnFrame, on_parts, on_choice, on_rounds, on_first, on_separator, on_operand, on_rule, on_around, Tape, tape_at, tape_with, tape_endless}
+use Rattle.pg_turns.specs.Frames.{Before, none_before, before, Tried, none_tried, failed_tried, ok_tried, Chain, Linked, Frame, in_parts, in_choice, in_rounds, in_first, in_separator, in_operand, in_rule, in_around}
+use Rattle.pg_turns.specs.Messages.{TapeMessage}
+use Rattle.pg_turns.specs.Tape.{spot_at, OnTried, no_tried, tried_failure, tried_empty_ok, OnChain, OnLinks, OnFrame, on_parts, on_choice, on_rounds, on_first, on_separator, on_operand, on_rule, on_around, Tape, tape_at, tape_with, tape_endless}
 use Rattle.pg_turns.specs.Turns.{State, at_node, with_outcome, endless}
-use Rattle.pg_turns.specs.Why.{Says, Holds}
+use Rattle.pg_turns.specs.TapeErrors.{Says, Holds}
 use Rattle.pg_turns.specs.declared.frame.Before as declared
-use Rattle.pg_turns.specs.declared.frame.Reply.TheVariants.{Fine, Failed, EmptyRound}
-use Rattle.pg_turns.specs.declared.message_tape.Held.{Held}
-use Rattle.pg_turns.specs.declared.message_tape.Why.{Why}
+use Rattle.pg_turns.specs.declared.frame.Reply.TheVariants.{Succeeded, Failed, EmptyRound}
+use Rattle.pg_turns.specs.declared.message_tape.KeptError.{KeptError}
+use Rattle.pg_turns.specs.declared.message_tape.TapeError.{TapeError}
 
 -- the table with these operators more, at the end
 abbrev pub with_operators : Table → List Operator → Table
@@ -34,21 +34,21 @@ pub data Extends : Bool → Table → Table → Type 0 where
 abbrev pub plain : OnChain → Chain
 plain ch = record { side = ch.side; shape = ch.used.shape; operand = ch.operand; separator = ch.separator }
 
--- the parts before, with their forest, their trail, the list that ends with their messages and the table behind them, behind
+-- the parts before, with their forest, their trail, the list that ends with their messages and the table after them, after
 -- the first list and the first table
-pub data ShowsBefore : List Said → Table → Before → List Tree → List TrailItem → Option declared.Before → List Said → Table →
+pub data ShowsBefore : List TapeMessage → Table → Before → List Tree → List TrailItem → Option declared.Before → List TapeMessage → Table →
     Type 0 where
-  no_parts : {x : List Said} {T : Table} → ShowsBefore x T none_before [] [] None x T
-  some_parts : {x y : List Said} {T U : Table} {held : Held} {c : Bool} {v : List Tree} {t : List TrailItem} {e : Error} →
-      Holds x held e y → Extends c T U → ShowsBefore x T (before c v t e) v t (Some (record { consumed = c; held = held })) y U
+  no_parts : {x : List TapeMessage} {T : Table} → ShowsBefore x T none_before [] [] None x T
+  some_parts : {x y : List TapeMessage} {T U : Table} {kept : KeptError} {c : Bool} {v : List Tree} {t : List TrailItem} {e : Error} →
+      Holds x kept e y → Extends c T U → ShowsBefore x T (before c v t e) v t (Some (record { consumed = c; kept = kept })) y U
 
-pub data ShowsKept (T : Table) : List Said → Kept → OnKept → List Said → Type 0 where
-  nothing_kept : {x : List Said} → ShowsKept T x none_kept no_kept x
-  a_failure : {x y : List Said} {held : Held} {e : Error} → Holds x held e y → ShowsKept T x (failed_kept e) (kept_failure held) y
-  an_empty_ok : {x y : List Said} {held : Held} {i : ℕ} {v : List Tree} {t : List TrailItem} {e : Error} → Holds x held e y →
-      ShowsKept T x (ok_kept (spot_at T i) v t e) (kept_empty_ok i v t held) y
+pub data ShowsTried (T : Table) : List TapeMessage → Tried → OnTried → List TapeMessage → Type 0 where
+  nothing_tried : {x : List TapeMessage} → ShowsTried T x none_tried no_tried x
+  a_failure : {x y : List TapeMessage} {kept : KeptError} {e : Error} → Holds x kept e y → ShowsTried T x (failed_tried e) (tried_failure kept) y
+  an_empty_ok : {x y : List TapeMessage} {kept : KeptError} {i : ℕ} {v : List Tree} {t : List TrailItem} {e : Error} → Holds x kept e y →
+      ShowsTried T x (ok_tried (spot_at T i) v t e) (tried_empty_ok i v t kept) y
 
--- the trees that wait to be folded lie behind the first list; from the left none do
+-- the trees that wait to be folded lie after the first list; from the left none do
 pub data Waits : OnChain → List Tree → List (List Tree × List Tree) → List ℕ → List Tree → Type 0 where
   none_wait : {ch : OnChain} {v : List Tree} → Waits ch v [] [] v
   from_left : {ch : OnChain} {v : List Tree} {waiting : List (List Tree × List Tree)} → ch.side ≡ Left → Waits ch v waiting [] v
@@ -56,19 +56,19 @@ pub data Waits : OnChain → List Tree → List (List Tree × List Tree) → Lis
       Waits ch v waiting ns y →
       Waits ch v ((a, s) ∷ waiting) (length y ∷ ns) (y ++ a ++ s)
 
--- a chain behind some links, over the lists and the table below it
-pub data ShowsLinks : List Tree → List TrailItem → List Said → Table → Linked → ℕ → OnLinks → List Tree → List TrailItem → List Said →
+-- a chain after some links, over the lists and the table below it
+pub data ShowsLinks : List Tree → List TrailItem → List TapeMessage → Table → Linked → ℕ → OnLinks → List Tree → List TrailItem → List TapeMessage →
     Table → Type 0 where
-  links : {ch : OnChain} {v y w : List Tree} {t u : List TrailItem} {x z : List Said} {T U : Table}
-      {waiting : List (List Tree × List Tree)} {ns : List ℕ} {n i : ℕ} {c : Bool} {held : Held} {e : Error}
-      (item : TrailItem) → Waits ch v waiting ns y → Holds x held e z → Extends c T U →
+  links : {ch : OnChain} {v y w : List Tree} {t u : List TrailItem} {x z : List TapeMessage} {T U : Table}
+      {waiting : List (List Tree × List Tree)} {ns : List ℕ} {n i : ℕ} {c : Bool} {kept : KeptError} {e : Error}
+      (item : TrailItem) → Waits ch v waiting ns y → Holds x kept e z → Extends c T U →
       ShowsLinks v t x T (record { count = n; consumed = c; trail = u; error = e; waiting = waiting; left = w }) i
       (record {
         chain = ch;
         slot = length t;
         count = n;
         consumed = c;
-        held = held;
+        kept = kept;
         waiting = ns;
         left = length y;
         start = i;
@@ -79,53 +79,53 @@ pub data ShowsLinks : List Tree → List TrailItem → List Said → Table → L
       (y ++ w) (t ++ item ∷ u) z U
 
 -- the frames of the one, over these lists and under this table, are those of the other with what they own
-pub data Stands : List Frame → List OnFrame → List Tree → List TrailItem → List Said → Table → Type 0 where
+pub data Stands : List Frame → List OnFrame → List Tree → List TrailItem → List TapeMessage → Table → Type 0 where
   no_frames : {T : Table} → Stands [] [] [] [] [] T
-  stands_parts : {fs : List Frame} {gs : List OnFrame} {v w : List Tree} {t u : List TrailItem} {x y : List Said} {T U : Table}
+  stands_parts : {fs : List Frame} {gs : List OnFrame} {v w : List Tree} {t u : List TrailItem} {x y : List TapeMessage} {T U : Table}
       {ps : List ℕ} {done : Before} {b : Option declared.Before} →
       Stands fs gs v t x T → ShowsBefore x T done w u b y U →
       Stands (in_parts ps done ∷ fs) (on_parts ps b ∷ gs) (v ++ w) (t ++ u) y U
-  stands_choice : {fs : List Frame} {gs : List OnFrame} {v : List Tree} {t : List TrailItem} {x y : List Said} {T : Table}
-      {ps : List ℕ} {k i : ℕ} {kept : Kept} {q : OnKept} →
-      Stands fs gs v t x T → ShowsKept T x kept q y →
-      Stands (in_choice k ps (spot_at T i) kept ∷ fs) (on_choice k ps i q (length v) (length t) (length T.operators) ∷ gs) v
+  stands_choice : {fs : List Frame} {gs : List OnFrame} {v : List Tree} {t : List TrailItem} {x y : List TapeMessage} {T : Table}
+      {ps : List ℕ} {k i : ℕ} {tried : Tried} {q : OnTried} →
+      Stands fs gs v t x T → ShowsTried T x tried q y →
+      Stands (in_choice k ps (spot_at T i) tried ∷ fs) (on_choice k ps i q (length v) (length t) (length T.operators) ∷ gs) v
       (t ++ Alt k ∷ []) y T
-  stands_rounds : {fs : List Frame} {gs : List OnFrame} {v w : List Tree} {t u : List TrailItem} {x : List Said} {T U : Table}
+  stands_rounds : {fs : List Frame} {gs : List OnFrame} {v w : List Tree} {t u : List TrailItem} {x : List TapeMessage} {T U : Table}
       {p k i : ℕ} {c : Bool} (item : TrailItem) →
       Stands fs gs v t x T → Extends c T U →
       Stands (in_rounds p k c (spot_at U i) w u ∷ fs) (on_rounds p k c i (length t) (length (v ++ w)) (length (t ++ item ∷ u))
       (length U.operators) (length x) ∷ gs) (v ++ w) (t ++ item ∷ u) x U
-  stands_first : {fs : List Frame} {gs : List OnFrame} {v : List Tree} {t : List TrailItem} {x : List Said} {T : Table}
+  stands_first : {fs : List Frame} {gs : List OnFrame} {v : List Tree} {t : List TrailItem} {x : List TapeMessage} {T : Table}
       {ch : OnChain} (item : TrailItem) →
       Stands fs gs v t x T → Stands (in_first (plain ch) ∷ fs) (on_first ch (length t) (length v) ∷ gs) v (t ++ item ∷ []) x T
-  stands_separator : {fs : List Frame} {gs : List OnFrame} {v w : List Tree} {t u : List TrailItem} {x y : List Said} {T U : Table}
+  stands_separator : {fs : List Frame} {gs : List OnFrame} {v w : List Tree} {t u : List TrailItem} {x y : List TapeMessage} {T U : Table}
       {linked : Linked} {i : ℕ} {l : OnLinks} →
       Stands fs gs v t x T → ShowsLinks v t x T linked i l w u y U →
       Stands (in_separator (plain l.chain) linked (spot_at U i) ∷ fs) (on_separator l ∷ gs) w u y U
-  stands_operand : {fs : List Frame} {gs : List OnFrame} {v w s : List Tree} {t u r : List TrailItem} {x y z : List Said}
-      {T U W : Table} {linked : Linked} {i : ℕ} {l : OnLinks} {c : Bool} {held : Held} {e : Error} →
-      Stands fs gs v t x T → ShowsLinks v t x T linked i l w u y U → Holds y held e z → Extends c U W →
-      Stands (in_operand (plain l.chain) linked (spot_at U i) c s r e ∷ fs) (on_operand l (record { consumed = c; held = held })
+  stands_operand : {fs : List Frame} {gs : List OnFrame} {v w s : List Tree} {t u r : List TrailItem} {x y z : List TapeMessage}
+      {T U W : Table} {linked : Linked} {i : ℕ} {l : OnLinks} {c : Bool} {kept : KeptError} {e : Error} →
+      Stands fs gs v t x T → ShowsLinks v t x T linked i l w u y U → Holds y kept e z → Extends c U W →
+      Stands (in_operand (plain l.chain) linked (spot_at U i) c s r e ∷ fs) (on_operand l (record { consumed = c; kept = kept })
       (length (w ++ s)) ∷ gs) (w ++ s) (u ++ r) z W
-  stands_rule : {fs : List Frame} {gs : List OnFrame} {v : List Tree} {t : List TrailItem} {x : List Said} {T : Table} →
+  stands_rule : {fs : List Frame} {gs : List OnFrame} {v : List Tree} {t : List TrailItem} {x : List TapeMessage} {T : Table} →
       Stands fs gs v t x T → Stands (in_rule ∷ fs) (on_rule ∷ gs) v t x T
-  stands_around : {fs : List Frame} {gs : List OnFrame} {v : List Tree} {t : List TrailItem} {x : List Said} {T : Table}
+  stands_around : {fs : List Frame} {gs : List OnFrame} {v : List Tree} {t : List TrailItem} {x : List TapeMessage} {T : Table}
       {around : Around} {i : ℕ} →
       Stands fs gs v t x T → Stands (in_around around (spot_at T i) ∷ fs) (on_around around i (length v) ∷ gs) v t x T
 
--- the state of the one is the tape of the other: an ok outcome's trees, items, messages and operators stand last, and behind a
--- failed one others may
+-- the state of the one is the tape of the other: an ok outcome's trees, items, messages and operators stand last, after a
+-- failed one others may, and what lies there after an empty round doesn't matter
 pub data Shows : State → Tape → Type 0 where
-  shows_at : {fs : List Frame} {gs : List OnFrame} {v : List Tree} {t : List TrailItem} {x : List Said} {T : Table} {p i : ℕ} →
+  shows_at : {fs : List Frame} {gs : List OnFrame} {v : List Tree} {t : List TrailItem} {x : List TapeMessage} {T : Table} {p i : ℕ} →
       Stands fs gs v t x T → Shows (at_node p (spot_at T i) fs) (tape_at p i gs v t x T)
-  shows_fine : {fs : List Frame} {gs : List OnFrame} {v w : List Tree} {t u : List TrailItem} {x y : List Said} {T U : Table}
-      {c : Bool} {j : ℕ} {why : Why} {e : Error} →
-      Stands fs gs v t x T → Says x why e y → Extends c T U →
-      Shows (with_outcome (ok c (spot_at U j) w u e) fs) (tape_with (Fine c j why) gs (v ++ w) (t ++ u) y U)
-  shows_failed : {fs : List Frame} {gs : List OnFrame} {v : List Tree} {t : List TrailItem} {x y : List Said} {T U : Table} {c : Bool}
-      {why : Why} {e : Error} (w : List Tree) (u : List TrailItem) →
-      Stands fs gs v t x T → Says x why e y → Extends true T U →
-      Shows (with_outcome (failed c e) fs) (tape_with (Failed c why) gs (v ++ w) (t ++ u) y U)
-  shows_stuck : {fs : List Frame} {gs : List OnFrame} {v : List Tree} {t : List TrailItem} {x : List Said} {T : Table} →
-      Shows (with_outcome empty_round fs) (tape_with EmptyRound gs v t x T)
+  shows_succeeded : {fs : List Frame} {gs : List OnFrame} {v w : List Tree} {t u : List TrailItem} {x y : List TapeMessage} {T U : Table}
+      {c : Bool} {j : ℕ} {error : TapeError} {e : Error} →
+      Stands fs gs v t x T → Says x error e y → Extends c T U →
+      Shows (with_outcome (ok c (spot_at U j) w u e) fs) (tape_with (Succeeded c j error) gs (v ++ w) (t ++ u) y U)
+  shows_failed : {fs : List Frame} {gs : List OnFrame} {v : List Tree} {t : List TrailItem} {x y : List TapeMessage} {T U : Table} {c : Bool}
+      {error : TapeError} {e : Error} (w : List Tree) (u : List TrailItem) →
+      Stands fs gs v t x T → Says x error e y → Extends true T U →
+      Shows (with_outcome (failed c e) fs) (tape_with (Failed c error) gs (v ++ w) (t ++ u) y U)
+  shows_stuck : {fs : List Frame} {gs : List OnFrame} {v : List Tree} {t : List TrailItem} {x : List TapeMessage} {T : Table} →
+      length fs ≡ length gs → Shows (with_outcome empty_round fs) (tape_with EmptyRound gs v t x T)
   shows_endless : Shows endless tape_endless

@@ -8,13 +8,13 @@ use Rattle.pg_grammar.specs.declared.trail.TrailItem.{TrailItem}
 use Rattle.pg_grammar.specs.declared.trail.TrailItem.TheVariants.{Alt, Rounds}
 use Rattle.pg_language.specs.Derives.{Spot, carried}
 use Rattle.pg_language.specs.Answers.{Given}
-use Rattle.pg_language.specs.Errors.{Error, nothing_said}
+use Rattle.pg_language.specs.Errors.{Error, no_messages_at}
 use Rattle.pg_language.specs.Leaves.{leaf_outcome}
 use Rattle.pg_language.specs.Outcomes.{Outcome, ok, failed, empty_round}
-use Rattle.pg_language.specs.Reactions.{noted, error_behind, unless_begun, surrounded}
+use Rattle.pg_language.specs.Reactions.{noted, error_after, unless_begun, surrounded}
 use Rattle.pg_language.specs.declared.reading.Reading.{Reading}
 use Rattle.pg_language.specs.declared.reading.Reading.TheVariants.{Library, Report}
-use Rattle.pg_turns.specs.Frames.{Before, none_before, behind_parts, with_part, Kept, none_kept, behind_kept, with_failure, with_empty_ok, Chain, Linked, behind_links, Frame, in_parts, in_choice, in_rounds, in_first, in_separator, in_operand, in_rule, in_around}
+use Rattle.pg_turns.specs.Frames.{Before, none_before, after_parts, with_part, Tried, none_tried, after_tried, with_failure, with_empty_ok, Chain, Linked, after_links, Frame, in_parts, in_choice, in_rounds, in_first, in_separator, in_operand, in_rule, in_around}
 
 -- a node is to be entered, or an outcome to be handed to the topmost frame, or there is no outcome: a chain goes on without
 -- an end, or the node has no form that is run
@@ -25,9 +25,9 @@ pub data State : Type 0 where
 
 -- ---- a node is entered
 
-abbrev pub next_alternative : ℕ → List ℕ → Spot → Kept → List Frame → State
-next_alternative k [] a kept fs = with_outcome (behind_kept kept (failed false (nothing_said a.place))) fs
-next_alternative k (p ∷ ps) a kept fs = at_node p a (in_choice k ps a kept ∷ fs)
+abbrev pub next_alternative : ℕ → List ℕ → Spot → Tried → List Frame → State
+next_alternative k [] a tried fs = with_outcome (after_tried tried (failed false (no_messages_at a.place))) fs
+next_alternative k (p ∷ ps) a tried fs = at_node p a (in_choice k ps a tried ∷ fs)
 
 -- an outcome is handed on, if there is one
 abbrev pub told : Option Outcome → List Frame → State
@@ -40,9 +40,9 @@ enter_rule (Some named) a fs = at_node named.body a (in_rule ∷ fs)
 
 abbrev pub enter_form : Given → Node → Spot → List Frame → State
 enter_form G (form.Leaf l) a fs = told (leaf_outcome G.grammar G.text l a) fs
-enter_form G (form.Seq []) a fs = with_outcome (ok false a [] [] (nothing_said a.place)) fs
+enter_form G (form.Seq []) a fs = with_outcome (ok false a [] [] (no_messages_at a.place)) fs
 enter_form G (form.Seq (p ∷ ps)) a fs = at_node p a (in_parts ps none_before ∷ fs)
-enter_form G (form.Choice ps) a fs = next_alternative (suc zero) ps a none_kept fs
+enter_form G (form.Choice ps) a fs = next_alternative (suc zero) ps a none_tried fs
 enter_form G (form.Many p) a fs = at_node p a (in_rounds p zero false a [] [] ∷ fs)
 enter_form G (form.Chain side used p s) a fs = at_node p a (in_first (record {
   side = side;
@@ -61,21 +61,21 @@ enter_node G (Some n) a fs = enter_form G n a fs
 -- ---- an outcome is handed to a frame
 
 -- an alternative was ok and empty
-abbrev pub hand_empty_ok : Reading → ℕ → List ℕ → Spot → Kept → Spot → List Tree → List TrailItem → Error → List Frame → State
-hand_empty_ok Library k ps a kept b v t e fs = with_outcome (behind_kept kept (ok false b v (Alt k ∷ t) e)) fs
-hand_empty_ok Report k ps a kept b v t e fs = next_alternative (suc k) ps a (with_empty_ok kept b v (Alt k ∷ t) e) fs
+abbrev pub hand_empty_ok : Reading → ℕ → List ℕ → Spot → Tried → Spot → List Tree → List TrailItem → Error → List Frame → State
+hand_empty_ok Library k ps a tried b v t e fs = with_outcome (after_tried tried (ok false b v (Alt k ∷ t) e)) fs
+hand_empty_ok Report k ps a tried b v t e fs = next_alternative (suc k) ps a (with_empty_ok tried b v (Alt k ∷ t) e) fs
 
-abbrev pub hand_to_choice : Reading → ℕ → List ℕ → Spot → Kept → Outcome → List Frame → State
-hand_to_choice reading k ps a kept (ok true b v t e) fs = with_outcome (behind_kept kept (ok true b v (Alt k ∷ t) e)) fs
-hand_to_choice reading k ps a kept (ok false b v t e) fs = hand_empty_ok reading k ps a kept b v t e fs
-hand_to_choice reading k ps a kept (failed true e) fs = with_outcome (behind_kept kept (failed true e)) fs
-hand_to_choice reading k ps a kept (failed false e) fs = next_alternative (suc k) ps a (with_failure kept e) fs
-hand_to_choice reading k ps a kept empty_round fs = with_outcome empty_round fs
+abbrev pub hand_to_choice : Reading → ℕ → List ℕ → Spot → Tried → Outcome → List Frame → State
+hand_to_choice reading k ps a tried (ok true b v t e) fs = with_outcome (after_tried tried (ok true b v (Alt k ∷ t) e)) fs
+hand_to_choice reading k ps a tried (ok false b v t e) fs = hand_empty_ok reading k ps a tried b v t e fs
+hand_to_choice reading k ps a tried (failed true e) fs = with_outcome (after_tried tried (failed true e)) fs
+hand_to_choice reading k ps a tried (failed false e) fs = next_alternative (suc k) ps a (with_failure tried e) fs
+hand_to_choice reading k ps a tried empty_round fs = with_outcome empty_round fs
 
 abbrev pub hand_to_parts : List ℕ → Before → Outcome → List Frame → State
-hand_to_parts [] done o fs = with_outcome (behind_parts done o) fs
+hand_to_parts [] done o fs = with_outcome (after_parts done o) fs
 hand_to_parts (q ∷ ps) done (ok c b v t e) fs = at_node q b (in_parts ps (with_part done c v t e) ∷ fs)
-hand_to_parts (q ∷ ps) done (failed c e) fs = with_outcome (behind_parts done (failed c e)) fs
+hand_to_parts (q ∷ ps) done (failed c e) fs = with_outcome (after_parts done (failed c e)) fs
 hand_to_parts (q ∷ ps) done empty_round fs = with_outcome empty_round fs
 
 abbrev pub hand_to_rounds : ℕ → ℕ → Bool → Spot → List Tree → List TrailItem → Outcome → List Frame → State
@@ -87,9 +87,9 @@ hand_to_rounds p k c a v t empty_round fs = with_outcome empty_round fs
 
 -- what the chain answers where no link comes any more and those that would come answer so
 abbrev pub ended : Chain → Linked → Outcome → Outcome
-ended chain linked o = noted (Rounds linked.count) (behind_links chain linked o)
+ended chain linked o = noted (Rounds linked.count) (after_links chain linked o)
 
--- a chain behind its first operand
+-- a chain after its first operand
 abbrev pub first_linked : Bool → List Tree → List TrailItem → Error → Linked
 first_linked c v t e = record { count = zero; consumed = c; trail = t; error = e; waiting = []; left = v }
 
@@ -99,7 +99,7 @@ with_link chain linked v t e d w u f = record {
   count = suc linked.count;
   consumed = true;
   trail = linked.trail ++ (t ++ u);
-  error = error_behind d e f;
+  error = error_after d e f;
   waiting = (linked.left, v) ∷ linked.waiting;
   left = carried chain.side chain.shape linked.left v w;
 }
@@ -122,12 +122,12 @@ next_link false chain linked b fs = endless
 abbrev pub hand_to_operand : Chain → Linked → Spot → Bool → List Tree → List TrailItem → Error → Outcome → List Frame → State
 hand_to_operand chain linked a c v t e (ok d b w u f) fs = next_link (c || d) chain (with_link chain linked v t e d w u f) b fs
 hand_to_operand chain linked a c v t e (failed d f) fs = with_outcome (ended chain linked (unless_begun (c || d) a linked.left
-    (error_behind d e f))) fs
+    (error_after d e f))) fs
 hand_to_operand chain linked a c v t e empty_round fs = with_outcome empty_round fs
 
 abbrev pub hand : Given → Frame → Outcome → List Frame → State
 hand G (in_parts rest done) o fs = hand_to_parts rest done o fs
-hand G (in_choice k ps a kept) o fs = hand_to_choice G.reading k ps a kept o fs
+hand G (in_choice k ps a tried) o fs = hand_to_choice G.reading k ps a tried o fs
 hand G (in_rounds p k c a v t) o fs = hand_to_rounds p k c a v t o fs
 hand G (in_first chain) o fs = hand_to_first chain o fs
 hand G (in_separator chain linked a) o fs = hand_to_separator chain linked a o fs
@@ -146,9 +146,6 @@ turn G endless = endless
 -- no turn is left
 abbrev pub is_last : State → Bool
 is_last (at_node p a fs) = false
-is_last (with_outcome (ok c b v t e) []) = true
-is_last (with_outcome (failed c e) []) = true
-is_last (with_outcome empty_round fs) = true
-is_last (with_outcome (ok c b v t e) (f ∷ fs)) = false
-is_last (with_outcome (failed c e) (f ∷ fs)) = false
+is_last (with_outcome o []) = true
+is_last (with_outcome o (f ∷ fs)) = false
 is_last endless = true

@@ -3,22 +3,22 @@ use Rattle.std.specs.Prelude.{List, [], ◌∷◌, reverse}
 use Rattle.pg_tree.specs.Trees.{Tree}
 use Rattle.pg_grammar.specs.declared.trail.TrailItem.{TrailItem}
 use Rattle.pg_table.specs.Tables.{Table}
-use Rattle.pg_turns.specs.Messages.{Said}
-use Rattle.pg_turns.specs.Tape.{OnKept, no_kept, kept_failure, kept_empty_ok, OnChain, OnLinks, OnFrame, on_parts, on_choice, on_rounds, on_first, on_separator, on_operand, on_rule, on_around, Tape, tape_at, tape_with, tape_endless}
+use Rattle.pg_turns.specs.Messages.{TapeMessage}
+use Rattle.pg_turns.specs.Tape.{OnTried, no_tried, tried_failure, tried_empty_ok, OnChain, OnLinks, OnFrame, on_parts, on_choice, on_rounds, on_first, on_separator, on_operand, on_rule, on_around, Tape, tape_at, tape_with, tape_endless}
 use Rattle.pg_turns.specs.declared.frame.ChainFrame.{ChainFrame}
 use Rattle.pg_turns.specs.declared.frame.LinksFrame.{LinksFrame}
-use Rattle.pg_turns.specs.declared.frame.Kept.{Kept}
-use Rattle.pg_turns.specs.declared.frame.Kept.TheVariants as kept
+use Rattle.pg_turns.specs.declared.frame.Tried.{Tried}
+use Rattle.pg_turns.specs.declared.frame.Tried.TheVariants as tried
 use Rattle.pg_turns.specs.declared.frame.Frame.{Frame}
 use Rattle.pg_turns.specs.declared.frame.Frame.TheVariants as frame
 use Rattle.pg_turns.specs.declared.frame.Mode.{Mode}
 use Rattle.pg_turns.specs.declared.frame.Mode.TheVariants as mode
 use Rattle.pg_turns.specs.declared.machine.Machine.{Machine}
 
-abbrev pub kept_of : Kept → OnKept
-kept_of kept.Nothing = no_kept
-kept_of (kept.Failure held) = kept_failure held
-kept_of (kept.EmptyOk ok held) = kept_empty_ok ok.value.end ok.value.forest ok.value.trail.items held
+abbrev pub tried_of : Tried → OnTried
+tried_of tried.Nothing = no_tried
+tried_of (tried.Failure kept) = tried_failure kept
+tried_of (tried.EmptyOk ok kept) = tried_empty_ok ok.value.end ok.value.forest ok.value.trail.items kept
 
 abbrev pub chain_of : ChainFrame → OnChain
 chain_of c = record { side = c.side; used = c.used.now; operand = c.operand; separator = c.separator }
@@ -30,7 +30,7 @@ links_of l = record {
   slot = l.chain.slot;
   count = l.count;
   consumed = l.consumed;
-  held = l.held;
+  kept = l.kept;
   waiting = reverse l.waiting.items;
   left = l.left;
   start = l.start;
@@ -41,7 +41,7 @@ links_of l = record {
 
 abbrev pub frame_of : Frame → OnFrame
 frame_of (frame.Parts f) = on_parts f.rest.now f.before
-frame_of (frame.Choice f) = on_choice f.which f.rest.now f.start (kept_of f.kept) f.marks.forest f.marks.trail f.marks.operators
+frame_of (frame.Choice f) = on_choice f.which f.rest.now f.start (tried_of f.tried) f.marks.forest f.marks.trail f.marks.operators
 frame_of (frame.Rounds f) = on_rounds f.part f.count f.consumed f.start f.slot f.marks.forest f.marks.trail f.marks.operators f.messages
 frame_of (frame.First c) = on_first (chain_of c) c.slot c.forest
 frame_of (frame.Separator l) = on_separator (links_of l.value)
@@ -63,5 +63,5 @@ tape_of (mode.With reply) m = tape_with reply (stack_of m.frames.items) m.forest
 tape_of mode.Endless m = tape_endless
 
 -- the tape of a turn that goes by the machine's lists and table
-abbrev pub on_lists : (List OnFrame → List Tree → List TrailItem → List Said → Table → Tape) → Machine → Tape
+abbrev pub on_lists : (List OnFrame → List Tree → List TrailItem → List TapeMessage → Table → Tape) → Machine → Tape
 on_lists made m = made (stack_of m.frames.items) m.forest m.trail.items m.messages m.table

@@ -8,15 +8,15 @@ ghost use Rattle.pg_turns.specs.Ready.{AroundFits};
 ghost use Rattle.pg_turns.specs.Tape.{forest_around, labelled_messages, messages_around, reply_around, tape_to_around};
 ghost use Rattle.pg_turns.specs.View.{on_lists, tape_of};
 
-use crate::chains::build_behind;
+use crate::chains::build_after;
 use crate::frame::{Mode, Reply};
+use crate::leaves::text_leaf;
 use crate::machine::Machine;
-use crate::message::utf8;
 use crate::message_tape::MessageTape;
 use pg_grammar::Around;
 use pg_pred::Registry;
 use pg_text::{Characters, Text};
-use pg_tree::{Forest, Tree};
+use pg_tree::Forest;
 use std::alloc::{AllocError, Global};
 
 impl<'a> Machine<'a> {
@@ -55,10 +55,18 @@ pub(crate) fn answer(around: &Around, reply: Reply) -> Reply
     ensures { result ≡ reply_around around.now reply }
 {
     match reply {
-        Reply::Fine { consumed, end, why } => Reply::Fine { consumed, end, why },
-        Reply::Failed { consumed, why } => Reply::Failed {
+        Reply::Succeeded {
+            consumed,
+            end,
+            error,
+        } => Reply::Succeeded {
+            consumed,
+            end,
+            error,
+        },
+        Reply::Failed { consumed, error } => Reply::Failed {
             consumed: counted(around, consumed),
-            why,
+            error,
         },
         Reply::EmptyRound => Reply::EmptyRound,
     }
@@ -97,27 +105,27 @@ fn label<'a>(
     ensures { OnOk result (messages.new ≡ labelled_messages name.now reply messages.old) }
 {
     match reply {
-        Reply::Fine {
+        Reply::Succeeded {
             consumed,
             end: _,
-            why,
+            error,
         } => {
-            if consumed || why.from == messages.len() {
+            if consumed || error.from == messages.len() {
                 return Ok(());
             }
-            messages.relabel(why.from, name)
+            messages.relabel(error.from, name)
         }
-        Reply::Failed { consumed, why } => {
+        Reply::Failed { consumed, error } => {
             if consumed {
                 return Ok(());
             }
-            messages.relabel(why.from, name)
+            messages.relabel(error.from, name)
         }
         Reply::EmptyRound => Ok(()),
     }
 }
 
-/// What the form makes of the trees behind the first, where the part is ok.
+/// What the form makes of the trees after the first, where the part is ok.
 fn make(
     alloc: Global,
     registry: &Registry,
@@ -132,10 +140,10 @@ fn make(
     ensures { OnOk result (forest.new ≡ forest_around around.now text.now start count reply forest.old) }
 {
     match reply {
-        Reply::Fine {
+        Reply::Succeeded {
             consumed: _,
             end,
-            why: _,
+            error: _,
         } => remake(alloc, registry, text, around, start, end, count, forest),
         Reply::Failed { .. } => Ok(()),
         Reply::EmptyRound => Ok(()),
@@ -164,13 +172,13 @@ fn remake(
             Ok(())
         }
         Around::Build(used, symbol) => {
-            build_behind(alloc, registry, used, symbol.as_str(), count, forest)
+            build_after(alloc, registry, used, symbol.as_str(), count, forest)
         }
         Around::Label(_) => Ok(()),
     }
 }
 
-/// One leaf with the text from the one place to the other stands for the trees behind the first.
+/// One leaf with the text from the one place to the other stands for the trees after the first.
 fn as_text(
     alloc: Global,
     text: &Text,
@@ -182,8 +190,8 @@ fn as_text(
     ensures { OnOk result (forest.new ≡ take count forest.old ++ leaf_of (span text.now start end) ∷ []) }
 {
     cut(forest, count);
-    let content = utf8(alloc, between(text.characters(), start, end))?;
-    forest.push(Tree::leaf(alloc, content.as_str())?)
+    let leaf = text_leaf(alloc, between(text.characters(), start, end))?;
+    forest.push(leaf)
 }
 
 /// The characters from the one place up to the other.

@@ -1,26 +1,26 @@
 //! Chains: operands with separators between them, folded to the left or to the right.
 //!
 //! From the left each link makes one tree of all before it, so that the chain's forest is one tree or the first operand's.
-//! From the right a link waits for all behind it: the places where its trees begin are kept, and when the chain ends, trees
+//! From the right a link waits for all after it: the places where its trees begin are kept, and when the chain ends, trees
 //! are made from the last place on.
 
-ghost use Rattle.std.specs.Prelude.{◌≡◌, ◌<◌, ◌-◌, ◌^◌, true, [], length, take, reverse, IfOk, OnOk, Some};
+ghost use Rattle.std.specs.Prelude.{◌≡◌, ◌<◌, ◌+◌, ◌-◌, ◌^◌, true, [], length, take, reverse, IfOk, OnOk, Some};
 ghost use Rattle.pg_pred.specs.Offer.{offer_of, builder_shape};
-ghost use Rattle.pg_turns.specs.Tape.{tape_to_first, tape_to_separator, tape_to_operand, tape_ended, tape_linked, built_behind, all_built, link_forest, link_waiting, link_left, end_why, end_messages, more_links};
+ghost use Rattle.pg_turns.specs.Tape.{tape_to_first, tape_to_separator, tape_to_operand, tape_ended, tape_linked, built_after, all_built, link_forest, link_waiting, link_left, end_tape_error, end_messages, more_links};
 ghost use Rattle.pg_tree.specs.Built.{built};
 ghost use Rattle.pg_turns.specs.View.{chain_of, links_of, on_lists, stack_of, tape_of};
-ghost use Rattle.pg_turns.specs.Why.{why_at, held_at, merged_why};
+ghost use Rattle.pg_turns.specs.TapeErrors.{tape_error, kept_at, merged_tape_error};
 
-use crate::frame::{Before, ChainFrame, Frame, LinksFrame, Mode, Reply};
+use crate::frame::{Before, ChainFrame, Frame, LinksFrame, Marks, Mode, Reply};
 use crate::machine::Machine;
-use crate::message_tape::Why;
+use crate::message_tape::{KeptError, TapeError};
 use pg_grammar::{BuilderUse, Side, TrailItem};
 use pg_pred::Registry;
 use pg_tree::{Forest, Tree};
 use std::alloc::{AllocError, Global};
 
 impl<'a> Machine<'a> {
-    /// An answer of a chain's first operand: behind an ok one the first separator runs.
+    /// An answer of a chain's first operand: after an ok one the first separator runs.
     pub(crate) fn hand_to_first(
         &mut self,
         alloc: Global,
@@ -31,8 +31,12 @@ impl<'a> Machine<'a> {
             on_lists (tape_to_first (chain_of chain.entry) chain.entry.slot chain.entry.forest reply) self.old) }
     {
         match reply {
-            Reply::Fine { consumed, end, why } => {
-                let held = self.messages.held(why);
+            Reply::Succeeded {
+                consumed,
+                end,
+                error,
+            } => {
+                let kept = self.messages.kept(error);
                 let marks = self.marks();
                 let ChainFrame {
                     side,
@@ -53,7 +57,7 @@ impl<'a> Machine<'a> {
                     },
                     count: 0,
                     consumed,
-                    held,
+                    kept,
                     waiting: Vec::new(alloc),
                     left: forest,
                     start: end,
@@ -62,17 +66,17 @@ impl<'a> Machine<'a> {
                 self.push(Frame::Separator(Box::new(alloc, links)?))?;
                 Ok(Mode::At(separator, end))
             }
-            Reply::Failed { consumed, why } => Ok(Mode::With(Reply::Failed { consumed, why })),
+            Reply::Failed { consumed, error } => Ok(Mode::With(Reply::Failed { consumed, error })),
             Reply::EmptyRound => Ok(Mode::With(Reply::EmptyRound)),
         }
     }
 
-    /// An answer of a separator: behind an ok one an operand has to come.
+    /// An answer of a separator: after an ok one an operand has to come.
     pub(crate) fn hand_to_separator(
         &mut self,
         alloc: Global,
         registry: &Registry,
-        links: Box<LinksFrame<'a>>,
+        mut links: Box<LinksFrame<'a>>,
         reply: Reply,
     ) -> Result<Mode, AllocError>
         requires { builder_shape (offer_of registry.now) links.value.chain.used.now.name ≡ Some links.value.chain.used.now.shape }
@@ -80,27 +84,31 @@ impl<'a> Machine<'a> {
             on_lists (tape_to_separator (links_of links.entry.value) reply) self.old) }
     {
         match reply {
-            Reply::Fine { consumed, end, why } => {
-                let held = self.messages.held(why);
+            Reply::Succeeded {
+                consumed,
+                end,
+                error,
+            } => {
+                let kept = self.messages.kept(error);
                 let trees = self.forest.len();
                 let operand = links.chain.operand;
-                self.push(Frame::Operand(links, Before { consumed, held }, trees))?;
+                self.push(Frame::Operand(links, Before { consumed, kept }, trees))?;
                 Ok(Mode::At(operand, end))
             }
-            Reply::Failed { consumed, why } => {
-                self.end_chain(alloc, registry, Box::into_inner(links), consumed, why)
+            Reply::Failed { consumed, error } => {
+                self.end_chain(alloc, registry, &mut links, consumed, error)
             }
             Reply::EmptyRound => Ok(Mode::With(Reply::EmptyRound)),
         }
     }
 
-    /// An answer of an operand behind a separator: behind an ok one the next separator runs, unless the link has consumed
+    /// An answer of an operand after a separator: after an ok one the next separator runs, unless the link has consumed
     /// nothing.
     pub(crate) fn hand_to_operand(
         &mut self,
         alloc: Global,
         registry: &Registry,
-        links: Box<LinksFrame<'a>>,
+        mut links: Box<LinksFrame<'a>>,
         before: Before,
         trees: usize,
         reply: Reply,
@@ -111,24 +119,28 @@ impl<'a> Machine<'a> {
             on_lists (tape_to_operand (links_of links.entry.value) before trees reply) self.old) }
     {
         match reply {
-            Reply::Fine { consumed, end, why } => {
-                let why = self.error_behind(before.held, consumed, why)?;
+            Reply::Succeeded {
+                consumed,
+                end,
+                error,
+            } => {
+                let error = self.error_after(before.kept, consumed, error)?;
                 if before.consumed || consumed {
-                    self.add_link(alloc, registry, links, trees, end, why)
+                    self.add_link(alloc, registry, links, trees, end, error)
                 } else {
                     Ok(Mode::Endless)
                 }
             }
-            Reply::Failed { consumed, why } => {
-                let why = self.error_behind(before.held, consumed, why)?;
+            Reply::Failed { consumed, error } => {
+                let error = self.error_after(before.kept, consumed, error)?;
                 let consumed = before.consumed || consumed;
-                self.end_chain(alloc, registry, Box::into_inner(links), consumed, why)
+                self.end_chain(alloc, registry, &mut links, consumed, error)
             }
             Reply::EmptyRound => Ok(Mode::With(Reply::EmptyRound)),
         }
     }
 
-    /// A link more, whose operand's trees begin behind so many: the next separator runs.
+    /// A link more, whose operand's trees begin after so many: the next separator runs.
     fn add_link(
         &mut self,
         alloc: Global,
@@ -136,38 +148,19 @@ impl<'a> Machine<'a> {
         mut links: Box<LinksFrame<'a>>,
         trees: usize,
         end: usize,
-        why: Why,
+        error: TapeError,
     ) -> Result<Mode, AllocError>
         requires room { links.value.count < 2 ^ 64 - 1 }
         requires offered { builder_shape (offer_of registry.now) links.value.chain.used.now.name ≡ Some links.value.chain.used.now.shape }
         ensures { IfOk result (λ mode. tape_of mode self.new ≡
-            tape_linked true (links_of links.entry.value) end trees (held_at (length self.old.messages) why)
+            tape_linked true (links_of links.entry.value) end trees (kept_at (length self.old.messages) error)
             (stack_of self.old.frames.items)
             (link_forest links.entry.value.chain.side links.entry.value.chain.used.now.shape links.entry.value.left self.old.forest)
             self.old.trail.items self.old.messages self.old.table) }
     {
-        match links.chain.side {
-            Side::Left => {
-                build_behind(
-                    alloc,
-                    registry,
-                    links.chain.used,
-                    "",
-                    links.left,
-                    &mut self.forest,
-                )?;
-            }
-            Side::Right => {
-                let left = links.left;
-                links.waiting.push(left)?;
-                links.left = trees;
-            }
-        }
-        links.count += 1;
-        links.consumed = true;
-        links.held = self.messages.held(why);
-        links.start = end;
-        links.marks = self.marks();
+        fold(alloc, registry, &mut links, trees, &mut self.forest)?;
+        let kept = self.messages.kept(error);
+        count_link(&mut links, kept, end, self.marks());
         let separator = links.chain.separator;
         self.push(Frame::Separator(links))?;
         Ok(Mode::At(separator, end))
@@ -178,40 +171,81 @@ impl<'a> Machine<'a> {
         &mut self,
         alloc: Global,
         registry: &Registry,
-        links: LinksFrame<'a>,
+        links: &mut LinksFrame<'a>,
         consumed: bool,
-        why: Why,
+        error: TapeError,
     ) -> Result<Mode, AllocError>
-        requires { builder_shape (offer_of registry.now) links.chain.used.now.name ≡ Some links.chain.used.now.shape }
+        requires { builder_shape (offer_of registry.now) links.old.chain.used.now.name ≡ Some links.old.chain.used.now.shape }
         ensures { IfOk result (λ mode. tape_of mode self.new ≡
-            on_lists (tape_ended (links_of links.entry) consumed why) self.old) }
+            on_lists (tape_ended (links_of links.old) consumed error) self.old) }
     {
         if consumed {
-            return Ok(Mode::With(Reply::Failed { consumed, why }));
+            return Ok(Mode::With(Reply::Failed { consumed, error }));
         }
-        let failed = self.messages.held(why);
-        let nothing = self.nothing_said(links.start);
-        let why = self.messages.merge(failed, nothing)?;
-        let why = self.messages.merge(links.held, why)?;
+        let failed = self.messages.kept(error);
+        let nothing = self.no_messages_at(links.start);
+        let error = self.messages.merge(failed, nothing)?;
+        let error = self.messages.merge(links.kept, error)?;
         self.cut(links.marks);
-        let LinksFrame {
-            chain,
-            count,
-            consumed,
-            held: _,
-            waiting,
-            left: _,
-            start: end,
-            marks: _,
-        } = links;
-        build_waiting(alloc, registry, chain.used, waiting, &mut self.forest)?;
-        self.note(chain.slot, TrailItem::Rounds(count));
-        Ok(Mode::With(Reply::Fine { consumed, end, why }))
+        let used = links.chain.used;
+        build_waiting(alloc, registry, used, &mut links.waiting, &mut self.forest)?;
+        self.note(links.chain.slot, TrailItem::Rounds(links.count));
+        Ok(Mode::With(Reply::Succeeded {
+            consumed: links.consumed,
+            end: links.start,
+            error,
+        }))
     }
 }
 
-/// Makes the trees behind the first into one, by the builder with the symbol.
-pub(crate) fn build_behind(
+/// What a link more makes of the trees: from the left they are folded, and from the right those on its left wait.
+fn fold(
+    alloc: Global,
+    registry: &Registry,
+    links: &mut LinksFrame<'_>,
+    trees: usize,
+    forest: &mut Forest,
+) -> Result<(), AllocError>
+    requires { builder_shape (offer_of registry.now) links.old.chain.used.now.name ≡ Some links.old.chain.used.now.shape }
+    ensures links { OnOk result (links_of links.new ≡ record (links_of links.old) {
+      waiting = link_waiting links.old.chain.side links.old.left (reverse links.old.waiting.items);
+      left = link_left links.old.chain.side links.old.left trees;
+    }) }
+    ensures forest { OnOk result (forest.new ≡ link_forest links.old.chain.side links.old.chain.used.now.shape links.old.left forest.old) }
+{
+    match links.chain.side {
+        Side::Left => build_after(alloc, registry, links.chain.used, "", links.left, forest),
+        Side::Right => {
+            let left = links.left;
+            links.waiting.push(left)?;
+            links.left = trees;
+            Ok(())
+        }
+    }
+}
+
+/// Counts a link that consumed, with the error after it, the place where it ended, and what there is then.
+fn count_link(links: &mut LinksFrame<'_>, kept: KeptError, end: usize, marks: Marks)
+    requires { links.old.count < 2 ^ 64 - 1 }
+    ensures { links_of links.new ≡ record (links_of links.old) {
+      count = links.old.count + 1;
+      consumed = true;
+      kept = kept;
+      start = end;
+      forest = marks.forest;
+      trail = marks.trail;
+      operators = marks.operators;
+    } }
+{
+    links.count += 1;
+    links.consumed = true;
+    links.kept = kept;
+    links.start = end;
+    links.marks = marks;
+}
+
+/// Makes the trees after the first into one, by the builder with the symbol.
+pub(crate) fn build_after(
     alloc: Global,
     registry: &Registry,
     used: &BuilderUse,
@@ -220,25 +254,25 @@ pub(crate) fn build_behind(
     forest: &mut Forest,
 ) -> Result<(), AllocError>
     requires { builder_shape (offer_of registry.now) used.now.name ≡ Some used.now.shape }
-    ensures { OnOk result (forest.new ≡ built_behind used.now.shape symbol.now count forest.old) }
+    ensures { OnOk result (forest.new ≡ built_after used.now.shape symbol.now count forest.old) }
 {
     let kids = forest.split_off(count.min(forest.len()))?;
     forest.push(made(alloc, registry, used, symbol, kids)?)
 }
 
-/// Makes the trees behind each of these places into one, from the last place on.
+/// Makes the trees after each of these places into one, from the last place on.
 fn build_waiting(
     alloc: Global,
     registry: &Registry,
     used: &BuilderUse,
-    mut places: Vec<usize>,
+    places: &mut Vec<usize>,
     forest: &mut Forest,
 ) -> Result<(), AllocError>
     requires { builder_shape (offer_of registry.now) used.now.name ≡ Some used.now.shape }
-    ensures { OnOk result (forest.new ≡ all_built used.now.shape (reverse places.items) forest.old) }
+    ensures { OnOk result (forest.new ≡ all_built used.now.shape (reverse places.old.items) forest.old) }
 {
     while let Some(place) = places.pop() {
-        build_behind(alloc, registry, used, "", place, forest)?;
+        build_after(alloc, registry, used, "", place, forest)?;
     }
     Ok(())
 }

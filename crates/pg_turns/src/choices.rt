@@ -2,20 +2,20 @@
 
 ghost use Rattle.std.specs.Prelude.{◌≡◌, ◌<◌, ◌-◌, ◌^◌, ◌++◌, false, drop, take, length, IfOk, OnOk};
 ghost use Rattle.pg_table.specs.Tables.{first_operators};
-ghost use Rattle.pg_turns.specs.Tape.{tape_with, kept_failure, kept_empty_ok, tape_to_choice, tape_next_alternative, tape_settled, tape_empty_ok, kept_held, kept_messages, kept_with_failure, kept_with_empty_ok};
-ghost use Rattle.pg_turns.specs.View.{kept_of, on_lists, stack_of, tape_of};
-ghost use Rattle.pg_turns.specs.Why.{why_at, merged_why, merged_messages, why_behind, messages_behind};
-ghost use Rattle.pg_turns.specs.declared.frame.Reply.TheVariants.{Fine};
+ghost use Rattle.pg_turns.specs.Tape.{tape_with, tried_failure, tried_empty_ok, tape_to_choice, tape_next_alternative, tape_settled, tape_empty_ok, tried_kept, tried_messages, tried_with_failure, tried_with_empty_ok};
+ghost use Rattle.pg_turns.specs.View.{tried_of, on_lists, stack_of, tape_of};
+ghost use Rattle.pg_turns.specs.TapeErrors.{tape_error, merged_tape_error, merged_messages, tape_error_after, messages_after};
+ghost use Rattle.pg_turns.specs.declared.frame.Reply.TheVariants.{Succeeded};
 
-use crate::frame::{ChoiceFrame, EmptyOk, Frame, Kept, Marks, Mode, Reply};
+use crate::frame::{ChoiceFrame, EmptyOk, Frame, Marks, Mode, Reply, Tried};
 use crate::machine::Machine;
-use crate::message_tape::{Held, Why};
+use crate::message_tape::{KeptError, TapeError};
 use pg_grammar::{NodeId, TrailItem};
 use pg_language::Reading;
 use std::alloc::{AllocError, Global};
 
 impl<'a> Machine<'a> {
-    /// An answer of an alternative: only behind one that consumed nothing the next one runs, and behind one that was ok
+    /// An answer of an alternative: only after one that consumed nothing the next one runs, and after one that was ok
     /// only in the report's reading.
     pub(crate) fn hand_to_choice(
         &mut self,
@@ -26,29 +26,35 @@ impl<'a> Machine<'a> {
     ) -> Result<Mode, AllocError>
         requires { choice.which < 2 ^ 64 - 1 }
         ensures { IfOk result (λ mode. tape_of mode self.new ≡
-            on_lists (tape_to_choice reading choice.entry.which choice.entry.rest.now choice.entry.start (kept_of choice.entry.kept)
+            on_lists (tape_to_choice reading choice.entry.which choice.entry.rest.now choice.entry.start (tried_of choice.entry.tried)
             choice.entry.marks.forest choice.entry.marks.trail choice.entry.marks.operators reply) self.old) }
     {
         match reply {
-            Reply::Fine { consumed, end, why } => {
+            Reply::Succeeded {
+                consumed,
+                end,
+                error,
+            } => {
                 if consumed {
-                    return self.settled(choice.kept, choice.marks, reply);
+                    return self.settled(choice.tried, choice.marks, reply);
                 }
                 match reading {
-                    Reading::Library => self.settled(choice.kept, choice.marks, reply),
+                    Reading::Library => self.settled(choice.tried, choice.marks, reply),
                     Reading::Report => {
-                        let kept = self.keep_ok(alloc, choice.kept, choice.marks, end, why)?;
-                        self.next_alternative(choice.which + 1, choice.rest, choice.start, kept)
+                        let kept = self.tried_error(&choice.tried, error)?;
+                        let tried = self.keep_ok(alloc, choice.tried, kept, choice.marks, end)?;
+                        self.next_alternative(choice.which + 1, choice.rest, choice.start, tried)
                     }
                 }
             }
-            Reply::Failed { consumed, why } => {
+            Reply::Failed { consumed, error } => {
                 if consumed {
-                    return self.settled(choice.kept, choice.marks, reply);
+                    return self.settled(choice.tried, choice.marks, reply);
                 }
                 self.cut(choice.marks);
-                let kept = self.keep_failure(choice.kept, why)?;
-                self.next_alternative(choice.which + 1, choice.rest, choice.start, kept)
+                let kept = self.tried_error(&choice.tried, error)?;
+                let tried = keep_failure(choice.tried, kept);
+                self.next_alternative(choice.which + 1, choice.rest, choice.start, tried)
             }
             Reply::EmptyRound => Ok(Mode::With(Reply::EmptyRound)),
         }
@@ -60,10 +66,10 @@ impl<'a> Machine<'a> {
         which: usize,
         rest: &'a [NodeId],
         start: usize,
-        kept: Kept,
+        tried: Tried,
     ) -> Result<Mode, AllocError>
         ensures { IfOk result (λ mode. tape_of mode self.new ≡
-            on_lists (tape_next_alternative which rest.now start (kept_of kept)) self.old) }
+            on_lists (tape_next_alternative which rest.now start (tried_of tried)) self.old) }
     {
         let marks = self.marks();
         match rest.split_first() {
@@ -73,81 +79,89 @@ impl<'a> Machine<'a> {
                     rest,
                     start,
                     marks,
-                    kept,
+                    tried,
                 }))?;
                 self.trail.push(TrailItem::Alt(which))?;
                 Ok(Mode::At(*part, start))
             }
             None => {
-                let why = self.nothing_said(start);
+                let error = self.no_messages_at(start);
                 let consumed = false;
-                self.settled(kept, marks, Reply::Failed { consumed, why })
+                self.settled(tried, marks, Reply::Failed { consumed, error })
             }
         }
     }
 
-    /// The last answer of the alternatives, behind what those before it came to.
-    fn settled(&mut self, kept: Kept, marks: Marks, reply: Reply) -> Result<Mode, AllocError>
+    /// The last answer of the alternatives, after what those before it came to.
+    fn settled(&mut self, tried: Tried, marks: Marks, reply: Reply) -> Result<Mode, AllocError>
         ensures { IfOk result (λ mode. tape_of mode self.new ≡
-            on_lists (tape_settled (kept_of kept) marks.forest marks.trail marks.operators reply) self.old) }
+            on_lists (tape_settled (tried_of tried) marks.forest marks.trail marks.operators reply) self.old) }
     {
-        match kept {
-            Kept::Nothing => Ok(Mode::With(reply)),
-            Kept::Failure(held) => self.behind_failure(held, reply),
-            Kept::EmptyOk(ok, held) => self.behind_empty_ok(
+        match tried {
+            Tried::Nothing => Ok(Mode::With(reply)),
+            Tried::Failure(kept) => self.past_failure(kept, reply),
+            Tried::EmptyOk(ok, kept) => self.after_empty_ok(
                 Box::into_inner(ok),
-                held,
+                kept,
                 marks,
                 reply,
             ),
         }
     }
 
-    /// An answer behind alternatives that failed.
-    fn behind_failure(&mut self, held: Held, reply: Reply) -> Result<Mode, AllocError>
+    /// An answer after alternatives that failed.
+    fn past_failure(&mut self, kept: KeptError, reply: Reply) -> Result<Mode, AllocError>
         ensures { IfOk result (λ mode. tape_of mode self.new ≡
-            on_lists (tape_settled (kept_failure held) 0 0 0 reply) self.old) }
+            on_lists (tape_settled (tried_failure kept) 0 0 0 reply) self.old) }
     {
         match reply {
-            Reply::Fine { consumed, end, why } => {
-                let why = self.error_behind(held, consumed, why)?;
-                Ok(Mode::With(Reply::Fine { consumed, end, why }))
+            Reply::Succeeded {
+                consumed,
+                end,
+                error,
+            } => {
+                let error = self.error_after(kept, consumed, error)?;
+                Ok(Mode::With(Reply::Succeeded {
+                    consumed,
+                    end,
+                    error,
+                }))
             }
-            Reply::Failed { consumed, why } => {
-                let why = self.error_behind(held, consumed, why)?;
-                Ok(Mode::With(Reply::Failed { consumed, why }))
+            Reply::Failed { consumed, error } => {
+                let error = self.error_after(kept, consumed, error)?;
+                Ok(Mode::With(Reply::Failed { consumed, error }))
             }
             Reply::EmptyRound => Ok(Mode::With(Reply::EmptyRound)),
         }
     }
 
-    /// An answer behind an alternative that was ok and empty: that one stands, unless this one consumed.
-    fn behind_empty_ok(
+    /// An answer after an alternative that was ok and empty: that one stands, unless this one consumed.
+    fn after_empty_ok(
         &mut self,
         ok: EmptyOk,
-        held: Held,
+        kept: KeptError,
         marks: Marks,
         reply: Reply,
     ) -> Result<Mode, AllocError>
         ensures { IfOk result (λ mode. tape_of mode self.new ≡
-            on_lists (tape_settled (kept_empty_ok ok.end ok.forest ok.trail.items held) marks.forest marks.trail marks.operators reply) self.old) }
+            on_lists (tape_settled (tried_empty_ok ok.end ok.forest ok.trail.items kept) marks.forest marks.trail marks.operators reply) self.old) }
     {
         match reply {
-            Reply::Fine {
+            Reply::Succeeded {
                 consumed,
                 end: _,
-                why,
+                error,
             } => {
                 if consumed {
                     return Ok(Mode::With(reply));
                 }
-                self.restore(ok, held, marks, why)
+                self.restore(ok, kept, marks, error)
             }
-            Reply::Failed { consumed, why } => {
+            Reply::Failed { consumed, error } => {
                 if consumed {
                     return Ok(Mode::With(reply));
                 }
-                self.restore(ok, held, marks, why)
+                self.restore(ok, kept, marks, error)
             }
             Reply::EmptyRound => Ok(Mode::With(Reply::EmptyRound)),
         }
@@ -157,16 +171,16 @@ impl<'a> Machine<'a> {
     fn restore(
         &mut self,
         ok: EmptyOk,
-        held: Held,
+        kept: KeptError,
         marks: Marks,
-        why: Why,
+        error: TapeError,
     ) -> Result<Mode, AllocError>
         ensures { IfOk result (λ mode. tape_of mode self.new ≡
-            tape_with (Fine false ok.end (merged_why held why self.old.messages)) (stack_of self.old.frames.items)
-            (take marks.forest self.old.forest ++ ok.forest) (take marks.trail self.old.trail.items ++ ok.trail.items) (merged_messages held why self.old.messages)
+            tape_with (Succeeded false ok.end (merged_tape_error kept error self.old.messages)) (stack_of self.old.frames.items)
+            (take marks.forest self.old.forest ++ ok.forest) (take marks.trail self.old.trail.items ++ ok.trail.items) (merged_messages kept error self.old.messages)
             (first_operators marks.operators self.old.table)) }
     {
-        let why = self.messages.merge(held, why)?;
+        let error = self.messages.merge(kept, error)?;
         self.cut(marks);
         let EmptyOk {
             end,
@@ -176,82 +190,86 @@ impl<'a> Machine<'a> {
         self.forest.append(forest)?;
         self.trail.append(&mut trail)?;
         let consumed = false;
-        Ok(Mode::With(Reply::Fine { consumed, end, why }))
+        Ok(Mode::With(Reply::Succeeded {
+            consumed,
+            end,
+            error,
+        }))
     }
 
-    /// What is kept behind one more alternative that failed.
-    fn keep_failure(&mut self, kept: Kept, why: Why) -> Result<Kept, AllocError>
-        ensures kept { IfOk result (λ after. kept_of after ≡ kept_with_failure (kept_of kept) (kept_held (kept_of kept) why self.old.messages)) }
+    /// The error that is kept from now on, after one more alternative that consumed nothing.
+    fn tried_error(&mut self, tried: &Tried, error: TapeError) -> Result<KeptError, AllocError>
+        ensures kept { IfOk result (λ kept. kept ≡ tried_kept (tried_of tried.now) error self.old.messages) }
         ensures frames { OnOk result (self.new.frames ≡ self.old.frames) }
         ensures forest { OnOk result (self.new.forest ≡ self.old.forest) }
         ensures trail { OnOk result (self.new.trail ≡ self.old.trail) }
-        ensures messages { OnOk result (self.new.messages ≡ kept_messages (kept_of kept) why self.old.messages) }
+        ensures messages { OnOk result (self.new.messages ≡ tried_messages (tried_of tried.now) error self.old.messages) }
         ensures table { OnOk result (self.new.table ≡ self.old.table) }
     {
-        match kept {
-            Kept::Nothing => Ok(Kept::Failure(self.messages.held(why))),
-            Kept::Failure(held) => {
-                let why = self.messages.merge(held, why)?;
-                Ok(Kept::Failure(self.messages.held(why)))
-            }
-            Kept::EmptyOk(ok, held) => {
-                let why = self.messages.merge(held, why)?;
-                Ok(Kept::EmptyOk(ok, self.messages.held(why)))
+        match tried {
+            Tried::Nothing => Ok(self.messages.kept(error)),
+            Tried::Failure(kept) | Tried::EmptyOk(_, kept) => {
+                let error = self.messages.merge(*kept, error)?;
+                Ok(self.messages.kept(error))
             }
         }
     }
 
-    /// What is kept behind one more alternative that was ok and empty, whose trees and items go from the lists.
+    /// What is kept after one more alternative that was ok and empty, whose trees and items go from the lists.
     fn keep_ok(
         &mut self,
         alloc: Global,
-        kept: Kept,
+        tried: Tried,
+        kept: KeptError,
         marks: Marks,
         end: usize,
-        why: Why,
-    ) -> Result<Kept, AllocError>
-        ensures kept { IfOk result (λ after. kept_of after ≡
-            kept_with_empty_ok (kept_of kept) end (drop marks.forest self.old.forest) (drop marks.trail self.old.trail.items) (kept_held (kept_of kept) why self.old.messages)) }
-        ensures frames { OnOk result (self.new.frames ≡ self.old.frames) }
-        ensures forest { OnOk result (self.new.forest ≡ take marks.forest self.old.forest) }
-        ensures trail { OnOk result (self.new.trail.items ≡ take marks.trail self.old.trail.items) }
-        ensures messages { OnOk result (self.new.messages ≡ kept_messages (kept_of kept) why self.old.messages) }
-        ensures table { OnOk result (self.new.table ≡ first_operators marks.operators self.old.table) }
-    {
-        match kept {
-            Kept::Nothing => {
-                let ok = self.taken_off(marks, end)?;
-                Ok(Kept::EmptyOk(Box::new(alloc, ok)?, self.messages.held(why)))
-            }
-            Kept::Failure(held) => {
-                let why = self.messages.merge(held, why)?;
-                let ok = self.taken_off(marks, end)?;
-                Ok(Kept::EmptyOk(Box::new(alloc, ok)?, self.messages.held(why)))
-            }
-            Kept::EmptyOk(ok, held) => {
-                let why = self.messages.merge(held, why)?;
-                self.cut(marks);
-                Ok(Kept::EmptyOk(ok, self.messages.held(why)))
-            }
-        }
-    }
-
-    /// The trees and items behind the marks leave the lists; operators behind them, which an answer that consumed nothing
-    /// has none of, are dropped.
-    fn taken_off(&mut self, marks: Marks, end: usize) -> Result<EmptyOk, AllocError>
-        ensures end { IfOk result (λ ok. ok.end ≡ end) }
-        ensures kept_forest { IfOk result (λ ok. ok.forest ≡ drop marks.forest self.old.forest) }
-        ensures kept_trail { IfOk result (λ ok. ok.trail.items ≡ drop marks.trail self.old.trail.items) }
+    ) -> Result<Tried, AllocError>
+        ensures tried { IfOk result (λ after. tried_of after ≡
+            tried_with_empty_ok (tried_of tried) end (drop marks.forest self.old.forest) (drop marks.trail self.old.trail.items) kept) }
         ensures frames { OnOk result (self.new.frames ≡ self.old.frames) }
         ensures forest { OnOk result (self.new.forest ≡ take marks.forest self.old.forest) }
         ensures trail { OnOk result (self.new.trail.items ≡ take marks.trail self.old.trail.items) }
         ensures messages { OnOk result (self.new.messages ≡ self.old.messages) }
         ensures table { OnOk result (self.new.table ≡ first_operators marks.operators self.old.table) }
     {
-        let forest = self.forest_behind(marks.forest)?;
+        match tried {
+            Tried::Nothing | Tried::Failure(_) => {
+                let ok = self.taken_off(marks, end)?;
+                Ok(Tried::EmptyOk(Box::new(alloc, ok)?, kept))
+            }
+            Tried::EmptyOk(ok, _) => {
+                self.cut(marks);
+                Ok(Tried::EmptyOk(ok, kept))
+            }
+        }
+    }
+
+    /// The trees and items after the marks leave the lists; operators after them, which an answer that consumed nothing
+    /// has none of, are dropped.
+    fn taken_off(&mut self, marks: Marks, end: usize) -> Result<EmptyOk, AllocError>
+        ensures end { IfOk result (λ ok. ok.end ≡ end) }
+        ensures tried_forest { IfOk result (λ ok. ok.forest ≡ drop marks.forest self.old.forest) }
+        ensures tried_trail { IfOk result (λ ok. ok.trail.items ≡ drop marks.trail self.old.trail.items) }
+        ensures frames { OnOk result (self.new.frames ≡ self.old.frames) }
+        ensures forest { OnOk result (self.new.forest ≡ take marks.forest self.old.forest) }
+        ensures trail { OnOk result (self.new.trail.items ≡ take marks.trail self.old.trail.items) }
+        ensures messages { OnOk result (self.new.messages ≡ self.old.messages) }
+        ensures table { OnOk result (self.new.table ≡ first_operators marks.operators self.old.table) }
+    {
+        let forest = self.forest_after(marks.forest)?;
         let from = marks.trail.min(self.trail.len());
         let trail = self.trail.split_off(from)?;
         self.table.cut(marks.operators);
         Ok(EmptyOk { end, forest, trail })
+    }
+}
+
+/// What is kept after one more alternative that failed, with the error that is kept from now on.
+fn keep_failure(tried: Tried, kept: KeptError) -> Tried
+    ensures { tried_of result ≡ tried_with_failure (tried_of tried) kept }
+{
+    match tried {
+        Tried::Nothing | Tried::Failure(_) => Tried::Failure(kept),
+        Tried::EmptyOk(ok, _) => Tried::EmptyOk(ok, kept),
     }
 }

@@ -11,7 +11,7 @@ ghost use Rattle.pg_turns.specs.Tape.{tape_at, tape_enter_at, tape_enter, tape_s
 ghost use Rattle.pg_turns.specs.View.{frame_of, on_lists, stack_of, tape_of};
 ghost use Rattle.pg_language.specs.declared.reading.Reading.{Reading};
 
-use crate::frame::{ChainFrame, Frame, Kept, Mode, PartsFrame, Reply, RoundsFrame};
+use crate::frame::{ChainFrame, Frame, Mode, PartsFrame, Reply, RoundsFrame, Tried};
 use crate::machine::Machine;
 use pg_grammar::{
     Around, BuilderUse, Form, Grammar, Leaf, Node, NodeId, RuleId, Side, TrailItem, WordId,
@@ -60,7 +60,12 @@ impl<'a> Machine<'a> {
         match form {
             Form::Leaf(leaf) => self.enter_leaf(alloc, grammar, registry, text, leaf, place),
             Form::Seq(parts) => self.enter_parts(parts.as_slice(), place),
-            Form::Choice(parts) => self.next_alternative(1, parts.as_slice(), place, Kept::Nothing),
+            Form::Choice(parts) => self.next_alternative(
+                1,
+                parts.as_slice(),
+                place,
+                Tried::Nothing,
+            ),
             Form::Many(part) => self.enter_rounds(*part, place),
             Form::Chain(side, used, operand, separator) => {
                 self.enter_chain(*side, used, *operand, *separator, place)
@@ -146,9 +151,13 @@ impl<'a> Machine<'a> {
                 self.enter_part(Frame::Parts(PartsFrame { rest, before }), *part, place)
             }
             None => {
-                let why = self.nothing_said(place);
+                let error = self.no_messages_at(place);
                 let (consumed, end) = (false, place);
-                Ok(Mode::With(Reply::Fine { consumed, end, why }))
+                Ok(Mode::With(Reply::Succeeded {
+                    consumed,
+                    end,
+                    error,
+                }))
             }
         }
     }

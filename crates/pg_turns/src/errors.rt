@@ -7,24 +7,29 @@ ghost use Rattle.pg_turns.specs.Messages.{error_of, end_error};
 
 use crate::machine::Machine;
 use crate::message::Message;
-use crate::message_tape::{Why, told};
+use crate::message_tape::{TapeError, told};
 use pg_message::ParseError;
 use pg_text::Text;
 use std::alloc::{AllocError, Global};
 
 impl Machine<'_> {
     /// The error of the last answer, with its texts and its position. The only error is that memory ran out.
-    pub fn error(&self, alloc: Global, text: &Text, why: Why) -> Result<ParseError, AllocError>
-        ensures error { IfOk result (λ e. without_position e ≡ error_of why.place (drop why.from self.now.messages)) }
-        ensures position { IfOk result (λ e. e.position ≡ position_of text.now why.place) }
+    pub fn error(
+        &self,
+        alloc: Global,
+        text: &Text,
+        error: TapeError,
+    ) -> Result<ParseError, AllocError>
+        ensures error { IfOk result (λ e. without_position e ≡ error_of error.place (drop error.from self.now.messages)) }
+        ensures position { IfOk result (λ e. e.position ≡ position_of text.now error.place) }
     {
-        let position = text.position(why.place.min(text.len()));
-        self.messages.error(alloc, why, position)
+        let position = text.position(error.place.min(text.len()));
+        self.messages.error(alloc, error, position)
     }
 }
 
 /// What is said at a place where the text has to end, there and before its end. The only error is that memory ran out.
-pub fn end_said(alloc: Global, text: &Text, place: usize) -> Result<ParseError, AllocError>
+pub fn error_at_end(alloc: Global, text: &Text, place: usize) -> Result<ParseError, AllocError>
     ensures error { IfOk result (λ e. without_position e ≡ end_error text.now place) }
     ensures position { IfOk result (λ e. e.position ≡ position_of text.now place) }
 {

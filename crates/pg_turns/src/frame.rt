@@ -1,27 +1,27 @@
 //! What nodes that were entered wait for, and what the machine does next.
 //!
-//! The trees, the trail and the messages of all that runs lie on three lists of the machine, those of a frame behind
+//! The trees, the trail and the messages of all that runs lie on three lists of the machine, those of a frame after
 //! those of the frames below; the operators in force are those of its table, the newest last. So a frame keeps only how
 //! long the lists were, and how many operators there were, where it may cut them back.
 
-use crate::message_tape::{Held, Why};
+use crate::message_tape::{KeptError, TapeError};
 use pg_grammar::{Around, BuilderUse, NodeId, Side, TrailItem};
 use pg_tree::Forest;
 
-/// What a node answered. Its trees, its items and the messages of its error are the last ones on the lists; behind an
+/// What a node answered. Its trees, its items and the messages of its error are the last ones on the lists; after an
 /// error others may lie there, which whoever goes on cuts off.
 #[derive(Clone, Copy)]
 pub enum Reply {
     /// It is ok, up to this place.
-    Fine {
+    Succeeded {
         consumed: bool,
         end: usize,
-        why: Why,
+        error: TapeError,
     },
     /// It failed.
     Failed {
         consumed: bool,
-        why: Why,
+        error: TapeError,
     },
     /// A round of a repetition was ok and consumed nothing.
     EmptyRound,
@@ -50,13 +50,13 @@ pub struct Marks {
 #[derive(Clone, Copy)]
 pub struct Before {
     pub consumed: bool,
-    pub held: Held,
+    pub kept: KeptError,
 }
 
 /// A part of a sequence runs.
 #[derive(Clone, Copy)]
 pub struct PartsFrame<'a> {
-    /// The parts behind it.
+    /// The parts after it.
     pub rest: &'a [NodeId],
     /// The parts before it, if there are any.
     pub before: Option<Before>,
@@ -72,13 +72,13 @@ pub struct EmptyOk {
 
 /// What the alternatives of a choice before the one that runs came to.
 #[derive(Drop)]
-pub enum Kept {
+pub enum Tried {
     /// There was none.
     Nothing,
     /// They failed.
-    Failure(Held),
+    Failure(KeptError),
     /// One of them was ok and empty, the first of these being kept.
-    EmptyOk(Box<EmptyOk>, Held),
+    EmptyOk(Box<EmptyOk>, KeptError),
 }
 
 /// An alternative of a choice runs.
@@ -86,14 +86,14 @@ pub enum Kept {
 pub struct ChoiceFrame<'a> {
     /// Its number, from 1.
     pub which: usize,
-    /// The alternatives behind it.
+    /// The alternatives after it.
     pub rest: &'a [NodeId],
     /// The place where they begin.
     pub start: usize,
     /// What there was before them.
     pub marks: Marks,
     /// What those before it came to.
-    pub kept: Kept,
+    pub tried: Tried,
 }
 
 /// A round of a repetition runs.
@@ -127,15 +127,15 @@ pub struct ChainFrame<'a> {
     pub forest: usize,
 }
 
-/// A chain behind its first operand: a separator or an operand behind one runs.
+/// A chain after its first operand: a separator or an operand after one runs.
 #[derive(Drop)]
 pub struct LinksFrame<'a> {
     pub chain: ChainFrame<'a>,
     /// How many links there were before.
     pub count: usize,
     pub consumed: bool,
-    pub held: Held,
-    /// Where the trees begin that are still to be folded into those behind them, of a chain that is folded from the right.
+    pub kept: KeptError,
+    /// Where the trees begin that are still to be folded into those after them, of a chain that is folded from the right.
     pub waiting: Vec<usize>,
     /// Where the trees begin that stand on the left of the link.
     pub left: usize,
@@ -154,7 +154,7 @@ pub enum Frame<'a> {
     First(ChainFrame<'a>),
     /// A separator runs.
     Separator(Box<LinksFrame<'a>>),
-    /// An operand runs, behind a separator that was ok; so many trees were there before it.
+    /// An operand runs, after a separator that was ok; so many trees were there before it.
     Operand(Box<LinksFrame<'a>>, Before, usize),
     Rule,
     /// The part of a form around it runs, from the place on; so many trees were there before it.

@@ -6,12 +6,13 @@ ghost use Rattle.std.specs.Str.{bytes_eq};
 ghost use Rattle.pg_pred.specs.Offer.{offer_of};
 ghost use Rattle.pg_grammar.specs.Fits.{Fits, IsClassIn};
 ghost use Rattle.pg_grammar.specs.ClassItems.{has_character};
+ghost use Rattle.pg_language.specs.Derives.{leaf_of};
 ghost use Rattle.pg_language.specs.Leaves.{taken, satisfy_outcome, string_outcome, word_outcome, word_read, not_followed_outcome, end_outcome};
-ghost use Rattle.pg_turns.specs.Messages.{said_of};
+ghost use Rattle.pg_turns.specs.Messages.{tape_message_of};
 ghost use Rattle.pg_turns.specs.Tape.{spot_at, tape_with, tape_leaf};
 ghost use Rattle.pg_turns.specs.View.{on_lists, stack_of, tape_of};
-ghost use Rattle.pg_turns.specs.Why.{why_at};
-ghost use Rattle.pg_turns.specs.declared.frame.Reply.TheVariants.{Fine, Failed};
+ghost use Rattle.pg_turns.specs.TapeErrors.{tape_error};
+ghost use Rattle.pg_turns.specs.declared.frame.Reply.TheVariants.{Succeeded, Failed};
 
 use crate::frame::{Mode, Reply};
 use crate::machine::Machine;
@@ -60,7 +61,7 @@ impl<'a> Machine<'a> {
         ensures { IfOk result (λ mode. tape_of mode self.new ≡
             on_lists (tape_leaf (string_outcome text.now characters.now (spot_at self.old.table place))) self.old) }
     {
-        let rest = behind(text.characters(), place);
+        let rest = after(text.characters(), place);
         let count = matched(characters, rest);
         if count == characters.len() {
             return self.take(alloc, characters, place, place + count);
@@ -95,9 +96,9 @@ impl<'a> Machine<'a> {
                 if !grammar.test(registry, &item.head, c) {
                     return self.fail(false, place, Message::Stopped(Some(c)));
                 }
-                let rest = behind(text.characters(), place + 1);
+                let rest = after(text.characters(), place + 1);
                 let count = run_len(grammar, registry, &item.rest, rest);
-                let word = &behind(text.characters(), place)[..count + 1];
+                let word = &after(text.characters(), place)[..count + 1];
                 self.read_word(alloc, item, word, place)
             }
             None => self.fail(false, place, Message::Stopped(None)),
@@ -171,11 +172,14 @@ impl<'a> Machine<'a> {
         ensures { IfOk result (λ mode. tape_of mode self.new ≡
             on_lists (tape_leaf (taken (spot_at self.old.table place) characters.now)) self.old) }
     {
-        let content = utf8(alloc, characters)?;
-        self.forest.push(Tree::leaf(alloc, content.as_str())?)?;
+        self.forest.push(text_leaf(alloc, characters)?)?;
         let consumed = true;
-        let why = self.nothing_said(end);
-        Ok(Mode::With(Reply::Fine { consumed, end, why }))
+        let error = self.no_messages_at(end);
+        Ok(Mode::With(Reply::Succeeded {
+            consumed,
+            end,
+            error,
+        }))
     }
 
     /// An error answer, and what is said of it.
@@ -186,13 +190,13 @@ impl<'a> Machine<'a> {
         message: Message<'a>,
     ) -> Result<Mode, AllocError>
         ensures { IfOk result (λ mode. tape_of mode self.new ≡
-            tape_with (Failed consumed (why_at place (length self.old.messages)))
-            (stack_of self.old.frames.items) self.old.forest self.old.trail.items (self.old.messages ++ said_of message.entry ∷ [])
+            tape_with (Failed consumed (tape_error place (length self.old.messages)))
+            (stack_of self.old.frames.items) self.old.forest self.old.trail.items (self.old.messages ++ tape_message_of message.entry ∷ [])
             self.old.table) }
     {
-        let why = self.nothing_said(place);
+        let error = self.no_messages_at(place);
         self.messages.push(message)?;
-        Ok(Mode::With(Reply::Failed { consumed, why }))
+        Ok(Mode::With(Reply::Failed { consumed, error }))
     }
 
     /// The same, and what was expected.
@@ -204,27 +208,31 @@ impl<'a> Machine<'a> {
         wanted: Message<'a>,
     ) -> Result<Mode, AllocError>
         ensures { IfOk result (λ mode. tape_of mode self.new ≡
-            tape_with (Failed consumed (why_at place (length self.old.messages)))
+            tape_with (Failed consumed (tape_error place (length self.old.messages)))
             (stack_of self.old.frames.items) self.old.forest self.old.trail.items
-            (self.old.messages ++ said_of message.entry ∷ said_of wanted.entry ∷ []) self.old.table) }
+            (self.old.messages ++ tape_message_of message.entry ∷ tape_message_of wanted.entry ∷ []) self.old.table) }
     {
-        let why = self.nothing_said(place);
+        let error = self.no_messages_at(place);
         self.messages.push(message)?;
         self.messages.push(wanted)?;
-        Ok(Mode::With(Reply::Failed { consumed, why }))
+        Ok(Mode::With(Reply::Failed { consumed, error }))
     }
 
     /// An ok answer that consumed nothing, and what is said of it.
     fn stay(&mut self, place: usize, message: Message<'a>) -> Result<Mode, AllocError>
         ensures { IfOk result (λ mode. tape_of mode self.new ≡
-            tape_with (Fine false place (why_at place (length self.old.messages)))
-            (stack_of self.old.frames.items) self.old.forest self.old.trail.items (self.old.messages ++ said_of message.entry ∷ [])
+            tape_with (Succeeded false place (tape_error place (length self.old.messages)))
+            (stack_of self.old.frames.items) self.old.forest self.old.trail.items (self.old.messages ++ tape_message_of message.entry ∷ [])
             self.old.table) }
     {
-        let why = self.nothing_said(place);
+        let error = self.no_messages_at(place);
         self.messages.push(message)?;
         let (consumed, end) = (false, place);
-        Ok(Mode::With(Reply::Fine { consumed, end, why }))
+        Ok(Mode::With(Reply::Succeeded {
+            consumed,
+            end,
+            error,
+        }))
     }
 
     /// The same, and what was expected.
@@ -235,16 +243,28 @@ impl<'a> Machine<'a> {
         wanted: Message<'a>,
     ) -> Result<Mode, AllocError>
         ensures { IfOk result (λ mode. tape_of mode self.new ≡
-            tape_with (Fine false place (why_at place (length self.old.messages)))
+            tape_with (Succeeded false place (tape_error place (length self.old.messages)))
             (stack_of self.old.frames.items) self.old.forest self.old.trail.items
-            (self.old.messages ++ said_of message.entry ∷ said_of wanted.entry ∷ []) self.old.table) }
+            (self.old.messages ++ tape_message_of message.entry ∷ tape_message_of wanted.entry ∷ []) self.old.table) }
     {
-        let why = self.nothing_said(place);
+        let error = self.no_messages_at(place);
         self.messages.push(message)?;
         self.messages.push(wanted)?;
         let (consumed, end) = (false, place);
-        Ok(Mode::With(Reply::Fine { consumed, end, why }))
+        Ok(Mode::With(Reply::Succeeded {
+            consumed,
+            end,
+            error,
+        }))
     }
+}
+
+/// The leaf with these characters.
+pub(crate) fn text_leaf(alloc: Global, characters: &[char]) -> Result<Tree, AllocError>
+    ensures { IfOk result (λ tree. tree ≡ leaf_of characters.now) }
+{
+    let content = utf8(alloc, characters)?;
+    Tree::leaf(alloc, content.as_str())
 }
 
 /// The character at the place of the text, if there is one.
@@ -257,7 +277,7 @@ fn next_in(text: &Text, place: usize) -> Option<char>
 }
 
 /// The characters from the place on.
-fn behind(characters: &[char], place: usize) -> &[char]
+fn after(characters: &[char], place: usize) -> &[char]
     ensures { result.now ≡ drop place characters.now }
 {
     &characters[place.min(characters.len())..]

@@ -4,7 +4,8 @@
 //! to the topmost frame. One forest, one trail, one list of messages and one operator table serve all that runs; frames keep
 //! how long these were, so that what failed is cut back and nothing is moved when a part ends. `specs/Tape.antt` gives each
 //! turn as a function on lists, `specs/Turns.antt` the same on plain values; proofs/ shows that the one does what the other
-//! does, and that an answer of a run is the one of the relation in `pg_language`, after about two turns for each node.
+//! does, and that an answer of a run is the one of the relation in `pg_language`, after two turns for each node but one for
+//! the first.
 #![tactic(auto)]
 
 mod around;
@@ -21,7 +22,7 @@ mod parts;
 mod rounds;
 mod turn;
 
-pub use errors::end_said;
+pub use errors::error_at_end;
 pub use frame::{Frame, Mode, Reply};
 pub use machine::Machine;
-pub use message_tape::{MessageTape, Why};
+pub use message_tape::{MessageTape, TapeError};

@@ -3,10 +3,10 @@
 ghost use Rattle.std.specs.Prelude.{◌≡◌, ◌∷◌, [], length, take, drop, slice_set, IfOk, OnOk};
 ghost use Rattle.pg_table.specs.Tables.{first_operators};
 ghost use Rattle.pg_turns.specs.View.{frame_of, stack_of};
-ghost use Rattle.pg_turns.specs.Why.{why_at, why_behind, messages_behind};
+ghost use Rattle.pg_turns.specs.TapeErrors.{tape_error, tape_error_after, messages_after};
 
 use crate::frame::{Frame, Marks};
-use crate::message_tape::{Held, MessageTape, Why};
+use crate::message_tape::{KeptError, MessageTape, TapeError};
 use pg_grammar::TrailItem;
 use pg_table::Table;
 use pg_tree::Forest;
@@ -93,24 +93,24 @@ impl<'a> Machine<'a> {
         }
     }
 
-    /// The trees behind the first leave the forest.
-    pub(crate) fn forest_behind(&mut self, count: usize) -> Result<Forest, AllocError>
-        ensures behind { IfOk result (λ behind. behind ≡ drop count self.old.forest) }
+    /// The trees after the first leave the forest.
+    pub(crate) fn forest_after(&mut self, count: usize) -> Result<Forest, AllocError>
+        ensures after { IfOk result (λ after. after ≡ drop count self.old.forest) }
         ensures frames { OnOk result (self.new.frames ≡ self.old.frames) }
         ensures forest { OnOk result (self.new.forest ≡ take count self.old.forest) }
         ensures trail { OnOk result (self.new.trail ≡ self.old.trail) }
         ensures messages { OnOk result (self.new.messages ≡ self.old.messages) }
         ensures table { OnOk result (self.new.table ≡ self.old.table) }
     {
-        let behind = self.forest.split_off(count.min(self.forest.len()))?;
-        Ok(behind)
+        let after = self.forest.split_off(count.min(self.forest.len()))?;
+        Ok(after)
     }
 
     /// The error without messages at the place.
-    pub(crate) fn nothing_said(&self, place: usize) -> Why
-        ensures { result ≡ why_at place (length self.now.messages) }
+    pub(crate) fn no_messages_at(&self, place: usize) -> TapeError
+        ensures { result ≡ tape_error place (length self.now.messages) }
     {
-        Why {
+        TapeError {
             place,
             from: self.messages.len(),
         }
@@ -129,24 +129,24 @@ impl<'a> Machine<'a> {
         }
     }
 
-    /// The error behind one that is kept, of an answer that consumed or not.
-    pub(crate) fn error_behind(
+    /// The error after one that is kept, of an answer that consumed or not.
+    pub(crate) fn error_after(
         &mut self,
-        held: Held,
+        kept: KeptError,
         consumed: bool,
-        why: Why,
-    ) -> Result<Why, AllocError>
-        ensures why { IfOk result (λ after. after ≡ why_behind consumed held why self.old.messages) }
+        error: TapeError,
+    ) -> Result<TapeError, AllocError>
+        ensures error { IfOk result (λ after. after ≡ tape_error_after consumed kept error self.old.messages) }
         ensures frames { OnOk result (self.new.frames ≡ self.old.frames) }
         ensures forest { OnOk result (self.new.forest ≡ self.old.forest) }
         ensures trail { OnOk result (self.new.trail ≡ self.old.trail) }
-        ensures messages { OnOk result (self.new.messages ≡ messages_behind consumed held why self.old.messages) }
+        ensures messages { OnOk result (self.new.messages ≡ messages_after consumed kept error self.old.messages) }
         ensures table { OnOk result (self.new.table ≡ self.old.table) }
     {
         if consumed {
-            return Ok(why);
+            return Ok(error);
         }
-        let merged = self.messages.merge(held, why)?;
+        let merged = self.messages.merge(kept, error)?;
         Ok(merged)
     }
 }

@@ -6,8 +6,8 @@
 ghost use Rattle.std.specs.Prelude.{◌≡◌, ◌∷◌, ◌++◌, [], length, map, take, drop, IfOk, OnOk};
 ghost use Rattle.pg_message.specs.Messages.{has_text, of_kind};
 ghost use Rattle.pg_language.specs.Errors.{without_position};
-ghost use Rattle.pg_turns.specs.Messages.{said_of, error_of, message_kind, message_text, with_said, unexpected, relabelled};
-ghost use Rattle.pg_turns.specs.Why.{merged_why, merged_messages, held_at};
+ghost use Rattle.pg_turns.specs.Messages.{tape_message_of, error_of, message_kind, message_text, with_message_once, with_messages_once, unexpected, relabelled};
+ghost use Rattle.pg_turns.specs.TapeErrors.{merged_tape_error, merged_messages, kept_at};
 
 use crate::message::Message;
 use pg_message::{MessageKind, ParseError};
@@ -17,7 +17,7 @@ use std::marker::Model;
 
 /// The error of the last answer: where it stands, and where its messages begin, which are the last of all.
 #[derive(Clone, Copy)]
-pub struct Why {
+pub struct TapeError {
     /// The place where it stands, in characters from 0.
     pub place: usize,
     /// How many messages stand before its own.
@@ -26,12 +26,12 @@ pub struct Why {
 
 /// The error of an answer before, which is kept to be merged with later ones.
 #[derive(Clone, Copy)]
-pub struct Held {
+pub struct KeptError {
     /// The place where it stands, in characters from 0.
     pub place: usize,
     /// How many messages stand before its own.
     pub from: usize,
-    /// How many messages stand before those that came behind it.
+    /// How many messages stand before those that came after it.
     pub upto: usize,
 }
 
@@ -43,11 +43,11 @@ pub struct MessageTape<'a> {
 
 impl<'a> Model for MessageTape<'a> {
     ghost use Rattle.std.specs.Prelude.{List, map};
-    ghost use Rattle.pg_turns.specs.Messages.{Said, said_of};
+    ghost use Rattle.pg_turns.specs.Messages.{TapeMessage, tape_message_of};
 
-    ghost Value = { List Said };
+    ghost Value = { List TapeMessage };
 
-    ghost view = { λ t. map said_of t.messages.items };
+    ghost view = { λ t. map tape_message_of t.messages.items };
 }
 
 impl<'a> MessageTape<'a> {
@@ -69,7 +69,7 @@ impl<'a> MessageTape<'a> {
 
     /// One more.
     pub(crate) fn push(&mut self, message: Message<'a>) -> Result<(), AllocError>
-        ensures { OnOk result (self.new ≡ self.old ++ said_of message.entry ∷ []) }
+        ensures { OnOk result (self.new ≡ self.old ++ tape_message_of message.entry ∷ []) }
     {
         self.messages.push(message)?;
         Ok(())
@@ -83,40 +83,44 @@ impl<'a> MessageTape<'a> {
     }
 
     /// The error of the last answer, to be kept.
-    pub(crate) fn held(&self, why: Why) -> Held
-        ensures { result ≡ held_at (length self.now) why }
+    pub(crate) fn kept(&self, error: TapeError) -> KeptError
+        ensures { result ≡ kept_at (length self.now) error }
     {
-        Held {
-            place: why.place,
-            from: why.from,
+        KeptError {
+            place: error.place,
+            from: error.from,
             upto: self.len(),
         }
     }
 
     /// One error of one that is kept and that of the last answer: the only one with messages, or else the later one, or
     /// at one place the first with the messages of both.
-    pub(crate) fn merge(&mut self, held: Held, why: Why) -> Result<Why, AllocError>
-        ensures why { IfOk result (λ merged. merged ≡ merged_why held why self.old) }
-        ensures messages { OnOk result (self.new ≡ merged_messages held why self.old) }
+    pub(crate) fn merge(
+        &mut self,
+        kept: KeptError,
+        error: TapeError,
+    ) -> Result<TapeError, AllocError>
+        ensures error { IfOk result (λ merged. merged ≡ merged_tape_error kept error self.old) }
+        ensures messages { OnOk result (self.new ≡ merged_messages kept error self.old) }
     {
-        let none_held = held.from == held.upto;
-        let none_last = why.from == self.len();
-        if none_held != none_last {
-            if none_held {
-                return Ok(why);
+        let none_kept = kept.from == kept.upto;
+        let none_last = error.from == self.len();
+        if none_kept != none_last {
+            if none_kept {
+                return Ok(error);
             }
-            self.cut(held.upto);
-            return Ok(before(held));
+            self.cut(kept.upto);
+            return Ok(before(kept));
         }
-        if held.place < why.place {
-            return Ok(why);
+        if kept.place < error.place {
+            return Ok(error);
         }
-        if held.place == why.place {
-            self.close(held.upto, why.from)?;
+        if kept.place == error.place {
+            self.close(kept.upto, error.from)?;
         } else {
-            self.cut(held.upto);
+            self.cut(kept.upto);
         }
-        Ok(before(held))
+        Ok(before(kept))
     }
 
     /// Takes out the messages from the one place on up to the other.
@@ -135,9 +139,9 @@ impl<'a> MessageTape<'a> {
         self.put_back(last)
     }
 
-    /// Takes off the messages behind the first.
+    /// Takes off the messages after the first.
     fn take_off(&mut self, from: usize) -> Result<Vec<Message<'a>>, AllocError>
-        ensures behind { IfOk result (λ own. map said_of own.items ≡ drop from self.old) }
+        ensures after { IfOk result (λ own. map tape_message_of own.items ≡ drop from self.old) }
         ensures before { OnOk result (self.new ≡ take from self.old) }
     {
         let own = split_off(&mut self.messages, from)?;
@@ -146,18 +150,18 @@ impl<'a> MessageTape<'a> {
 
     /// Puts messages at the end.
     fn put_back(&mut self, messages: Vec<Message<'a>>) -> Result<(), AllocError>
-        ensures { OnOk result (self.new ≡ self.old ++ map said_of messages.entry.items) }
+        ensures { OnOk result (self.new ≡ self.old ++ map tape_message_of messages.entry.items) }
     {
         let mut messages = messages;
         self.messages.append(&mut messages)?;
         Ok(())
     }
 
-    /// The messages behind the first.
-    fn behind(&self, from: usize) -> &[Message<'a>]
-        ensures { map said_of result.now ≡ drop from self.now }
+    /// The messages after the first.
+    fn after(&self, from: usize) -> &[Message<'a>]
+        ensures { map tape_message_of result.now ≡ drop from self.now }
     {
-        behind(&self.messages, from)
+        after(&self.messages, from)
     }
 
     /// Makes this name all that is expected in the error whose messages begin at the place.
@@ -171,7 +175,7 @@ impl<'a> MessageTape<'a> {
 
     /// Puts those of the messages at the end that aren't about what would have been taken.
     fn push_unexpected(&mut self, messages: &[Message<'a>]) -> Result<(), AllocError>
-        ensures { OnOk result (self.new ≡ self.old ++ unexpected (map said_of messages.now)) }
+        ensures { OnOk result (self.new ≡ self.old ++ unexpected (map tape_message_of messages.now)) }
     {
         for message in messages {
             if !message.is_expected() {
@@ -185,29 +189,29 @@ impl<'a> MessageTape<'a> {
     pub(crate) fn error(
         &self,
         alloc: Global,
-        why: Why,
+        error: TapeError,
         position: Pos,
     ) -> Result<ParseError, AllocError>
-        ensures error { IfOk result (λ e. without_position e ≡ error_of why.place (drop why.from self.now)) }
+        ensures error { IfOk result (λ e. without_position e ≡ error_of error.place (drop error.from self.now)) }
         ensures position { IfOk result (λ e. e.position ≡ position) }
     {
-        told(alloc, why.place, position, self.behind(why.from))
+        told(alloc, error.place, position, self.after(error.from))
     }
 }
 
-/// Takes off the messages behind the first.
+/// Takes off the messages after the first.
 fn split_off<'a>(
     messages: &mut Vec<Message<'a>>,
     from: usize,
 ) -> Result<Vec<Message<'a>>, AllocError>
-    ensures behind { IfOk result (λ own. own.items ≡ drop from messages.old.items) }
+    ensures after { IfOk result (λ own. own.items ≡ drop from messages.old.items) }
     ensures before { OnOk result (messages.new.items ≡ take from messages.old.items) }
 {
     messages.split_off(from.min(messages.len()))
 }
 
-/// The messages behind the first.
-fn behind<'m, 'a>(messages: &'m [Message<'a>], from: usize) -> &'m [Message<'a>]
+/// The messages after the first.
+fn after<'m, 'a>(messages: &'m [Message<'a>], from: usize) -> &'m [Message<'a>]
     ensures { result.now ≡ drop from messages.now }
 {
     &messages[from.min(messages.len())..]
@@ -220,41 +224,54 @@ pub(crate) fn told(
     position: Pos,
     messages: &[Message<'_>],
 ) -> Result<ParseError, AllocError>
-    ensures error { IfOk result (λ e. without_position e ≡ error_of place (map said_of messages.now)) }
+    ensures error { IfOk result (λ e. without_position e ≡ error_of place (map tape_message_of messages.now)) }
     ensures position { IfOk result (λ e. e.position ≡ position) }
 {
     let mut error = ParseError::new(alloc, place, position);
-    for message in messages {
-        say(alloc, &mut error, message)?;
-    }
+    say_all(alloc, &mut error, messages)?;
     Ok(error)
+}
+
+/// Says these messages, but for those that are there already.
+fn say_all(
+    alloc: Global,
+    error: &mut ParseError,
+    messages: &[Message<'_>],
+) -> Result<(), AllocError>
+    ensures { OnOk result (error.new ≡
+        record error.old { messages = with_messages_once error.old.messages (map tape_message_of messages.now) }) }
+{
+    for message in messages {
+        say(alloc, error, message)?;
+    }
+    Ok(())
 }
 
 /// Says one message more, unless it is there already.
 fn say(alloc: Global, error: &mut ParseError, message: &Message<'_>) -> Result<(), AllocError>
     ensures { OnOk result (error.new ≡
-        record error.old { messages = with_said error.old.messages (message_kind message.now) (message_text message.now) }) }
+        record error.old { messages = with_message_once error.old.messages (message_kind message.now) (message_text message.now) }) }
 {
     let text = message.text(alloc)?;
-    if !is_said(error, message.kind(), text.as_str()) {
+    if !has_message(error, message.kind(), text.as_str()) {
         error.add(message.kind(), text)?;
     }
     Ok(())
 }
 
 /// The error that was kept, which is the last one again.
-fn before(held: Held) -> Why
-    ensures place { result.place ≡ held.place }
-    ensures from { result.from ≡ held.from }
+fn before(kept: KeptError) -> TapeError
+    ensures place { result.place ≡ kept.place }
+    ensures from { result.from ≡ kept.from }
 {
-    Why {
-        place: held.place,
-        from: held.from,
+    TapeError {
+        place: kept.place,
+        from: kept.from,
     }
 }
 
 /// Whether the error has this text among those of the kind.
-fn is_said(error: &ParseError, kind: MessageKind, text: &str) -> bool
+fn has_message(error: &ParseError, kind: MessageKind, text: &str) -> bool
     ensures { result ≡ has_text (of_kind error.now.messages kind) text.now }
 {
     error

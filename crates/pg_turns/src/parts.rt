@@ -1,17 +1,17 @@
 //! Sequences: parts one after another.
 
 ghost use Rattle.std.specs.Prelude.{◌≡◌, IfOk, OnOk};
-ghost use Rattle.pg_turns.specs.Tape.{tape_to_parts, tape_next_part, joined_consumed, joined_why, joined_messages};
+ghost use Rattle.pg_turns.specs.Tape.{tape_to_parts, tape_next_part, joined_consumed, joined_tape_error, joined_messages};
 ghost use Rattle.pg_turns.specs.View.{on_lists, stack_of, tape_of};
 
 use crate::frame::{Before, Frame, Mode, PartsFrame, Reply};
 use crate::machine::Machine;
-use crate::message_tape::Why;
+use crate::message_tape::TapeError;
 use pg_grammar::NodeId;
 use std::alloc::AllocError;
 
 impl<'a> Machine<'a> {
-    /// An answer of a part: behind an ok one the next part runs, and the last one's stands for the whole.
+    /// An answer of a part: after an ok one the next part runs, and the last one's stands for the whole.
     pub(crate) fn hand_to_parts(
         &mut self,
         parts: PartsFrame<'a>,
@@ -21,14 +21,18 @@ impl<'a> Machine<'a> {
             on_lists (tape_to_parts parts.entry.rest.now parts.entry.before reply) self.old) }
     {
         match reply {
-            Reply::Fine { consumed, end, why } => {
-                let why = self.joined(parts.before, consumed, why)?;
-                self.next_part(parts.rest, has_consumed(parts.before, consumed), end, why)
+            Reply::Succeeded {
+                consumed,
+                end,
+                error,
+            } => {
+                let error = self.joined(parts.before, consumed, error)?;
+                self.next_part(parts.rest, has_consumed(parts.before, consumed), end, error)
             }
-            Reply::Failed { consumed, why } => {
-                let why = self.joined(parts.before, consumed, why)?;
+            Reply::Failed { consumed, error } => {
+                let error = self.joined(parts.before, consumed, error)?;
                 let consumed = has_consumed(parts.before, consumed);
-                Ok(Mode::With(Reply::Failed { consumed, why }))
+                Ok(Mode::With(Reply::Failed { consumed, error }))
             }
             Reply::EmptyRound => Ok(Mode::With(Reply::EmptyRound)),
         }
@@ -40,39 +44,43 @@ impl<'a> Machine<'a> {
         rest: &'a [NodeId],
         consumed: bool,
         end: usize,
-        why: Why,
+        error: TapeError,
     ) -> Result<Mode, AllocError>
         ensures { IfOk result (λ mode. tape_of mode self.new ≡
-            on_lists (tape_next_part rest.now consumed end why) self.old) }
+            on_lists (tape_next_part rest.now consumed end error) self.old) }
     {
         match rest.split_first() {
             Some((part, rest)) => {
-                let held = self.messages.held(why);
-                let before = Some(Before { consumed, held });
+                let kept = self.messages.kept(error);
+                let before = Some(Before { consumed, kept });
                 self.push(Frame::Parts(PartsFrame { rest, before }))?;
                 Ok(Mode::At(*part, end))
             }
-            None => Ok(Mode::With(Reply::Fine { consumed, end, why })),
+            None => Ok(Mode::With(Reply::Succeeded {
+                consumed,
+                end,
+                error,
+            })),
         }
     }
 
-    /// The error behind that of the parts before.
+    /// The error after that of the parts before.
     fn joined(
         &mut self,
         before: Option<Before>,
         consumed: bool,
-        why: Why,
-    ) -> Result<Why, AllocError>
-        ensures why { IfOk result (λ after. after ≡ joined_why before consumed why self.old.messages) }
+        error: TapeError,
+    ) -> Result<TapeError, AllocError>
+        ensures error { IfOk result (λ after. after ≡ joined_tape_error before consumed error self.old.messages) }
         ensures frames { OnOk result (self.new.frames ≡ self.old.frames) }
         ensures forest { OnOk result (self.new.forest ≡ self.old.forest) }
         ensures trail { OnOk result (self.new.trail ≡ self.old.trail) }
-        ensures messages { OnOk result (self.new.messages ≡ joined_messages before consumed why self.old.messages) }
+        ensures messages { OnOk result (self.new.messages ≡ joined_messages before consumed error self.old.messages) }
         ensures table { OnOk result (self.new.table ≡ self.old.table) }
     {
         match before {
-            Some(before) => self.error_behind(before.held, consumed, why),
-            None => Ok(why),
+            Some(before) => self.error_after(before.kept, consumed, error),
+            None => Ok(error),
         }
     }
 }

@@ -10,7 +10,7 @@ use pg_grammar::TrailItem;
 use std::alloc::AllocError;
 
 impl<'a> Machine<'a> {
-    /// An answer of a round: behind one that consumed the next one runs, and one that failed empty ends the repetition
+    /// An answer of a round: after one that consumed the next one runs, and one that failed empty ends the repetition
     /// with its error alone.
     pub(crate) fn hand_to_rounds(
         &mut self,
@@ -23,10 +23,10 @@ impl<'a> Machine<'a> {
             rounds.marks.forest rounds.marks.trail rounds.marks.operators rounds.messages reply) self.old) }
     {
         match reply {
-            Reply::Fine {
+            Reply::Succeeded {
                 consumed,
                 end,
-                why: _,
+                error: _,
             } => {
                 if !consumed {
                     return Ok(Mode::With(Reply::EmptyRound));
@@ -44,16 +44,16 @@ impl<'a> Machine<'a> {
                 }))?;
                 Ok(Mode::At(rounds.part, end))
             }
-            Reply::Failed { consumed, why } => {
+            Reply::Failed { consumed, error } => {
                 if consumed {
-                    return Ok(Mode::With(Reply::Failed { consumed, why }));
+                    return Ok(Mode::With(Reply::Failed { consumed, error }));
                 }
                 self.cut(rounds.marks);
                 self.note(rounds.slot, TrailItem::Rounds(rounds.count));
-                Ok(Mode::With(Reply::Fine {
+                Ok(Mode::With(Reply::Succeeded {
                     consumed: rounds.consumed,
                     end: rounds.start,
-                    why,
+                    error,
                 }))
             }
             Reply::EmptyRound => Ok(Mode::With(Reply::EmptyRound)),

@@ -77,17 +77,13 @@ impl<'a> Machine<'a> {
         }
     }
 
-    /// Whether no turn is left: an answer is at hand and no frame waits for it, a round was empty, or the run has no end.
+    /// Whether no turn is left: an answer is at hand and no frame waits for it, or the run has no end.
     pub fn is_over(&self, mode: &Mode) -> bool
         ensures { result ≡ tape_is_last (tape_of mode.now self.now) }
     {
         match mode {
             Mode::At(_, _) => false,
-            Mode::With(reply) => match reply {
-                Reply::EmptyRound => true,
-                Reply::Fine { .. } => self.frames.is_empty(),
-                Reply::Failed { .. } => self.frames.is_empty(),
-            },
+            Mode::With(_) => self.frames.is_empty(),
             Mode::Endless => true,
         }
     }

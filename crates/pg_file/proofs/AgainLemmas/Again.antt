@@ -4,9 +4,11 @@ use Rattle.pg_pred.specs.Offer.{Offer}
 use Rattle.pg_grammar.specs.Grammar.{Grammar}
 use Rattle.pg_print.specs.declared.layout.Edge.TheVariants.{Tight}
 use Rattle.pg_items.specs.Syntax.{file_written}
+use Rattle.pg_tokens.specs.Lexical.{Spelled}
 use Rattle.pg_print.specs.Canonical.{items_of}
 use Rattle.pg_print.specs.Printed.{characters_printed, printed, PrintKeepsLimits}
 use Rattle.pg_making.specs.Spells.{SpelledIn, Spells, SpellsWithinLimits}
+use Rattle.pg_print.proofs.PrinterLemmas.Texts.{printed_laid}
 use Rattle.pg_tokens.proofs.Encoded.{chars_encoded}
 use Rattle.pg_file.proofs.AgainLemmas.Printable.{MayBePrinted}
 use Rattle.pg_file.proofs.AgainLemmas.Low.{printed_utf8}
@@ -34,7 +36,7 @@ may_be_printed offer bytes g h =
 spelled : (offer : Offer) (g : Grammar) → MayBePrinted offer g → SpelledIn offer (characters_printed g) g
 spelled offer g h = record {
   tokens = file_written (items_of g);
-  spelled = laid_spells Tight (file_written (items_of g)) h.printable;
+  spelled = subst (λ (cs : List ℕ). Spelled cs (file_written (items_of g))) (printed_laid g) (laid_spells Tight (file_written (items_of g)) h.printable);
   items = items_of g;
   written = refl;
   proper = h.proper;

@@ -1,5 +1,6 @@
 -- The value that is printed of a body means the body again.
 use Rattle.std.proofs.Common.{◌≡◌, ◌≤◌, ℕ, zero, suc, ◌+◌, false, List, [], ◌∷◌, ◌++◌, length, take, drop, map, refl, sym, ap, ◌∙◌, arith}
+use Rattle.std.proofs.lemmas.Bool.{or_parts}
 use Rattle.std.proofs.lemmas.List.{append-nil, length-map, length-take-le, map-append, take-append-drop}
 use Rattle.std.specs.List.{list_any, AllByRecursion}
 use Rattle.std.specs.Str.{chars, encode_utf8_all}
@@ -13,15 +14,13 @@ use Rattle.pg_grammar.specs.declared.form.Leaf.{Leaf}
 use Rattle.pg_grammar.specs.declared.form.Leaf.TheVariants as leaf
 use Rattle.pg_grammar.specs.declared.form.Around.{Around}
 use Rattle.pg_grammar.specs.declared.form.Around.TheVariants as around
-use Rattle.pg_grammar.specs.declared.side.Side.{Side}
-use Rattle.pg_grammar.specs.declared.side.Side.TheVariants as side
 use Rattle.pg_grammar.specs.declared.used.BuilderUse.{BuilderUse}
 use Rattle.pg_items.specs.Tree.{Value}
 use Rattle.pg_meaning.specs.Names.{builder_named}
-use Rattle.pg_meaning.specs.Meaning.{Body, joined, side_of, meant, all_meant}
-use Rattle.pg_print.specs.Canonical.{values_from, choice_from, build_from, value_at, leaf_value, around_value, chain_form_of, value_of_form, values_of}
+use Rattle.pg_meaning.specs.Meaning.{Body, joined, meant, all_meant}
+use Rattle.pg_print.specs.Canonical.{values_from, choice_from, build_from, value_at, leaf_value, around_value, value_of_form, values_of}
 use Rattle.pg_file.proofs.AgainLemmas.PrintedNames.{IsNamedForm, IsNamedBuilder}
-use Rattle.pg_print.proofs.PrinterLemmas.Bodies.{values_counted, no_one}
+use Rattle.pg_print.proofs.PrinterLemmas.Bodies.{values_counted}
 use Rattle.pg_file.proofs.AgainLemmas.ClassesAgain.{class_again, joined_both}
 
 all_again : (offer : Offer) (above : List names.Name) (vs : List Value) → all_meant offer above (values_from vs) ≡ map (meant offer above) vs
@@ -42,14 +41,14 @@ choice_again offer above n (v ∷ vs) e k =
     ap (λ (l : List Body). form.Choice (suc (length l)) ∷ (meant offer above v ++ joined l)) (all_again offer above vs)
     ∙ ap (λ (m : ℕ). form.Choice m ∷ joined (map (meant offer above) (v ∷ vs))) (ap suc (length-map vs (meant offer above)) ∙ e)
 
--- a base form in front of the first value
+-- a base form before the first value
 one_again : (offer : Offer) (above : List names.Name) (form : BaseForm) (vs : List Value) → length vs ≡ 1
     → form ∷ meant offer above (value_at 0 vs) ≡ form ∷ joined (map (meant offer above) vs)
 one_again offer above form [] e = absurd (omega (arith, e))
 one_again offer above form (v ∷ []) e = ap (λ (l : Body). form ∷ l) (sym (append-nil (meant offer above v)))
 one_again offer above form (v ∷ w ∷ vs) e = absurd (omega (arith, e))
 
--- and in front of the first two
+-- and before the first two
 two_again : (offer : Offer) (above : List names.Name) (form : BaseForm) (vs : List Value) → length vs ≡ 2
     → form ∷ (meant offer above (value_at 0 vs) ++ meant offer above (value_at 1 vs)) ≡ form ∷ joined (map (meant offer above) vs)
 two_again offer above form [] e = absurd (omega (arith, e))
@@ -77,10 +76,6 @@ around_again : (offer : Offer) (items above : List names.Name) (k : Around) (v :
 around_again offer items above (around.Build used symbol) v h = build_again offer above used symbol (chars symbol) v h.0 h.1
 around_again offer items above _ v h = refl
 
-side_again : (side : Side) → side_of (chain_form_of side) ≡ side
-side_again side.Left = refl
-side_again _ = refl
-
 -- a base form without parts
 none_again : (offer : Offer) (above : List names.Name) (form : BaseForm) (vs : List Value) → length vs ≡ 0 → form ∷ [] ≡ form ∷ joined (map (meant offer above) vs)
 none_again offer above form [] e = refl
@@ -94,8 +89,7 @@ form_again offer items above (form.Choice n) vs e k h = choice_again offer above
 form_again offer items above (form.Many part) vs e k h = one_again offer above (form.Many (record {})) vs e
 form_again offer items above (form.Chain s used operand separator) vs e k h =
     let parts = meant offer above (value_at 0 vs) ++ meant offer above (value_at 1 vs) in
-    ap (λ (t : Side). form.Chain t (builder_named offer (chars used.name)) (record {}) (record {}) ∷ parts) (side_again s)
-    ∙ ap (λ (u : BuilderUse). form.Chain s u (record {}) (record {}) ∷ parts) h
+    ap (λ (u : BuilderUse). form.Chain s u (record {}) (record {}) ∷ parts) h
     ∙ two_again offer above (form.Chain s used (record {}) (record {})) vs e
 form_again offer items above (form.Rule s) vs e k h = none_again offer above (form.Rule s) vs e
 form_again offer items above (form.Expression builders part) vs e k h =
@@ -124,7 +118,7 @@ bodies_again offer items above (suc j) (form ∷ forms) h k named =
     let n = part_count form in
     let counted : length vs ≡ n + j = values_counted items (n + j) forms h in
     let enough : n ≤ length vs = omega (arith, counted) in
-    let none = no_one (lacks_alternative form) (list_any lacks_alternative forms) k in
+    let none = or_parts (lacks_alternative form) (list_any lacks_alternative forms) k in
     let rest = bodies_again offer items above (n + j) forms h none.1 named.1 in
     ap (λ (l : Body). l ++ joined (map (meant offer above) (drop n vs))) (form_again offer items above form (take n vs) (length-take-le n vs enough) none.0 named.0)
     ∙ ap (λ (l : Body). form ∷ l) (split_again offer above n vs ∙ rest)

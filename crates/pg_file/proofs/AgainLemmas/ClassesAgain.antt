@@ -53,7 +53,7 @@ pub joined_both : {A : Type 0} (xs ys : List (List A)) → joined (xs ++ ys) ≡
 joined_both [] ys = refl
 joined_both (x ∷ xs) ys = ap (λ (l : List _). x ++ l) (joined_both xs ys) ∙ sym (append_assoc x (joined xs) (joined ys))
 
--- lists of some atoms and of the others, one behind another
+-- lists of some atoms and of the others, one after another
 split_again : (offer : Offer) (above : List names.Name) (n : ℕ) (atoms : List Atom)
     → joined (map (atom_meant offer above) (take n atoms)) ++ joined (map (atom_meant offer above) (drop n atoms)) ≡ joined (map (atom_meant offer above) atoms)
 split_again offer above n atoms =

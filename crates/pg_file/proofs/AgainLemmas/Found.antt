@@ -24,7 +24,7 @@ placed names s = go (has_name names s) refl
     go true h = let found = number_is_found names s h in at (number_of names s) (place_is_number names s h) h found.named found.below
     go false h = absent (place_is_none names s h) h
 
--- more names behind them
+-- more names after them
 pub name_in_front : (names more : List Name) (k : ℕ) → k < length names → name_at (names ++ more) k ≡ name_at names k
 name_in_front [] more k h = absurd (omega (arith, h))
 name_in_front (s ∷ names) more zero h = refl

@@ -1,5 +1,5 @@
 -- Printed characters are those of ASCII, or at least below the surrogates, so their bytes are UTF-8.
-use Rattle.std.proofs.Common.{◌≡◌, ℕ, Bool, true, false, ◌&&◌, ◌==◌, nat_le, nat_lt, List, [], ◌∷◌, ◌++◌, refl, sym, ◌∙◌, arith}
+use Rattle.std.proofs.Common.{◌≡◌, ℕ, Bool, true, false, ◌&&◌, ◌==◌, nat_le, nat_lt, List, [], ◌∷◌, ◌++◌, refl, sym, subst, ◌∙◌, arith}
 use Rattle.std.proofs.lemmas.Bool.{and_parts}
 use Rattle.std.proofs.lemmas.Bool.Decides.{nat_tests}
 use Rattle.std.specs.Char.{is_ascii_digit, is_ascii_alphabetic}
@@ -14,7 +14,9 @@ use Rattle.pg_tokens.specs.Tokens.{Token, name, number, literal, mark, wrong, ba
 use Rattle.pg_tokens.specs.Lexical.{passes, starts, goes_in_name, is_hex, is_scalar}
 use Rattle.pg_items.specs.Syntax.{file_written}
 use Rattle.pg_print.specs.Canonical.{items_of}
-use Rattle.pg_print.specs.Printed.{escaped, all_escaped, printed_mark, token_text, edge_behind, space, mark_space, space_before, laid_out, characters_printed, printed}
+use Rattle.pg_print.specs.Printed.{escaped, all_escaped, characters_printed, printed}
+use Rattle.pg_print.proofs.PrinterLemmas.Texts.{printed_laid}
+use Rattle.pg_print.specs.Layout.{printed_mark, token_text, edge_after, space, mark_space, space_before, laid_out}
 use Rattle.pg_file.proofs.AgainLemmas.Printable.{IsPrintable, ArePrintable}
 use Rattle.pg_file.proofs.AgainLemmas.Spelled.{hex_digits}
 
@@ -111,7 +113,7 @@ low_before edge bad = refl
 low_laid : (edge : Edge) (ts : List Token) → ArePrintable ts → passes is_low (laid_out edge ts) ≡ true
 low_laid edge [] h = refl
 low_laid edge (t ∷ ts) h =
-    low_both (space_before edge t) (token_text t ++ laid_out (edge_behind t) ts) (low_before edge t) (low_both (token_text t) (laid_out (edge_behind t) ts) (low_token t h.0) (low_laid (edge_behind t) ts h.1))
+    low_both (space_before edge t) (token_text t ++ laid_out (edge_after t) ts) (low_before edge t) (low_both (token_text t) (laid_out (edge_after t) ts) (low_token t h.0) (low_laid (edge_after t) ts h.1))
 
 low_scalars : (s : List ℕ) → passes is_low s ≡ true → all_scalars s ≡ true
 low_scalars [] h = refl
@@ -122,4 +124,6 @@ low_scalars (c ∷ s) h =
 
 -- the bytes that are printed are UTF-8
 pub printed_utf8 : (g : Grammar) → ArePrintable (file_written (items_of g)) → IsUtf8 (printed g)
-printed_utf8 g h = (characters_printed g, (low_scalars (characters_printed g) (low_laid Tight (file_written (items_of g)) h), refl))
+printed_utf8 g h =
+    let low : passes is_low (characters_printed g) ≡ true = subst (λ (cs : List ℕ). passes is_low cs ≡ true) (printed_laid g) (low_laid Tight (file_written (items_of g)) h) in
+    (characters_printed g, (low_scalars (characters_printed g) low, refl))

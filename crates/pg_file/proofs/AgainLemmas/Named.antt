@@ -22,7 +22,7 @@ classes_named offer all above (item ∷ items) h = (class_is_named offer all abo
 
 words_named : (offer : Offer) (all : List names.Name) (items : List WordItem) → AllByRecursion (IsWritableWordItem offer all) items → AreNamedWords offer all items
 words_named offer all [] h = tt
-words_named offer all (item ∷ items) h = ((class_is_named offer all all item.head h.0.first, class_is_named offer all all item.rest h.0.behind), words_named offer all items h.1)
+words_named offer all (item ∷ items) h = ((class_is_named offer all all item.head h.0.first, class_is_named offer all all item.rest h.0.after), words_named offer all items h.1)
 
 operators_named : (offer : Offer) (all : List names.Name) (operators : Option OperatorsItem) → AreWritableOperators offer all operators → AreNamedOperators offer all operators
 operators_named offer all None h = tt

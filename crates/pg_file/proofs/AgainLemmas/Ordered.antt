@@ -36,7 +36,7 @@ new_name (other ∷ before) s after h = let others = new_name before s after h.1
     differs [] k = k.0
     differs (t ∷ names) k = differs names k.1
 
--- ---- items behind others
+-- ---- items after others
 
 both_ordered : (offer : Offer) (made : Made) (items others : List Item) → AreInOrder offer made items → AreInOrder offer (with_items offer made items) others → AreInOrder offer made (items ++ others)
 both_ordered offer made [] others h e = e
@@ -63,7 +63,7 @@ words_ordered offer all before made [] e w d h = tt
 words_ordered offer all before made (item ∷ items) e w d h =
     let named : made_words (with_item offer made (word_item all item)) ≡ before ++ item.name ∷ [] = map-append word_name made.words _ ∙ ap (λ (ns : List names.Name). ns ++ item.name ∷ []) w in
     let distinct = subst AreDistinct (sym (append_assoc before (item.name ∷ []) (map word_name items))) d in (
-      (class_known offer all all made item.head e h.0.first, class_known offer all all made item.rest e h.0.behind),
+      (class_known offer all all made item.head e h.0.first, class_known offer all all made item.rest e h.0.after),
       subst (λ (ns : List names.Name). has_name ns item.name ≡ false) (sym w) (new_name before item.name (map word_name items) d),
       words_ordered offer all (before ++ item.name ∷ []) (with_item offer made (word_item all item)) items e named distinct h.1,
     )

@@ -104,12 +104,12 @@ words_writable : (offer : Offer) (all : List names.Name) (items : List WordItem)
 words_writable offer all [] h = tt
 words_writable offer all (item ∷ items) h =
     let first = printed_class_writable offer all all item.head h.0.first.writable in
-    let behind = printed_class_writable offer all all item.rest h.0.behind.writable in (
+    let after = printed_class_writable offer all all item.rest h.0.after.writable in (
       record {
-        proper = (h.0.name.free, first.proper, behind.proper, texts_filled item.reserved h.0.texts);
+        proper = (h.0.name.free, first.proper, after.proper, texts_filled item.reserved h.0.texts);
         printable = λ rest p.
             let texts = reserved_printable item.reserved (mark Semicolon ∷ rest) h.0.texts (tt, p) in
-            (refl, (h.0.name.name, (refl, first.printable (name _ ∷ class_written (class_from all item.rest) (reserved_written item.reserved (mark Semicolon ∷ rest))) (refl, behind.printable _ texts))));
+            (refl, (h.0.name.name, (refl, first.printable (name _ ∷ class_written (class_from all item.rest) (reserved_written item.reserved (mark Semicolon ∷ rest))) (refl, after.printable _ texts))));
       },
       words_writable offer all items h.1,
     )

@@ -13,10 +13,10 @@ use Rattle.pg_tokens.proofs.Encoded.{chars_encoded}
 abbrev AreScalars : List ℕ → Type 0
 AreScalars s = passes is_scalar s ≡ true
 
--- the characters behind some others
-behind : (xs ys : List ℕ) → AreScalars (xs ++ ys) → AreScalars ys
-behind [] ys h = h
-behind (c ∷ xs) ys h = behind xs ys (and_parts (is_scalar c) (passes is_scalar (xs ++ ys)) h).1
+-- the characters after some others
+after : (xs ys : List ℕ) → AreScalars (xs ++ ys) → AreScalars ys
+after [] ys h = h
+after (c ∷ xs) ys h = after xs ys (and_parts (is_scalar c) (passes is_scalar (xs ++ ys)) h).1
 
 first : (c : ℕ) (cs : List ℕ) → AreScalars (c ∷ cs) → is_scalar c ≡ true
 first c cs h = (and_parts (is_scalar c) (passes is_scalar cs) h).0
@@ -24,8 +24,8 @@ first c cs h = (and_parts (is_scalar c) (passes is_scalar cs) h).0
 others : (c : ℕ) (cs : List ℕ) → AreScalars (c ∷ cs) → AreScalars cs
 others c cs h = (and_parts (is_scalar c) (passes is_scalar cs) h).1
 
-in_front : (c : ℕ) (cs : List ℕ) → is_scalar c ≡ true → AreScalars cs → AreScalars (c ∷ cs)
-in_front c cs h e = rw (h, e) refl
+before_all : (c : ℕ) (cs : List ℕ) → is_scalar c ≡ true → AreScalars cs → AreScalars (c ∷ cs)
+before_all c cs h e = rw (h, e) refl
 
 -- ---- literals
 
@@ -55,26 +55,26 @@ code_is_scalar ds h =
 escape_scalars : (cs : List ℕ) (c : ℕ) (rest : List ℕ) → Escape cs c rest → AreScalars cs → (is_scalar c ≡ true) × AreScalars rest
 escape_scalars cs c rest (short {e = e} {c = d} {rest = tail} k) h = (short_is_scalar e d k, others e tail h)
 escape_scalars cs c rest (unicode ds tail k) h =
-    (code_is_scalar ds k, others 125 tail (behind ds (125 ∷ tail) (others 123 (ds ++ 125 ∷ tail) (others 117 (123 ∷ (ds ++ 125 ∷ tail)) h))))
+    (code_is_scalar ds k, others 125 tail (after ds (125 ∷ tail) (others 123 (ds ++ 125 ∷ tail) (others 117 (123 ∷ (ds ++ 125 ∷ tail)) h))))
 
 literal_scalars : (cs s rest : List ℕ) → Literal cs s rest → AreScalars cs → AreScalars s × AreScalars rest
 literal_scalars cs s rest (closed {rest = tail}) h = (refl, others 34 tail h)
 literal_scalars cs s rest (plain {c = c} {cs = ds} {s = t} {rest = tail} k l) h =
-    let q = literal_scalars ds t tail l (others c ds h) in (in_front c t (first c ds h) q.0, q.1)
-literal_scalars cs s rest (escaped {c = c} {cs = ds} {behind = more} {s = t} {rest = tail} k l) h =
+    let q = literal_scalars ds t tail l (others c ds h) in (before_all c t (first c ds h) q.0, q.1)
+literal_scalars cs s rest (escaped {c = c} {cs = ds} {after = more} {s = t} {rest = tail} k l) h =
     let p = escape_scalars ds c more k (others 92 ds h) in
     let q = literal_scalars more t tail l p.1 in
-    (in_front c t p.0 q.0, q.1)
+    (before_all c t p.0 q.0, q.1)
 
 -- ---- tokens
 
 pub spelled_printable : (cs : List ℕ) (ts : List Token) → Spelled cs ts → AreScalars cs → ArePrintable ts
 spelled_printable cs ts ends h = tt
 spelled_printable cs ts (blank {c = c} {cs = ds} {ts = us} k l) h = spelled_printable ds us l (others c ds h)
-spelled_printable cs ts (comment xs ds {ts = us} k e l) h = spelled_printable ds us l (behind xs ds (others 35 (xs ++ ds) h))
-spelled_printable cs ts (a_mark m ds {ts = us} l) h = (tt, spelled_printable ds us l (behind (mark_text m) ds h))
-spelled_printable cs ts (a_name s ds {ts = us} k e l) h = (k, spelled_printable ds us l (behind s ds h))
-spelled_printable cs ts (a_number s ds {ts = us} k e l) h = (k, spelled_printable ds us l (behind s ds h))
+spelled_printable cs ts (comment xs ds {ts = us} k e l) h = spelled_printable ds us l (after xs ds (others 35 (xs ++ ds) h))
+spelled_printable cs ts (a_mark m ds {ts = us} l) h = (tt, spelled_printable ds us l (after (mark_text m) ds h))
+spelled_printable cs ts (a_name s ds {ts = us} k e l) h = (k, spelled_printable ds us l (after s ds h))
+spelled_printable cs ts (a_number s ds {ts = us} k e l) h = (k, spelled_printable ds us l (after s ds h))
 spelled_printable cs ts (a_literal {cs = ds} {s = s} {rest = tail} {ts = us} k l) h =
     let q = literal_scalars ds s tail k (others 34 ds h) in (q.0, spelled_printable tail us l q.1)
 
@@ -89,7 +89,7 @@ scalar_again c h = go (scalar_cases c h)
 
 scalars_again : (cs : List ℕ) → all_scalars cs ≡ true → AreScalars cs
 scalars_again [] h = refl
-scalars_again (c ∷ cs) h = let q = and_parts (scalar c) (all_scalars cs) h in in_front c cs (scalar_again c q.0) (scalars_again cs q.1)
+scalars_again (c ∷ cs) h = let q = and_parts (scalar c) (all_scalars cs) h in before_all c cs (scalar_again c q.0) (scalars_again cs q.1)
 
 pub utf8_scalars : (bytes : List ℕ) → IsUtf8 bytes → AreScalars (chars bytes)
 utf8_scalars bytes h =

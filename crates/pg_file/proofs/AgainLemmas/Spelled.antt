@@ -1,11 +1,10 @@
 -- Printed tokens are spelled by their characters.
-use Rattle.std.proofs.Common.{◌≡◌, ◌<◌, ◌≤◌, ◌+◌, ◌*◌, ◌/◌, ◌%◌, ◌^◌, ℕ, zero, suc, Bool, true, false, ◌&&◌, ◌==◌, nat_le, nat_lt, if◌then◌else◌, List, [], ◌∷◌, ◌++◌, length, codes, Some, refl, sym, ap, subst, ◌∙◌, append_assoc, arith}
+use Rattle.std.proofs.Common.{◌≡◌, ◌<◌, ◌≤◌, ◌+◌, ◌*◌, ◌/◌, ◌%◌, ◌^◌, ℕ, zero, suc, Bool, true, false, ◌&&◌, ◌==◌, nat_le, nat_lt, if◌then◌else◌, List, [], ◌∷◌, ◌++◌, length, Some, refl, sym, ap, subst, ◌∙◌, append_assoc, arith}
 use Rattle.std.proofs.lemmas.Bool.{and_parts}
 use Rattle.std.proofs.lemmas.Bool.Decides.{nat_tests}
 use Rattle.std.proofs.Math.Nat.{pow-suc}
 use Rattle.std.proofs.lemmas.Fmt.{digits_is_IsNumeral}
 use Rattle.std.specs.Char.{is_ascii_digit, digit_value}
-use Rattle.std.specs.Str.{bytes_eq}
 use Rattle.std.specs.Str.Parse.{digits_value, AllDigits}
 use Rattle.std.specs.Fmt.{digits, digits_onto, digit_glyph}
 use Rattle.pg_tokens.specs.declared.token.Mark.{Mark}
@@ -15,7 +14,8 @@ use Rattle.pg_print.specs.declared.layout.Edge.TheVariants.{Tight, Word, Loose}
 use Rattle.pg_tokens.specs.Tokens.{Token, name, number, literal, mark, wrong, bad}
 use Rattle.pg_tokens.specs.Lexical.{passes, stops, goes_in_name, is_hex, is_scalar, is_code, is_plain, short_escape, short, unicode, Literal, closed, plain, escaped, Spelled, ends, blank, a_mark, a_name, a_number, a_literal}
 use Rattle.pg_print.specs.Printed as printed
-use Rattle.pg_print.specs.Printed.{all_escaped, quoted, printed_mark, token_text, edge_behind, space, mark_space, space_before, laid_out}
+use Rattle.pg_print.specs.Printed.{all_escaped, quoted}
+use Rattle.pg_print.specs.Layout.{comes_before_class, printed_mark, token_text, edge_after, space, mark_space, space_before, laid_out}
 use Rattle.pg_file.proofs.AgainLemmas.Printable.{ArePrintable}
 
 -- ---- hexadecimal digits
@@ -23,8 +23,8 @@ use Rattle.pg_file.proofs.AgainLemmas.Printable.{ArePrintable}
 fewer : (m n : ℕ) → n < 16 ^ suc (suc m) → n / 16 < 16 ^ suc m
 fewer m n h = let e : 16 ^ suc (suc m) ≡ 16 ^ suc m * 16 = rw (pow-suc 16 (suc m)) (omega arith) in omega (arith, e, h)
 
--- a digit more, and those in front of it
-more_digits : (k n : ℕ) (d : ℕ) (acc : List ℕ) → ((m : ℕ) (behind : List ℕ) → n / 16 < 16 ^ suc m → length (digits_onto k 16 false (n / 16) behind) ≤ suc m + length behind)
+-- a digit more, and those before it
+more_digits : (k n : ℕ) (d : ℕ) (acc : List ℕ) → ((m : ℕ) (after : List ℕ) → n / 16 < 16 ^ suc m → length (digits_onto k 16 false (n / 16) after) ≤ suc m + length after)
     → (m : ℕ) → n < 16 ^ suc m → (n / 16 == 0) ≡ false → length (digits_onto k 16 false (n / 16) (d ∷ acc)) ≤ suc m + length acc
 more_digits k n d acc others zero h e = let small : n < 16 = omega (arith, h) in absurd (grind (arith, nat_tests))
 more_digits k n d acc others (suc m) h e = let rest = others m (d ∷ acc) (fewer m n h) in omega (arith, rest)
@@ -32,9 +32,9 @@ more_digits k n d acc others (suc m) h e = let rest = others m (d ∷ acc) (fewe
 -- no more digits than the number needs
 few_onto : (k m n : ℕ) (acc : List ℕ) → n < 16 ^ suc m → length (digits_onto k 16 false n acc) ≤ suc m + length acc
 few_onto zero m n acc h = omega arith
-few_onto (suc k) m n acc h = go (n / 16 == 0) refl (λ m behind e. few_onto k m (n / 16) behind e)
+few_onto (suc k) m n acc h = go (n / 16 == 0) refl (λ m after e. few_onto k m (n / 16) after e)
   where
-    go : (b : Bool) → (n / 16 == 0) ≡ b → ((m : ℕ) (behind : List ℕ) → n / 16 < 16 ^ suc m → length (digits_onto k 16 false (n / 16) behind) ≤ suc m + length behind)
+    go : (b : Bool) → (n / 16 == 0) ≡ b → ((m : ℕ) (after : List ℕ) → n / 16 < 16 ^ suc m → length (digits_onto k 16 false (n / 16) after) ≤ suc m + length after)
         → length (digits_onto (suc k) 16 false n acc) ≤ suc m + length acc
     go true e others = rw e (omega arith)
     go false e others = rw e (more_digits k n (digit_glyph false (n % 16)) acc others m h e)
@@ -150,9 +150,9 @@ number_stops (mark Dots ∷ ts) h = refl
 number_stops (wrong ∷ ts) h = absurd h.0
 number_stops (bad ∷ ts) h = absurd h.0
 
-behind_name : (b : Bool) → IsOpen (if b then Loose else Word)
-behind_name true = tt
-behind_name false = tt
+after_name : (b : Bool) → IsOpen (if b then Loose else Word)
+after_name true = tt
+after_name false = tt
 
 -- ---- tokens
 
@@ -184,8 +184,8 @@ mark_spelled Dots cs ts h = a_mark Dots cs h
 pub laid_spells : (edge : Edge) (ts : List Token) → ArePrintable ts → Spelled (laid_out edge ts) ts
 laid_spells edge [] h = ends
 laid_spells edge (name s ∷ ts) h =
-    let rest = laid_out (edge_behind (name s)) ts in
-    spaced edge (s ++ rest) (name s ∷ ts) (a_name s rest h.0 (name_stops (edge_behind (name s)) ts (behind_name (bytes_eq (codes "not") s)) h.1) (laid_spells (edge_behind (name s)) ts h.1))
+    let rest = laid_out (edge_after (name s)) ts in
+    spaced edge (s ++ rest) (name s ∷ ts) (a_name s rest h.0 (name_stops (edge_after (name s)) ts (after_name (comes_before_class s)) h.1) (laid_spells (edge_after (name s)) ts h.1))
 laid_spells edge (number s ∷ ts) h =
     let rest = laid_out Loose ts in
     spaced edge (s ++ rest) (number s ∷ ts) (a_number s rest h.0 (number_stops ts h.1) (laid_spells Loose ts h.1))
@@ -194,8 +194,8 @@ laid_spells edge (literal s ∷ ts) h =
     spaced edge (quoted s ++ rest) (literal s ∷ ts)
     (subst (λ (l : List ℕ). Spelled (34 ∷ l) (literal s ∷ ts)) (sym (append_assoc (all_escaped s) (34 ∷ []) rest)) (a_literal (literal_spelled s rest h.0) (laid_spells Loose ts h.1)))
 laid_spells edge (mark m ∷ ts) h =
-    let rest = laid_out (edge_behind (mark m)) ts in
-    mark_spaced edge m (printed_mark m ++ rest) (mark m ∷ ts) (mark_spelled m rest ts (laid_spells (edge_behind (mark m)) ts h.1))
+    let rest = laid_out (edge_after (mark m)) ts in
+    mark_spaced edge m (printed_mark m ++ rest) (mark m ∷ ts) (mark_spelled m rest ts (laid_spells (edge_after (mark m)) ts h.1))
 laid_spells edge (wrong ∷ ts) h = absurd h.0
 laid_spells edge (bad ∷ ts) h = absurd h.0
 

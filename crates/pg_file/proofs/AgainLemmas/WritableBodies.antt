@@ -13,7 +13,7 @@ use Rattle.pg_grammar.specs.declared.form.Around.TheVariants as around
 use Rattle.pg_grammar.specs.declared.used.BuilderUse.{BuilderUse}
 use Rattle.pg_items.specs.declared.words.ClassForm.{ClassForm}
 use Rattle.pg_items.specs.declared.words.ClassForm.TheVariants as class_form
-use Rattle.pg_items.specs.declared.words.ChainForm.{ChainForm}
+use Rattle.pg_grammar.specs.declared.side.Side.{Side}
 use Rattle.pg_tokens.specs.declared.token.Mark.TheVariants.{Comma, Close}
 use Rattle.pg_tokens.specs.Tokens.{Token, mark, literal}
 use Rattle.pg_tokens.specs.Lexical.{passes, is_name, is_scalar}
@@ -113,7 +113,7 @@ of_class_writable offer items class_form.Satisfy parts h = h
 of_class_writable offer items class_form.NotFollowedBy parts h = h
 of_class_writable offer items class_form.Declare parts h = h
 
-chain_writable : (offer : Offer) (items : List names.Name) (form : ChainForm) (used : BuilderUse) → IsWritableBuilder offer used → IsWritableForm offer items (chain_of form used)
+chain_writable : (offer : Offer) (items : List names.Name) (form : Side) (used : BuilderUse) → IsWritableBuilder offer used → IsWritableForm offer items (chain_of form used)
 chain_writable offer items form used h = h
 
 -- ---- what a value means
@@ -137,12 +137,12 @@ mutual
       let first = value_writable offer classes items found v (mark Comma ∷ written separator (mark Close ∷ rest)) h.0 p.1.1 (each_first (FormIsKnown offer classes) (heads v) (heads separator) k.1) in
       let second = value_writable offer classes items found separator (mark Close ∷ rest) h.1 first.1.1 (each_second (FormIsKnown offer classes) (heads v) (heads separator) k.1) in
       (kept_two (IsWritableBody offer items) (writable_kept offer items) form _ _ first.0 second.0, second.1.1)
-  value_writable offer classes items found (Between before behind inner) rest h p k =
-      let known = each_second (FormIsKnown offer classes) (heads before) (heads behind ++ heads inner) k.1 in
-      let first = value_writable offer classes items found before (mark Comma ∷ written behind (mark Comma ∷ written inner (mark Close ∷ rest))) h.0 p.1.1
-      (each_first (FormIsKnown offer classes) (heads before) (heads behind ++ heads inner) k.1) in
-      let second = value_writable offer classes items found behind (mark Comma ∷ written inner (mark Close ∷ rest)) h.1 first.1.1 (each_first (FormIsKnown offer classes) (heads behind) (heads inner) known) in
-      let third = value_writable offer classes items found inner (mark Close ∷ rest) h.2 second.1.1 (each_second (FormIsKnown offer classes) (heads behind) (heads inner) known) in
+  value_writable offer classes items found (Between before after inner) rest h p k =
+      let known = each_second (FormIsKnown offer classes) (heads before) (heads after ++ heads inner) k.1 in
+      let first = value_writable offer classes items found before (mark Comma ∷ written after (mark Comma ∷ written inner (mark Close ∷ rest))) h.0 p.1.1
+      (each_first (FormIsKnown offer classes) (heads before) (heads after ++ heads inner) k.1) in
+      let second = value_writable offer classes items found after (mark Comma ∷ written inner (mark Close ∷ rest)) h.1 first.1.1 (each_first (FormIsKnown offer classes) (heads after) (heads inner) known) in
+      let third = value_writable offer classes items found inner (mark Close ∷ rest) h.2 second.1.1 (each_second (FormIsKnown offer classes) (heads after) (heads inner) known) in
       (kept_between (IsWritableBody offer items) (writable_kept offer items) _ _ _ first.0 second.0 third.0, third.1.1)
   value_writable offer classes items found (Chain form builder operand separator) rest h p k =
       let first = value_writable offer classes items found operand (mark Comma ∷ written separator (mark Close ∷ rest)) h.1 p.1.1.1.1 (each_first (FormIsKnown offer classes) (heads operand) (heads separator) k.1) in

@@ -109,7 +109,7 @@ mutual
       let second = atoms_writable offer classes above items found others rest h.1 first.1 more in
       (each_both (IsWritablePart offer items above) (atom_meant offer classes a) (joined (atoms_meant offer classes others)) first.0 second.0, second.1)
 
--- a class expression that a file has is such, and what is written behind it is printable
+-- a class expression that a file has is such, and what is written after it is printable
 pub class_writable : (offer : Offer) (classes above items : List names.Name) → AreFoundAgain offer classes above items → (c : Class) (rest : List Token) → IsProperClass c → ArePrintable (class_written c rest)
     → ClassIsKnown offer classes (class_parts c) → (IsWritableExpression offer items above (class_meant offer classes c)) × ArePrintable rest
 class_writable offer classes above items found c rest h p k =
@@ -147,7 +147,7 @@ pub record IsWritableClass (offer : Offer) (above : List names.Name) (c : Class)
   pub printable : (rest : List Token) → ArePrintable rest → ArePrintable (class_written c rest)
   pub known : ClassIsKnown offer above (class_parts c)
 
--- atoms behind another
+-- atoms after another
 record AreWritableAtoms (offer : Offer) (above : List names.Name) (others : Atoms) : Type 0 where
   proper : AreProperAtoms others
   printable : (rest : List Token) → ArePrintable rest → ArePrintable (atoms_written others rest)

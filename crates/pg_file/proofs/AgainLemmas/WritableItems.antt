@@ -36,7 +36,7 @@ use Rattle.pg_file.proofs.AgainLemmas.WritableBodies.{IsWritableName, IsWritable
 abbrev pub IsWritableText : List ℕ → Type 0
 IsWritableText s = IsFilled s × (passes is_scalar s ≡ true)
 
--- a class item behind those of these names
+-- a class item after those of these names
 pub record IsWritableClassItem (offer : Offer) (items above : List names.Name) (item : ClassItem) : Type 0 where
   pub name : IsWritableName item.name
   pub new : has_name above item.name ≡ false
@@ -50,7 +50,7 @@ AreWritableClassItems offer items above (item ∷ others) = IsWritableClassItem 
 pub record IsWritableWordItem (offer : Offer) (items : List names.Name) (item : WordItem) : Type 0 where
   pub name : IsWritableName item.name
   pub first : IsWritableExpression offer items items item.head
-  pub behind : IsWritableExpression offer items items item.rest
+  pub after : IsWritableExpression offer items items item.rest
   pub texts : AllByRecursion IsWritableText item.reserved
 
 pub record IsWritableOperatorsItem (offer : Offer) (items : List names.Name) (item : OperatorsItem) : Type 0 where
@@ -94,12 +94,12 @@ pub record IsWritableGrammar (offer : Offer) (g : Grammar) : Type 0 where
 
 -- ---- an item more
 
-class_item_behind : (offer : Offer) (items above : List names.Name) (xs : List ClassItem) (item : ClassItem) → AreWritableClassItems offer items above xs
+class_item_after : (offer : Offer) (items above : List names.Name) (xs : List ClassItem) (item : ClassItem) → AreWritableClassItems offer items above xs
     → IsWritableClassItem offer items (above ++ map item_name xs) item → AreWritableClassItems offer items above (xs ++ item ∷ [])
-class_item_behind offer items above [] item h k = (subst (λ (ns : List names.Name). IsWritableClassItem offer items ns item) (append-nil above) k, tt)
-class_item_behind offer items above (x ∷ xs) item h k =
+class_item_after offer items above [] item h k = (subst (λ (ns : List names.Name). IsWritableClassItem offer items ns item) (append-nil above) k, tt)
+class_item_after offer items above (x ∷ xs) item h k =
     let moved = subst (λ (ns : List names.Name). IsWritableClassItem offer items ns item) (sym (append_assoc above (x.name ∷ []) (map item_name xs))) k in
-    (h.0, class_item_behind offer items (above ++ x.name ∷ []) xs item h.1 moved)
+    (h.0, class_item_after offer items (above ++ x.name ∷ []) xs item h.1 moved)
 
 literals_writable : (texts : List (List ℕ)) (rest : List Token) → AllByRecursion IsFilled texts → ArePrintable (literals_written texts rest) → AllByRecursion IsWritableText texts × ArePrintable rest
 literals_writable [] rest h p = (tt, p)
@@ -131,7 +131,7 @@ item_writable : (offer : Offer) (items : List names.Name) (made : Made) → AreF
 item_writable offer items made found (Class_item s c) rest h p k n m =
     let q = class_writable offer (made_classes made) (made_classes made) items found.above c (mark Semicolon ∷ rest) h.1 p.1.1.1 k in (
       record {
-        classes = class_item_behind offer items [] made.classes _ m.classes (record { name = record { free = h.0; name = p.1.0 }; new = n.0; no_predicate = n.1; expression = q.0 });
+        classes = class_item_after offer items [] made.classes _ m.classes (record { name = record { free = h.0; name = p.1.0 }; new = n.0; no_predicate = n.1; expression = q.0 });
         words = m.words;
         operators = m.operators;
         initials = m.initials;
@@ -141,13 +141,13 @@ item_writable offer items made found (Class_item s c) rest h p k n m =
       },
       q.1.1,
     )
-item_writable offer items made found (Word_item s head behind reserved) rest h p k n m =
-    let first = class_writable offer (made_classes made) items items found.all head (name _ ∷ class_written behind (reserved_written reserved (mark Semicolon ∷ rest))) h.1 p.1.1.1 k.0 in
-    let second = class_writable offer (made_classes made) items items found.all behind (reserved_written reserved (mark Semicolon ∷ rest)) h.2 first.1.1 k.1 in
+item_writable offer items made found (Word_item s head after reserved) rest h p k n m =
+    let first = class_writable offer (made_classes made) items items found.all head (name _ ∷ class_written after (reserved_written reserved (mark Semicolon ∷ rest))) h.1 p.1.1.1 k.0 in
+    let second = class_writable offer (made_classes made) items items found.all after (reserved_written reserved (mark Semicolon ∷ rest)) h.2 first.1.1 k.1 in
     let texts = reserved_writable reserved (mark Semicolon ∷ rest) h.3 second.1 in (
       record {
         classes = m.classes;
-        words = each_both (IsWritableWordItem offer items) made.words _ m.words (record { name = record { free = h.0; name = p.1.0 }; first = first.0; behind = second.0; texts = texts.0 }, tt);
+        words = each_both (IsWritableWordItem offer items) made.words _ m.words (record { name = record { free = h.0; name = p.1.0 }; first = first.0; after = second.0; texts = texts.0 }, tt);
         operators = m.operators;
         initials = m.initials;
         start = m.start;
@@ -221,7 +221,7 @@ longer_itself few = record { more = []; is = sym (append-nil few) }
 
 longer_item : (offer : Offer) (made : Made) (item : Item) → IsLonger (made_classes made) (made_classes (with_item offer made item))
 longer_item offer made (Class_item s c) = record { more = s ∷ []; is = map-append item_name made.classes _ }
-longer_item offer made (Word_item s head behind reserved) = longer_itself (made_classes made)
+longer_item offer made (Word_item s head after reserved) = longer_itself (made_classes made)
 longer_item offer made (Operators c gap reserved most) = longer_itself (made_classes made)
 longer_item offer made (Table role precedence symbol) = longer_itself (made_classes made)
 longer_item offer made (Start s) = longer_itself (made_classes made)
@@ -237,7 +237,7 @@ longer_items offer made (item ∷ items) =
 no_predicate : (offer : Offer) (made : Made) (item : Item) → IsNew offer made item → AreNoPredicates offer (made_classes made) → AreNoPredicates offer (made_classes (with_item offer made item))
 no_predicate offer made (Class_item s c) n h =
     subst (λ (ns : List names.Name). AreNoPredicates offer ns) (sym (map-append item_name made.classes _)) (each_both (λ t. is_predicate_name offer t ≡ false) (made_classes made) (s ∷ []) h (n.1, tt))
-no_predicate offer made (Word_item s head behind reserved) n h = h
+no_predicate offer made (Word_item s head after reserved) n h = h
 no_predicate offer made (Operators c gap reserved most) n h = h
 no_predicate offer made (Table role precedence symbol) n h = h
 no_predicate offer made (Start s) n h = h
@@ -250,10 +250,10 @@ no_predicates offer made (item ∷ items) o h = no_predicates offer (with_item o
 all_found : (offer : Offer) (items : List names.Name) (made : Made) → AreNoPredicates offer items → IsLonger (made_classes made) items → AreFound offer items made
 all_found offer items made none longer =
     let classes = made_classes made in
-    let behind = each_second (λ t. is_predicate_name offer t ≡ false) classes longer.more (subst (λ (ns : List names.Name). AreNoPredicates offer ns) longer.is none) in
+    let after = each_second (λ t. is_predicate_name offer t ≡ false) classes longer.more (subst (λ (ns : List names.Name). AreNoPredicates offer ns) longer.is none) in
     record {
       above = subst (λ (ns : List names.Name). AreFoundAgain offer classes classes ns) (sym longer.is) (found_here offer classes longer.more);
-      all = subst (λ (ns : List names.Name). AreFoundAgain offer classes ns ns) (sym longer.is) (found_among_more offer classes longer.more behind);
+      all = subst (λ (ns : List names.Name). AreFoundAgain offer classes ns ns) (sym longer.is) (found_among_more offer classes longer.more after);
     }
 
 -- ---- all items

@@ -19,8 +19,8 @@ use Rattle.pg_items.specs.declared.words.SomeForm.{SomeForm}
 use Rattle.pg_items.specs.declared.words.SomeForm.TheVariants as some_form
 use Rattle.pg_items.specs.declared.words.OneForm.{OneForm}
 use Rattle.pg_items.specs.declared.words.OneForm.TheVariants as one_form
-use Rattle.pg_items.specs.declared.words.ChainForm.{ChainForm}
-use Rattle.pg_items.specs.declared.words.ChainForm.TheVariants as chain_form
+use Rattle.pg_grammar.specs.declared.side.Side.{Side}
+use Rattle.pg_grammar.specs.declared.side.Side.TheVariants as side
 use Rattle.pg_tokens.specs.declared.token.Mark.TheVariants.{Comma, Close}
 use Rattle.pg_tokens.specs.Tokens.{Token, mark, literal}
 use Rattle.pg_tokens.specs.Lexical.{passes, is_name, is_scalar}
@@ -29,7 +29,7 @@ use Rattle.pg_items.specs.Syntax.{class_word, some_word, one_word, chain_word, w
 use Rattle.pg_items.specs.Proper.{IsLiteral, IsProper, AreProper}
 use Rattle.pg_items.specs.Heads.{heads, all_heads}
 use Rattle.pg_meaning.specs.Names.{FormIsKnown}
-use Rattle.pg_print.specs.Canonical.{class_from, values_from, value_at, choice_from, build_from, leaf_value, around_value, chain_form_of, value_of_form, values_of}
+use Rattle.pg_print.specs.Canonical.{class_from, values_from, value_at, choice_from, build_from, leaf_value, around_value, value_of_form, values_of}
 use Rattle.pg_file.proofs.AgainLemmas.Printable.{ArePrintable}
 use Rattle.pg_file.proofs.AgainLemmas.WritableClasses.{each_both, IsWritableExpression, printed_class_writable, IsWritableClass}
 use Rattle.pg_file.proofs.AgainLemmas.WritableBodies.{IsWritableBuilder, IsWritableForm, IsWritableBody}
@@ -114,11 +114,11 @@ one_writable : (offer : Offer) (items : List names.Name) (form : OneForm) (v : V
 one_writable offer items form v h =
     record { proper = h.proper; printable = λ rest p. (one_word_is_name form, (tt, h.printable (mark Close ∷ rest) (tt, p))); known = (tt, h.known) }
 
-chain_word_is_name : (form : ChainForm) → is_name (chain_word form) ≡ true
-chain_word_is_name chain_form.Left = refl
-chain_word_is_name chain_form.Right = refl
+chain_word_is_name : (form : Side) → is_name (chain_word form) ≡ true
+chain_word_is_name side.Left = refl
+chain_word_is_name side.Right = refl
 
-chain_value_writable : (offer : Offer) (items : List names.Name) (form : ChainForm) (used : BuilderUse) (operand separator : Value) → IsWritableBuilder offer used
+chain_value_writable : (offer : Offer) (items : List names.Name) (form : Side) (used : BuilderUse) (operand separator : Value) → IsWritableBuilder offer used
     → IsWritableValue offer items operand → IsWritableValue offer items separator → IsWritableValue offer items (Chain form (chars used.name) operand separator)
 chain_value_writable offer items form used operand separator b h e = record {
   proper = (b.short, h.proper, e.proper);
@@ -167,7 +167,7 @@ form_value_writable offer items (form.Seq n) values h e = seq_writable offer ite
 form_value_writable offer items (form.Choice n) values h e = choice_writable offer items values e
 form_value_writable offer items (form.Many part) values h e = one_writable offer items one_form.Many _ (value_at_writable offer items 0 values e)
 form_value_writable offer items (form.Chain side used operand separator) values h e =
-    chain_value_writable offer items (chain_form_of side) used _ _ h (value_at_writable offer items 0 values e) (value_at_writable offer items 1 values e)
+    chain_value_writable offer items side used _ _ h (value_at_writable offer items 0 values e) (value_at_writable offer items 1 values e)
 form_value_writable offer items (form.Rule s) values h e = record { proper = h.free; printable = λ rest p. (h.name, p); known = (tt, tt) }
 form_value_writable offer items (form.Expression builders part) values h e =
     let term = value_at_writable offer items 0 values e in

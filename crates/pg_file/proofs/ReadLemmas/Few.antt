@@ -12,7 +12,7 @@ use Rattle.pg_items.specs.Heads.{heads, entry_of_item}
 use Rattle.pg_items.specs.Entries.{Entry}
 use Rattle.pg_items.specs.Sizes.{counted, body_size}
 use Rattle.pg_meaning.specs.Meaning.{class_meant, meant}
-use Rattle.pg_parser.specs.Limits.{class_count, word_count, rule_count, node_count, KeepWithin, full_room}
+use Rattle.pg_parser.specs.Limits.{class_count, word_count, rule_count, node_count, KeepWithin, full_allowance}
 use Rattle.pg_making.specs.Spells.{made_classes, with_item, with_items}
 use Rattle.pg_meaning.proofs.MeaningLemmas.Meant.{heads_sized}
 
@@ -37,10 +37,10 @@ counts offer made (Class_item s c ∷ items) =
     let added : ClassItem = record { name = s; class = class_meant offer (made_classes made) c } in
     let more = length-append made.classes (added ∷ []) in
     record { classes = omega (arith, ih.classes, more); words = ih.words; rules = ih.rules; nodes = ih.nodes }
-counts offer made (Word_item s head behind reserved ∷ items) =
-    let ih = counts offer (with_item offer made (Word_item s head behind reserved)) items in
+counts offer made (Word_item s head after reserved ∷ items) =
+    let ih = counts offer (with_item offer made (Word_item s head after reserved)) items in
     let classes = made_classes made in
-    let added : WordItem = record { name = s; head = class_meant offer classes head; rest = class_meant offer classes behind; reserved = reserved } in
+    let added : WordItem = record { name = s; head = class_meant offer classes head; rest = class_meant offer classes after; reserved = reserved } in
     let more = length-append made.words (added ∷ []) in
     record { classes = ih.classes; words = omega (arith, ih.words, more); rules = ih.rules; nodes = ih.nodes }
 counts offer made (Operators c gap reserved most ∷ items) =
@@ -62,7 +62,7 @@ counts offer made (Rule_item s v ∷ items) =
     record { classes = ih.classes; words = ih.words; rules = omega (arith, ih.rules, name); nodes = omega (arith, ih.nodes, more, sized, most) }
 
 -- the items of a grammar are few enough
-pub keep_within : (offer : Offer) (items : List Item) (g : Grammar) → Says (with_items offer nothing_made items) g → KeepWithin full_room (map entry_of_item items)
+pub keep_within : (offer : Offer) (items : List Item) (g : Grammar) → Says (with_items offer nothing_made items) g → KeepWithin full_allowance (map entry_of_item items)
 keep_within offer items g says =
     let c = counts offer nothing_made items in
     let grammar = says.sound in

@@ -24,7 +24,7 @@ use Rattle.pg_items.specs.declared.words.ClassForm.{ClassForm}
 use Rattle.pg_items.specs.declared.words.ClassForm.TheVariants.{Satisfy}
 use Rattle.pg_items.specs.declared.words.SomeForm.{SomeForm}
 use Rattle.pg_items.specs.declared.words.SomeForm.TheVariants.{Choice, Try}
-use Rattle.pg_items.specs.declared.words.ChainForm.{ChainForm}
+use Rattle.pg_grammar.specs.declared.side.Side.{Side}
 use Rattle.pg_meaning.specs.Names.{builder_named, item_or_predicate, PartIsKnown, ClassIsKnown, BuilderIsKnown, FormIsKnown}
 use Rattle.pg_meaning.specs.Meaning.{Body, joined, some_of, class_of, chain_of}
 use Rattle.pg_meaning.specs.Bodies.{part_meant, parts_meant, body_at, body_of_form, bodies, body_meant}
@@ -123,7 +123,7 @@ of_class_fits : (offer : Offer) (classes : List names.Name) (form : ClassForm) (
 of_class_fits offer classes Satisfy parts h = (class_fits offer classes parts h, tt)
 of_class_fits offer classes _ parts h = (class_fits offer classes parts h, tt)
 
-chain_fits : (offer : Offer) (form : ChainForm) (s : names.Name) → BuilderIsKnown offer s → FormFits offer (chain_of form (builder_named offer s))
+chain_fits : (offer : Offer) (form : Side) (s : names.Name) → BuilderIsKnown offer s → FormFits offer (chain_of form (builder_named offer s))
 chain_fits offer form s h = (tt, (builder_fits offer s h, tt))
 
 form_fits : (offer : Offer) (classes : List names.Name) (form : WrittenForm) (bs : List Body) → FormIsKnown offer classes form → BodiesFit offer bs → BodyFits offer (body_of_form offer classes form bs)
@@ -167,9 +167,9 @@ entry_fits : (offer : Offer) (made : Made) (e : Entry) → MadeFits offer made �
 entry_fits offer made (entry.class s parts) m h =
     let one = class_fits offer (made_classes made) parts h.0.known in
     record { classes = both (λ item. ClassFits offer (item_class item)) made.classes _ m.classes (one, tt); words = m.words; operators = m.operators; forms = m.forms }
-entry_fits offer made (entry.word s head behind reserved) m h =
+entry_fits offer made (entry.word s head after reserved) m h =
     let one = class_fits offer (made_classes made) head h.0.known.0 in
-    let other = class_fits offer (made_classes made) behind h.0.known.1 in
+    let other = class_fits offer (made_classes made) after h.0.known.1 in
     record { classes = m.classes; words = both (WordFits offer) made.words _ m.words ((one, other), tt); operators = m.operators; forms = m.forms }
 entry_fits offer made (entry.operators parts gap reserved most) m h =
     let one = class_fits offer (made_classes made) parts h.0.known.0 in

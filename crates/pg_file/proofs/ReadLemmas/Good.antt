@@ -27,7 +27,7 @@ mutual
   value_good (Of_some form v vs) rest h = (tt, (tt, value_good v (written_more vs rest) (more_good vs rest h)))
   value_good (Of_one form v) rest h = (tt, (tt, value_good v _ (tt, h)))
   value_good (Of_two form v separator) rest h = (tt, (tt, value_good v _ (tt, value_good separator _ (tt, h))))
-  value_good (Between before behind inner) rest h = (tt, (tt, value_good before _ (tt, value_good behind _ (tt, value_good inner _ (tt, h)))))
+  value_good (Between before after inner) rest h = (tt, (tt, value_good before _ (tt, value_good after _ (tt, value_good inner _ (tt, h)))))
   value_good (Chain form builder operand separator) rest h = (tt, (tt, (tt, (tt, value_good operand _ (tt, value_good separator _ (tt, h))))))
   value_good (Expression infixes prefixes postfixes term) rest h = (tt, (tt, (tt, (tt, (tt, (tt, (tt, (tt, value_good term _ (tt, h)))))))))
   value_good (Build builder v) rest h = (tt, (tt, (tt, (tt, value_good v _ (tt, h)))))
@@ -59,8 +59,8 @@ most_good (Some digits) rest h = (tt, (tt, h))
 
 item_good : (item : Item) (rest : List Token) → AreGood rest → AreGood (item_written item rest)
 item_good (Class_item s c) rest h = (tt, (tt, (tt, class_good c _ (tt, h))))
-item_good (Word_item s head behind reserved) rest h =
-    (tt, (tt, (tt, class_good head _ (tt, class_good behind _ (reserved_good reserved _ (tt, h))))))
+item_good (Word_item s head after reserved) rest h =
+    (tt, (tt, (tt, class_good head _ (tt, class_good after _ (reserved_good reserved _ (tt, h))))))
 item_good (Operators class gap reserved most) rest h =
     (tt, class_good class _ (tt, class_good gap _ (reserved_good reserved _ (most_good most _ (tt, h)))))
 item_good (Table role precedence symbol) rest h = (tt, (tt, (tt, (tt, (tt, h)))))

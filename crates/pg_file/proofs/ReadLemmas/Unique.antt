@@ -23,7 +23,7 @@ use Rattle.pg_parser.proofs.ParserLemmas.ItemsFound.{item_within, item_found}
 
 -- ---- items
 
--- the same entry, and the same tokens behind it
+-- the same entry, and the same tokens after it
 same_item : (item other : Item) (rest more : List Token) → IsProperItem item → IsProperItem other → item_written item rest ≡ item_written other more
     → (entry_of_item item ≡ entry_of_item other) × (rest ≡ more)
 same_item item other rest more p q e =
@@ -31,7 +31,7 @@ same_item item other rest more p q e =
     let one = item_found deep item rest p (le-max_left (item_depth item) (item_depth other)) in
     let two = item_found deep other more q (le-max_right (item_depth item) (item_depth other)) in
     let same = some_is (entry_of_item item, mark Semicolon ∷ rest) (entry_of_item other, mark Semicolon ∷ more) (sym one ∙ ap (item_within deep) e ∙ two) in
-    let behind : mark Semicolon ∷ rest ≡ mark Semicolon ∷ more = ap (λ (x : Entry × List Token). x.1) same in
+    let after : mark Semicolon ∷ rest ≡ mark Semicolon ∷ more = ap (λ (x : Entry × List Token). x.1) same in
     (ap (λ (x : Entry × List Token). x.0) same, cc)
 
 some_tokens : (item : Item) (rest : List Token) → IsProperItem item → item_written item rest ≡ [] → ⊥
@@ -47,7 +47,7 @@ same_items [] (other ∷ others) p q e = absurd (some_tokens other (file_written
 same_items (item ∷ items) [] p q e = absurd (some_tokens item (file_written items) p.0 e)
 same_items (item ∷ items) (other ∷ others) p q e =
     let first = same_item item other (file_written items) (file_written others) p.0 q.0 e in
-    let behind = same_items items others p.1 q.1 first.1 in
+    let after = same_items items others p.1 q.1 first.1 in
     let entry = first.0 in
     cc
 

@@ -2,7 +2,7 @@
 use Rattle.std.proofs.Common.{◌≡◌, ◌≤◌, ℕ, zero, suc, List, [], ◌∷◌, ◌++◌, length, take, drop, refl, sym, ap, ◌∙◌, append_assoc, arith}
 use Rattle.std.proofs.lemmas.List.{length-append, take-append-drop}
 
--- the first of a list that is put in front of others, and these
+-- the first of a list that is put before others, and these
 pub take_front : {A : Type 0} (n : ℕ) (xs ys : List A) → length xs ≡ n → take n (xs ++ ys) ≡ xs
 take_front {A} zero [] ys h = refl
 take_front {A} (suc n) [] ys h = absurd cc
@@ -15,7 +15,7 @@ drop_front {A} (suc n) [] ys h = absurd cc
 drop_front {A} zero (x ∷ xs) ys h = absurd cc
 drop_front {A} (suc n) (x ∷ xs) ys h = let fewer : length xs ≡ n = cc in drop_front n xs ys fewer
 
--- what is left of a list, without its last element: that element stands first of those behind
+-- what is left of a list, without its last element: that element stands first of those after
 pub record IsOneBack {A : Type 0} (before : List A) (x : A) (rest all : List A) : Type 0 where
   pub within : length before ≤ length all
   pub front : before ≡ take (length before) all

@@ -95,7 +95,7 @@ pub first_counted : (ns : List ℕ) → size_at 0 (map counted ns) ≡ counted (
 first_counted [] = refl
 first_counted (n ∷ ns) = refl
 
--- the size of a form in front of others, from sizes that are counted
+-- the size of a form before others, from sizes that are counted
 pub step_counted : (form : WrittenForm) (forms : List WrittenForm) (waiting : List ℕ) (size : ℕ)
     → waiting ≡ map counted (sizes forms) → size ≡ counted (size_of_form form (take (part_count form) waiting))
     → size ∷ drop (part_count form) waiting ≡ map counted (sizes (form ∷ forms))

@@ -1,9 +1,9 @@
--- Whole forms, each with its parts behind it, one form behind another.
+-- Whole forms, each with its parts after it, one form after another.
 use Rattle.std.proofs.Common.{◌≡◌, ℕ, zero, suc, ◌+◌, List, [], ◌∷◌, ◌++◌, map, subst, ap, refl, arith}
 use Rattle.std.specs.List.{AllByRecursion}
 use Rattle.pg_grammar.specs.Preorder.{SpellForms}
 
--- whole forms, and others behind them
+-- whole forms, and others after them
 spell_append : (k j : ℕ) (counts others : List ℕ) → SpellForms k counts → SpellForms j others → SpellForms (k + j) (counts ++ others)
 spell_append k j [] others h e =
     let same : j ≡ k + j = omega (arith, h) in subst (λ (m : ℕ). SpellForms m others) same e
@@ -18,13 +18,13 @@ map_append : {A : Type 0} (count : A → ℕ) (xs others : List A) → map count
 map_append count [] others = refl
 map_append count (x ∷ xs) others = ap (λ (ns : List ℕ). count x ∷ ns) (map_append count xs others)
 
--- one whole form, and others behind it
+-- one whole form, and others after it
 pub spell_first : {A : Type 0} (count : A → ℕ) (xs others : List A) (n : ℕ) → SpellForms 1 (map count xs) → SpellForms n (map count others) → SpellForms (suc n) (map count (xs ++ others))
 spell_first count xs others n h e =
     let next : 1 + n ≡ suc n = omega arith in
     rw (map_append count xs others) (subst (λ (m : ℕ). SpellForms m (map count xs ++ map count others)) next (spell_append 1 n (map count xs) (map count others) h e))
 
--- as many as the form in front of them counts
+-- as many as the form before them counts
 pub spell_parts : {A : Type 0} (count : A → ℕ) (n : ℕ) (xs : List A) → SpellForms n (map count xs) → SpellForms (n + 0) (map count xs)
 spell_parts count n xs h = let same : n ≡ n + 0 = omega arith in subst (λ (m : ℕ). SpellForms m (map count xs)) same h
 

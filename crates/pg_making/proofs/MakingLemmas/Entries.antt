@@ -14,8 +14,8 @@ use Rattle.pg_meaning.proofs.MeaningLemmas.Meant.{class_parts_meant, heads_meant
 
 pub with_entry_is : (offer : Offer) (made : Made) (item : Item) → with_entry offer made (entry_of_item item) ≡ with_item offer made item
 with_entry_is offer made (Class_item s c) = ap (with_class made s) (class_parts_meant offer (made_classes made) c)
-with_entry_is offer made (Word_item s head behind reserved) =
-    rw (class_parts_meant offer (made_classes made) head, class_parts_meant offer (made_classes made) behind) refl
+with_entry_is offer made (Word_item s head after reserved) =
+    rw (class_parts_meant offer (made_classes made) head, class_parts_meant offer (made_classes made) after) refl
 with_entry_is offer made (Operators c gap reserved most) =
     rw (class_parts_meant offer (made_classes made) c, class_parts_meant offer (made_classes made) gap) refl
 with_entry_is offer made (Table role precedence symbol) = refl
@@ -32,7 +32,7 @@ with_entries_is offer made (item ∷ items) =
 
 known_entry : (offer : Offer) (classes : List names.Name) (item : Item) → IsKnown offer classes item → EntryIsKnown offer classes (entry_of_item item)
 known_entry offer classes (Class_item s c) h = h
-known_entry offer classes (Word_item s head behind reserved) h = h
+known_entry offer classes (Word_item s head after reserved) h = h
 known_entry offer classes (Operators c gap reserved most) h = h
 known_entry offer classes (Table role precedence symbol) h = h
 known_entry offer classes (Start s) h = h
@@ -40,7 +40,7 @@ known_entry offer classes (Rule_item s v) h = h
 
 known_item : (offer : Offer) (classes : List names.Name) (item : Item) → EntryIsKnown offer classes (entry_of_item item) → IsKnown offer classes item
 known_item offer classes (Class_item s c) h = h
-known_item offer classes (Word_item s head behind reserved) h = h
+known_item offer classes (Word_item s head after reserved) h = h
 known_item offer classes (Operators c gap reserved most) h = h
 known_item offer classes (Table role precedence symbol) h = h
 known_item offer classes (Start s) h = h
@@ -48,7 +48,7 @@ known_item offer classes (Rule_item s v) h = h
 
 new_entry : (offer : Offer) (made : Made) (item : Item) → IsNew offer made item → EntryIsNew offer made (entry_of_item item)
 new_entry offer made (Class_item s c) h = h
-new_entry offer made (Word_item s head behind reserved) h = h
+new_entry offer made (Word_item s head after reserved) h = h
 new_entry offer made (Operators c gap reserved most) h = h
 new_entry offer made (Table role precedence symbol) h = h
 new_entry offer made (Start s) h = h
@@ -56,7 +56,7 @@ new_entry offer made (Rule_item s v) h = h
 
 new_item : (offer : Offer) (made : Made) (item : Item) → EntryIsNew offer made (entry_of_item item) → IsNew offer made item
 new_item offer made (Class_item s c) h = h
-new_item offer made (Word_item s head behind reserved) h = h
+new_item offer made (Word_item s head after reserved) h = h
 new_item offer made (Operators c gap reserved most) h = h
 new_item offer made (Table role precedence symbol) h = h
 new_item offer made (Start s) h = h
@@ -65,16 +65,16 @@ new_item offer made (Rule_item s v) h = h
 pub entries_in_order : (offer : Offer) (made : Made) (items : List Item) → AreInOrder offer made items → EntriesAreInOrder offer made (map entry_of_item items)
 entries_in_order offer made [] h = tt
 entries_in_order offer made (item ∷ items) h =
-    let behind = entries_in_order offer (with_item offer made item) items h.2 in (
+    let after = entries_in_order offer (with_item offer made item) items h.2 in (
       record { known = known_entry offer (made_classes made) item h.0; new = new_entry offer made item h.1 },
-      subst (λ m. EntriesAreInOrder offer m (map entry_of_item items)) (sym (with_entry_is offer made item)) behind,
+      subst (λ m. EntriesAreInOrder offer m (map entry_of_item items)) (sym (with_entry_is offer made item)) after,
     )
 
 pub items_in_order : (offer : Offer) (made : Made) (items : List Item) → EntriesAreInOrder offer made (map entry_of_item items) → AreInOrder offer made items
 items_in_order offer made [] h = tt
 items_in_order offer made (item ∷ items) h =
-    let behind = subst (λ m. EntriesAreInOrder offer m (map entry_of_item items)) (with_entry_is offer made item) h.1 in
-    (known_item offer (made_classes made) item h.0.known, new_item offer made item h.0.new, items_in_order offer (with_item offer made item) items behind)
+    let after = subst (λ m. EntriesAreInOrder offer m (map entry_of_item items)) (with_entry_is offer made item) h.1 in
+    (known_item offer (made_classes made) item h.0.known, new_item offer made item h.0.new, items_in_order offer (with_item offer made item) items after)
 
 -- ---- grammars
 

@@ -1,9 +1,7 @@
 -- What a grammar says can be finished.
 use Rattle.std.proofs.Common.{◌≡◌, ◌<◌, ℕ, zero, suc, Bool, true, false, ◌||◌, List, [], ◌∷◌, length, map, None, refl, sym, subst, arith}
 use Rattle.std.proofs.lemmas.List.{length-map}
-use Rattle.std.proofs.lemmas.Slice.Eq.{bytes_eq-Decides}
 use Rattle.std.specs.List.{AllByRecursion, list_any}
-use Rattle.std.specs.Str.{bytes_eq}
 use Rattle.pg_grammar.specs.Names.{Name, has_name, name_at}
 use Rattle.pg_grammar.specs.WordItems.{word_name}
 use Rattle.pg_grammar.specs.Forms.{Node, form_of, has_unknown_name, NamesRule, NamesWord}
@@ -11,18 +9,7 @@ use Rattle.pg_grammar.specs.Grammar.{Grammar, rule_name, rule_names, word_names}
 use Rattle.pg_grammar.specs.Made.{Made, Says, finish_fault}
 use Rattle.pg_grammar.specs.declared.form.Form.TheVariants as form
 use Rattle.pg_grammar.specs.declared.form.Leaf.TheVariants as leaf
-
--- the name with a number is among the names
-has_name_at : (names : List Name) (r : ℕ) → r < length names → has_name names (name_at names r) ≡ true
-has_name_at [] r below = absurd (omega arith)
-has_name_at (name ∷ names) zero below = rw ((bytes_eq-Decides name name).1 refl) refl
-has_name_at (name ∷ names) (suc r) below =
-    let fewer : r < length names = omega arith in
-    go (bytes_eq name (name_at names r)) (has_name_at names r fewer)
-  where
-    go : (b : Bool) → has_name names (name_at names r) ≡ true → (b || has_name names (name_at names r)) ≡ true
-    go true h = refl
-    go false h = h
+use Rattle.pg_grammar.proofs.Unique.{has_name_at}
 
 -- a node whose numbers name something names nothing that isn't there
 node_is_known : (rules words : List Name) (n : Node) → NamesRule (length rules) n → NamesWord (length words) n

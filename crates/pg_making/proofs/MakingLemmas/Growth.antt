@@ -31,7 +31,7 @@ longer xs ys = omega (arith, length-append xs ys)
 
 within_entry : (offer : Offer) (made : Made) (entry : Entry) → IsWithin made (with_entry offer made entry)
 within_entry offer made (class s parts) = record { classes = longer made.classes _; words = omega arith; names = omega arith; forms = omega arith }
-within_entry offer made (word s head behind reserved) = record { classes = omega arith; words = longer made.words _; names = omega arith; forms = omega arith }
+within_entry offer made (word s head after reserved) = record { classes = omega arith; words = longer made.words _; names = omega arith; forms = omega arith }
 within_entry offer made (operators parts gap reserved most) = record { classes = omega arith; words = omega arith; names = omega arith; forms = omega arith }
 within_entry offer made (table role precedence symbol) = record { classes = omega arith; words = omega arith; names = omega arith; forms = omega arith }
 within_entry offer made (start s) = record { classes = omega arith; words = omega arith; names = omega arith; forms = omega arith }

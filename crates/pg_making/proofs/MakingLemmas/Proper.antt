@@ -23,7 +23,7 @@ of_class s parts h = go h.item h.proper h.meant
     go (Class_item t c) p e =
         let same : t ≡ s = cc in
         record { tree = c; free = subst IsFreeName same p.0; proper = p.1; parts_are = cc }
-    go (Word_item t head behind reserved) p e = absurd cc
+    go (Word_item t head after reserved) p e = absurd cc
     go (Operators c gap reserved most) p e = absurd cc
     go (Table role precedence symbol) p e = absurd cc
     go (Start t) p e = absurd cc
@@ -44,12 +44,12 @@ of_word s head rest reserved h = go h.item h.proper h.meant
   where
     go : (item : Item) → IsProperItem item → word s head rest reserved ≡ entry_of_item item → OfWord s head rest reserved
     go (Class_item t c) p e = absurd cc
-    go (Word_item t first behind texts) p e =
+    go (Word_item t first after texts) p e =
         let same : t ≡ s = cc in
         let kept : texts ≡ reserved = cc in
         record {
           head_tree = first;
-          rest_tree = behind;
+          rest_tree = after;
           free = subst IsFreeName same p.0;
           head_proper = p.1;
           rest_proper = p.2;
@@ -83,7 +83,7 @@ of_operators parts gap reserved most h = go h.item h.proper h.meant
   where
     go : (item : Item) → IsProperItem item → operators parts gap reserved most ≡ entry_of_item item → OfOperators parts gap reserved most
     go (Class_item t c) p e = absurd cc
-    go (Word_item t first behind texts) p e = absurd cc
+    go (Word_item t first after texts) p e = absurd cc
     go (Operators c between texts number) p e =
         let kept : texts ≡ reserved = cc in
         let same : most_of number ≡ most = cc in
@@ -108,7 +108,7 @@ of_start s h = go h.item h.proper h.meant
   where
     go : (item : Item) → IsProperItem item → start s ≡ entry_of_item item → IsFreeName s
     go (Class_item t c) p e = absurd cc
-    go (Word_item t first behind texts) p e = absurd cc
+    go (Word_item t first after texts) p e = absurd cc
     go (Operators c between texts number) p e = absurd cc
     go (Table role precedence symbol) p e = absurd cc
     go (Start t) p e = let same : t ≡ s = cc in subst IsFreeName same p
@@ -125,7 +125,7 @@ of_rule s forms h = go h.item h.proper h.meant
   where
     go : (item : Item) → IsProperItem item → rule s forms ≡ entry_of_item item → OfRule s forms
     go (Class_item t c) p e = absurd cc
-    go (Word_item t first behind texts) p e = absurd cc
+    go (Word_item t first after texts) p e = absurd cc
     go (Operators c between texts number) p e = absurd cc
     go (Table role precedence symbol) p e = absurd cc
     go (Start t) p e = absurd cc

@@ -1,4 +1,4 @@
--- A maker refuses no item that may follow, if a grammar comes of it and of what stands behind it.
+-- A maker refuses no item that may follow, if a grammar comes of it and of what stands after it.
 use Rattle.std.proofs.Common.{◌≡◌, ◌≤◌, ◌<◌, ◌+◌, ℕ, Bool, true, false, nat_lt, nat_le, if◌then◌else◌, List, [], ◌∷◌, ◌++◌, length, Option, Some, None, Result, Ok, Err, MatchOption, refl, sym, ap, subst, ◌∙◌, arith}
 use Rattle.std.proofs.lemmas.Bool.Decides.{nat_tests}
 use Rattle.std.proofs.lemmas.List.{length-append, length-map}
@@ -103,11 +103,11 @@ pub word_no_fault : (offer : Offer) (made : Made) (s : Name) (head rest : List W
 word_no_fault offer made s head rest reserved entries g proper may says =
     let of = of_word s head rest reserved proper in
     let first = class_taken offer made of.head_tree head of.head_proper of.head_is in
-    let behind = class_taken offer made of.rest_tree rest of.rest_proper of.rest_is in
+    let after = class_taken offer made of.rest_tree rest of.rest_proper of.rest_is in
     let limits = front_in_limits offer (with_entry offer made (word s head rest reserved)) entries g says in
     let new : has_word made.words s ≡ false = sym (any-map (λ other. bytes_eq other s) word_name made.words) ∙ may.new in
     let few = below 64 made.words _ limits.words in
-    rw (first.known, behind.known, new, first.ascend, behind.ascend, none_empty reserved of.filled, short_name s of.free, first.short, behind.short, none_long reserved of.filled, few) refl
+    rw (first.known, after.known, new, first.ascend, after.ascend, none_empty reserved of.filled, short_name s of.free, first.short, after.short, none_long reserved of.filled, few) refl
 
 pub operators_no_fault : (offer : Offer) (made : Made) (parts gap : List WrittenPart) (reserved : List (List ℕ)) (most : Option ℕ)
     → IsProperEntry (operators parts gap reserved most) → MayFollow offer made (operators parts gap reserved most)
@@ -115,13 +115,13 @@ pub operators_no_fault : (offer : Offer) (made : Made) (parts gap : List Written
 operators_no_fault offer made parts gap reserved most proper may =
     let of = of_operators parts gap reserved most proper in
     let first = class_taken offer made of.class_tree parts of.class_proper of.class_is in
-    let behind = class_taken offer made of.gap_tree gap of.gap_proper of.gap_is in
+    let after = class_taken offer made of.gap_tree gap of.gap_proper of.gap_is in
     let new : is_some made.operators ≡ false = rw may.new refl in
     let least = of.least in
     let within = of.most_within in
     let low : nat_lt (max_meant most) 1 ≡ false = grind (arith, nat_tests) in
     let high : nat_lt 64 (max_meant most) ≡ false = grind (arith, nat_tests) in
-    rw (first.known, behind.known, new, first.ascend, behind.ascend, none_empty reserved of.filled, first.short, behind.short, none_long reserved of.filled, low, high) refl
+    rw (first.known, after.known, new, first.ascend, after.ascend, none_empty reserved of.filled, first.short, after.short, none_long reserved of.filled, low, high) refl
 
 -- the base forms of a proper rule are one whole form
 pub rule_is_body : (offer : Offer) (classes : List Name) (s : Name) (forms : List WrittenForm) → IsProperEntry (rule s forms)

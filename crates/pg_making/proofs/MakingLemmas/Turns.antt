@@ -46,7 +46,7 @@ next_handed items i item below is =
     let more : take (i + 1) items ≡ take i items ++ item ∷ [] = take_more items i item below ∙ ap (λ x. take i items ++ x ∷ []) (sym is) in
     ap entries_of more ∙ map_push entry_of (take i items) item
 
--- ---- items behind one another
+-- ---- items after one another
 
 with_more : (offer : Offer) (made : Made) (front : List Entry) (entry : Entry)
     → with_entries offer made (front ++ entry ∷ []) ≡ with_entry offer (with_entries offer made front) entry
@@ -59,12 +59,12 @@ more_in_order offer made [] entry h may = (may, tt)
 more_in_order offer made (first ∷ front) entry h may = (h.0, more_in_order offer (with_entry offer made first) front entry h.1 may)
 
 -- an entry that leads nowhere stands in no grammar
-stands_nowhere : (offer : Offer) (made : Made) (front behind : List Entry) (entry : Entry) (g : Grammar)
-    → LeadsNowhere offer (with_entries offer made front) entry → EntriesAreInOrder offer made (front ++ entry ∷ behind)
-    → Says (with_entries offer made (front ++ entry ∷ behind)) g → ⊥
-stands_nowhere offer made [] behind entry g nowhere ordered says = nowhere behind g ordered.0 says
-stands_nowhere offer made (first ∷ front) behind entry g nowhere ordered says =
-    stands_nowhere offer (with_entry offer made first) front behind entry g nowhere ordered.1 says
+stands_nowhere : (offer : Offer) (made : Made) (front after : List Entry) (entry : Entry) (g : Grammar)
+    → LeadsNowhere offer (with_entries offer made front) entry → EntriesAreInOrder offer made (front ++ entry ∷ after)
+    → Says (with_entries offer made (front ++ entry ∷ after)) g → ⊥
+stands_nowhere offer made [] after entry g nowhere ordered says = nowhere after g ordered.0 says
+stands_nowhere offer made (first ∷ front) after entry g nowhere ordered says =
+    stands_nowhere offer (with_entry offer made first) front after entry g nowhere ordered.1 says
 
 -- ---- what was handed in
 
@@ -100,7 +100,7 @@ next_nowhere offer items i item made g below is handed nowhere grammar =
 
 -- ---- the end
 
--- behind the last item all are handed in
+-- after the last item all are handed in
 pub all_handed : (offer : Offer) (items : List declared.Item) (i : ℕ) (made : Made) → length items ≤ i
     → AreHanded offer (entries_of (take i items)) made → AreHanded offer (entries_of items) made
 all_handed offer items i made end handed = subst (λ xs. AreHanded offer (entries_of xs) made) (take_all i items end) handed

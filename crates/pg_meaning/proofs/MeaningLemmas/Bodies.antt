@@ -17,7 +17,7 @@ pub values_counted : (offer : Offer) (classes : List names.Name) (vs : Values) �
 values_counted offer classes No_value = refl
 values_counted offer classes (And v vs) = ap suc (values_counted offer classes vs)
 
--- a form takes the bodies that stand first behind it, as many as it has parts
+-- a form takes the bodies that stand first after it, as many as it has parts
 taken : (offer : Offer) (classes : List names.Name) (form : WrittenForm) (forms : List WrittenForm) (parts others : List Body)
     → bodies offer classes forms ≡ parts ++ others → length parts ≡ part_count form
     → bodies offer classes (form ∷ forms) ≡ body_of_form offer classes form parts ∷ others
@@ -26,12 +26,12 @@ taken offer classes form forms parts others h e =
     let rest : drop (part_count form) (bodies offer classes forms) ≡ others = rw h (drop_front (part_count form) parts others e) in
     cc
 
--- a value and others behind it, in front of a rest
-behind : (offer : Offer) (classes : List names.Name) (xs ys rest : List WrittenForm) (body : Body) (parts : List Body)
+-- a value and others after it, before a rest
+following : (offer : Offer) (classes : List names.Name) (xs ys rest : List WrittenForm) (body : Body) (parts : List Body)
     → bodies offer classes (xs ++ (ys ++ rest)) ≡ body ∷ bodies offer classes (ys ++ rest)
     → bodies offer classes (ys ++ rest) ≡ parts ++ bodies offer classes rest
     → bodies offer classes ((xs ++ ys) ++ rest) ≡ body ∷ (parts ++ bodies offer classes rest)
-behind offer classes xs ys rest body parts h e = rw append_assoc (h ∙ ap (λ (all : List Body). body ∷ all) e)
+following offer classes xs ys rest body parts h e = rw append_assoc (h ∙ ap (λ (all : List Body). body ∷ all) e)
 
 mutual
   pub value_in_front : (offer : Offer) (classes : List names.Name) (v : Value) (rest : List WrittenForm)
@@ -44,24 +44,24 @@ mutual
       (values_in_front offer classes vs rest) (values_counted offer classes vs)
   value_in_front offer classes (Of_some form v vs) rest =
       taken offer classes (written.OfSome form (suc (value_count vs))) ((heads v ++ all_heads vs) ++ rest) (meant offer classes v ∷ all_meant offer classes vs) _
-      (behind offer classes (heads v) (all_heads vs) rest _ _ (value_in_front offer classes v (all_heads vs ++ rest)) (values_in_front offer classes vs rest))
+      (following offer classes (heads v) (all_heads vs) rest _ _ (value_in_front offer classes v (all_heads vs ++ rest)) (values_in_front offer classes vs rest))
       (ap suc (values_counted offer classes vs))
   value_in_front offer classes (Of_one form v) rest =
       taken offer classes (written.OfOne form) (heads v ++ rest) (meant offer classes v ∷ []) _ (value_in_front offer classes v rest) refl
   value_in_front offer classes (Of_two form v separator) rest =
       taken offer classes (written.OfTwo form) ((heads v ++ heads separator) ++ rest) (meant offer classes v ∷ meant offer classes separator ∷ []) _
-      (behind offer classes (heads v) (heads separator) rest _ (meant offer classes separator ∷ [])
+      (following offer classes (heads v) (heads separator) rest _ (meant offer classes separator ∷ [])
       (value_in_front offer classes v (heads separator ++ rest)) (value_in_front offer classes separator rest)) refl
   value_in_front offer classes (Between before after inner) rest =
       taken offer classes written.Between ((heads before ++ (heads after ++ heads inner)) ++ rest)
       (meant offer classes before ∷ meant offer classes after ∷ meant offer classes inner ∷ []) _
-      (behind offer classes (heads before) (heads after ++ heads inner) rest _ (meant offer classes after ∷ meant offer classes inner ∷ [])
+      (following offer classes (heads before) (heads after ++ heads inner) rest _ (meant offer classes after ∷ meant offer classes inner ∷ [])
       (value_in_front offer classes before ((heads after ++ heads inner) ++ rest))
-      (behind offer classes (heads after) (heads inner) rest _ (meant offer classes inner ∷ [])
+      (following offer classes (heads after) (heads inner) rest _ (meant offer classes inner ∷ [])
       (value_in_front offer classes after (heads inner ++ rest)) (value_in_front offer classes inner rest))) refl
   value_in_front offer classes (Chain form builder operand separator) rest =
       taken offer classes (written.Chain form builder) ((heads operand ++ heads separator) ++ rest) (meant offer classes operand ∷ meant offer classes separator ∷ []) _
-      (behind offer classes (heads operand) (heads separator) rest _ (meant offer classes separator ∷ [])
+      (following offer classes (heads operand) (heads separator) rest _ (meant offer classes separator ∷ [])
       (value_in_front offer classes operand (heads separator ++ rest)) (value_in_front offer classes separator rest)) refl
   value_in_front offer classes (Expression infixes prefixes postfixes term) rest =
       taken offer classes (written.Expression infixes prefixes postfixes) (heads term ++ rest) (meant offer classes term ∷ []) _ (value_in_front offer classes term rest) refl
@@ -79,7 +79,7 @@ mutual
       → bodies offer classes (all_heads vs ++ rest) ≡ all_meant offer classes vs ++ bodies offer classes rest
   values_in_front offer classes No_value rest = refl
   values_in_front offer classes (And v vs) rest =
-      behind offer classes (heads v) (all_heads vs) rest _ _ (value_in_front offer classes v (all_heads vs ++ rest)) (values_in_front offer classes vs rest)
+      following offer classes (heads v) (all_heads vs) rest _ _ (value_in_front offer classes v (all_heads vs ++ rest)) (values_in_front offer classes vs rest)
 
 pub value_alone : (offer : Offer) (classes : List names.Name) (v : Value) → body_at 0 (bodies offer classes (heads v)) ≡ meant offer classes v
 value_alone offer classes v =

@@ -15,7 +15,7 @@ pub atoms_counted : (offer : Offer) (classes : List names.Name) (others : Atoms)
 atoms_counted offer classes No_atom = refl
 atoms_counted offer classes (Or a others) = ap suc (atoms_counted offer classes others)
 
--- the images of two lists, one behind the other
+-- the images of two lists, one after the other
 both_meant : (f : WrittenPart → ClassPart) (xs ys : List WrittenPart) (vs ws : List ClassPart) → map f xs ≡ vs → map f ys ≡ ws → map f (xs ++ ys) ≡ vs ++ ws
 both_meant f xs ys vs ws h e = let whole = map-append f xs ys in cc
 

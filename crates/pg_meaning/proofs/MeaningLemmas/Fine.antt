@@ -15,7 +15,7 @@ use Rattle.pg_grammar.specs.declared.form.Around.{Around}
 use Rattle.pg_grammar.specs.declared.form.Around.TheVariants as around
 use Rattle.pg_items.specs.declared.words.ClassForm.{ClassForm}
 use Rattle.pg_items.specs.declared.words.ClassForm.TheVariants as class_form
-use Rattle.pg_items.specs.declared.words.ChainForm.{ChainForm}
+use Rattle.pg_grammar.specs.declared.side.Side.{Side}
 use Rattle.pg_items.specs.Tree.{Value, Of_class, String, Seq, Of_some, Of_one, Of_two, Between, Chain, Expression, Build, Build_symbol, Label, End_of_text, Word, Rule, Values, No_value, And}
 use Rattle.pg_items.specs.Proper.{IsFilled, IsProper, AreProper}
 use Rattle.pg_meaning.specs.Names.{builder_named}
@@ -85,7 +85,7 @@ string_fine s h = record { literals = isnt_empty (length s) h.0; short = rw (wit
 builder_short : (offer : Offer) (builder : List ℕ) → length builder ≤ 64 → has_long_name (builder_named offer builder) ≡ false
 builder_short offer builder h = short_name 64 builder h
 
-chain_fine : (offer : Offer) (form : ChainForm) (builder : List ℕ) → length builder ≤ 64 → IsFineForm (chain_of form (builder_named offer builder))
+chain_fine : (offer : Offer) (form : Side) (builder : List ℕ) → length builder ≤ 64 → IsFineForm (chain_of form (builder_named offer builder))
 chain_fine offer form builder h = record { literals = refl; short = rw (builder_short offer builder h) refl }
 
 expression_fine : (offer : Offer) (infixes prefixes postfixes : List ℕ) → length infixes ≤ 64 → length prefixes ≤ 64 → length postfixes ≤ 64

@@ -74,7 +74,7 @@ whole_kept = record {
   around = λ k bare body h. record { whole = h.whole };
 }
 
--- two, one behind the other
+-- two, one after the other
 pub whole_two : (one other : Body) → IsWhole one → IsWhole other → SpellForms 2 (map part_count (one ++ other))
 whole_two one other h e = spell_first part_count one other 1 h.whole e.whole
 

@@ -15,7 +15,7 @@ use Rattle.pg_items.specs.Sizes.{part_count}
 use Rattle.pg_meaning.specs.Bodies.{bases_of, all_bases_of, body_of_form, bodies}
 use Rattle.pg_items.proofs.ItemLemmas.Backwards.{IsOneBack}
 
--- one list more behind joined lists
+-- one list more after joined lists
 pub joined_push : {A : Type 0} (lists : List (List A)) (list : List A) → joined (lists ++ list ∷ []) ≡ joined lists ++ list
 joined_push [] list = append-nil list
 joined_push (first ∷ lists) list = rw (joined_push lists list) (sym (append_assoc first (joined lists) list))
@@ -31,7 +31,7 @@ bases_joined bodies body all after e h =
 pub bases_taken : (n : ℕ) (items bodies : List (Vec PlacedBase)) → bodies ≡ take n items → all_bases_of bodies ≡ take n (all_bases_of items)
 bases_taken n items bodies h = ap all_bases_of h ∙ sym (take-map (λ (b : Vec PlacedBase). bases_of b.items) n items)
 
--- the body of a form in front of others, of which it takes the first
+-- the body of a form before others, of which it takes the first
 pub bases_step : (offer : Offer) (classes : List Name) (form : WrittenForm) (forms : List WrittenForm) (waiting : List (Vec PlacedBase)) (body : Vec PlacedBase)
     → all_bases_of waiting ≡ bodies offer classes forms → bases_of body.items ≡ body_of_form offer classes form (take (part_count form) (all_bases_of waiting))
     → all_bases_of (body ∷ drop (part_count form) waiting) ≡ bodies offer classes (form ∷ forms)
@@ -43,7 +43,7 @@ bases_step offer classes form forms waiting body h e =
 pub form_back : (P : WrittenForm → Type 0) (before : List PlacedForm) (form : PlacedForm) (rest all : List PlacedForm)
     → IsOneBack before form rest all → AllByRecursion P (forms_of all) → P form.form
 form_back P before form rest all back h =
-    let behind : drop (length before) (forms_of all) ≡ form.form ∷ forms_of (drop (length rest) all) =
+    let following : drop (length before) (forms_of all) ≡ form.form ∷ forms_of (drop (length rest) all) =
     drop-map (λ (f : PlacedForm). f.form) (length before) all ∙ ap forms_of back.back in
-    let known : AllByRecursion P (form.form ∷ forms_of (drop (length rest) all)) = subst (AllByRecursion P) behind (all-drop P (length before) (forms_of all) h) in
+    let known : AllByRecursion P (form.form ∷ forms_of (drop (length rest) all)) = subst (AllByRecursion P) following (all-drop P (length before) (forms_of all) h) in
     known.0

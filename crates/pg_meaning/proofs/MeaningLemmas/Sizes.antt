@@ -69,7 +69,7 @@ more_length body = omega arith
 chain_length : (operand separator : Body) → 1 + (length operand + length separator) ≡ suc (length (operand ++ separator))
 chain_length operand separator = omega (arith, length-append operand separator)
 
--- a form takes the sizes that stand first behind it, as many as it has parts
+-- a form takes the sizes that stand first after it, as many as it has parts
 taken : (form : WrittenForm) (forms : List WrittenForm) (parts others : List ℕ) (n : ℕ)
     → sizes forms ≡ parts ++ others → length parts ≡ part_count form → size_of_form form parts ≡ n → sizes (form ∷ forms) ≡ n ∷ others
 taken form forms parts others n h e q =
@@ -77,11 +77,11 @@ taken form forms parts others n h e q =
     let rest : drop (part_count form) (sizes forms) ≡ others = rw h (drop_front (part_count form) parts others e) in
     cc
 
--- a value and others behind it, in front of a rest
-behind : (xs ys rest : List WrittenForm) (n : ℕ) (parts : List ℕ)
+-- a value and others after it, before a rest
+following : (xs ys rest : List WrittenForm) (n : ℕ) (parts : List ℕ)
     → sizes (xs ++ (ys ++ rest)) ≡ n ∷ sizes (ys ++ rest) → sizes (ys ++ rest) ≡ parts ++ sizes rest
     → sizes ((xs ++ ys) ++ rest) ≡ n ∷ (parts ++ sizes rest)
-behind xs ys rest n parts h e = rw append_assoc (h ∙ ap (λ (all : List ℕ). n ∷ all) e)
+following xs ys rest n parts h e = rw append_assoc (h ∙ ap (λ (all : List ℕ). n ∷ all) e)
 
 -- as many sizes as values
 sizes_counted : (offer : Offer) (classes : List names.Name) (vs : Values) → length (map length (all_meant offer classes vs)) ≡ value_count vs
@@ -98,27 +98,27 @@ mutual
   value_sized offer classes (Of_some form v vs) rest =
       let count = values_counted offer classes vs in
       taken (written.OfSome form (suc (value_count vs))) ((heads v ++ all_heads vs) ++ rest) (length (meant offer classes v) ∷ map length (all_meant offer classes vs)) _ _
-      (behind (heads v) (all_heads vs) rest _ _ (value_sized offer classes v (all_heads vs ++ rest)) (values_sized offer classes vs rest))
+      (following (heads v) (all_heads vs) rest _ _ (value_sized offer classes v (all_heads vs ++ rest)) (values_sized offer classes vs rest))
       (ap suc (sizes_counted offer classes vs))
       (rw (sym count) (some_length form (meant offer classes v) (all_meant offer classes vs)))
   value_sized offer classes (Of_one form v) rest =
       taken (written.OfOne form) (heads v ++ rest) (length (meant offer classes v) ∷ []) _ _ (value_sized offer classes v rest) refl (one_length form (meant offer classes v))
   value_sized offer classes (Of_two form v separator) rest =
       taken (written.OfTwo form) ((heads v ++ heads separator) ++ rest) (length (meant offer classes v) ∷ length (meant offer classes separator) ∷ []) _ _
-      (behind (heads v) (heads separator) rest _ (length (meant offer classes separator) ∷ [])
+      (following (heads v) (heads separator) rest _ (length (meant offer classes separator) ∷ [])
       (value_sized offer classes v (heads separator ++ rest)) (value_sized offer classes separator rest)) refl
       (two_length form (meant offer classes v) (meant offer classes separator))
   value_sized offer classes (Between before after inner) rest =
       taken written.Between ((heads before ++ (heads after ++ heads inner)) ++ rest)
       (length (meant offer classes before) ∷ length (meant offer classes after) ∷ length (meant offer classes inner) ∷ []) _ _
-      (behind (heads before) (heads after ++ heads inner) rest _ (length (meant offer classes after) ∷ length (meant offer classes inner) ∷ [])
+      (following (heads before) (heads after ++ heads inner) rest _ (length (meant offer classes after) ∷ length (meant offer classes inner) ∷ [])
       (value_sized offer classes before ((heads after ++ heads inner) ++ rest))
-      (behind (heads after) (heads inner) rest _ (length (meant offer classes inner) ∷ [])
+      (following (heads after) (heads inner) rest _ (length (meant offer classes inner) ∷ [])
       (value_sized offer classes after (heads inner ++ rest)) (value_sized offer classes inner rest))) refl
       (between_length (meant offer classes before) (meant offer classes after) (meant offer classes inner))
   value_sized offer classes (Chain form builder operand separator) rest =
       taken (written.Chain form builder) ((heads operand ++ heads separator) ++ rest) (length (meant offer classes operand) ∷ length (meant offer classes separator) ∷ []) _ _
-      (behind (heads operand) (heads separator) rest _ (length (meant offer classes separator) ∷ [])
+      (following (heads operand) (heads separator) rest _ (length (meant offer classes separator) ∷ [])
       (value_sized offer classes operand (heads separator ++ rest)) (value_sized offer classes separator rest)) refl
       (chain_length (meant offer classes operand) (meant offer classes separator))
   value_sized offer classes (Expression infixes prefixes postfixes term) rest =
@@ -137,7 +137,7 @@ mutual
       → sizes (all_heads vs ++ rest) ≡ map length (all_meant offer classes vs) ++ sizes rest
   values_sized offer classes No_value rest = refl
   values_sized offer classes (And v vs) rest =
-      behind (heads v) (all_heads vs) rest _ _ (value_sized offer classes v (all_heads vs ++ rest)) (values_sized offer classes vs rest)
+      following (heads v) (all_heads vs) rest _ _ (value_sized offer classes v (all_heads vs ++ rest)) (values_sized offer classes vs rest)
 
 pub value_size : (offer : Offer) (classes : List names.Name) (v : Value) → body_size (heads v) ≡ length (meant offer classes v)
 value_size offer classes v =

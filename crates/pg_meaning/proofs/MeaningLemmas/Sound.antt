@@ -14,7 +14,7 @@ use Rattle.pg_grammar.specs.declared.form.Form.TheVariants as form
 use Rattle.pg_grammar.specs.declared.used.BuilderUse.{BuilderUse}
 use Rattle.pg_items.specs.declared.words.ClassForm.{ClassForm}
 use Rattle.pg_items.specs.declared.words.ClassForm.TheVariants as class_form
-use Rattle.pg_items.specs.declared.words.ChainForm.{ChainForm}
+use Rattle.pg_grammar.specs.declared.side.Side.{Side}
 use Rattle.pg_items.specs.Tree.{Value, Of_class, String, Seq, Of_some, Of_one, Of_two, Between, Chain, Expression, Build, Build_symbol, Label, End_of_text, Word, Rule, Values, No_value, And}
 use Rattle.pg_meaning.specs.Names.{builder_named}
 use Rattle.pg_meaning.specs.Meaning.{Body, class_of, chain_of, class_meant, meant, all_meant}
@@ -83,8 +83,8 @@ class_form_sound count class_form.Satisfy parts h = record { parts = refl; alter
 class_form_sound count class_form.NotFollowedBy parts h = record { parts = refl; alternatives = refl; known = h }
 class_form_sound count class_form.Declare parts h = record { parts = refl; alternatives = refl; known = h }
 
-chain_form_sound : (count : ℕ) (form : ChainForm) (used : BuilderUse) → IsSoundForm count 2 (chain_of form used)
-chain_form_sound count form used = record { parts = refl; alternatives = refl; known = refl }
+chain_form_sound : (count : ℕ) (side : Side) (used : BuilderUse) → IsSoundForm count 2 (chain_of side used)
+chain_form_sound count side used = record { parts = refl; alternatives = refl; known = refl }
 
 mutual
   pub sound_value : (offer : Offer) (items : List names.Name) (v : Value) → IsSound (length items) (meant offer items v)

@@ -13,7 +13,7 @@ use Rattle.pg_items.specs.Syntax.{atom_written, class_written, atoms_written}
 use Rattle.pg_items.specs.Proper.{is_reserved, IsProperAtom, IsProperClass, AreProperAtoms}
 use Rattle.pg_items.specs.Depth.{atom_depth, class_depth, atoms_depth}
 use Rattle.pg_items.specs.Heads.{atom_count, atom_parts, class_parts, atoms_parts}
-use Rattle.pg_parser.specs.Reading.{◌>>=◌, Reader, ClassParts, literal_at, literal_text, free_name, range_end, range_between, range_at, set_at, atom_with, named_at, in_front, plain_at, atom_at, mark_at, some_at, joined, expressed, class_with, closed_at, group_at, class_at}
+use Rattle.pg_parser.specs.Reading.{◌>>=◌, Reader, ClassParts, literal_at, literal_text, free_name, range_end, range_between, range_at, set_at, atom_with, named_at, before_all, plain_at, atom_at, mark_at, some_at, joined, expressed, class_with, closed_at, group_at, class_at}
 use Rattle.pg_tokens.specs.Tokens.{is_mark, is_word}
 use Rattle.pg_parser.proofs.ParserLemmas.Steps.{bind_some, some_is, chosen, guard_some, mark_is, literal_is, literal_text_is, free_name_is, word_is, literal_text_found, free_name_found, free_isnt}
 use Rattle.pg_parser.proofs.ParserLemmas.Parts.{Kind, Reads, Sound, Complete, more_written, some_sound, some_complete, some_long}
@@ -36,7 +36,7 @@ classes n = record {
   Ends = λ ts. (mark_at Dots ts ≡ None) × (mark_at Bar ts ≡ None);
 }
 
--- classes behind their parenthesis
+-- classes after their parenthesis
 abbrev pub groups : ℕ → Kind ClassParts
 groups n = record {
   Tree = Class;
@@ -75,19 +75,19 @@ range_sound n s ts x e =
     let g = guard_some (leb a.0 d.0) (Some (part.Range a.0 d.0)) f.0 f.1 in
     let low = range_end_is s a.0 a.1 in
     let high = range_end_is b.0.0 d.0 d.1 in
-    let behind = literal_is ts b.0 b.1 in
+    let after = literal_is ts b.0 b.1 in
     let zero_deep : 0 ≤ n = omega arith in
     subst (Reads (atoms n) (literal s ∷ mark Dots ∷ ts)) (some_is (f.0 ∷ [], b.0.1) x f.2) (record {
       tree = Range a.0 d.0;
-      text = ap (λ (u : List ℕ). literal u ∷ mark Dots ∷ ts) low ∙ ap (λ (u : List Token). literal (a.0 ∷ []) ∷ mark Dots ∷ u) (behind ∙ ap (λ (u : List ℕ). literal u ∷ b.0.1) high);
+      text = ap (λ (u : List ℕ). literal u ∷ mark Dots ∷ ts) low ∙ ap (λ (u : List Token). literal (a.0 ∷ []) ∷ mark Dots ∷ u) (after ∙ ap (λ (u : List ℕ). literal u ∷ b.0.1) high);
       means = ap (λ (p : WrittenPart). p ∷ []) (sym (some_is (part.Range a.0 d.0) f.0 g.1));
       proper = (leb-true a.0 d.0 g.0, zero_deep);
     })
 
 with_sound : (n : ℕ) (s : List ℕ) (ts : List Token) (o : Option (List Token)) (x : ClassParts × List Token) → mark_at Dots ts ≡ o → atom_with s ts o ≡ Some x → Reads (atoms n) (literal s ∷ ts) x
 with_sound n s ts None x m e = set_sound n s ts x e
-with_sound n s ts (Some behind) x m e =
-    subst (λ (us : List Token). Reads (atoms n) (literal s ∷ us) x) (sym (mark_is Dots ts behind m)) (range_sound n s behind x e)
+with_sound n s ts (Some after) x m e =
+    subst (λ (us : List Token). Reads (atoms n) (literal s ∷ us) x) (sym (mark_is Dots ts after m)) (range_sound n s after x e)
 
 named_sound : (n : ℕ) (s : List ℕ) (ts : List Token) (x : ClassParts × List Token) → named_at s ts ≡ Some x → Reads (atoms n) (name s ∷ ts) x
 named_sound n s ts x e =
@@ -101,7 +101,7 @@ named_sound n s ts x e =
       proper = (f.1, zero_deep);
     })
 
--- a class behind its parenthesis
+-- a class after its parenthesis
 group_read : (n : ℕ) (group : Reader ClassParts) → Sound (groups n) group → (m : Mark) (ts : List Token) (x : ClassParts × List Token) → cond (is_mark Open (mark m)) (group ts) None ≡ Some x → Reads (atoms n) (mark m ∷ ts) x
 group_read n group sound m ts x e =
     let g = guard_some (is_mark Open (mark m)) (group ts) x e in
@@ -134,7 +134,7 @@ not_is wrong e = absurd cc
 not_is bad e = absurd cc
 
 -- one `not` more
-not_sound : (n : ℕ) (t : Token) (ts : List Token) (read : Option (ClassParts × List Token)) (x : ClassParts × List Token) → is_word (codes "not") t ≡ true → in_front part.Complement read ≡ Some x
+not_sound : (n : ℕ) (t : Token) (ts : List Token) (read : Option (ClassParts × List Token)) (x : ClassParts × List Token) → is_word (codes "not") t ≡ true → before_all part.Complement read ≡ Some x
     → ((y : ClassParts × List Token) → read ≡ Some y → Reads (atoms n) ts y) → Reads (atoms n) (t ∷ ts) x
 not_sound n t ts read x is e ih =
     let a = bind_some read (λ y. Some (part.Complement ∷ y.0, y.1)) x e in
@@ -150,7 +150,7 @@ pub atom_sound : (n : ℕ) (group : Reader ClassParts) → Sound (groups n) grou
 unfolding atom_at
 atom_sound n group sound [] x e = absurd cc
 atom_sound n group sound (t ∷ ts) x e =
-    elim (chosen (is_word (codes "not") t) (in_front part.Complement (atom_at group ts)) (plain_at group (t ∷ ts)) (Some x) e) [
+    elim (chosen (is_word (codes "not") t) (before_all part.Complement (atom_at group ts)) (plain_at group (t ∷ ts)) (Some x) e) [
       | inl h ↦ not_sound n t ts (atom_at group ts) x h.0 h.1 (λ y r. atom_sound n group sound ts y r)
       | inr h ↦ plain_sound n group sound (t ∷ ts) x h.1
     ]

@@ -8,7 +8,7 @@ use Rattle.pg_tokens.specs.Lexical.{passes}
 use Rattle.pg_items.specs.Proper.{is_decimal, value_of}
 use Rattle.pg_parser.specs.Reading.{value_within}
 
--- a number only grows by digits behind it
+-- a number only grows by digits after it
 value_grows : (n : ℕ) (digits : List ℕ) → n ≤ digits_value_after 10 n digits
 value_grows n [] = omega arith
 value_grows n (c ∷ digits) =

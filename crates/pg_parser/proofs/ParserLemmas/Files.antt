@@ -1,10 +1,11 @@
 -- The items of a whole file that are read are written so, and those that are written are read.
 use Rattle.std.proofs.Common.{◌≡◌, ℕ, zero, suc, Bool, true, false, ◌&&◌, ◌+◌, ◌-◌, ◌<◌, ◌≤◌, leb, leb-true, le-leb, List, [], ◌∷◌, ◌++◌, length, map, Option, Some, None, refl, sym, ap, subst, ◌∙◌, append_assoc, arith}
+use Rattle.std.proofs.lemmas.Bool.{and_parts, and_from}
 use Rattle.std.proofs.lemmas.List.{append-nil}
 use Rattle.std.specs.Prelude.{codes}
 use Rattle.std.specs.List.{AllByRecursion}
 use Rattle.pg_tokens.specs.declared.token.Mark.TheVariants.{Semicolon}
-use Rattle.pg_parser.specs.declared.room.Room.{Room}
+use Rattle.pg_parser.specs.declared.allowance.Allowance.{Allowance}
 use Rattle.pg_parser.specs.declared.error.SyntaxError.{SyntaxError}
 use Rattle.pg_parser.specs.declared.error.SyntaxError.TheVariants.{Memory, Fault}
 use Rattle.pg_tokens.specs.Tokens.{Token, name, mark}
@@ -15,12 +16,12 @@ use Rattle.pg_items.specs.Heads.{entry_of_item}
 use Rattle.pg_items.specs.Entries as entry
 use Rattle.pg_items.specs.Entries.{Entry}
 use Rattle.pg_items.specs.Sizes.{counted, body_size}
-use Rattle.pg_parser.specs.Limits.{class_count, word_count, rule_count, node_count, KeepWithin, full_room, room_behind}
+use Rattle.pg_parser.specs.Limits.{class_count, word_count, rule_count, node_count, KeepWithin, full_allowance, allowance_after}
 use Rattle.pg_parser.specs.Given.{Fails}
 use Rattle.pg_items.specs.Depth.{IsShallow}
 use Rattle.pg_parser.specs.Items.{AreItems, OnlyItems, FaultyItems}
 use Rattle.pg_parser.specs.Reading.{◌>>=◌, mark_at}
-use Rattle.pg_parser.specs.ItemReading.{item_at, turn_at, items_with, items_at, file_at}
+use Rattle.pg_parser.specs.ItemReading.{item_at, end_at, turn_at, items_with, items_at, file_at}
 use Rattle.pg_parser.proofs.ParserLemmas.Steps.{bind_some, some_is, guard_some, mark_is}
 use Rattle.pg_parser.proofs.ParserLemmas.Classes.{longer_class}
 use Rattle.pg_parser.proofs.ParserLemmas.ValuesFound.{longer}
@@ -29,93 +30,83 @@ use Rattle.pg_parser.proofs.ParserLemmas.ItemsFound.{item_complete}
 
 -- ---- room
 
-both_hold : (a b : Bool) → (a && b) ≡ true → (a ≡ true) × (b ≡ true)
-both_hold true true e = (refl, refl)
-both_hold true false e = absurd cc
-both_hold false b e = absurd cc
-
-hold_both : (a b : Bool) → a ≡ true → b ≡ true → (a && b) ≡ true
-hold_both true true p q = refl
-hold_both true false p q = absurd cc
-hold_both false b p q = absurd cc
-
-room_taken : (room left : Room) (e : Entry) (es : List Entry) → room_behind room e ≡ Some left → KeepWithin left es → KeepWithin room (e ∷ es)
-room_taken room left (entry.class s parts) es r h =
-    let taken : Room = record { classes = room.classes - 1; words = room.words; rules = room.rules; nodes = room.nodes } in
-    let g = guard_some (leb 1 room.classes) (Some taken) left r in
+allowance_taken : (allowance left : Allowance) (e : Entry) (es : List Entry) → allowance_after allowance e ≡ Some left → KeepWithin left es → KeepWithin allowance (e ∷ es)
+allowance_taken allowance left (entry.class s parts) es r h =
+    let taken : Allowance = record { classes = allowance.classes - 1; words = allowance.words; rules = allowance.rules; nodes = allowance.nodes } in
+    let g = guard_some (leb 1 allowance.classes) (Some taken) left r in
     let q : taken ≡ left = some_is taken left g.1 in
-    let k : KeepWithin taken es = subst (λ (r : Room). KeepWithin r es) (sym q) h in
-    let one : 1 ≤ room.classes = leb-true 1 room.classes g.0 in
-    let few : suc (class_count es) ≤ room.classes = omega (arith, one, k.few_classes) in
+    let k : KeepWithin taken es = subst (λ (r : Allowance). KeepWithin r es) (sym q) h in
+    let one : 1 ≤ allowance.classes = leb-true 1 allowance.classes g.0 in
+    let few : suc (class_count es) ≤ allowance.classes = omega (arith, one, k.few_classes) in
     record { few_classes = few; few_words = k.few_words; few_rules = k.few_rules; few_nodes = k.few_nodes }
-room_taken room left (entry.word s heads behind reserved) es r h =
-    let taken : Room = record { classes = room.classes; words = room.words - 1; rules = room.rules; nodes = room.nodes } in
-    let g = guard_some (leb 1 room.words) (Some taken) left r in
+allowance_taken allowance left (entry.word s heads after reserved) es r h =
+    let taken : Allowance = record { classes = allowance.classes; words = allowance.words - 1; rules = allowance.rules; nodes = allowance.nodes } in
+    let g = guard_some (leb 1 allowance.words) (Some taken) left r in
     let q : taken ≡ left = some_is taken left g.1 in
-    let k : KeepWithin taken es = subst (λ (r : Room). KeepWithin r es) (sym q) h in
-    let one : 1 ≤ room.words = leb-true 1 room.words g.0 in
-    let few : suc (word_count es) ≤ room.words = omega (arith, one, k.few_words) in
+    let k : KeepWithin taken es = subst (λ (r : Allowance). KeepWithin r es) (sym q) h in
+    let one : 1 ≤ allowance.words = leb-true 1 allowance.words g.0 in
+    let few : suc (word_count es) ≤ allowance.words = omega (arith, one, k.few_words) in
     record { few_classes = k.few_classes; few_words = few; few_rules = k.few_rules; few_nodes = k.few_nodes }
-room_taken room left (entry.operators parts gap reserved most) es r h =
-    let k : KeepWithin room es = subst (λ (r : Room). KeepWithin r es) (sym (some_is room left r)) h in
+allowance_taken allowance left (entry.operators parts gap reserved most) es r h =
+    let k : KeepWithin allowance es = subst (λ (r : Allowance). KeepWithin r es) (sym (some_is allowance left r)) h in
     record { few_classes = k.few_classes; few_words = k.few_words; few_rules = k.few_rules; few_nodes = k.few_nodes }
-room_taken room left (entry.table role precedence symbol) es r h =
-    let k : KeepWithin room es = subst (λ (r : Room). KeepWithin r es) (sym (some_is room left r)) h in
+allowance_taken allowance left (entry.table role precedence symbol) es r h =
+    let k : KeepWithin allowance es = subst (λ (r : Allowance). KeepWithin r es) (sym (some_is allowance left r)) h in
     record { few_classes = k.few_classes; few_words = k.few_words; few_rules = k.few_rules; few_nodes = k.few_nodes }
-room_taken room left (entry.start s) es r h =
-    let k : KeepWithin room es = subst (λ (r : Room). KeepWithin r es) (sym (some_is room left r)) h in
+allowance_taken allowance left (entry.start s) es r h =
+    let k : KeepWithin allowance es = subst (λ (r : Allowance). KeepWithin r es) (sym (some_is allowance left r)) h in
     record { few_classes = k.few_classes; few_words = k.few_words; few_rules = k.few_rules; few_nodes = k.few_nodes }
-room_taken room left (entry.rule s body) es r h =
+allowance_taken allowance left (entry.rule s body) es r h =
     let size = counted (body_size body) in
-    let taken : Room = record { classes = room.classes; words = room.words; rules = room.rules - 1; nodes = room.nodes - size } in
-    let g = guard_some (leb 1 room.rules && leb size room.nodes) (Some taken) left r in
+    let taken : Allowance = record { classes = allowance.classes; words = allowance.words; rules = allowance.rules - 1; nodes = allowance.nodes - size } in
+    let g = guard_some (leb 1 allowance.rules && leb size allowance.nodes) (Some taken) left r in
     let q : taken ≡ left = some_is taken left g.1 in
-    let k : KeepWithin taken es = subst (λ (r : Room). KeepWithin r es) (sym q) h in
-    let b = both_hold (leb 1 room.rules) (leb size room.nodes) g.0 in
-    let one : 1 ≤ room.rules = leb-true 1 room.rules b.0 in
-    let there : size ≤ room.nodes = leb-true size room.nodes b.1 in
-    let few : suc (rule_count es) ≤ room.rules = omega (arith, one, k.few_rules) in
-    let nodes : size + node_count es ≤ room.nodes = omega (arith, there, k.few_nodes) in
+    let k : KeepWithin taken es = subst (λ (r : Allowance). KeepWithin r es) (sym q) h in
+    let b = and_parts (leb 1 allowance.rules) (leb size allowance.nodes) g.0 in
+    let one : 1 ≤ allowance.rules = leb-true 1 allowance.rules b.0 in
+    let there : size ≤ allowance.nodes = leb-true size allowance.nodes b.1 in
+    let few : suc (rule_count es) ≤ allowance.rules = omega (arith, one, k.few_rules) in
+    let nodes : size + node_count es ≤ allowance.nodes = omega (arith, there, k.few_nodes) in
     record { few_classes = k.few_classes; few_words = k.few_words; few_rules = few; few_nodes = nodes }
 
--- the room behind an item that there is room for
-record Left (room : Room) (e : Entry) (es : List Entry) : Type 0 where
-  left : Room
-  is : room_behind room e ≡ Some left
+-- the room after an item that there is room for
+record Left (allowance : Allowance) (e : Entry) (es : List Entry) : Type 0 where
+  left : Allowance
+  is : allowance_after allowance e ≡ Some left
   keep : KeepWithin left es
 
-room_found : (room : Room) (e : Entry) (es : List Entry) → KeepWithin room (e ∷ es) → Left room e es
-room_found room (entry.class s parts) es h =
-    let one : 1 ≤ room.classes = omega (arith, h.few_classes) in
-    let few : class_count es ≤ room.classes - 1 = omega (arith, h.few_classes) in
+allowance_found : (allowance : Allowance) (e : Entry) (es : List Entry) → KeepWithin allowance (e ∷ es) → Left allowance e es
+allowance_found allowance (entry.class s parts) es h =
+    let one : 1 ≤ allowance.classes = omega (arith, h.few_classes) in
+    let few : class_count es ≤ allowance.classes - 1 = omega (arith, h.few_classes) in
     record {
-      left = record { classes = room.classes - 1; words = room.words; rules = room.rules; nodes = room.nodes };
-      is = rw (le-leb 1 room.classes one) refl;
+      left = record { classes = allowance.classes - 1; words = allowance.words; rules = allowance.rules; nodes = allowance.nodes };
+      is = rw (le-leb 1 allowance.classes one) refl;
       keep = record { few_classes = few; few_words = h.few_words; few_rules = h.few_rules; few_nodes = h.few_nodes };
     }
-room_found room (entry.word s heads behind reserved) es h =
-    let one : 1 ≤ room.words = omega (arith, h.few_words) in
-    let few : word_count es ≤ room.words - 1 = omega (arith, h.few_words) in
+allowance_found allowance (entry.word s heads after reserved) es h =
+    let one : 1 ≤ allowance.words = omega (arith, h.few_words) in
+    let few : word_count es ≤ allowance.words - 1 = omega (arith, h.few_words) in
     record {
-      left = record { classes = room.classes; words = room.words - 1; rules = room.rules; nodes = room.nodes };
-      is = rw (le-leb 1 room.words one) refl;
+      left = record { classes = allowance.classes; words = allowance.words - 1; rules = allowance.rules; nodes = allowance.nodes };
+      is = rw (le-leb 1 allowance.words one) refl;
       keep = record { few_classes = h.few_classes; few_words = few; few_rules = h.few_rules; few_nodes = h.few_nodes };
     }
-room_found room (entry.operators parts gap reserved most) es h =
-    record { left = room; is = refl; keep = record { few_classes = h.few_classes; few_words = h.few_words; few_rules = h.few_rules; few_nodes = h.few_nodes } }
-room_found room (entry.table role precedence symbol) es h =
-    record { left = room; is = refl; keep = record { few_classes = h.few_classes; few_words = h.few_words; few_rules = h.few_rules; few_nodes = h.few_nodes } }
-room_found room (entry.start s) es h =
-    record { left = room; is = refl; keep = record { few_classes = h.few_classes; few_words = h.few_words; few_rules = h.few_rules; few_nodes = h.few_nodes } }
-room_found room (entry.rule s body) es h =
+allowance_found allowance (entry.operators parts gap reserved most) es h =
+    record { left = allowance; is = refl; keep = record { few_classes = h.few_classes; few_words = h.few_words; few_rules = h.few_rules; few_nodes = h.few_nodes } }
+allowance_found allowance (entry.table role precedence symbol) es h =
+    record { left = allowance; is = refl; keep = record { few_classes = h.few_classes; few_words = h.few_words; few_rules = h.few_rules; few_nodes = h.few_nodes } }
+allowance_found allowance (entry.start s) es h =
+    record { left = allowance; is = refl; keep = record { few_classes = h.few_classes; few_words = h.few_words; few_rules = h.few_rules; few_nodes = h.few_nodes } }
+allowance_found allowance (entry.rule s body) es h =
     let size = counted (body_size body) in
-    let one : 1 ≤ room.rules = omega (arith, h.few_rules) in
-    let there : size ≤ room.nodes = omega (arith, h.few_nodes) in
-    let few : rule_count es ≤ room.rules - 1 = omega (arith, h.few_rules) in
-    let nodes : node_count es ≤ room.nodes - size = omega (arith, h.few_nodes) in
+    let one : 1 ≤ allowance.rules = omega (arith, h.few_rules) in
+    let there : size ≤ allowance.nodes = omega (arith, h.few_nodes) in
+    let few : rule_count es ≤ allowance.rules - 1 = omega (arith, h.few_rules) in
+    let nodes : node_count es ≤ allowance.nodes - size = omega (arith, h.few_nodes) in
     record {
-      left = record { classes = room.classes; words = room.words; rules = room.rules - 1; nodes = room.nodes - size };
-      is = rw (hold_both (leb 1 room.rules) (leb size room.nodes) (le-leb 1 room.rules one) (le-leb size room.nodes there)) refl;
+      left = record { classes = allowance.classes; words = allowance.words; rules = allowance.rules - 1; nodes = allowance.nodes - size };
+      is = rw (and_from (leb 1 allowance.rules) (leb size allowance.nodes) (le-leb 1 allowance.rules one) (le-leb size allowance.nodes there)) refl;
       keep = record { few_classes = h.few_classes; few_words = h.few_words; few_rules = few; few_nodes = nodes };
     }
 
@@ -155,91 +146,93 @@ longer_item (Rule_item s v) rest = omega (arith, longer v (mark Semicolon ∷ re
 -- ---- turns
 
 -- what a turn reads
-record IsTurn (room : Room) (ts : List Token) (x : (Entry × Room) × List Token) : Type 0 where
+record IsTurn (allowance : Allowance) (ts : List Token) (x : (Entry × Allowance) × List Token) : Type 0 where
   item : IsItem ts x.0.0 x.1
-  room_left : room_behind room x.0.0 ≡ Some x.0.1
+  allowance_left : allowance_after allowance x.0.0 ≡ Some x.0.1
 
-turn_sound : (room : Room) (ts : List Token) (x : (Entry × Room) × List Token) → turn_at room ts ≡ Some x → IsTurn room ts x
-turn_sound room ts x e =
-    let a = bind_some (item_at ts) (λ i. mark_at Semicolon i.1 >>= λ rest. room_behind room i.0 >>= λ left. Some ((i.0, left), rest)) x e in
-    let b = bind_some (mark_at Semicolon a.0.1) (λ rest. room_behind room a.0.0 >>= λ left. Some ((a.0.0, left), rest)) x a.2 in
-    let d = bind_some (room_behind room a.0.0) (λ left. Some ((a.0.0, left), b.0)) x b.2 in
-    subst (IsTurn room ts) (some_is ((a.0.0, d.0), b.0) x d.2) (record {
+turn_sound : (allowance : Allowance) (ts : List Token) (x : (Entry × Allowance) × List Token) → turn_at allowance ts ≡ Some x → IsTurn allowance ts x
+turn_sound allowance ts x e =
+    let a = bind_some (item_at ts) (λ i. end_at allowance i.0 i.1 >>= λ left. Some ((i.0, left.0), left.1)) x e in
+    let f = bind_some (end_at allowance a.0.0 a.0.1) (λ left. Some ((a.0.0, left.0), left.1)) x a.2 in
+    let b = bind_some (mark_at Semicolon a.0.1) (λ rest. allowance_after allowance a.0.0 >>= λ left. Some (left, rest)) f.0 f.1 in
+    let d = bind_some (allowance_after allowance a.0.0) (λ left. Some (left, b.0)) f.0 b.2 in
+    let end = ap (λ (left : Allowance × List Token). ((a.0.0, left.0), left.1)) (some_is (d.0, b.0) f.0 d.2) in
+    subst (IsTurn allowance ts) (end ∙ some_is ((a.0.0, f.0.0), f.0.1) x f.2) (record {
       item = item_sound ts b.0 a.0 a.1 (mark_is Semicolon a.0.1 b.0 b.1);
-      room_left = d.1;
+      allowance_left = d.1;
     })
 
-pub turn_shorter : (room : Room) (ts : List Token) (x : (Entry × Room) × List Token) → turn_at room ts ≡ Some x → length x.1 < length ts
-turn_shorter room ts x e = let t = turn_sound room ts x e in rw t.item.text (longer_item t.item.item x.1)
+pub turn_shorter : (allowance : Allowance) (ts : List Token) (x : (Entry × Allowance) × List Token) → turn_at allowance ts ≡ Some x → length x.1 < length ts
+turn_shorter allowance ts x e = let t = turn_sound allowance ts x e in rw t.item.text (longer_item t.item.item x.1)
 
--- items behind a first one, if there are tokens
-turn_first : (n : ℕ) (room : Room) (ts : List Token) → 0 < length ts → items_at (suc n) room ts ≡ items_with (items_at n) room ts
+-- items after a first one, if there are tokens
+turn_first : (n : ℕ) (allowance : Allowance) (ts : List Token) → 0 < length ts → items_at (suc n) allowance ts ≡ items_with (items_at n) allowance ts
 unfolding items_at
-turn_first n room [] h = absurd (omega (arith, h))
-turn_first n room (t ∷ ts) h = refl
+turn_first n allowance [] h = absurd (omega (arith, h))
+turn_first n allowance (t ∷ ts) h = refl
 
 -- ---- files that are read
 
-record ReadItems (room : Room) (ts : List Token) (es : List Entry) : Type 0 where
+record ReadItems (allowance : Allowance) (ts : List Token) (es : List Entry) : Type 0 where
   items : List Item
   text : ts ≡ file_written items
   means : es ≡ map entry_of_item items
   proper : AllByRecursion IsProperItem items
   shallow : AllByRecursion IsShallow items
-  few : KeepWithin room es
+  few : KeepWithin allowance es
 
-no_items : (room : Room) → KeepWithin room []
-no_items room =
-    let a : 0 ≤ room.classes = omega arith in
-    let b : 0 ≤ room.words = omega arith in
-    let c : 0 ≤ room.rules = omega arith in
-    let d : 0 ≤ room.nodes = omega arith in
+no_items : (allowance : Allowance) → KeepWithin allowance []
+no_items allowance =
+    let a : 0 ≤ allowance.classes = omega arith in
+    let b : 0 ≤ allowance.words = omega arith in
+    let c : 0 ≤ allowance.rules = omega arith in
+    let d : 0 ≤ allowance.nodes = omega arith in
     record { few_classes = a; few_words = b; few_rules = c; few_nodes = d }
 
-items_sound : (n : ℕ) (room : Room) (ts : List Token) (es : List Entry) → items_at n room ts ≡ Some es → ReadItems room ts es
+items_sound : (n : ℕ) (allowance : Allowance) (ts : List Token) (es : List Entry) → items_at n allowance ts ≡ Some es → ReadItems allowance ts es
 unfolding items_at
-items_sound n room [] es e =
-    subst (ReadItems room []) (some_is [] es e) (record { items = []; text = refl; means = refl; proper = tt; shallow = tt; few = no_items room })
-items_sound zero room (t ∷ ts) es e = absurd cc
-items_sound (suc n) room (t ∷ ts) es e =
-    let a = bind_some (turn_at room (t ∷ ts)) (λ turn. items_at n turn.0.1 turn.1 >>= λ entries. Some (turn.0.0 ∷ entries)) es e in
+items_sound n allowance [] es e =
+    subst (ReadItems allowance []) (some_is [] es e) (record { items = []; text = refl; means = refl; proper = tt; shallow = tt; few = no_items allowance })
+items_sound zero allowance (t ∷ ts) es e = absurd cc
+items_sound (suc n) allowance (t ∷ ts) es e =
+    let a = bind_some (turn_at allowance (t ∷ ts)) (λ turn. items_at n turn.0.1 turn.1 >>= λ entries. Some (turn.0.0 ∷ entries)) es e in
     let b = bind_some (items_at n a.0.0.1 a.0.1) (λ entries. Some (a.0.0.0 ∷ entries)) es a.2 in
-    let turn = turn_sound room (t ∷ ts) a.0 a.1 in
+    let turn = turn_sound allowance (t ∷ ts) a.0 a.1 in
     let ih = items_sound n a.0.0.1 a.0.1 b.0 b.1 in
-    subst (ReadItems room (t ∷ ts)) (some_is (a.0.0.0 ∷ b.0) es b.2) (record {
+    subst (ReadItems allowance (t ∷ ts)) (some_is (a.0.0.0 ∷ b.0) es b.2) (record {
       items = turn.item.item ∷ ih.items;
       text = turn.item.text ∙ ap (item_written turn.item.item) ih.text;
       means = ap (λ (e : Entry). e ∷ b.0) turn.item.means ∙ ap (λ (l : List Entry). entry_of_item turn.item.item ∷ l) ih.means;
       proper = (turn.item.proper, ih.proper);
       shallow = (turn.item.shallow, ih.shallow);
-      few = room_taken room a.0.0.1 a.0.0.0 b.0 turn.room_left ih.few;
+      few = allowance_taken allowance a.0.0.1 a.0.0.0 b.0 turn.allowance_left ih.few;
     })
 
 file_sound : (ts : List Token) (es : List Entry) → file_at ts ≡ Some es → AreItems ts es
 file_sound ts es e =
-    let r = items_sound (length ts) full_room ts es e in
-    record { items = r.items; written = r.text; proper = r.proper; shallow = r.shallow; few = subst (KeepWithin full_room) r.means r.few; meant = r.means }
+    let r = items_sound (length ts) full_allowance ts es e in
+    record { items = r.items; written = r.text; proper = r.proper; shallow = r.shallow; few = subst (KeepWithin full_allowance) r.means r.few; meant = r.means }
 
 -- ---- files that are written
 
-items_complete : (items : List Item) (n : ℕ) (room : Room) → AllByRecursion IsProperItem items → AllByRecursion IsShallow items → KeepWithin room (map entry_of_item items) → length (file_written items) ≤ n
-    → items_at n room (file_written items) ≡ Some (map entry_of_item items)
+items_complete : (items : List Item) (n : ℕ) (allowance : Allowance) → AllByRecursion IsProperItem items → AllByRecursion IsShallow items → KeepWithin allowance (map entry_of_item items) → length (file_written items) ≤ n
+    → items_at n allowance (file_written items) ≡ Some (map entry_of_item items)
 unfolding items_at
-items_complete [] n room p d k le = refl
-items_complete (item ∷ items) zero room p d k le = absurd (omega (arith, le, longer_item item (file_written items)))
-items_complete (item ∷ items) (suc n) room p d k le =
+items_complete [] n allowance p d k le = refl
+items_complete (item ∷ items) zero allowance p d k le = absurd (omega (arith, le, longer_item item (file_written items)))
+items_complete (item ∷ items) (suc n) allowance p d k le =
     let rest = file_written items in
     let longer = longer_item item rest in
     let some : 0 < length (item_written item rest) = omega (arith, longer) in
     let enough : length rest ≤ n = omega (arith, le, longer) in
-    let r = room_found room (entry_of_item item) (map entry_of_item items) k in
+    let r = allowance_found allowance (entry_of_item item) (map entry_of_item items) k in
     let ih = items_complete items n r.left p.1 d.1 r.keep enough in
-    turn_first n room (item_written item rest) some ∙ rw (item_complete item rest p.0 d.0, r.is, ih) refl
+    turn_first n allowance (item_written item rest) some ∙ rw (item_complete item rest p.0 d.0, r.is, ih) refl
 
 pub file_complete : (ts : List Token) (es : List Entry) → AreItems ts es → file_at ts ≡ Some es
 file_complete ts es h =
     let enough : length (file_written h.items) ≤ length (file_written h.items) = omega arith in
-    ap (λ (us : List Token). file_at us) h.written ∙ items_complete h.items (length (file_written h.items)) full_room h.proper h.shallow h.few enough ∙ ap (λ (l : List Entry). Some l) (sym h.meant)
+    ap (λ (us : List Token). file_at us) h.written ∙ items_complete h.items (length (file_written h.items)) full_allowance h.proper h.shallow h.few enough ∙ ap (λ (l : List Entry). Some l) (sym h.meant)
 
 -- ---- the contract of the reader
 
@@ -260,57 +253,57 @@ abbrev with_before : List Entry → Option (List Entry) → Option (List Entry)
 with_before front read = read >>= λ es. Some (front ++ es)
 
 -- the items before ts were read, and those from there on make up the total
-pub record ItemsLeft (room : Room) (ts : List Token) (front : List Entry) (total : Option (List Entry)) : Type 0 where
+pub record ItemsLeft (allowance : Allowance) (ts : List Token) (front : List Entry) (total : Option (List Entry)) : Type 0 where
   pub most : ℕ
   pub enough : length ts ≤ most
-  pub so_far : with_before front (items_at most room ts) ≡ total
+  pub so_far : with_before front (items_at most allowance ts) ≡ total
 
 none_before : (read : Option (List Entry)) → with_before [] read ≡ read
 none_before (Some es) = refl
 none_before None = refl
 
-pub all_left : (ts : List Token) → ItemsLeft full_room ts [] (file_at ts)
+pub all_left : (ts : List Token) → ItemsLeft full_allowance ts [] (file_at ts)
 all_left ts =
     let enough : length ts ≤ length ts = omega arith in
-    record { most = length ts; enough = enough; so_far = none_before (items_at (length ts) full_room ts) }
+    record { most = length ts; enough = enough; so_far = none_before (items_at (length ts) full_allowance ts) }
 
 regroup : (front : List Entry) (e : Entry) (read : Option (List Entry)) → with_before front (read >>= λ es. Some (e ∷ es)) ≡ with_before (front ++ e ∷ []) read
 regroup front e (Some es) = ap (λ (l : List Entry). Some l) (simp append_assoc)
 regroup front e None = refl
 
-more_from : (room : Room) (ts : List Token) (front : List Entry) (total : Option (List Entry)) (e : Entry) (left : Room) (rest : List Token) → turn_at room ts ≡ Some ((e, left), rest)
-    → (most : ℕ) → length ts ≤ most → with_before front (items_at most room ts) ≡ total → ItemsLeft left rest (front ++ e ∷ []) total
-more_from room ts front total e left rest t zero h s = absurd (omega (arith, h, turn_shorter room ts ((e, left), rest) t))
-more_from room ts front total e left rest t (suc n) h s =
-    let shorter = turn_shorter room ts ((e, left), rest) t in
+more_from : (allowance : Allowance) (ts : List Token) (front : List Entry) (total : Option (List Entry)) (e : Entry) (left : Allowance) (rest : List Token) → turn_at allowance ts ≡ Some ((e, left), rest)
+    → (most : ℕ) → length ts ≤ most → with_before front (items_at most allowance ts) ≡ total → ItemsLeft left rest (front ++ e ∷ []) total
+more_from allowance ts front total e left rest t zero h s = absurd (omega (arith, h, turn_shorter allowance ts ((e, left), rest) t))
+more_from allowance ts front total e left rest t (suc n) h s =
+    let shorter = turn_shorter allowance ts ((e, left), rest) t in
     let some : 0 < length ts = omega (arith, shorter) in
     let enough : length rest ≤ n = omega (arith, h, shorter) in
-    let turn : items_with (items_at n) room ts ≡ (items_at n left rest >>= λ es. Some (e ∷ es)) = rw t refl in
-    let one : with_before front (items_at (suc n) room ts) ≡ with_before (front ++ e ∷ []) (items_at n left rest) =
-    ap (with_before front) (turn_first n room ts some ∙ turn) ∙ regroup front e (items_at n left rest) in
+    let turn : items_with (items_at n) allowance ts ≡ (items_at n left rest >>= λ es. Some (e ∷ es)) = rw t refl in
+    let one : with_before front (items_at (suc n) allowance ts) ≡ with_before (front ++ e ∷ []) (items_at n left rest) =
+    ap (with_before front) (turn_first n allowance ts some ∙ turn) ∙ regroup front e (items_at n left rest) in
     record { most = n; enough = enough; so_far = sym one ∙ s }
 
 -- one item more is read
-pub one_more : (room : Room) (ts : List Token) (front : List Entry) (total : Option (List Entry)) (e : Entry) (left : Room) (rest : List Token) → turn_at room ts ≡ Some ((e, left), rest)
-    → ItemsLeft room ts front total → ItemsLeft left rest (front ++ e ∷ []) total
-one_more room ts front total e left rest t h = more_from room ts front total e left rest t h.most h.enough h.so_far
+pub one_more : (allowance : Allowance) (ts : List Token) (front : List Entry) (total : Option (List Entry)) (e : Entry) (left : Allowance) (rest : List Token) → turn_at allowance ts ≡ Some ((e, left), rest)
+    → ItemsLeft allowance ts front total → ItemsLeft left rest (front ++ e ∷ []) total
+one_more allowance ts front total e left rest t h = more_from allowance ts front total e left rest t h.most h.enough h.so_far
 
-none_from : (room : Room) (ts : List Token) (front : List Entry) (total : Option (List Entry)) → 0 < length ts → turn_at room ts ≡ None
-    → (most : ℕ) → length ts ≤ most → with_before front (items_at most room ts) ≡ total → total ≡ None
-none_from room ts front total some t zero h s = absurd (omega (arith, h, some))
-none_from room ts front total some t (suc n) h s =
-    let turn : items_with (items_at n) room ts ≡ None = rw t refl in
-    sym s ∙ ap (with_before front) (turn_first n room ts some ∙ turn)
+none_from : (allowance : Allowance) (ts : List Token) (front : List Entry) (total : Option (List Entry)) → 0 < length ts → turn_at allowance ts ≡ None
+    → (most : ℕ) → length ts ≤ most → with_before front (items_at most allowance ts) ≡ total → total ≡ None
+none_from allowance ts front total some t zero h s = absurd (omega (arith, h, some))
+none_from allowance ts front total some t (suc n) h s =
+    let turn : items_with (items_at n) allowance ts ≡ None = rw t refl in
+    sym s ∙ ap (with_before front) (turn_first n allowance ts some ∙ turn)
 
 -- an item can't be read
-pub no_more : (room : Room) (ts : List Token) (front : List Entry) (total : Option (List Entry)) (e : SyntaxError) → 0 < length ts → Fails e (turn_at room ts)
-    → ItemsLeft room ts front total → Fails e total
-no_more room ts front total Memory some f h = tt
-no_more room ts front total (Fault kind place) some f h = none_from room ts front total some f h.most h.enough h.so_far
+pub no_more : (allowance : Allowance) (ts : List Token) (front : List Entry) (total : Option (List Entry)) (e : SyntaxError) → 0 < length ts → Fails e (turn_at allowance ts)
+    → ItemsLeft allowance ts front total → Fails e total
+no_more allowance ts front total Memory some f h = tt
+no_more allowance ts front total (Fault kind place) some f h = none_from allowance ts front total some f h.most h.enough h.so_far
 
 -- at the end all items were read
-pub all_read : (room : Room) (ts : List Token) (front : List Entry) (total : Option (List Entry)) → ts ≡ [] → ItemsLeft room ts front total → total ≡ Some front
+pub all_read : (allowance : Allowance) (ts : List Token) (front : List Entry) (total : Option (List Entry)) → ts ≡ [] → ItemsLeft allowance ts front total → total ≡ Some front
 unfolding items_at
-all_read room ts front total e left =
-    let one : with_before front (items_at left.most room ts) ≡ Some front = rw e (ap (λ (l : List Entry). Some l) (append-nil front)) in
+all_read allowance ts front total e left =
+    let one : with_before front (items_at left.most allowance ts) ≡ Some front = rw e (ap (λ (l : List Entry). Some l) (append-nil front)) in
     sym left.so_far ∙ one

@@ -1,5 +1,6 @@
 -- An item that is read is written so.
 use Rattle.std.proofs.Common.{◌≡◌, ℕ, ◌≤◌, Bool, true, false, ◌&&◌, cond, leb, leb-true, List, [], ◌∷◌, Option, Some, None, refl, sym, ap, subst, ◌∙◌, inl, inr, arith}
+use Rattle.std.proofs.lemmas.Bool.{and_parts}
 use Rattle.std.proofs.Math.Nat.{max-le}
 use Rattle.std.specs.Prelude.{codes}
 use Rattle.std.specs.List.{AllByRecursion}
@@ -15,8 +16,8 @@ use Rattle.pg_items.specs.Entries as entry
 use Rattle.pg_items.specs.Entries.{Entry}
 use Rattle.pg_items.specs.Depth.{IsShallow}
 use Rattle.pg_items.specs.Words.{role_named}
-use Rattle.pg_parser.specs.Reading.{◌>>=◌, mark_at, word_at, name_at, literal_at, number_at, free_name, filled_text, value_within, value_between, with_first, class_at, value_at}
-use Rattle.pg_parser.specs.ItemReading.{free_name_at, filled_at, literals_at, reserved_with, reserved_at, most_with, most_at, class_item_at, word_item_at, operators_at, table_at, start_at, rule_at, item_named_at, item_at}
+use Rattle.pg_parser.specs.Reading.{◌>>=◌, ClassParts, mark_at, word_at, name_at, literal_at, number_at, free_name, filled_text, value_within, value_between, with_first, class_at, value_at}
+use Rattle.pg_parser.specs.ItemReading.{free_name_at, filled_at, literals_at, reserved_with, reserved_at, most_with, most_at, class_item_at, class_after, word_item_at, operators_at, table_at, start_at, rule_at, item_named_at, item_at}
 use Rattle.pg_parser.proofs.ParserLemmas.Steps.{bind_some, some_is, chosen, guard_some, mark_is, name_is, literal_is, number_is, word_at_is, filled_text_is, free_name_is, word_is}
 use Rattle.pg_parser.proofs.ParserLemmas.Classes.{class_sound}
 use Rattle.pg_parser.proofs.ParserLemmas.Words.{role_named_is}
@@ -40,15 +41,11 @@ filled_at_is ts x e =
     subst (λ (y : List ℕ × List Token). (ts ≡ literal y.0 ∷ y.1) × IsFilled y.0) (some_is (b.0, a.0.1) x b.2)
     (literal_is ts a.0 a.1 ∙ ap (λ (u : List ℕ). literal u ∷ a.0.1) t.0, subst IsFilled t.0 t.1)
 
-both : (a b : Bool) → (a && b) ≡ true → (a ≡ true) × (b ≡ true)
-both true b e = (refl, e)
-both false b e = absurd cc
-
 within_is : (high : ℕ) (s : List ℕ) (n : ℕ) → value_within high s ≡ Some n → (value_of s ≡ n) × (passes is_decimal s ≡ true) × (value_of s ≤ high)
 unfolding value_within
 within_is high s n e =
     let g = guard_some (passes is_decimal s && leb (value_of s) high) (Some (value_of s)) n e in
-    let h = both (passes is_decimal s) (leb (value_of s) high) g.0 in
+    let h = and_parts (passes is_decimal s) (leb (value_of s) high) g.0 in
     (some_is (value_of s) n g.1, h.0, leb-true (value_of s) high h.1)
 
 between_is : (low high : ℕ) (s : List ℕ) (n : ℕ) → value_between low high s ≡ Some n → (value_of s ≡ n) × IsNumber low high s
@@ -85,13 +82,13 @@ AreReserved ts x = (ts ≡ reserved_written x.0 x.1) × AllByRecursion IsFilled 
 
 reserved_with_sound : (ts : List Token) (o : Option (List Token)) (x : List (List ℕ) × List Token) → word_at (codes "reserved") ts ≡ o → reserved_with ts o ≡ Some x → AreReserved ts x
 reserved_with_sound ts None x w e = subst (AreReserved ts) (some_is ([], ts) x e) (refl, tt)
-reserved_with_sound ts (Some behind) x w e =
-    let a = bind_some (filled_at behind) (λ first. with_first first.0 (literals_at first.1)) x e in
+reserved_with_sound ts (Some after) x w e =
+    let a = bind_some (filled_at after) (λ first. with_first first.0 (literals_at first.1)) x e in
     let b = bind_some (literals_at a.0.1) (λ xs. Some (a.0.0 ∷ xs.0, xs.1)) x a.2 in
-    let first = filled_at_is behind a.0 a.1 in
+    let first = filled_at_is after a.0 a.1 in
     let more = literals_sound a.0.1 b.0 b.1 in
     subst (AreReserved ts) (some_is (a.0.0 ∷ b.0.0, b.0.1) x b.2)
-    (word_at_is (codes "reserved") ts behind w ∙ ap (λ (u : List Token). name (codes "reserved") ∷ u) (first.0 ∙ ap (λ (u : List Token). literal a.0.0 ∷ u) more.0), (first.1, more.1))
+    (word_at_is (codes "reserved") ts after w ∙ ap (λ (u : List Token). name (codes "reserved") ∷ u) (first.0 ∙ ap (λ (u : List Token). literal a.0.0 ∷ u) more.0), (first.1, more.1))
 
 reserved_sound : (ts : List Token) (x : List (List ℕ) × List Token) → reserved_at ts ≡ Some x → AreReserved ts x
 reserved_sound ts x e = reserved_with_sound ts (word_at (codes "reserved") ts) x refl e
@@ -106,13 +103,13 @@ record IsMostAt (ts : List Token) (x : Option ℕ × List Token) : Type 0 where
 
 most_with_sound : (ts : List Token) (o : Option (List Token)) (x : Option ℕ × List Token) → word_at (codes "max") ts ≡ o → most_with ts o ≡ Some x → IsMostAt ts x
 most_with_sound ts None x w e = subst (IsMostAt ts) (some_is (None, ts) x e) (record { digits = None; text = refl; means = refl; proper = tt })
-most_with_sound ts (Some behind) x w e =
-    let a = bind_some (number_at behind) (λ s. value_between 1 64 s.0 >>= λ most. Some (Some most, s.1)) x e in
+most_with_sound ts (Some after) x w e =
+    let a = bind_some (number_at after) (λ s. value_between 1 64 s.0 >>= λ most. Some (Some most, s.1)) x e in
     let b = bind_some (value_between 1 64 a.0.0) (λ most. Some (Some most, a.0.1)) x a.2 in
     let t = between_is 1 64 a.0.0 b.0 b.1 in
     subst (IsMostAt ts) (some_is (Some b.0, a.0.1) x b.2) (record {
       digits = Some a.0.0;
-      text = word_at_is (codes "max") ts behind w ∙ ap (λ (u : List Token). name (codes "max") ∷ u) (number_is behind a.0 a.1);
+      text = word_at_is (codes "max") ts after w ∙ ap (λ (u : List Token). name (codes "max") ∷ u) (number_is after a.0 a.1);
       means = ap (λ (m : ℕ). Some m) (sym t.0);
       proper = t.1;
     })
@@ -136,8 +133,8 @@ IsEnded ts x = (rest : List Token) → x.1 ≡ mark Semicolon ∷ rest → IsIte
 
 class_item_sound : (ts : List Token) (x : Entry × List Token) → class_item_at ts ≡ Some x → IsEnded (name (codes "class") ∷ ts) x
 class_item_sound ts x e =
-    let a = bind_some (free_name_at ts) (λ n. mark_at Equals n.1 >>= λ behind. class_at 64 behind >>= λ c. Some (entry.class n.0 c.0, c.1)) x e in
-    let b = bind_some (mark_at Equals a.0.1) (λ behind. class_at 64 behind >>= λ c. Some (entry.class a.0.0 c.0, c.1)) x a.2 in
+    let a = bind_some (free_name_at ts) (λ n. mark_at Equals n.1 >>= λ after. class_at 64 after >>= λ c. Some (entry.class n.0 c.0, c.1)) x e in
+    let b = bind_some (mark_at Equals a.0.1) (λ after. class_at 64 after >>= λ c. Some (entry.class a.0.0 c.0, c.1)) x a.2 in
     let d = bind_some (class_at 64 b.0) (λ c. Some (entry.class a.0.0 c.0, c.1)) x b.2 in
     let n = free_name_at_is ts a.0 a.1 in
     let c = class_sound 64 b.0 d.0 d.1 in
@@ -149,22 +146,33 @@ class_item_sound ts x e =
       shallow = c.proper.1;
     })
 
+-- a word that is read, and the class after it
+record IsAfter (word : List ℕ) (ts : List Token) (x : ClassParts × List Token) : Type 0 where
+  after : List Token
+  text : ts ≡ name word ∷ after
+  class : class_at 64 after ≡ Some x
+
+class_is_after : (word : List ℕ) (ts : List Token) (x : ClassParts × List Token) → class_after 64 word ts ≡ Some x → IsAfter word ts x
+class_is_after word ts x e =
+    let a = bind_some (word_at word ts) (λ after. class_at 64 after) x e in
+    record { after = a.0; text = word_at_is word ts a.0 a.1; class = a.2 }
+
 word_item_sound : (ts : List Token) (x : Entry × List Token) → word_item_at ts ≡ Some x → IsEnded (name (codes "word") ∷ ts) x
 word_item_sound ts x e =
-    let a = bind_some (free_name_at ts) (λ n. word_at (codes "head") n.1 >>= λ behind. class_at 64 behind >>= λ h. word_at (codes "rest") h.1 >>= λ others. class_at 64 others >>= λ c. reserved_at c.1 >>= λ r. Some (entry.word n.0 h.0 c.0 r.0, r.1)) x e in
-    let b = bind_some (word_at (codes "head") a.0.1) (λ behind. class_at 64 behind >>= λ h. word_at (codes "rest") h.1 >>= λ others. class_at 64 others >>= λ c. reserved_at c.1 >>= λ r. Some (entry.word a.0.0 h.0 c.0 r.0, r.1)) x a.2 in
-    let d = bind_some (class_at 64 b.0) (λ h. word_at (codes "rest") h.1 >>= λ others. class_at 64 others >>= λ c. reserved_at c.1 >>= λ r. Some (entry.word a.0.0 h.0 c.0 r.0, r.1)) x b.2 in
-    let f = bind_some (word_at (codes "rest") d.0.1) (λ others. class_at 64 others >>= λ c. reserved_at c.1 >>= λ r. Some (entry.word a.0.0 d.0.0 c.0 r.0, r.1)) x d.2 in
-    let g = bind_some (class_at 64 f.0) (λ c. reserved_at c.1 >>= λ r. Some (entry.word a.0.0 d.0.0 c.0 r.0, r.1)) x f.2 in
+    let a = bind_some (free_name_at ts) (λ n. class_after 64 (codes "head") n.1 >>= λ h. class_after 64 (codes "rest") h.1 >>= λ c. reserved_at c.1 >>= λ r. Some (entry.word n.0 h.0 c.0 r.0, r.1)) x e in
+    let d = bind_some (class_after 64 (codes "head") a.0.1) (λ h. class_after 64 (codes "rest") h.1 >>= λ c. reserved_at c.1 >>= λ r. Some (entry.word a.0.0 h.0 c.0 r.0, r.1)) x a.2 in
+    let g = bind_some (class_after 64 (codes "rest") d.0.1) (λ c. reserved_at c.1 >>= λ r. Some (entry.word a.0.0 d.0.0 c.0 r.0, r.1)) x d.2 in
     let k = bind_some (reserved_at g.0.1) (λ r. Some (entry.word a.0.0 d.0.0 g.0.0 r.0, r.1)) x g.2 in
+    let b = class_is_after (codes "head") a.0.1 d.0 d.1 in
+    let f = class_is_after (codes "rest") d.0.1 g.0 g.1 in
     let n = free_name_at_is ts a.0 a.1 in
-    let h = class_sound 64 b.0 d.0 d.1 in
-    let c = class_sound 64 f.0 g.0 g.1 in
+    let h = class_sound 64 b.after d.0 b.class in
+    let c = class_sound 64 f.after g.0 f.class in
     let r = reserved_sound g.0.1 k.0 k.1 in
     subst (IsEnded (name (codes "word") ∷ ts)) (some_is (entry.word a.0.0 d.0.0 g.0.0 k.0.0, k.0.1) x k.2) (λ rest ends. record {
       item = Word_item a.0.0 h.tree c.tree k.0.0;
-      text = ap (λ (u : List Token). name (codes "word") ∷ u) (n.0 ∙ ap (λ (u : List Token). name a.0.0 ∷ u) (word_at_is (codes "head") a.0.1 b.0 b.1 ∙ ap (λ (u : List Token). name (codes "head") ∷ u) (h.text
-          ∙ ap (class_written h.tree) (word_at_is (codes "rest") d.0.1 f.0 f.1 ∙ ap (λ (u : List Token). name (codes "rest") ∷ u) (c.text ∙ ap (class_written c.tree) (r.0 ∙ ap (reserved_written k.0.0) ends))))));
+      text = ap (λ (u : List Token). name (codes "word") ∷ u) (n.0 ∙ ap (λ (u : List Token). name a.0.0 ∷ u) (b.text ∙ ap (λ (u : List Token). name (codes "head") ∷ u) (h.text
+          ∙ ap (class_written h.tree) (f.text ∙ ap (λ (u : List Token). name (codes "rest") ∷ u) (c.text ∙ ap (class_written c.tree) (r.0 ∙ ap (reserved_written k.0.0) ends))))));
       means = ap (λ (parts : _). entry.word a.0.0 parts g.0.0 k.0.0) h.means ∙ ap (λ (parts : _). entry.word a.0.0 (class_parts h.tree) parts k.0.0) c.means;
       proper = (n.1, h.proper.0, c.proper.0, r.1);
       shallow = max-le h.proper.1 c.proper.1;
@@ -172,18 +180,18 @@ word_item_sound ts x e =
 
 operators_sound : (ts : List Token) (x : Entry × List Token) → operators_at ts ≡ Some x → IsEnded (name (codes "operators") ∷ ts) x
 operators_sound ts x e =
-    let a = bind_some (class_at 64 ts) (λ c. word_at (codes "gap") c.1 >>= λ behind. class_at 64 behind >>= λ g. reserved_at g.1 >>= λ r. most_at r.1 >>= λ m. Some (entry.operators c.0 g.0 r.0 m.0, m.1)) x e in
-    let b = bind_some (word_at (codes "gap") a.0.1) (λ behind. class_at 64 behind >>= λ g. reserved_at g.1 >>= λ r. most_at r.1 >>= λ m. Some (entry.operators a.0.0 g.0 r.0 m.0, m.1)) x a.2 in
-    let d = bind_some (class_at 64 b.0) (λ g. reserved_at g.1 >>= λ r. most_at r.1 >>= λ m. Some (entry.operators a.0.0 g.0 r.0 m.0, m.1)) x b.2 in
+    let a = bind_some (class_at 64 ts) (λ c. class_after 64 (codes "gap") c.1 >>= λ g. reserved_at g.1 >>= λ r. most_at r.1 >>= λ m. Some (entry.operators c.0 g.0 r.0 m.0, m.1)) x e in
+    let d = bind_some (class_after 64 (codes "gap") a.0.1) (λ g. reserved_at g.1 >>= λ r. most_at r.1 >>= λ m. Some (entry.operators a.0.0 g.0 r.0 m.0, m.1)) x a.2 in
     let f = bind_some (reserved_at d.0.1) (λ r. most_at r.1 >>= λ m. Some (entry.operators a.0.0 d.0.0 r.0 m.0, m.1)) x d.2 in
     let g = bind_some (most_at f.0.1) (λ m. Some (entry.operators a.0.0 d.0.0 f.0.0 m.0, m.1)) x f.2 in
+    let b = class_is_after (codes "gap") a.0.1 d.0 d.1 in
     let c = class_sound 64 ts a.0 a.1 in
-    let h = class_sound 64 b.0 d.0 d.1 in
+    let h = class_sound 64 b.after d.0 b.class in
     let r = reserved_sound d.0.1 f.0 f.1 in
     let m = most_sound f.0.1 g.0 g.1 in
     subst (IsEnded (name (codes "operators") ∷ ts)) (some_is (entry.operators a.0.0 d.0.0 f.0.0 g.0.0, g.0.1) x g.2) (λ rest ends. record {
       item = Operators c.tree h.tree f.0.0 m.digits;
-      text = ap (λ (u : List Token). name (codes "operators") ∷ u) (c.text ∙ ap (class_written c.tree) (word_at_is (codes "gap") a.0.1 b.0 b.1 ∙ ap (λ (u : List Token). name (codes "gap") ∷ u) (h.text
+      text = ap (λ (u : List Token). name (codes "operators") ∷ u) (c.text ∙ ap (class_written c.tree) (b.text ∙ ap (λ (u : List Token). name (codes "gap") ∷ u) (h.text
           ∙ ap (class_written h.tree) (r.0 ∙ ap (reserved_written f.0.0) (m.text ∙ ap (most_written m.digits) ends)))));
       means = ap (λ (parts : _). entry.operators parts d.0.0 f.0.0 g.0.0) c.means ∙ ap (λ (parts : _). entry.operators (class_parts c.tree) parts f.0.0 g.0.0) h.means ∙ ap (λ (n : Option ℕ). entry.operators (class_parts c.tree) (class_parts h.tree) f.0.0 n) m.means;
       proper = (c.proper.0, h.proper.0, r.1, m.proper);
@@ -225,8 +233,8 @@ start_sound ts x e =
 
 rule_sound : (s : List ℕ) (ts : List Token) (x : Entry × List Token) → rule_at s ts ≡ Some x → IsEnded (name s ∷ ts) x
 rule_sound s ts x e =
-    let a = bind_some (free_name s) (λ n. mark_at Equals ts >>= λ behind. value_at 64 behind >>= λ v. Some (entry.rule n v.0, v.1)) x e in
-    let b = bind_some (mark_at Equals ts) (λ behind. value_at 64 behind >>= λ v. Some (entry.rule a.0 v.0, v.1)) x a.2 in
+    let a = bind_some (free_name s) (λ n. mark_at Equals ts >>= λ after. value_at 64 after >>= λ v. Some (entry.rule n v.0, v.1)) x e in
+    let b = bind_some (mark_at Equals ts) (λ after. value_at 64 after >>= λ v. Some (entry.rule a.0 v.0, v.1)) x a.2 in
     let d = bind_some (value_at 64 b.0) (λ v. Some (entry.rule a.0 v.0, v.1)) x b.2 in
     let n = free_name_is s a.0 a.1 in
     let v = value_sound 64 b.0 d.0 d.1 in

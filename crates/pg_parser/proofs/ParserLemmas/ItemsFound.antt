@@ -16,7 +16,7 @@ use Rattle.pg_items.specs.Entries as entry
 use Rattle.pg_items.specs.Entries.{Entry}
 use Rattle.pg_items.specs.Depth.{IsShallow}
 use Rattle.pg_parser.specs.Reading.{◌>>=◌, Reader, mark_at, word_at, name_at, free_name, value_within, value_between, class_at, value_at}
-use Rattle.pg_parser.specs.ItemReading.{free_name_at, literals_at, reserved_at, most_at, table_at, start_at, item_named_at, item_at}
+use Rattle.pg_parser.specs.ItemReading.{free_name_at, class_after, literals_at, reserved_at, most_at, table_at, start_at, item_named_at, item_at}
 use Rattle.pg_parser.proofs.ParserLemmas.Steps.{free_name_found, filled_text_found, free_isnt}
 use Rattle.pg_parser.proofs.ParserLemmas.Classes.{class_complete}
 use Rattle.pg_parser.proofs.ParserLemmas.Words.{role_found}
@@ -47,20 +47,20 @@ most_complete (Some digits) rest p w = rw (between_found 1 64 digits p) refl
 -- ---- reading items in which parentheses nest n deep, as the reader does it with 64
 
 abbrev class_item_within : ℕ → Reader Entry
-class_item_within n ts = free_name_at ts >>= λ s. mark_at Equals s.1 >>= λ behind. class_at n behind >>= λ c. Some (entry.class s.0 c.0, c.1)
+class_item_within n ts = free_name_at ts >>= λ s. mark_at Equals s.1 >>= λ after. class_at n after >>= λ c. Some (entry.class s.0 c.0, c.1)
 
 abbrev word_item_within : ℕ → Reader Entry
 word_item_within n ts =
-    free_name_at ts >>= λ s. word_at (codes "head") s.1 >>= λ behind. class_at n behind >>= λ head. word_at (codes "rest") head.1 >>= λ others. class_at n others >>= λ c. reserved_at c.1
+    free_name_at ts >>= λ s. class_after n (codes "head") s.1 >>= λ head. class_after n (codes "rest") head.1 >>= λ c. reserved_at c.1
     >>= λ reserved. Some (entry.word s.0 head.0 c.0 reserved.0, reserved.1)
 
 abbrev operators_within : ℕ → Reader Entry
 operators_within n ts =
-    class_at n ts >>= λ c. word_at (codes "gap") c.1 >>= λ behind. class_at n behind >>= λ gap. reserved_at gap.1 >>= λ reserved. most_at reserved.1
+    class_at n ts >>= λ c. class_after n (codes "gap") c.1 >>= λ gap. reserved_at gap.1 >>= λ reserved. most_at reserved.1
     >>= λ most. Some (entry.operators c.0 gap.0 reserved.0 most.0, most.1)
 
 abbrev rule_within : ℕ → List ℕ → Reader Entry
-rule_within n s ts = free_name s >>= λ rule. mark_at Equals ts >>= λ behind. value_at n behind >>= λ v. Some (entry.rule rule v.0, v.1)
+rule_within n s ts = free_name s >>= λ rule. mark_at Equals ts >>= λ after. value_at n after >>= λ v. Some (entry.rule rule v.0, v.1)
 
 pub item_named_within : ℕ → List ℕ → Reader Entry
 item_named_within n s ts =
@@ -80,7 +80,7 @@ reserved_stops : (texts : List (List ℕ)) (rest : List Token) → mark_at Dots 
 reserved_stops [] rest d b = (d, b)
 reserved_stops (s ∷ texts) rest d b = (refl, refl)
 
--- behind the reserved texts: the most operators, or the semicolon
+-- after the reserved texts: the most operators, or the semicolon
 abbrev tail : Option (List ℕ) → List Token → List Token
 tail most rest = most_written most (mark Semicolon ∷ rest)
 

@@ -43,11 +43,11 @@ regroup {A} front b (Some x) = ap (λ (ns : List A). Some (ns, x.1)) (simp appen
 regroup front b None = refl
 
 -- one part more is read
-pub goes_on : {A : Type 0} (between : Mark) (part : Reader A) (front : List A) (most i : ℕ) (ts behind : List Token) (b : A) (after : List Token) (total : Option (List A × List Token)) → i < most
-    → mark_at between ts ≡ Some behind → part behind ≡ Some (b, after)
+pub goes_on : {A : Type 0} (between : Mark) (part : Reader A) (front : List A) (most i : ℕ) (ts following : List Token) (b : A) (after : List Token) (total : Option (List A × List Token)) → i < most
+    → mark_at between ts ≡ Some following → part following ≡ Some (b, after)
     → with_front front (more_at between part (most - i) ts) ≡ total → with_front (front ++ b ∷ []) (more_at between part (most - (i + 1)) after) ≡ total
 unfolding more_at
-goes_on between part front most i ts behind b after total lt m h so_far =
+goes_on between part front most i ts following b after total lt m h so_far =
     let k : most - i ≡ suc (most - (i + 1)) = omega arith in
     let one : with_front front (more_at between part (most - i) ts) ≡ with_front (front ++ b ∷ []) (more_at between part (most - (i + 1)) after) = rw (k, m, h) (regroup front b (more_at between part (most - (i + 1)) after)) in
     sym one ∙ so_far
@@ -71,17 +71,17 @@ is_full {A} between part front most i ts total le so_far =
     sym so_far ∙ one
 
 -- a part can't be read
-pub ends : {A : Type 0} (e : SyntaxError) (between : Mark) (part : Reader A) (front : List A) (most i : ℕ) (ts behind : List Token) (total : Option (List A × List Token)) → i < most
-    → mark_at between ts ≡ Some behind → Fails e (part behind)
+pub ends : {A : Type 0} (e : SyntaxError) (between : Mark) (part : Reader A) (front : List A) (most i : ℕ) (ts following : List Token) (total : Option (List A × List Token)) → i < most
+    → mark_at between ts ≡ Some following → Fails e (part following)
     → with_front front (more_at between part (most - i) ts) ≡ total → Fails e total
 unfolding more_at
-ends Memory between part front most i ts behind total lt m h so_far = tt
-ends (Fault kind place) between part front most i ts behind total lt m h so_far =
+ends Memory between part front most i ts following total lt m h so_far = tt
+ends (Fault kind place) between part front most i ts following total lt m h so_far =
     let k : most - i ≡ suc (most - (i + 1)) = omega arith in
     let one : with_front front (more_at between part (most - i) ts) ≡ None = rw (k, m, h) refl in
     sym so_far ∙ one
 
--- one list more behind joined lists
+-- one list more after joined lists
 pub joined_push : {A : Type 0} (bodies : List (List A)) (body : List A) → joined (bodies ++ body ∷ []) ≡ joined bodies ++ body
 joined_push [] body = append-nil body
 joined_push (first ∷ bodies) body = rw (joined_push bodies body) (sym (append_assoc first (joined bodies) body))
@@ -105,7 +105,7 @@ list_joined lists list parts after e h =
     e ∙ ap (λ (ps : List WrittenPart). ps ++ list.items) h ∙ sym (joined_push (classes_of lists) list.items)
     ∙ ap (λ (all : List (List WrittenPart)). joined all) (sym (map_push (λ (c : Vec WrittenPart). c.items) lists list))
 
--- ---- atoms behind `not`
+-- ---- atoms after `not`
 
 abbrev not_at : List Token → Option (List Token)
 not_at ts = word_at (codes "not") ts
@@ -121,7 +121,7 @@ not_read group front (t ∷ ts) rest total b h =
     let one : with_front front (atom_at group (t ∷ ts)) ≡ with_front (front ++ part.Complement ∷ []) (atom_at group ts) = rw g.0 (regroup front part.Complement (atom_at group ts)) in
     subst (λ (us : List Token). with_front (front ++ part.Complement ∷ []) (atom_at group us) ≡ total) same (sym one ∙ h)
 
--- fewer tokens stand behind it
+-- fewer tokens stand after it
 pub not_shorter : (ts : List Lexeme) (rest : List Lexeme) → not_at (tokens_of ts) ≡ Some (tokens_of rest) → length rest < length ts
 not_shorter [] rest b = absurd cc
 not_shorter (t ∷ ts) rest b =
@@ -139,11 +139,11 @@ plain_read group (t ∷ ts) b = go (is_word (codes "not") t) refl b
     go true e h = absurd cc
     go false e h = rw e refl
 
--- what was read behind the front
+-- what was read after the front
 pub front_read : {A : Type 0} (front xs : List A) (rest : List Token) (read total : Option (List A × List Token)) → read ≡ Some (xs, rest) → with_front front read ≡ total → total ≡ Some (front ++ xs, rest)
 front_read front xs rest read total e h = sym h ∙ ap (with_front front) e
 
--- nothing is read behind the front
+-- nothing is read after the front
 pub front_fails : {A : Type 0} (e : SyntaxError) (front : List A) (read total : Option (List A × List Token)) → Fails e read → with_front front read ≡ total → Fails e total
 front_fails Memory front read total f h = tt
 front_fails (Fault kind place) front read total f h = sym h ∙ ap (with_front front) f

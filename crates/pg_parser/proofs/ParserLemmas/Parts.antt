@@ -6,8 +6,8 @@ use Rattle.pg_tokens.specs.Tokens.{Token, mark}
 use Rattle.pg_parser.specs.Reading.{Reader, mark_at, with_first, more_with, more_at, some_at}
 use Rattle.pg_parser.proofs.ParserLemmas.Steps.{bind_some, some_is, mark_is, mark_found}
 
--- what is read as A: its trees, how they are written in front of a rest, what they mean, which may be written, and what
--- may stand behind one
+-- what is read as A: its trees, how they are written before a rest, what they mean, which may be written, and what
+-- may stand after one
 pub record Kind (A : Type 0) : Type 1 where
   pub Tree : Type 0
   pub write : Tree → List Token → List Token
@@ -15,7 +15,7 @@ pub record Kind (A : Type 0) : Type 1 where
   pub Proper : Tree → Type 0
   pub Ends : List Token → Type 0
 
--- what was read: a tree, and what stands behind it
+-- what was read: a tree, and what stands after it
 pub record Reads {A : Type 0} (k : Kind A) (ts : List Token) (x : A × List Token) : Type 0 where
   pub tree : k.Tree
   pub text : ts ≡ k.write tree x.1
@@ -34,12 +34,12 @@ Complete {A} k read = (t : k.Tree) (rest : List Token) → k.Ends rest → k.Pro
 abbrev pub Grows : {A : Type 0} → Kind A → Type 0
 Grows k = (t : k.Tree) (rest : List Token) → length rest ≤ length (k.write t rest)
 
--- the parts behind another one, and then rest
+-- the parts after another one, and then rest
 abbrev pub more_written : {A : Type 0} (k : Kind A) → Mark → List k.Tree → List Token → List Token
 more_written k between [] rest = rest
 more_written k between (t ∷ trees) rest = mark between ∷ k.write t (more_written k between trees rest)
 
--- the parts behind another one were read
+-- the parts after another one were read
 pub record ReadsMore {A : Type 0} (k : Kind A) (between : Mark) (ts : List Token) (x : List A × List Token) : Type 0 where
   pub trees : List k.Tree
   pub text : ts ≡ more_written k between trees x.1
@@ -62,14 +62,14 @@ more_with_sound : {A : Type 0} (k : Kind A) (between : Mark) (part : Reader A) �
     → (ts : List Token) (o : Option (List Token)) (x : List A × List Token) → mark_at between ts ≡ o → more_with part more ts o ≡ Some x → ReadsMore k between ts x
 more_with_sound k between part sound more others ts None x m e =
     subst (ReadsMore k between ts) (some_is ([], ts) x e) (record { trees = []; text = refl; means = refl; proper = tt })
-more_with_sound k between part sound more others ts (Some behind) x m e =
-    let a = bind_some (part behind) (λ x. with_first x.0 (more x.1)) x e in
+more_with_sound k between part sound more others ts (Some after) x m e =
+    let a = bind_some (part after) (λ x. with_first x.0 (more x.1)) x e in
     let b = bind_some (more a.0.1) (λ xs. Some (a.0.0 ∷ xs.0, xs.1)) x a.2 in
-    let v = sound behind a.0 a.1 in
+    let v = sound after a.0 a.1 in
     let vs = others a.0.1 b.0 b.1 in
     subst (ReadsMore k between ts) (some_is (a.0.0 ∷ b.0.0, b.0.1) x b.2) (record {
       trees = v.tree ∷ vs.trees;
-      text = mark_is between ts behind m ∙ ap (λ (u : List Token). mark between ∷ u) (v.text ∙ ap (k.write v.tree) vs.text);
+      text = mark_is between ts after m ∙ ap (λ (u : List Token). mark between ∷ u) (v.text ∙ ap (k.write v.tree) vs.text);
       means = let y = v.means in let z = vs.means in cc;
       proper = (v.proper, vs.proper);
     })
@@ -99,7 +99,7 @@ some_sound k between part sound n ts x e =
 
 -- ---- what is written is read
 
--- what may stand behind a part: the mark, or what ends all parts
+-- what may stand after a part: the mark, or what ends all parts
 abbrev pub EndsAll : {A : Type 0} → Kind A → Mark → List Token → Type 0
 EndsAll k between rest = ((us : List Token) → k.Ends (mark between ∷ us)) × k.Ends rest × (mark_at between rest ≡ None)
 

@@ -7,8 +7,8 @@ use Rattle.pg_parser.specs.declared.error.SyntaxError.TheVariants.{Memory, Fault
 use Rattle.pg_tokens.specs.Tokens.{Token, name, number, literal, mark, wrong, bad}
 use Rattle.pg_tokens.specs.View.{tokens_of}
 use Rattle.pg_parser.specs.Given.{Fails}
-use Rattle.pg_parser.specs.Reading.{◌>>=◌, filled_text, with_first}
-use Rattle.pg_parser.specs.ItemReading.{filled_at, has_literal, literals_at}
+use Rattle.pg_parser.specs.Reading.{has_literal, ◌>>=◌, filled_text, with_first}
+use Rattle.pg_parser.specs.ItemReading.{filled_at, literals_at}
 use Rattle.pg_parser.proofs.ParserLemmas.Steps.{bind_some, some_is}
 use Rattle.pg_parser.proofs.ParserLemmas.Loop.{tokens_len, with_front, regroup}
 use Rattle.pg_parser.proofs.ParserLemmas.Items.{filled_at_is}
@@ -61,7 +61,7 @@ literals_end front (mark m ∷ ts) total l h = sym h ∙ ap (λ (xs : List (List
 literals_end front (wrong ∷ ts) total l h = absurd cc
 literals_end front (bad ∷ ts) total l h = sym h ∙ ap (λ (xs : List (List ℕ)). Some (xs, bad ∷ ts)) (append-nil front)
 
--- fewer tokens stand behind a literal
+-- fewer tokens stand after a literal
 pub literal_shorter : (ts rest : List Lexeme) (text : List ℕ) → filled_at (tokens_of ts) ≡ Some (text, tokens_of rest) → length rest < length ts
 literal_shorter ts rest text e =
     let t = filled_at_is (tokens_of ts) (text, tokens_of rest) e in

@@ -62,7 +62,7 @@ together n (And v vs) h =
 
 -- ---- values that are read, one or more
 
--- values with commas between, and what stands behind them
+-- values with commas between, and what stands after them
 pub record AreValues (n : ℕ) (ts : List Token) (x : List Body × List Token) : Type 0 where
   pub first : Value
   pub others : Values

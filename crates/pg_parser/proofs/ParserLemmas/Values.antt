@@ -11,7 +11,7 @@ use Rattle.pg_items.specs.declared.words.ClassForm.{ClassForm}
 use Rattle.pg_items.specs.declared.words.SomeForm.{SomeForm}
 use Rattle.pg_items.specs.declared.words.OneForm.{OneForm}
 use Rattle.pg_items.specs.declared.words.TwoForm.{TwoForm}
-use Rattle.pg_items.specs.declared.words.ChainForm.{ChainForm}
+use Rattle.pg_grammar.specs.declared.side.Side.{Side}
 use Rattle.pg_items.specs.declared.words.FormWord.{FormWord}
 use Rattle.pg_items.specs.declared.words.FormWord.TheVariants as word
 use Rattle.pg_tokens.specs.Tokens.{Token, name, number, literal, mark, wrong, bad}
@@ -21,14 +21,14 @@ use Rattle.pg_items.specs.Proper.{IsProper, AreProper}
 use Rattle.pg_items.specs.Depth.{class_depth, depth, depths}
 use Rattle.pg_items.specs.Heads.{value_count, heads, all_heads}
 use Rattle.pg_items.specs.Words.{form_word}
-use Rattle.pg_parser.specs.Reading.{◌>>=◌, Body, ClassParts, Reader, mark_at, name_at, literal_at, literal_text, filled_text, short_name, free_name, joined, some_at, closed_at, class_at, of_class_at, string_at, word_name_at, values_at, seq_with, of_some_at, counted, around_at, builder_at, chain_head_at, expression_head_at, symbol_at, build_head_at, label_at, form_at, value_of_word, value_of_name, value_with, value_at}
+use Rattle.pg_parser.specs.Reading.{◌>>=◌, Body, ClassParts, Reader, mark_at, name_at, literal_at, literal_text, filled_text, short_name, free_name, joined, some_at, closed_at, class_at, of_class_at, string_at, word_name_at, values_at, seq_with, of_some_at, counted, around_at, builder_at, chain_head_at, expression_head_at, symbol_at, build_head_at, message_at, label_at, form_at, value_of_word, value_of_name, value_with, value_at}
 use Rattle.pg_parser.proofs.ParserLemmas.Steps.{bind_some, some_is, chosen, guard_some, mark_is, name_is, literal_is, literal_text_is, filled_text_is, short_name_is, free_name_is, word_is}
 use Rattle.pg_parser.proofs.ParserLemmas.Parts.{Reads, Sound}
 use Rattle.pg_parser.proofs.ParserLemmas.Classes.{classes, class_sound}
 use Rattle.pg_parser.proofs.ParserLemmas.Words.{word_text, form_word_is}
 use Rattle.pg_parser.proofs.ParserLemmas.ValueLists.{values, some_values, AreValues}
 
--- ---- forms: what was read in front of the parenthesis that closes
+-- ---- forms: what was read before the parenthesis that closes
 
 abbrev IsForm : ℕ → FormWord → List Token → Body × List Token → Type 0
 IsForm n w ts x = (rest : List Token) → x.1 ≡ mark Close ∷ rest → Reads (values (suc n)) (opened (word_text w) ts) (x.0, rest)
@@ -72,7 +72,7 @@ word_sound n ts x e =
     })
 
 seq_sound : (n : ℕ) (value : Reader Body) → Sound (values n) value → (ts : List Token) (close : Option (List Token)) (x : Body × List Token) → mark_at Close ts ≡ close → seq_with value ts close ≡ Some x → IsForm n word.Seq ts x
-seq_sound n value sound ts (Some behind) x c e =
+seq_sound n value sound ts (Some after) x c e =
     let deep : 1 ≤ suc n = omega arith in
     subst (IsForm n word.Seq ts) (some_is (head.Seq 0 ∷ [], ts) x e) (λ rest closes. record {
       tree = Seq No_value;
@@ -107,28 +107,29 @@ of_some_sound n value sound form ts x e =
 
 -- ---- forms of one, two and three values
 
--- so many values behind a form
+-- so many values after a form
 record IsAround (n : ℕ) (form : WrittenForm) (m : ℕ) (ts : List Token) (x : Body × List Token) : Type 0 where
   values : List Body × List Token
   are : AreValues n ts values
   few : length values.0 ≡ m
   body : x.0 ≡ form ∷ joined values.0
-  behind : values.1 ≡ x.1
+  after : values.1 ≡ x.1
 
 around_sound : (n : ℕ) (form : WrittenForm) (m : ℕ) (value : Reader Body) → Sound (values n) value → (ts : List Token) (x : Body × List Token) → around_at form m value ts ≡ Some x → IsAround n form m ts x
 around_sound n form m value sound ts x e =
-    let a = bind_some (some_at Comma value (m - 1) ts) (λ vs. counted form m vs.0 vs.1) x e in
-    let g = guard_some (eqb (length a.0.0) m) (Some (form ∷ joined a.0.0, a.0.1)) x a.2 in
-    let q = some_is (form ∷ joined a.0.0, a.0.1) x g.1 in
+    let a = bind_some (some_at Comma value (m - 1) ts) (λ vs. counted m vs.0 vs.1 >>= λ parts. Some (form ∷ parts.0, parts.1)) x e in
+    let b = bind_some (counted m a.0.0 a.0.1) (λ parts. Some (form ∷ parts.0, parts.1)) x a.2 in
+    let g = guard_some (eqb (length a.0.0) m) (Some (joined a.0.0, a.0.1)) b.0 b.1 in
+    let q = ap (λ (y : Body × List Token). (form ∷ y.0, y.1)) (some_is (joined a.0.0, a.0.1) b.0 g.1) ∙ some_is (form ∷ b.0.0, b.0.1) x b.2 in
     record {
       values = a.0;
       are = some_values n value sound (m - 1) ts a.0 a.1;
       few = eqb-true (length a.0.0) m g.0;
       body = sym (ap (λ (y : Body × List Token). y.0) q);
-      behind = ap (λ (y : Body × List Token). y.1) q;
+      after = ap (λ (y : Body × List Token). y.1) q;
     }
 
--- a value behind a form
+-- a value after a form
 record IsOne (n : ℕ) (form : WrittenForm) (ts : List Token) (x : Body × List Token) : Type 0 where
   value : Value
   text : (rest : List Token) → x.1 ≡ mark Close ∷ rest → ts ≡ written value (mark Close ∷ rest)
@@ -136,25 +137,25 @@ record IsOne (n : ℕ) (form : WrittenForm) (ts : List Token) (x : Body × List 
   proper : IsProper value
   deep : depth value ≤ n
 
-one_of : (n : ℕ) (form : WrittenForm) (ts : List Token) (x : Body × List Token) (bodies : List Body) (behind : List Token) (first : Value) (others : Values)
+one_of : (n : ℕ) (form : WrittenForm) (ts : List Token) (x : Body × List Token) (bodies : List Body) (after : List Token) (first : Value) (others : Values)
     → suc (value_count others) ≡ 1
-    → ((rest : List Token) → behind ≡ mark Close ∷ rest → ts ≡ written first (written_more others rest)) → joined bodies ≡ heads first ++ all_heads others
-    → IsProper first → depth first ≤ n → x.0 ≡ form ∷ joined bodies → behind ≡ x.1 → IsOne n form ts x
-one_of n form ts x bodies behind first No_value count text means p d body same = record {
+    → ((rest : List Token) → after ≡ mark Close ∷ rest → ts ≡ written first (written_more others rest)) → joined bodies ≡ heads first ++ all_heads others
+    → IsProper first → depth first ≤ n → x.0 ≡ form ∷ joined bodies → after ≡ x.1 → IsOne n form ts x
+one_of n form ts x bodies after first No_value count text means p d body same = record {
   value = first;
   text = λ rest c. text rest (same ∙ c);
   means = body ∙ ap (λ (b : Body). form ∷ b) (means ∙ append-nil (heads first));
   proper = p;
   deep = d;
 }
-one_of n form ts x bodies behind first (And v vs) count text means p d body same = absurd (omega (arith, count))
+one_of n form ts x bodies after first (And v vs) count text means p d body same = absurd (omega (arith, count))
 
 one_sound : (n : ℕ) (form : WrittenForm) (value : Reader Body) → Sound (values n) value → (ts : List Token) (x : Body × List Token) → around_at form 1 value ts ≡ Some x → IsOne n form ts x
 one_sound n form value sound ts x e =
     let a = around_sound n form 1 value sound ts x e in
-    one_of n form ts x a.values.0 a.values.1 a.are.first a.are.others (sym a.are.count ∙ a.few) a.are.text a.are.means a.are.first_proper a.are.first_deep a.body a.behind
+    one_of n form ts x a.values.0 a.values.1 a.are.first a.are.others (sym a.are.count ∙ a.few) a.are.text a.are.means a.are.first_proper a.are.first_deep a.body a.after
 
--- two values behind a form
+-- two values after a form
 record IsTwo (n : ℕ) (form : WrittenForm) (ts : List Token) (x : Body × List Token) : Type 0 where
   first : Value
   second : Value
@@ -163,12 +164,12 @@ record IsTwo (n : ℕ) (form : WrittenForm) (ts : List Token) (x : Body × List 
   proper : IsProper first × IsProper second
   deep : max (depth first) (depth second) ≤ n
 
-two_of : (n : ℕ) (form : WrittenForm) (ts : List Token) (x : Body × List Token) (bodies : List Body) (behind : List Token) (first : Value) (others : Values)
+two_of : (n : ℕ) (form : WrittenForm) (ts : List Token) (x : Body × List Token) (bodies : List Body) (after : List Token) (first : Value) (others : Values)
     → suc (value_count others) ≡ 2
-    → ((rest : List Token) → behind ≡ mark Close ∷ rest → ts ≡ written first (written_more others rest)) → joined bodies ≡ heads first ++ all_heads others
-    → IsProper first → AreProper others → depth first ≤ n → depths others ≤ n → x.0 ≡ form ∷ joined bodies → behind ≡ x.1 → IsTwo n form ts x
-two_of n form ts x bodies behind first No_value count text means p ps d ds body same = absurd (omega (arith, count))
-two_of n form ts x bodies behind first (And v No_value) count text means p ps d ds body same =
+    → ((rest : List Token) → after ≡ mark Close ∷ rest → ts ≡ written first (written_more others rest)) → joined bodies ≡ heads first ++ all_heads others
+    → IsProper first → AreProper others → depth first ≤ n → depths others ≤ n → x.0 ≡ form ∷ joined bodies → after ≡ x.1 → IsTwo n form ts x
+two_of n form ts x bodies after first No_value count text means p ps d ds body same = absurd (omega (arith, count))
+two_of n form ts x bodies after first (And v No_value) count text means p ps d ds body same =
     let second : depth v ≤ n = omega (arith, ds, le-max_left (depth v) 0) in
     record {
       first = first;
@@ -178,14 +179,14 @@ two_of n form ts x bodies behind first (And v No_value) count text means p ps d 
       proper = (p, ps.0);
       deep = max-le d second;
     }
-two_of n form ts x bodies behind first (And v (And w vs)) count text means p ps d ds body same = absurd (omega (arith, count))
+two_of n form ts x bodies after first (And v (And w vs)) count text means p ps d ds body same = absurd (omega (arith, count))
 
 two_sound : (n : ℕ) (form : WrittenForm) (value : Reader Body) → Sound (values n) value → (ts : List Token) (x : Body × List Token) → around_at form 2 value ts ≡ Some x → IsTwo n form ts x
 two_sound n form value sound ts x e =
     let a = around_sound n form 2 value sound ts x e in
-    two_of n form ts x a.values.0 a.values.1 a.are.first a.are.others (sym a.are.count ∙ a.few) a.are.text a.are.means a.are.first_proper a.are.others_proper a.are.first_deep a.are.others_deep a.body a.behind
+    two_of n form ts x a.values.0 a.values.1 a.are.first a.are.others (sym a.are.count ∙ a.few) a.are.text a.are.means a.are.first_proper a.are.others_proper a.are.first_deep a.are.others_deep a.body a.after
 
--- three values behind a form
+-- three values after a form
 record IsThree (n : ℕ) (form : WrittenForm) (ts : List Token) (x : Body × List Token) : Type 0 where
   first : Value
   second : Value
@@ -195,13 +196,13 @@ record IsThree (n : ℕ) (form : WrittenForm) (ts : List Token) (x : Body × Lis
   proper : IsProper first × IsProper second × IsProper third
   deep : max (depth first) (max (depth second) (depth third)) ≤ n
 
-three_of : (n : ℕ) (form : WrittenForm) (ts : List Token) (x : Body × List Token) (bodies : List Body) (behind : List Token) (first : Value) (others : Values)
+three_of : (n : ℕ) (form : WrittenForm) (ts : List Token) (x : Body × List Token) (bodies : List Body) (after : List Token) (first : Value) (others : Values)
     → suc (value_count others) ≡ 3
-    → ((rest : List Token) → behind ≡ mark Close ∷ rest → ts ≡ written first (written_more others rest)) → joined bodies ≡ heads first ++ all_heads others
-    → IsProper first → AreProper others → depth first ≤ n → depths others ≤ n → x.0 ≡ form ∷ joined bodies → behind ≡ x.1 → IsThree n form ts x
-three_of n form ts x bodies behind first No_value count text means p ps d ds body same = absurd (omega (arith, count))
-three_of n form ts x bodies behind first (And v No_value) count text means p ps d ds body same = absurd (omega (arith, count))
-three_of n form ts x bodies behind first (And v (And w No_value)) count text means p ps d ds body same =
+    → ((rest : List Token) → after ≡ mark Close ∷ rest → ts ≡ written first (written_more others rest)) → joined bodies ≡ heads first ++ all_heads others
+    → IsProper first → AreProper others → depth first ≤ n → depths others ≤ n → x.0 ≡ form ∷ joined bodies → after ≡ x.1 → IsThree n form ts x
+three_of n form ts x bodies after first No_value count text means p ps d ds body same = absurd (omega (arith, count))
+three_of n form ts x bodies after first (And v No_value) count text means p ps d ds body same = absurd (omega (arith, count))
+three_of n form ts x bodies after first (And v (And w No_value)) count text means p ps d ds body same =
     let second : depth v ≤ n = omega (arith, ds, le-max_left (depth v) (max (depth w) 0)) in
     let more : max (depth w) 0 ≤ n = omega (arith, ds, le-max_right (depth v) (max (depth w) 0)) in
     let third : depth w ≤ n = omega (arith, more, le-max_left (depth w) 0) in
@@ -214,12 +215,12 @@ three_of n form ts x bodies behind first (And v (And w No_value)) count text mea
       proper = (p, ps.0, ps.1.0);
       deep = max-le d (max-le second third);
     }
-three_of n form ts x bodies behind first (And v (And w (And u vs))) count text means p ps d ds body same = absurd (omega (arith, count))
+three_of n form ts x bodies after first (And v (And w (And u vs))) count text means p ps d ds body same = absurd (omega (arith, count))
 
 three_sound : (n : ℕ) (form : WrittenForm) (value : Reader Body) → Sound (values n) value → (ts : List Token) (x : Body × List Token) → around_at form 3 value ts ≡ Some x → IsThree n form ts x
 three_sound n form value sound ts x e =
     let a = around_sound n form 3 value sound ts x e in
-    three_of n form ts x a.values.0 a.values.1 a.are.first a.are.others (sym a.are.count ∙ a.few) a.are.text a.are.means a.are.first_proper a.are.others_proper a.are.first_deep a.are.others_deep a.body a.behind
+    three_of n form ts x a.values.0 a.values.1 a.are.first a.are.others (sym a.are.count ∙ a.few) a.are.text a.are.means a.are.first_proper a.are.others_proper a.are.first_deep a.are.others_deep a.body a.after
 
 of_one_sound : (n : ℕ) (form : OneForm) (ts : List Token) (x : Body × List Token) → IsOne n (head.OfOne form) ts x → IsForm n (word.OfOne form) ts x
 of_one_sound n form ts x s rest closes =
@@ -249,15 +250,15 @@ builder_is ts x e =
     name_is ts a.0 a.1 ∙ ap (λ (u : List ℕ). name u ∷ a.0.1) t.0 ∙ ap (λ (u : List Token). name b.0 ∷ u) (mark_is Comma a.0.1 d.0 d.1) in
     subst (λ (y : List ℕ × List Token). (ts ≡ name y.0 ∷ mark Comma ∷ y.1) × (length y.0 ≤ 64)) (some_is (b.0, d.0) x d.2) (whole, subst (λ (u : List ℕ). length u ≤ 64) t.0 t.1)
 
-chain_sound : (n : ℕ) (value : Reader Body) → Sound (values n) value → (form : ChainForm) (ts : List Token) (x : Body × List Token)
+chain_sound : (n : ℕ) (value : Reader Body) → Sound (values n) value → (form : Side) (ts : List Token) (x : Body × List Token)
     → (chain_head_at form ts >>= λ h. around_at h.0 2 value h.1) ≡ Some x → IsForm n (word.Chain form) ts x
 chain_sound n value sound form ts x e rest closes =
     let a = bind_some (chain_head_at form ts) (λ h. around_at h.0 2 value h.1) x e in
     let b = bind_some (builder_at ts) (λ b. Some (head.Chain form b.0, b.1)) a.0 a.1 in
     let t = builder_is ts b.0 b.1 in
     let q : (head.Chain form b.0.0, b.0.1) ≡ a.0 = some_is (head.Chain form b.0.0, b.0.1) a.0 b.2 in
-    let behind : around_at (head.Chain form b.0.0) 2 value b.0.1 ≡ Some x = ap (λ (y : WrittenForm × List Token). around_at y.0 2 value y.1) q ∙ a.2 in
-    let s = two_sound n (head.Chain form b.0.0) value sound b.0.1 x behind in
+    let after : around_at (head.Chain form b.0.0) 2 value b.0.1 ≡ Some x = ap (λ (y : WrittenForm × List Token). around_at y.0 2 value y.1) q ∙ a.2 in
+    let s = two_sound n (head.Chain form b.0.0) value sound b.0.1 x after in
     let deep : suc (max (depth s.first) (depth s.second)) ≤ suc n = omega (arith, s.deep) in
     record {
       tree = Chain form b.0.0 s.first s.second;
@@ -278,8 +279,8 @@ expression_sound n value sound ts x e rest closes =
     let tf = builder_is d.0.1 f.0 f.1 in
     let form = head.Expression b.0.0 d.0.0 f.0.0 in
     let q : (form, f.0.1) ≡ a.0 = some_is (form, f.0.1) a.0 f.2 in
-    let behind : around_at form 1 value f.0.1 ≡ Some x = ap (λ (y : WrittenForm × List Token). around_at y.0 1 value y.1) q ∙ a.2 in
-    let s = one_sound n form value sound f.0.1 x behind in
+    let after : around_at form 1 value f.0.1 ≡ Some x = ap (λ (y : WrittenForm × List Token). around_at y.0 1 value y.1) q ∙ a.2 in
+    let s = one_sound n form value sound f.0.1 x after in
     let deep : suc (depth s.value) ≤ suc n = omega (arith, s.deep) in
     record {
       tree = Expression b.0.0 d.0.0 f.0.0 s.value;
@@ -337,21 +338,23 @@ build_sound n value sound ts x e rest closes =
     let t = builder_is ts b.0 b.1 in
     let form = head.Build b.0.0 d.0.0 in
     let q : (form, d.0.1) ≡ a.0 = some_is (form, d.0.1) a.0 d.2 in
-    let behind : around_at form 1 value d.0.1 ≡ Some x = ap (λ (y : WrittenForm × List Token). around_at y.0 1 value y.1) q ∙ a.2 in
-    let s = one_sound n form value sound d.0.1 x behind in
+    let after : around_at form 1 value d.0.1 ≡ Some x = ap (λ (y : WrittenForm × List Token). around_at y.0 1 value y.1) q ∙ a.2 in
+    let s = one_sound n form value sound d.0.1 x after in
     subst (λ (us : List Token). Reads (values (suc n)) (opened (codes "build") us) (x.0, rest)) (sym t.0) (built_sound n b.0.0 b.0.1 d.0 x t.1 (symbol_sound b.0.1 d.0 d.1) s rest closes)
 
 label_sound : (n : ℕ) (value : Reader Body) → Sound (values n) value → (ts : List Token) (x : Body × List Token) → label_at value ts ≡ Some x → IsForm n word.Label ts x
 label_sound n value sound ts x e =
-    let a = bind_some (value ts) (λ v. mark_at Comma v.1 >>= λ behind. literal_at behind >>= λ s. literal_text s.0 >>= λ message. Some (head.Label message ∷ v.0, s.1)) x e in
-    let b = bind_some (mark_at Comma a.0.1) (λ behind. literal_at behind >>= λ s. literal_text s.0 >>= λ message. Some (head.Label message ∷ a.0.0, s.1)) x a.2 in
-    let d = bind_some (literal_at b.0) (λ s. literal_text s.0 >>= λ message. Some (head.Label message ∷ a.0.0, s.1)) x b.2 in
-    let f = bind_some (literal_text d.0.0) (λ message. Some (head.Label message ∷ a.0.0, d.0.1)) x d.2 in
+    let a = bind_some (value ts) (λ v. message_at v.1 >>= λ message. Some (head.Label message.0 ∷ v.0, message.1)) x e in
+    let m = bind_some (message_at a.0.1) (λ message. Some (head.Label message.0 ∷ a.0.0, message.1)) x a.2 in
+    let b = bind_some (mark_at Comma a.0.1) (λ after. literal_at after >>= λ s. literal_text s.0 >>= λ message. Some (message, s.1)) m.0 m.1 in
+    let d = bind_some (literal_at b.0) (λ s. literal_text s.0 >>= λ message. Some (message, s.1)) m.0 b.2 in
+    let f = bind_some (literal_text d.0.0) (λ message. Some (message, d.0.1)) m.0 d.2 in
+    let read = ap (λ (m : List ℕ × List Token). (head.Label m.0 ∷ a.0.0, m.1)) (some_is (f.0, d.0.1) m.0 f.2) in
     let v = sound ts a.0 a.1 in
     let t = literal_text_is d.0.0 f.0 f.1 in
     let deep : suc (depth v.tree) ≤ suc n = omega (arith, v.proper.1) in
     let comma : a.0.1 ≡ mark Comma ∷ literal d.0.0 ∷ d.0.1 = mark_is Comma a.0.1 b.0 b.1 ∙ ap (λ (u : List Token). mark Comma ∷ u) (literal_is b.0 d.0 d.1) in
-    subst (IsForm n word.Label ts) (some_is (head.Label f.0 ∷ a.0.0, d.0.1) x f.2) (λ rest closes. record {
+    subst (IsForm n word.Label ts) (read ∙ some_is (head.Label m.0.0 ∷ a.0.0, m.0.1) x m.2) (λ rest closes. record {
       tree = Label v.tree d.0.0;
       text = ap (opened (codes "label")) (v.text ∙ ap (written v.tree) (comma ∙ ap (λ (u : List Token). mark Comma ∷ literal d.0.0 ∷ u) closes));
       means = ap (λ (u : List ℕ). head.Label u ∷ a.0.0) (sym t.0) ∙ ap (λ (b : Body). head.Label d.0.0 ∷ b) v.means;
@@ -375,7 +378,7 @@ form_sound n class class_is value sound word.Word ts x e = word_sound n ts x e
 
 -- ---- values that are read
 
--- a form behind its parenthesis, the one that closes included
+-- a form after its parenthesis, the one that closes included
 abbrev FormsSound : ℕ → (FormWord → Reader Body) → Type 0
 FormsSound n inside = (w : FormWord) (ts : List Token) (x : Body × List Token) → closed_at (inside w) ts ≡ Some x → Reads (values n) (opened (word_text w) ts) x
 

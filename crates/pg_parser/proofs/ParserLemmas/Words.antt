@@ -12,16 +12,16 @@ use Rattle.pg_items.specs.declared.words.OneForm.{OneForm}
 use Rattle.pg_items.specs.declared.words.OneForm.TheVariants as of_one
 use Rattle.pg_items.specs.declared.words.TwoForm.{TwoForm}
 use Rattle.pg_items.specs.declared.words.TwoForm.TheVariants as of_two
-use Rattle.pg_items.specs.declared.words.ChainForm.{ChainForm}
-use Rattle.pg_items.specs.declared.words.ChainForm.TheVariants as chain
+use Rattle.pg_grammar.specs.declared.side.Side.{Side}
+use Rattle.pg_grammar.specs.declared.side.Side.TheVariants as side
 use Rattle.pg_items.specs.declared.words.FormWord.{FormWord}
 use Rattle.pg_items.specs.declared.words.FormWord.TheVariants as word
 use Rattle.pg_items.specs.Syntax.{class_word, some_word, one_word, two_word, chain_word, role_word}
 use Rattle.pg_items.specs.Proper.{is_reserved, IsFreeName}
-use Rattle.pg_items.specs.Words.{class_form, some_form, one_form, two_form, chain_form, single_form, first_form, form_word, role_named}
+use Rattle.pg_items.specs.Words.{class_form, some_form, one_form, two_form, chain_side, single_form, first_form, form_word, role_named}
 use Rattle.pg_parser.proofs.ParserLemmas.Steps.{chosen, some_is, word_is}
 
--- the word behind which a form begins
+-- the word after which a form begins
 abbrev pub word_text : FormWord → List ℕ
 word_text (word.OfClass form) = class_word form
 word_text word.String = codes "string"
@@ -36,13 +36,13 @@ word_text word.Build = codes "build"
 word_text word.Label = codes "label"
 word_text word.Word = codes "word"
 
--- the word that was recognized, or what the tests behind it found
+-- the word that was recognized, or what the tests after it found
 word_or : {A : Type 0} (text : A → List ℕ) (s : List ℕ) (v w : A) (others : Option A) → cond (bytes_eq (text v) s) (Some v) others ≡ Some w
     → (others ≡ Some w → s ≡ text w) → s ≡ text w
-word_or text s v w others e behind =
+word_or text s v w others e after =
     elim (chosen (bytes_eq (text v) s) (Some v) others (Some w) e) [
       | inl h ↦ word_is (text v) s h.0 ∙ ap text (some_is v w h.1)
-      | inr h ↦ behind h.1
+      | inr h ↦ after h.1
     ]
 
 class_form_is : (s : List ℕ) (w : ClassForm) → class_form s ≡ Some w → s ≡ class_word w
@@ -65,9 +65,9 @@ unfolding two_form
 two_form_is s w e =
     word_or two_word s of_two.SepBy w _ e (λ e. word_or two_word s of_two.SepBy1 w _ e (λ e. word_or two_word s of_two.EndBy w _ e (λ e. absurd cc)))
 
-chain_form_is : (s : List ℕ) (w : ChainForm) → chain_form s ≡ Some w → s ≡ chain_word w
-unfolding chain_form
-chain_form_is s w e = word_or chain_word s chain.Left w _ e (λ e. word_or chain_word s chain.Right w _ e (λ e. absurd cc))
+chain_side_is : (s : List ℕ) (w : Side) → chain_side s ≡ Some w → s ≡ chain_word w
+unfolding chain_side
+chain_side_is s w e = word_or chain_word s side.Left w _ e (λ e. word_or chain_word s side.Right w _ e (λ e. absurd cc))
 
 single_form_is : (s : List ℕ) (w : FormWord) → single_form s ≡ Some w → s ≡ word_text w
 unfolding single_form
@@ -76,11 +76,11 @@ single_form_is s w e =
     (λ e. word_or word_text s word.Expression w _ e (λ e. word_or word_text s word.Build w _ e (λ e. word_or word_text s word.Label w _ e
     (λ e. word_or word_text s word.Word w _ e (λ e. absurd cc)))))))
 
--- a form of one kind, or what the kinds behind it have
+-- a form of one kind, or what the kinds after it have
 kind_or : {A : Type 0} (of : A → FormWord) (o : Option A) (others : Option FormWord) (s : List ℕ) (w : FormWord) → first_form of o others ≡ Some w
     → ((form : A) → o ≡ Some form → s ≡ word_text (of form)) → (others ≡ Some w → s ≡ word_text w) → s ≡ word_text w
-kind_or of (Some form) others s w e found behind = found form refl ∙ ap word_text (some_is (of form) w e)
-kind_or of None others s w e found behind = behind e
+kind_or of (Some form) others s w e found after = found form refl ∙ ap word_text (some_is (of form) w e)
+kind_or of None others s w e found after = after e
 
 pub form_word_is : (s : List ℕ) (w : FormWord) → form_word s ≡ Some w → s ≡ word_text w
 unfolding form_word
@@ -89,7 +89,7 @@ form_word_is s w e =
     kind_or word.OfSome (some_form s) _ s w e (some_form_is s) (λ e.
     kind_or word.OfOne (one_form s) _ s w e (one_form_is s) (λ e.
     kind_or word.OfTwo (two_form s) _ s w e (two_form_is s) (λ e.
-    kind_or word.Chain (chain_form s) _ s w e (chain_form_is s) (single_form_is s w)))))
+    kind_or word.Chain (chain_side s) _ s w e (chain_side_is s) (single_form_is s w)))))
 
 pub role_named_is : (s : List ℕ) (r : Role) → role_named s ≡ Some r → s ≡ role_word r
 unfolding role_named
@@ -100,7 +100,7 @@ role_named_is s r e =
 -- ---- each word is found
 
 pub form_word_found : (w : FormWord) → form_word (word_text w) ≡ Some w
-unfolding form_word class_form some_form one_form two_form chain_form single_form
+unfolding form_word class_form some_form one_form two_form chain_side single_form
 form_word_found (word.OfClass of_class.Satisfy) = refl
 form_word_found (word.OfClass of_class.NotFollowedBy) = refl
 form_word_found (word.OfClass of_class.Declare) = refl
@@ -117,8 +117,8 @@ form_word_found (word.OfTwo of_two.SepBy) = refl
 form_word_found (word.OfTwo of_two.SepBy1) = refl
 form_word_found (word.OfTwo of_two.EndBy) = refl
 form_word_found word.Between = refl
-form_word_found (word.Chain chain.Left) = refl
-form_word_found (word.Chain chain.Right) = refl
+form_word_found (word.Chain side.Left) = refl
+form_word_found (word.Chain side.Right) = refl
 form_word_found word.Expression = refl
 form_word_found word.Build = refl
 form_word_found word.Label = refl
@@ -143,8 +143,8 @@ form_reserved (word.OfTwo of_two.SepBy) = refl
 form_reserved (word.OfTwo of_two.SepBy1) = refl
 form_reserved (word.OfTwo of_two.EndBy) = refl
 form_reserved word.Between = refl
-form_reserved (word.Chain chain.Left) = refl
-form_reserved (word.Chain chain.Right) = refl
+form_reserved (word.Chain side.Left) = refl
+form_reserved (word.Chain side.Right) = refl
 form_reserved word.Expression = refl
 form_reserved word.Build = refl
 form_reserved word.Label = refl
@@ -168,8 +168,8 @@ form_isnt_end (word.OfTwo of_two.SepBy) = refl
 form_isnt_end (word.OfTwo of_two.SepBy1) = refl
 form_isnt_end (word.OfTwo of_two.EndBy) = refl
 form_isnt_end word.Between = refl
-form_isnt_end (word.Chain chain.Left) = refl
-form_isnt_end (word.Chain chain.Right) = refl
+form_isnt_end (word.Chain side.Left) = refl
+form_isnt_end (word.Chain side.Right) = refl
 form_isnt_end word.Expression = refl
 form_isnt_end word.Build = refl
 form_isnt_end word.Label = refl

@@ -1,5 +1,6 @@
 -- The nodes of a body are printed as the tree says.
 use Rattle.std.proofs.Common.{◌≡◌, ◌≤◌, ◌<◌, ℕ, zero, suc, ◌+◌, Bool, true, false, ◌||◌, List, [], ◌∷◌, ◌++◌, length, take, drop, map, codes, refl, sym, ap, subst, ◌∙◌, arith}
+use Rattle.std.proofs.lemmas.Bool.{or_parts}
 use Rattle.std.proofs.lemmas.List.{length-drop}
 use Rattle.std.specs.List.{list_any}
 use Rattle.std.specs.Str.{chars}
@@ -20,13 +21,13 @@ use Rattle.pg_tokens.specs.Tokens.{Token, mark}
 use Rattle.pg_items.specs.Tree.{Value, Of_class}
 use Rattle.pg_items.specs.Syntax.{written, written_list, written_more, class_word, opened}
 use Rattle.pg_print.specs.Canonical.{class_from, class_names, values_from, choice_from, build_from, value_at, value_of_form, values_of}
-use Rattle.pg_print.specs.Levels.{closing, entered, coming, needed, base_piece, class_piece, builder_tokens, levels_behind, node_forms, node_values, node_piece, AreBodies}
-use Rattle.pg_print.proofs.PrinterLemmas.Nested.{behind, between, IsWrittenBy, step_counted, entered_needed, drop_needed}
+use Rattle.pg_print.specs.Levels.{closing, entered, coming, needed, base_piece, class_piece, builder_tokens, levels_after, node_forms, node_values, node_piece, AreBodies}
+use Rattle.pg_print.proofs.PrinterLemmas.Nested.{after, between, IsWrittenBy, step_counted, entered_needed, drop_needed}
 use Rattle.pg_print.proofs.PrinterLemmas.Writing.{class_front}
 
 -- ---- one form
 
-more_written : (vs : List Value) (rest : List Token) → written_more (values_from vs) rest ≡ behind written Comma vs (mark Close ∷ rest)
+more_written : (vs : List Value) (rest : List Token) → written_more (values_from vs) rest ≡ after written Comma vs (mark Close ∷ rest)
 more_written [] rest = refl
 more_written (v ∷ vs) rest = ap (λ (ts : List Token). mark Comma ∷ written v ts) (more_written vs rest)
 
@@ -70,7 +71,7 @@ count_is items (form.Leaf (leaf.Satisfy class)) = refl
 count_is items (form.Around around.Try part) = refl
 count_is items _ = refl
 
--- ---- a form in front of others
+-- ---- a form before others
 
 -- as many values as whole forms
 pub values_counted : (items : List names.Name) (j : ℕ) (forms : List BaseForm) → SpellForms j (map part_count forms) → length (values_of items forms) ≡ j
@@ -81,17 +82,13 @@ values_counted items (suc j) (form ∷ forms) h =
     let dropped = length-drop (part_count form) (values_of items forms) in
     omega (arith, others, dropped)
 
--- what is so of a node in front of others
+-- what is so of a node before others
 pub record StepsOn (g : Grammar) (levels : List Level) (n : Node) (nodes : List Node) : Type 0 where
   pub bodies : AreBodies g nodes
-  pub text : ((node_piece g n).front ++ closing (node_piece g n).count (node_piece g n).ending levels) ++ coming written (levels_behind (node_piece g n) levels) (node_values g nodes)
+  pub text : ((node_piece g n).front ++ closing (node_piece g n).count (node_piece g n).ending levels) ++ coming written (levels_after (node_piece g n) levels) (node_values g nodes)
       ≡ coming written levels (node_values g (n ∷ nodes))
-  pub enough : needed (levels_behind (node_piece g n) levels) ≤ length (node_values g nodes)
-  pub rest : drop (needed (levels_behind (node_piece g n) levels)) (node_values g nodes) ≡ drop (needed levels) (node_values g (n ∷ nodes))
-
-pub no_one : (a b : Bool) → (a || b) ≡ false → (a ≡ false) × (b ≡ false)
-no_one true b h = absurd cc
-no_one false b h = (refl, h)
+  pub enough : needed (levels_after (node_piece g n) levels) ≤ length (node_values g nodes)
+  pub rest : drop (needed (levels_after (node_piece g n) levels)) (node_values g nodes) ≡ drop (needed levels) (node_values g (n ∷ nodes))
 
 pub node_step : (g : Grammar) (levels : List Level) (n : Node) (nodes : List Node) → AreBodies g (n ∷ nodes) → needed levels ≤ length (node_values g (n ∷ nodes)) → 0 < needed levels
     → StepsOn g levels n nodes
@@ -104,7 +101,7 @@ node_step g levels n nodes h few some =
     let e = count_is items form in
     let counted : length vs ≡ k + length (drop k vs) = values_counted items (k + length (drop k vs)) (node_forms g nodes) h.whole in
     let enough : k ≤ length vs = omega (arith, counted) in
-    let none = no_one (lacks_alternative form) (list_any lacks_alternative (node_forms g nodes)) h.alternatives in
+    let none = or_parts (lacks_alternative form) (list_any lacks_alternative (node_forms g nodes)) h.alternatives in
     let needs = entered_needed k piece.separator piece.ending levels some in
     record {
       bodies = record { whole = subst (λ (j : ℕ). SpellForms j (map part_count (node_forms g nodes))) (sym counted) h.whole; alternatives = none.1 };

@@ -13,8 +13,8 @@ use Rattle.pg_tokens.specs.Tokens.{Token, mark}
 use Rattle.pg_items.specs.Tree.{Atom, Group}
 use Rattle.pg_items.specs.Syntax.{atom_written, class_written, atoms_written}
 use Rattle.pg_print.specs.Canonical.{atoms_from, union_of, atom_of, atoms_of, class_from}
-use Rattle.pg_print.specs.Levels.{closing, entered, coming, needed, part_piece, first_piece, levels_behind}
-use Rattle.pg_print.proofs.PrinterLemmas.Nested.{behind, more_is, IsWrittenBy, step_counted, entered_spelled}
+use Rattle.pg_print.specs.Levels.{closing, entered, coming, needed, part_piece, first_piece, levels_after}
+use Rattle.pg_print.proofs.PrinterLemmas.Nested.{after, more_is, IsWrittenBy, step_counted, entered_spelled}
 
 -- as many atoms as whole expressions
 pub atoms_counted : (items : List names.Name) (j : ℕ) (parts : List ClassPart) → SpellForms j (map member_count parts) → length (atoms_of items parts) ≡ j
@@ -25,7 +25,7 @@ atoms_counted items (suc j) (p ∷ parts) h =
     let dropped = length-drop (member_count p) (atoms_of items parts) in
     omega (arith, others, dropped)
 
-others_written : (others : List Atom) (rest : List Token) → atoms_written (atoms_from others) rest ≡ behind atom_written Bar others rest
+others_written : (others : List Atom) (rest : List Token) → atoms_written (atoms_from others) rest ≡ after atom_written Bar others rest
 others_written [] rest = refl
 others_written (a ∷ others) rest = ap (λ (ts : List Token). mark Bar ∷ atom_written a ts) (others_written others rest)
 
@@ -53,9 +53,9 @@ part_written items part.Complement (a ∷ members) h e rest = refl
 part_written items (part.Class k) members h e rest = refl
 part_written items (part.Predicate used) members h e rest = refl
 
--- a part in front of the others
+-- a part before the others
 pub part_step : (items : List names.Name) (levels : List Level) (p : ClassPart) (parts : List ClassPart) → IsProperUnion p → SpellForms (needed levels) (map member_count (p ∷ parts))
-    → ((part_piece items p).front ++ closing (part_piece items p).count (part_piece items p).ending levels) ++ coming atom_written (levels_behind (part_piece items p) levels) (atoms_of items parts)
+    → ((part_piece items p).front ++ closing (part_piece items p).count (part_piece items p).ending levels) ++ coming atom_written (levels_after (part_piece items p) levels) (atoms_of items parts)
     ≡ coming atom_written levels (atoms_of items (p ∷ parts))
 part_step items levels p parts proper h =
     let all : suc (length (drop (member_count p) (atoms_of items parts))) ≡ needed levels = atoms_counted items (needed levels) (p ∷ parts) h in
@@ -71,7 +71,7 @@ part_step items levels p parts proper h =
         let is = atoms_counted items _ parts h in omega (arith, is)
 
 pub part_spelled : (items : List names.Name) (levels : List Level) (p : ClassPart) (parts : List ClassPart) → SpellForms (needed levels) (map member_count (p ∷ parts))
-    → SpellForms (needed (levels_behind (part_piece items p) levels)) (map member_count parts)
+    → SpellForms (needed (levels_after (part_piece items p) levels)) (map member_count parts)
 part_spelled items levels p parts h =
     entered_spelled (part_piece items p).count _ _ levels (map member_count parts) (subst (λ (k : ℕ). SpellForms (needed levels) (k ∷ map member_count parts)) (sym (count_is items p)) h)
 
@@ -90,7 +90,7 @@ union_whole items (suc n) (a ∷ members) h e =
     ap (λ (ts : List Token). atom_written a ts) (more_is atom_written (λ rest. []) Bar n members fewer ∙ sym (others_written (take n members) []))
 
 pub whole_written : (items : List names.Name) (p : ClassPart) (parts : List ClassPart) → IsProperUnion p → SpellForms 1 (map member_count (p ∷ parts))
-    → ((first_piece items p).front ++ closing (first_piece items p).count (first_piece items p).ending root) ++ coming atom_written (levels_behind (first_piece items p) root) (atoms_of items parts)
+    → ((first_piece items p).front ++ closing (first_piece items p).count (first_piece items p).ending root) ++ coming atom_written (levels_after (first_piece items p) root) (atoms_of items parts)
     ≡ class_written (class_from items (p ∷ parts)) []
 whole_written items (part.Literal s) parts proper h = part_step items root (part.Literal s) parts proper h
 whole_written items (part.Range low high) parts proper h = part_step items root (part.Range low high) parts proper h
@@ -111,6 +111,6 @@ first_count items (part.Class k) = refl
 first_count items (part.Predicate used) = refl
 
 pub first_spelled : (items : List names.Name) (p : ClassPart) (parts : List ClassPart) → SpellForms 1 (map member_count (p ∷ parts))
-    → SpellForms (needed (levels_behind (first_piece items p) root)) (map member_count parts)
+    → SpellForms (needed (levels_after (first_piece items p) root)) (map member_count parts)
 first_spelled items p parts h =
     entered_spelled (first_piece items p).count _ _ root (map member_count parts) (subst (λ (k : ℕ). SpellForms 1 (k ∷ map member_count parts)) (sym (first_count items p)) h)

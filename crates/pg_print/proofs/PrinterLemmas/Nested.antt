@@ -8,7 +8,7 @@ use Rattle.pg_print.specs.declared.levels.Level.{Level}
 use Rattle.pg_tokens.specs.Tokens.{Token, mark}
 use Rattle.pg_print.specs.Levels.{Piece, ending_tokens, ended, left_over, closing, entered, Writer, more, awaited, coming, owed, needed}
 
--- ---- behind a part
+-- ---- after a part
 
 end_here : {A : Type 0} (writes : Writer A) (n : ℕ) (separator : Mark) (end : Ending) (levels : List Level) (parts : List A)
     → (owed levels ≤ length parts → ended levels ++ coming writes (left_over levels) parts ≡ awaited writes levels parts)
@@ -36,18 +36,18 @@ end_needed (level ∷ levels) = left_needed level.left level.separator level.end
 
 -- ---- a form with parts
 
--- parts behind another one
-abbrev pub behind : {A : Type 0} → Writer A → Mark → List A → List Token → List Token
-behind writes separator [] rest = rest
-behind writes separator (p ∷ parts) rest = mark separator ∷ writes p (behind writes separator parts rest)
+-- parts after another one
+abbrev pub after : {A : Type 0} → Writer A → Mark → List A → List Token → List Token
+after writes separator [] rest = rest
+after writes separator (p ∷ parts) rest = mark separator ∷ writes p (after writes separator parts rest)
 
 -- parts with a separator between any two
 abbrev pub between : {A : Type 0} → Writer A → Mark → List A → List Token → List Token
 between writes separator [] rest = rest
-between writes separator (p ∷ parts) rest = writes p (behind writes separator parts rest)
+between writes separator (p ∷ parts) rest = writes p (after writes separator parts rest)
 
 pub more_is : {A : Type 0} (writes : Writer A) (tail : List A → List Token) (separator : Mark) (n : ℕ) (parts : List A) → n ≤ length parts
-    → more writes tail separator n parts ≡ behind writes separator (take n parts) (tail (drop n parts))
+    → more writes tail separator n parts ≡ after writes separator (take n parts) (tail (drop n parts))
 more_is writes tail separator zero parts h = refl
 more_is writes tail separator (suc n) [] h = absurd (omega (arith, h))
 more_is writes tail separator (suc n) (p ∷ parts) h =
@@ -75,7 +75,7 @@ step_here writes (suc n) front separator end level levels v (q ∷ parts) is h =
     ∙ ap (λ (ts : List Token). front ++ writes q ts) (more_is writes (λ rest. ending_tokens end ++ awaited writes (level ∷ levels) rest) separator n parts fewer)
     ∙ sym (is (awaited writes (level ∷ levels) (drop n parts)))
 
--- a form in front of its parts, and what is still to come
+-- a form before its parts, and what is still to come
 pub step_is : {A : Type 0} (writes : Writer A) (piece : Piece) (levels : List Level) (v : A) (parts : List A) → IsWrittenBy writes piece v parts
     → needed levels ≤ suc (length (drop piece.count parts)) → piece.count ≤ length parts
     → 0 < needed levels
@@ -112,7 +112,7 @@ entered_needed k separator end [] h = absurd (omega (arith, h))
 entered_needed zero separator end (level ∷ levels) h = let e = end_needed (level ∷ levels) in omega (arith, e)
 entered_needed (suc n) separator end (level ∷ levels) h = omega arith
 
--- the parts behind all of these
+-- the parts after all of these
 pub drop_needed : {A : Type 0} (k : ℕ) (separator : Mark) (end : Ending) (levels : List Level) (v : A) (parts : List A) → 0 < needed levels
     → drop (needed (entered k separator end levels)) parts ≡ drop (needed levels) (v ∷ drop k parts)
 drop_needed k separator end [] v parts h = absurd (omega (arith, h))

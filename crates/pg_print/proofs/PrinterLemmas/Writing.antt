@@ -1,13 +1,13 @@
--- What a tree is written with stands in front of any rest.
+-- What a tree is written with stands before any rest.
 use Rattle.std.proofs.Common.{◌≡◌, List, [], ◌∷◌, ◌++◌, Option, Some, None, ℕ, codes, refl, sym, ap, ◌∙◌}
 use Rattle.pg_tokens.specs.declared.token.Mark.TheVariants.{Close, Comma, Semicolon}
 use Rattle.pg_tokens.specs.Tokens.{Token, name, literal, mark}
 use Rattle.pg_items.specs.Tree.{Atom, Set, Range, Name, Not, Group, Class, Of, Atoms, No_atom, Or, Value, Of_class, String, Seq, Of_some, Of_one, Of_two, Between, Chain, Expression, Build, Build_symbol, Label, End_of_text, Word, Rule, Values, No_value, And, Item, Class_item, Word_item, Operators, Table, Start, Rule_item}
 use Rattle.pg_items.specs.Syntax.{atom_written, class_written, atoms_written, written, written_list, written_more, literals_written, reserved_written, most_written, item_written, file_written}
-use Rattle.pg_print.specs.Printed.{Laid, with_token, with_tokens}
+use Rattle.pg_print.specs.Layout.{Laid, with_token, with_tokens}
 use Rattle.pg_print.proofs.PrinterLemmas.Tokens.{laid_both}
 
--- a token in front of equal ones
+-- a token before equal ones
 one : (t : Token) {xs ys : List Token} → xs ≡ ys → t ∷ xs ≡ t ∷ ys
 one t h = ap (λ (ts : List Token). t ∷ ts) h
 
@@ -35,10 +35,10 @@ mutual
   value_front (Of_one form v) xs ys = one _ (one _ (value_front v (mark Close ∷ xs) ys))
   value_front (Of_two form v separator) xs ys =
       one _ (one _ (ap (λ (ts : List Token). written v (mark Comma ∷ ts)) (value_front separator (mark Close ∷ xs) ys) ∙ value_front v (mark Comma ∷ written separator (mark Close ∷ xs)) ys))
-  value_front (Between before behind inner) xs ys =
-      one _ (one _ (ap (λ (ts : List Token). written before (mark Comma ∷ written behind (mark Comma ∷ ts))) (value_front inner (mark Close ∷ xs) ys)
-      ∙ ap (λ (ts : List Token). written before (mark Comma ∷ ts)) (value_front behind (mark Comma ∷ written inner (mark Close ∷ xs)) ys)
-      ∙ value_front before (mark Comma ∷ written behind (mark Comma ∷ written inner (mark Close ∷ xs))) ys))
+  value_front (Between before following inner) xs ys =
+      one _ (one _ (ap (λ (ts : List Token). written before (mark Comma ∷ written following (mark Comma ∷ ts))) (value_front inner (mark Close ∷ xs) ys)
+      ∙ ap (λ (ts : List Token). written before (mark Comma ∷ ts)) (value_front following (mark Comma ∷ written inner (mark Close ∷ xs)) ys)
+      ∙ value_front before (mark Comma ∷ written following (mark Comma ∷ written inner (mark Close ∷ xs))) ys))
   value_front (Chain form builder operand separator) xs ys =
       one _ (one _ (one _ (one _ (ap (λ (ts : List Token). written operand (mark Comma ∷ ts)) (value_front separator (mark Close ∷ xs) ys) ∙ value_front operand (mark Comma ∷ written separator (mark Close ∷ xs)) ys))))
   value_front (Expression infixes prefixes postfixes term) xs ys = one _ (one _ (one _ (one _ (one _ (one _ (one _ (one _ (value_front term (mark Close ∷ xs) ys))))))))
@@ -71,10 +71,10 @@ most_front (Some digits) xs ys = refl
 
 pub item_front : (item : Item) (xs ys : List Token) → item_written item (xs ++ ys) ≡ item_written item xs ++ ys
 item_front (Class_item s c) xs ys = one _ (one _ (one _ (class_front c (mark Semicolon ∷ xs) ys)))
-item_front (Word_item s head behind reserved) xs ys =
-    one _ (one _ (one _ (ap (λ (ts : List Token). class_written head (name (codes "rest") ∷ class_written behind ts)) (reserved_front reserved (mark Semicolon ∷ xs) ys)
-    ∙ ap (λ (ts : List Token). class_written head (name (codes "rest") ∷ ts)) (class_front behind (reserved_written reserved (mark Semicolon ∷ xs)) ys)
-    ∙ class_front head (name (codes "rest") ∷ class_written behind (reserved_written reserved (mark Semicolon ∷ xs))) ys)))
+item_front (Word_item s head following reserved) xs ys =
+    one _ (one _ (one _ (ap (λ (ts : List Token). class_written head (name (codes "rest") ∷ class_written following ts)) (reserved_front reserved (mark Semicolon ∷ xs) ys)
+    ∙ ap (λ (ts : List Token). class_written head (name (codes "rest") ∷ ts)) (class_front following (reserved_written reserved (mark Semicolon ∷ xs)) ys)
+    ∙ class_front head (name (codes "rest") ∷ class_written following (reserved_written reserved (mark Semicolon ∷ xs))) ys)))
 item_front (Operators class gap reserved most) xs ys =
     one _ (ap (λ (ts : List Token). class_written class (name (codes "gap") ∷ class_written gap (reserved_written reserved ts))) (most_front most (mark Semicolon ∷ xs) ys)
     ∙ ap (λ (ts : List Token). class_written class (name (codes "gap") ∷ class_written gap ts)) (reserved_front reserved (most_written most (mark Semicolon ∷ xs)) ys)
@@ -84,7 +84,7 @@ item_front (Table role precedence symbol) xs ys = refl
 item_front (Start s) xs ys = refl
 item_front (Rule_item s v) xs ys = one _ (one _ (value_front v (mark Semicolon ∷ xs) ys))
 
--- an item in front of others
+-- an item before others
 pub item_then : (item : Item) (ts : List Token) → item_written item ts ≡ item_written item [] ++ ts
 item_then item ts = item_front item [] ts
 

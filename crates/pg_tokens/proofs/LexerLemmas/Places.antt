@@ -7,10 +7,10 @@ use Rattle.std.proofs.lemmas.List.Quantifiers.{all_pairs_push}
 use Rattle.pg_tokens.specs.declared.token.Lexeme.{Lexeme}
 use Rattle.pg_tokens.specs.Tokens.{Token, bad, AreGood}
 use Rattle.pg_tokens.specs.Lexical.{Spelled}
-use Rattle.pg_tokens.specs.Lexing.{nothing, blank, token, broken, front_at, token_front, after, lex_of}
+use Rattle.pg_tokens.specs.Lexing.{nothing, blank, token, broken, prefix_at, token_prefix, after, lex_of}
 use Rattle.pg_tokens.specs.View.{token_of, tokens_of, StandsIn}
-use Rattle.pg_tokens.proofs.LexerLemmas.Turns.{Behind, Behind-shorter, Behind-drop_at}
-use Rattle.pg_tokens.proofs.LexerLemmas.Fronts.{FrontBehind, front_at_behind, lex_turn}
+use Rattle.pg_tokens.proofs.LexerLemmas.Turns.{After, After-shorter, After-drop_at}
+use Rattle.pg_tokens.proofs.LexerLemmas.Prefixes.{PrefixAfter, prefix_at_after, lex_turn}
 use Rattle.pg_tokens.proofs.LexerLemmas.Sound.{lex_sound}
 use Rattle.pg_tokens.proofs.LexerLemmas.Complete.{lex_complete}
 
@@ -30,71 +30,71 @@ pub record Lexed (cs : List ℕ) (ls : List Lexeme) : Type 0 where
   pub within : All (λ (l : Lexeme). l.place < length cs) ls
   pub ascending : AllPairs (λ (l m : Lexeme). l.place < m.place) ls
 
-here_on : (cs rest behind : List ℕ) → drop (length cs - length rest) cs ≡ rest → length rest ≤ length cs → Behind behind rest → drop (length cs - length behind) cs ≡ behind
-here_on cs rest behind e h b =
-    let lt = Behind-shorter b in
-    let n : length cs - length rest + (length rest - length behind) ≡ length cs - length behind = omega arith in
-    ap (λ (k : ℕ). drop k cs) (sym n) ∙ sym (drop-drop (length rest - length behind) (length cs - length rest) cs) ∙ ap (drop (length rest - length behind)) e ∙ Behind-drop_at b
+here_on : (cs rest following : List ℕ) → drop (length cs - length rest) cs ≡ rest → length rest ≤ length cs → After following rest → drop (length cs - length following) cs ≡ following
+here_on cs rest following e h b =
+    let lt = After-shorter b in
+    let n : length cs - length rest + (length rest - length following) ≡ length cs - length following = omega arith in
+    ap (λ (k : ℕ). drop k cs) (sym n) ∙ sym (drop-drop (length rest - length following) (length cs - length rest) cs) ∙ ap (drop (length rest - length following)) e ∙ After-drop_at b
 
 tokens_push : (ls : List Lexeme) (l : Lexeme) → tokens_of (ls ++ l ∷ []) ≡ tokens_of ls ++ token_of l.token ∷ []
 tokens_push ls l = map-append (λ (m : Lexeme). token_of m.token) ls (l ∷ [])
 
 module _ {cs rest : List ℕ} {ls : List Lexeme} (lexed : LexedUpTo cs rest ls) where
   -- white space and comments leave the tokens as they are
-  pub lexed_blank : (behind : List ℕ) → front_at rest ≡ blank behind → LexedUpTo cs behind ls
-  lexed_blank behind e =
-      let b : Behind behind rest = subst (FrontBehind rest) e (front_at_behind rest) in
-      let lt = Behind-shorter b in
+  pub lexed_blank : (following : List ℕ) → prefix_at rest ≡ blank following → LexedUpTo cs following ls
+  lexed_blank following e =
+      let b : After following rest = subst (PrefixAfter rest) e (prefix_at_after rest) in
+      let lt = After-shorter b in
       record {
         so_far = ap (λ (ts : List Token). tokens_of ls ++ ts) (sym (lex_turn rest ∙ ap (after lex_of) e)) ∙ lexed.so_far;
         shorter = omega (arith, lexed.shorter);
-        here = here_on cs rest behind lexed.here lexed.shorter b;
+        here = here_on cs rest following lexed.here lexed.shorter b;
         placed = lexed.placed;
         before = λ k d h. omega (arith, lexed.before k d h);
         ascending = lexed.ascending;
       }
 
-  stands : (l : Lexeme) → l.place ≡ length cs - length rest → token_front (front_at rest) ≡ Some (token_of l.token) → StandsIn cs l
-  stands l p e = ap (λ (k : ℕ). token_front (front_at (drop k cs))) p ∙ ap (λ (xs : List ℕ). token_front (front_at xs)) lexed.here ∙ e
+  stands : (l : Lexeme) → l.place ≡ length cs - length rest → token_prefix (prefix_at rest) ≡ Some (token_of l.token) → StandsIn cs l
+  stands l p e = ap (λ (k : ℕ). token_prefix (prefix_at (drop k cs))) p ∙ ap (λ (xs : List ℕ). token_prefix (prefix_at xs)) lexed.here ∙ e
 
   later : (l : Lexeme) → l.place ≡ length cs - length rest → AllPairs (λ (l m : Lexeme). l.place < m.place) (ls ++ l ∷ [])
   later l p = all_pairs_push (λ (l m : Lexeme). l.place < m.place) ls l lexed.ascending (λ k d h. omega (arith, lexed.before k d h))
 
   -- a token more
-  pub lexed_token : (l : Lexeme) (more : List Lexeme) (behind : List ℕ) → front_at rest ≡ token (token_of l.token) behind → l.place ≡ length cs - length rest → more ≡ ls ++ l ∷ [] → LexedUpTo cs behind more
-  lexed_token l more behind e p m =
-      let b : Behind behind rest = subst (FrontBehind rest) e (front_at_behind rest) in
-      let lt = Behind-shorter b in
-      let turn : lex_of rest ≡ token_of l.token ∷ lex_of behind = lex_turn rest ∙ ap (after lex_of) e in
-      let pushed : LexedUpTo cs behind (ls ++ l ∷ []) = record {
-        so_far = ap (λ (ts : List Token). ts ++ lex_of behind) (tokens_push ls l) ∙ append_assoc (tokens_of ls) (token_of l.token ∷ []) (lex_of behind) ∙ ap (λ (ts : List Token). tokens_of ls ++ ts) (sym turn) ∙ lexed.so_far;
+  pub lexed_token : (l : Lexeme) (more : List Lexeme) (following : List ℕ) → prefix_at rest ≡ token (token_of l.token) following → l.place ≡ length cs - length rest → more ≡ ls ++ l ∷ [] → LexedUpTo cs following more
+  lexed_token l more following e p m =
+      let b : After following rest = subst (PrefixAfter rest) e (prefix_at_after rest) in
+      let lt = After-shorter b in
+      let turn : lex_of rest ≡ token_of l.token ∷ lex_of following = lex_turn rest ∙ ap (after lex_of) e in
+      let pushed : LexedUpTo cs following (ls ++ l ∷ []) = record {
+        so_far = ap (λ (ts : List Token). ts ++ lex_of following) (tokens_push ls l) ∙ append_assoc (tokens_of ls) (token_of l.token ∷ []) (lex_of following) ∙ ap (λ (ts : List Token). tokens_of ls ++ ts) (sym turn) ∙ lexed.so_far;
         shorter = omega (arith, lexed.shorter);
-        here = here_on cs rest behind lexed.here lexed.shorter b;
-        placed = All-push (StandsIn cs) ls l lexed.placed (stands l p (ap token_front e));
-        before = All-push (λ (l : Lexeme). l.place + length behind < length cs) ls l (λ k d h. omega (arith, lexed.before k d h)) (omega (arith, lexed.shorter));
+        here = here_on cs rest following lexed.here lexed.shorter b;
+        placed = All-push (StandsIn cs) ls l lexed.placed (stands l p (ap token_prefix e));
+        before = All-push (λ (l : Lexeme). l.place + length following < length cs) ls l (λ k d h. omega (arith, lexed.before k d h)) (omega (arith, lexed.shorter));
         ascending = later l p;
       } in
-      subst (LexedUpTo cs behind) (sym m) pushed
+      subst (LexedUpTo cs following) (sym m) pushed
 
   -- no token: the last
-  pub lexed_bad : (l : Lexeme) (more : List Lexeme) → front_at rest ≡ broken → token_of l.token ≡ bad → l.place ≡ length cs - length rest → more ≡ ls ++ l ∷ [] → Lexed cs more
+  pub lexed_bad : (l : Lexeme) (more : List Lexeme) → prefix_at rest ≡ broken → token_of l.token ≡ bad → l.place ≡ length cs - length rest → more ≡ ls ++ l ∷ [] → Lexed cs more
   lexed_bad l more e t p m =
       let turn : lex_of rest ≡ token_of l.token ∷ [] = lex_turn rest ∙ ap (after lex_of) e ∙ ap (λ (u : Token). u ∷ []) (sym t) in
       let some : 0 < length rest = broken_some rest e in
       let pushed : Lexed cs (ls ++ l ∷ []) = record {
         tokens = tokens_push ls l ∙ ap (λ (ts : List Token). tokens_of ls ++ ts) (sym turn) ∙ lexed.so_far;
-        placed = All-push (StandsIn cs) ls l lexed.placed (stands l p (ap token_front e ∙ ap (λ (u : Token). Some u) (sym t)));
+        placed = All-push (StandsIn cs) ls l lexed.placed (stands l p (ap token_prefix e ∙ ap (λ (u : Token). Some u) (sym t)));
         within = All-push (λ (l : Lexeme). l.place < length cs) ls l (λ k d h. omega (arith, lexed.before k d h)) (omega (arith, lexed.shorter));
         ascending = later l p;
       } in
       subst (Lexed cs) (sym m) pushed
     where
-      broken_some : (xs : List ℕ) → front_at xs ≡ broken → 0 < length xs
+      broken_some : (xs : List ℕ) → prefix_at xs ≡ broken → 0 < length xs
       broken_some [] h = absurd cc
       broken_some (c ∷ xs) h = omega arith
 
   -- the end
-  pub lexed_end : front_at rest ≡ nothing → Lexed cs ls
+  pub lexed_end : prefix_at rest ≡ nothing → Lexed cs ls
   lexed_end e = record {
     tokens = sym (append-nil (tokens_of ls)) ∙ ap (λ (ts : List Token). tokens_of ls ++ ts) (sym (lex_turn rest ∙ ap (after lex_of) e)) ∙ lexed.so_far;
     placed = lexed.placed;
@@ -116,8 +116,8 @@ lexed_none cs =
     }
 
 -- a token is at least one character
-pub token_shorter : (cs : List ℕ) (t : Token) (rest : List ℕ) → front_at cs ≡ token t rest → length rest < length cs
-token_shorter cs t rest e = let b : Behind rest cs = subst (FrontBehind cs) e (front_at_behind cs) in Behind-shorter b
+pub token_shorter : (cs : List ℕ) (t : Token) (rest : List ℕ) → prefix_at cs ≡ token t rest → length rest < length cs
+token_shorter cs t rest e = let b : After rest cs = subst (PrefixAfter cs) e (prefix_at_after cs) in After-shorter b
 
 -- so a list of good tokens is spelled by the characters
 pub lexed_spelled : {cs : List ℕ} {ls : List Lexeme} → Lexed cs ls → AreGood (tokens_of ls) → Spelled cs (tokens_of ls)

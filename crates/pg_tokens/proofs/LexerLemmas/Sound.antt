@@ -7,14 +7,14 @@ use Rattle.pg_tokens.specs.declared.token.Mark.{Mark}
 use Rattle.pg_tokens.specs.Tokens.{Token, name, number, mark, IsGood, AreGood}
 use Rattle.pg_tokens.specs.Lexical.{is_blank, isnt_line_feed, goes_in_name, is_hex, is_code, is_plain, is_name, is_number, short_escape, passes, starts, stops, mark_text, Escape, short, unicode, Literal, closed, plain, escaped, Spelled, ends, comment, a_mark, a_name, a_number, a_literal}
 use Rattle.pg_tokens.specs.Lexical as lexical
-use Rattle.pg_tokens.specs.Lexing.{with_rest, code_point, brace_at, unicode_at, escape_at, Quoted, text, spoilt, unclosed, with_char, without_text, after_escape, literal_turn, literal_within, literal_at, Front, nothing, blank, token, broken, literal_front, behind_line, name_at, number_at, dots_at, mark_at, mark_front, front_at, after, lex_within, lex_of}
-use Rattle.pg_tokens.proofs.LexerLemmas.Turns.{Behind-shorter, cond_when}
-use Rattle.pg_tokens.proofs.LexerLemmas.Fronts.{FrontBehind, front_at_behind, alphabetic_goes_on}
+use Rattle.pg_tokens.specs.Lexing.{with_rest, code_point, brace_at, unicode_at, escape_at, Quoted, text, spoilt, unclosed, with_char, without_text, after_escape, literal_turn, literal_within, literal_at, Prefix, nothing, blank, token, broken, literal_prefix, after_line, name_at, number_at, dots_at, mark_at, mark_prefix, prefix_at, after, lex_within, lex_of}
+use Rattle.pg_tokens.proofs.LexerLemmas.Turns.{After-shorter, cond_when}
+use Rattle.pg_tokens.proofs.LexerLemmas.Prefixes.{PrefixAfter, prefix_at_after, alphabetic_goes_on}
 use Rattle.pg_tokens.proofs.LexerLemmas.Runs.{run_passes, run_stops, run_starts}
 
 -- ---- escapes
 
--- what is read behind a backslash is an escape
+-- what is read after a backslash is an escape
 abbrev IsEscape : List ℕ → Option (ℕ × List ℕ) → Type 0
 IsEscape cs (Some x) = Escape cs x.0 x.1
 IsEscape cs None = Unit {0}
@@ -95,30 +95,30 @@ literal_sound cs = literal_within_sound (length cs) cs
 -- ---- the front
 
 -- what is read at the front is spelled there
-abbrev IsFront : List ℕ → Front → Type 0
-IsFront cs nothing = cs ≡ []
-IsFront cs (blank rest) = (ts : List Token) → Spelled rest ts → Spelled cs ts
-IsFront cs (token t rest) = IsGood t → (ts : List Token) → Spelled rest ts → Spelled cs (t ∷ ts)
-IsFront cs broken = Unit {0}
+abbrev IsPrefix : List ℕ → Prefix → Type 0
+IsPrefix cs nothing = cs ≡ []
+IsPrefix cs (blank rest) = (ts : List Token) → Spelled rest ts → Spelled cs ts
+IsPrefix cs (token t rest) = IsGood t → (ts : List Token) → Spelled rest ts → Spelled cs (t ∷ ts)
+IsPrefix cs broken = Unit {0}
 
-comment_sound : (cs : List ℕ) → IsFront (35 ∷ cs) (blank (behind_line cs))
+comment_sound : (cs : List ℕ) → IsPrefix (35 ∷ cs) (blank (after_line cs))
 comment_sound cs ts d =
     let n = prefix_len isnt_line_feed cs in
     subst (λ (xs : List ℕ). Spelled (35 ∷ xs) ts) (take-append-drop n cs) (comment (take n cs) (drop n cs) (run_passes isnt_line_feed cs) (run_stops isnt_line_feed cs) d)
 
-quote_sound : (cs : List ℕ) (q : Quoted) → IsQuoted cs q → IsFront (34 ∷ cs) (literal_front q)
+quote_sound : (cs : List ℕ) (q : Quoted) → IsQuoted cs q → IsPrefix (34 ∷ cs) (literal_prefix q)
 quote_sound cs (text s rest) h = λ good ts d. a_literal h d
 quote_sound cs (spoilt rest) h = λ good. absurd good
 quote_sound cs unclosed h = tt
 
-name_sound : (c : ℕ) (cs : List ℕ) → is_ascii_alphabetic c ≡ true → IsFront (c ∷ cs) (name_at (c ∷ cs))
+name_sound : (c : ℕ) (cs : List ℕ) → is_ascii_alphabetic c ≡ true → IsPrefix (c ∷ cs) (name_at (c ∷ cs))
 name_sound c cs h good ts d =
     let n = prefix_len goes_in_name (c ∷ cs) in
     let s = run_starts goes_in_name is_ascii_alphabetic c cs (alphabetic_goes_on c h) h in
     let p : is_name (take n (c ∷ cs)) ≡ true = rw (s, run_passes goes_in_name (c ∷ cs)) refl in
     subst (λ (xs : List ℕ). Spelled xs (name (take n (c ∷ cs)) ∷ ts)) (take-append-drop n (c ∷ cs)) (a_name (take n (c ∷ cs)) (drop n (c ∷ cs)) p (run_stops goes_in_name (c ∷ cs)) d)
 
-number_sound : (c : ℕ) (cs : List ℕ) → is_ascii_digit c ≡ true → IsFront (c ∷ cs) (number_at (c ∷ cs))
+number_sound : (c : ℕ) (cs : List ℕ) → is_ascii_digit c ≡ true → IsPrefix (c ∷ cs) (number_at (c ∷ cs))
 number_sound c cs h good ts d =
     let n = prefix_len is_ascii_digit (c ∷ cs) in
     let s = run_starts is_ascii_digit is_ascii_digit c cs h h in
@@ -149,27 +149,27 @@ mark_sound c cs =
     (λ _. cond_when P (eqb c 124) _ _ (one_is 124 c cs)
     (λ _. cond_when P (eqb c 46) _ _ (dots_sound c cs) (λ _. tt)))))))
 
-mark_front_sound : (cs : List ℕ) (o : Option (Mark × List ℕ)) → IsMark cs o → IsFront cs (mark_front o)
-mark_front_sound cs (Some x) h = λ good ts d. subst (λ (xs : List ℕ). Spelled xs (mark x.0 ∷ ts)) h (a_mark x.0 x.1 d)
-mark_front_sound cs None h = tt
+mark_prefix_sound : (cs : List ℕ) (o : Option (Mark × List ℕ)) → IsMark cs o → IsPrefix cs (mark_prefix o)
+mark_prefix_sound cs (Some x) h = λ good ts d. subst (λ (xs : List ℕ). Spelled xs (mark x.0 ∷ ts)) h (a_mark x.0 x.1 d)
+mark_prefix_sound cs None h = tt
 
-front_sound : (cs : List ℕ) → IsFront cs (front_at cs)
-front_sound [] = refl
-front_sound (c ∷ cs) =
-    let P : Front → Type 0 = IsFront (c ∷ cs) in
-    cond_when P (eqb c 35) _ _ (λ h. subst (λ (d : ℕ). IsFront (d ∷ cs) (blank (behind_line cs))) (sym (eqb-true c 35 h)) (comment_sound cs))
-    (λ _. cond_when P (eqb c 34) _ _ (λ h. subst (λ (d : ℕ). IsFront (d ∷ cs) (literal_front (literal_at cs))) (sym (eqb-true c 34 h)) (quote_sound cs (literal_at cs) (literal_sound cs)))
+prefix_sound : (cs : List ℕ) → IsPrefix cs (prefix_at cs)
+prefix_sound [] = refl
+prefix_sound (c ∷ cs) =
+    let P : Prefix → Type 0 = IsPrefix (c ∷ cs) in
+    cond_when P (eqb c 35) _ _ (λ h. subst (λ (d : ℕ). IsPrefix (d ∷ cs) (blank (after_line cs))) (sym (eqb-true c 35 h)) (comment_sound cs))
+    (λ _. cond_when P (eqb c 34) _ _ (λ h. subst (λ (d : ℕ). IsPrefix (d ∷ cs) (literal_prefix (literal_at cs))) (sym (eqb-true c 34 h)) (quote_sound cs (literal_at cs) (literal_sound cs)))
     (λ _. cond_when P (is_blank c) _ _ (λ h ts d. lexical.blank h d)
     (λ _. cond_when P (is_ascii_alphabetic c) _ _ (name_sound c cs)
     (λ _. cond_when P (is_ascii_digit c) _ _ (number_sound c cs)
-    (λ _. mark_front_sound (c ∷ cs) (mark_at (c ∷ cs)) (mark_sound c cs))))))
+    (λ _. mark_prefix_sound (c ∷ cs) (mark_at (c ∷ cs)) (mark_sound c cs))))))
 
 -- ---- the whole file
 
-after_sound : (others : List ℕ → List Token) (cs : List ℕ) (x : Front) → ((rest : List ℕ) → length rest < length cs → AreGood (others rest) → Spelled rest (others rest)) → FrontBehind cs x → IsFront cs x → AreGood (after others x) → Spelled cs (after others x)
+after_sound : (others : List ℕ → List Token) (cs : List ℕ) (x : Prefix) → ((rest : List ℕ) → length rest < length cs → AreGood (others rest) → Spelled rest (others rest)) → PrefixAfter cs x → IsPrefix cs x → AreGood (after others x) → Spelled cs (after others x)
 after_sound others cs nothing sound b is h = subst (λ (xs : List ℕ). Spelled xs []) (sym is) ends
-after_sound others cs (blank rest) sound b is h = is (others rest) (sound rest (Behind-shorter b) h)
-after_sound others cs (token t rest) sound b is h = is h.0 (others rest) (sound rest (Behind-shorter b) h.1)
+after_sound others cs (blank rest) sound b is h = is (others rest) (sound rest (After-shorter b) h)
+after_sound others cs (token t rest) sound b is h = is h.0 (others rest) (sound rest (After-shorter b) h.1)
 after_sound others cs broken sound b is h = absurd h.0
 
 lex_within_sound : (n : ℕ) (cs : List ℕ) → length cs ≤ n → AreGood (lex_within n cs) → Spelled cs (lex_within n cs)
@@ -177,7 +177,7 @@ unfolding lex_within
 lex_within_sound zero [] k h = ends
 lex_within_sound zero (c ∷ cs) k h = absurd (omega arith)
 lex_within_sound (suc n) cs k h =
-    after_sound (lex_within n) cs (front_at cs) (λ rest lt. lex_within_sound n rest (omega arith)) (front_at_behind cs) (front_sound cs) h
+    after_sound (lex_within n) cs (prefix_at cs) (λ rest lt. lex_within_sound n rest (omega arith)) (prefix_at_after cs) (prefix_sound cs) h
 
 -- tokens none of which is wrong or bad are spelled by the characters
 pub lex_sound : (cs : List ℕ) → AreGood (lex_of cs) → Spelled cs (lex_of cs)

@@ -5,7 +5,7 @@
 ghost use Rattle.std.specs.Prelude.{◌≡◌, ◌≤◌, length, drop};
 ghost use Rattle.std.specs.List.{prefix_len};
 ghost use Rattle.pg_tokens.specs.Lexical as lexical;
-ghost use Rattle.pg_tokens.specs.Lexing.{behind_line};
+ghost use Rattle.pg_tokens.specs.Lexing.{after_line};
 
 /// Whether the character is white space: a space, a tab, a carriage return or a line feed.
 pub fn is_blank(c: char) -> bool
@@ -23,7 +23,7 @@ fn line_len(characters: &[char]) -> usize
 
 /// What stands from the end of the line on.
 pub fn skip_line(characters: &[char]) -> &[char]
-    ensures { result.now ≡ behind_line characters.now }
+    ensures { result.now ≡ after_line characters.now }
 {
     characters.split_at(line_len(characters)).1
 }

@@ -48,7 +48,7 @@ fn scalar(digits: &[char]) -> Option<char>
     char::from_u32(hex_number(digits)?)
 }
 
-/// The character that a code in braces names, and what follows it; the characters start behind `u`.
+/// The character that a code in braces names, and what follows it; the characters start after `u`.
 fn unicode(characters: &[char]) -> Option<(char, &[char])>
     ensures { escape_read result ≡ unicode_at characters.now }
 {
@@ -62,13 +62,13 @@ fn unicode(characters: &[char]) -> Option<(char, &[char])>
     Some((scalar(digits)?, rest))
 }
 
-/// The character that an escape names, and what follows it; the characters start behind the backslash.
+/// The character that an escape names, and what follows it; the characters start after the backslash.
 pub fn escape(characters: &[char]) -> Option<(char, &[char])>
     ensures { escape_read result ≡ escape_at characters.now }
 {
     match characters {
         [] => None,
-        ['u', behind @ ..] => unicode(behind),
+        ['u', after @ ..] => unicode(after),
         [letter, rest @ ..] => Some((short_escape(*letter)?, rest)),
     }
 }

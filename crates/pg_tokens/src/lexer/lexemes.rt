@@ -1,46 +1,46 @@
 //! The characters of a grammar file, cut into tokens.
 //!
 //! White space and comments are passed over, and of what may stand at one place the longest run counts.
-//! The list ends with the file, or with the first `Bad` token: nothing behind that one is read. The
+//! The list ends with the file, or with the first `Bad` token: nothing after that one is read. The
 //! parser relies on the places to say where a fault stands.
 ghost use Rattle.std.specs.Prelude.{◌≡◌, ◌<◌, ◌≤◌, length, All, AllPairs, IfOk};
 ghost use Rattle.pg_tokens.specs.Lexical.{SpelledIfGood, OnlySpelled};
-ghost use Rattle.pg_tokens.specs.Lexing.{lex_of, front_at, mark_at};
+ghost use Rattle.pg_tokens.specs.Lexing.{lex_of, prefix_at, mark_at};
 ghost use Rattle.pg_tokens.specs.Lexing as lexing;
-ghost use Rattle.pg_tokens.specs.View.{front_of, tokens_of, StandsIn};
+ghost use Rattle.pg_tokens.specs.View.{prefix_of, tokens_of, StandsIn};
 
 use super::blank::{is_blank, skip_line};
 use super::literal::literal;
 use super::mark::mark;
 use super::word::{name, number};
-use crate::token::{Front, Lexeme, Token};
+use crate::token::{Lexeme, Prefix, Token};
 use std::alloc::{AllocError, Global};
 
-fn mark_front(characters: &[char]) -> Front<'_>
-    ensures { front_of result ≡ lexing.mark_front (mark_at characters.now) }
+fn mark_prefix(characters: &[char]) -> Prefix<'_>
+    ensures { prefix_of result ≡ lexing.mark_prefix (mark_at characters.now) }
 {
     match mark(characters) {
-        Some((mark, rest)) => Front::Token(Token::Mark(mark), rest),
-        None => Front::Bad,
+        Some((mark, rest)) => Prefix::Token(Token::Mark(mark), rest),
+        None => Prefix::Bad,
     }
 }
 
-fn front(alloc: Global, characters: &[char]) -> Result<Front<'_>, AllocError>
-    ensures { IfOk result (λ found. front_of found ≡ front_at characters.now) }
+fn prefix(alloc: Global, characters: &[char]) -> Result<Prefix<'_>, AllocError>
+    ensures { IfOk result (λ found. prefix_of found ≡ prefix_at characters.now) }
 {
     match characters {
-        [] => Ok(Front::End),
-        ['#', behind @ ..] => Ok(Front::Blank(skip_line(behind))),
-        ['"', behind @ ..] => literal(alloc, behind),
-        [first, behind @ ..] => {
+        [] => Ok(Prefix::End),
+        ['#', after @ ..] => Ok(Prefix::Blank(skip_line(after))),
+        ['"', after @ ..] => literal(alloc, after),
+        [first, after @ ..] => {
             if is_blank(*first) {
-                Ok(Front::Blank(behind))
+                Ok(Prefix::Blank(after))
             } else if first.is_ascii_alphabetic() {
                 name(alloc, characters)
             } else if first.is_ascii_digit() {
                 number(alloc, characters)
             } else {
-                Ok(mark_front(characters))
+                Ok(mark_prefix(characters))
             }
         }
     }
@@ -61,7 +61,7 @@ pub fn lex(alloc: Global, characters: &[char]) -> Result<Vec<Lexeme>, AllocError
     Ok(lexemes)
 }
 
-/// The same, but no further than the first token that starts behind a place: what is wrong with a file up to there is
+/// The same, but no further than the first token that starts after a place: what is wrong with a file up to there is
 /// seen from these tokens alone.
 pub fn lex_up_to(alloc: Global, characters: &[char], last: usize) -> Result<Vec<Lexeme>, AllocError>
     ensures tokens { length characters.now ≤ last → IfOk result (λ found. tokens_of found.items ≡ lex_of characters.now) }
@@ -75,17 +75,17 @@ pub fn lex_up_to(alloc: Global, characters: &[char], last: usize) -> Result<Vec<
     let mut rest = characters;
     loop {
         let place = characters.len() - rest.len();
-        match front(alloc, rest)? {
-            Front::End => return Ok(lexemes),
-            Front::Blank(behind) => rest = behind,
-            Front::Token(token, behind) => {
+        match prefix(alloc, rest)? {
+            Prefix::End => return Ok(lexemes),
+            Prefix::Blank(after) => rest = after,
+            Prefix::Token(token, after) => {
                 lexemes.push(Lexeme { token, place })?;
                 if place > last {
                     return Ok(lexemes);
                 }
-                rest = behind;
+                rest = after;
             }
-            Front::Bad => {
+            Prefix::Bad => {
                 lexemes.push(Lexeme {
                     token: Token::Bad,
                     place,

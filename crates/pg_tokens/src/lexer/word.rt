@@ -1,14 +1,14 @@
 //! Names and numbers: the longest runs of their characters.
 //!
-//! A letter right behind a number begins a name, so `12ab` is two tokens.
+//! A letter right after a number begins a name, so `12ab` is two tokens.
 ghost use Rattle.std.specs.Prelude.{◌≡◌, ◌≤◌, length, take, drop, IfOk};
 ghost use Rattle.std.specs.List.{prefix_len};
 ghost use Rattle.std.specs.Char.{is_ascii_digit};
 ghost use Rattle.pg_tokens.specs.Lexical.{goes_in_name};
 ghost use Rattle.pg_tokens.specs.Lexing.{name_at, number_at};
-ghost use Rattle.pg_tokens.specs.View.{front_of};
+ghost use Rattle.pg_tokens.specs.View.{prefix_of};
 
-use crate::token::{Front, Token};
+use crate::token::{Prefix, Token};
 use std::alloc::{AllocError, Global};
 
 fn goes_on(c: char) -> bool
@@ -32,17 +32,17 @@ fn number_len(characters: &[char]) -> usize
 }
 
 /// The name at the front, where a letter stands.
-pub fn name(alloc: Global, characters: &[char]) -> Result<Front<'_>, AllocError>
-    ensures { IfOk result (λ front. front_of front ≡ name_at characters.now) }
+pub fn name(alloc: Global, characters: &[char]) -> Result<Prefix<'_>, AllocError>
+    ensures { IfOk result (λ prefix. prefix_of prefix ≡ name_at characters.now) }
 {
     let (text, rest) = characters.split_at(name_len(characters));
-    Ok(Front::Token(Token::Name(text.to_vec(alloc)?), rest))
+    Ok(Prefix::Token(Token::Name(text.to_vec(alloc)?), rest))
 }
 
 /// The number at the front, where a digit stands.
-pub fn number(alloc: Global, characters: &[char]) -> Result<Front<'_>, AllocError>
-    ensures { IfOk result (λ front. front_of front ≡ number_at characters.now) }
+pub fn number(alloc: Global, characters: &[char]) -> Result<Prefix<'_>, AllocError>
+    ensures { IfOk result (λ prefix. prefix_of prefix ≡ number_at characters.now) }
 {
     let (text, rest) = characters.split_at(number_len(characters));
-    Ok(Front::Token(Token::Number(text.to_vec(alloc)?), rest))
+    Ok(Prefix::Token(Token::Number(text.to_vec(alloc)?), rest))
 }

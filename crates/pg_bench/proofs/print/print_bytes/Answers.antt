@@ -1,7 +1,7 @@
 use Rattle.std.proofs.Common.{ℕ, List, subst, ◌∙◌}
 use Rattle.std.proofs.lemmas.Result.{on_ok_weaker}
 use Rattle.std.specs.Io.KnownBytes.{Appends}
-use Rattle.pg_tree.specs.Bytes.{AppendsFront}
+use Rattle.pg_tree.specs.Bytes.{AppendsPrefix}
 use Rattle.pg_pred.specs.Offer.{offer_of}
 use Rattle.pg_making.specs.Spells.{Spells}
 use Rattle.pg_bench.proofs.Results.{on_this_err}
@@ -21,12 +21,12 @@ returns-clause-ok g c =
           (c.as_slice.ensures.value ∙ c.in-Ok.ensures.bytes) written;
     }) c.write_page.ensures.ok
 
-pub returns-clause-front : goal.returns-clause-front
-returns-clause-front g c is =
-    let front = on_this_err c.write_page.result c.write_page.ensures.front is in
+pub returns-clause-prefix : goal.returns-clause-prefix
+returns-clause-prefix g c is =
+    let prefix = on_this_err c.write_page.result c.write_page.ensures.prefix is in
     record {
       grammar = c.in_ok-grammar.grammar;
       spelled = c.in_ok-grammar.ensures.ok;
-      written = subst (λ (bytes : List ℕ). AppendsFront (g.W.Write.contents c.args.writer.now.inner) (g.W.Write.contents c.write_page.new.writer.inner) bytes)
-          (c.as_slice.ensures.value ∙ c.in-Ok.ensures.bytes) front;
+      written = subst (λ (bytes : List ℕ). AppendsPrefix (g.W.Write.contents c.args.writer.now.inner) (g.W.Write.contents c.write_page.new.writer.inner) bytes)
+          (c.as_slice.ensures.value ∙ c.in-Ok.ensures.bytes) prefix;
     }

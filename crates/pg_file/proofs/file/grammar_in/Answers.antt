@@ -2,7 +2,7 @@ use Rattle.std.proofs.Common.{List, Result, Err, ap, sym, subst}
 use Rattle.std.proofs.lemmas.Result.{err_from_is_err_and}
 use Rattle.pg_pred.specs.Offer.{offer_of}
 use Rattle.pg_grammar.proofs.Unique.{same_grammar}
-use Rattle.pg_meaning.specs.declared.error.Unmade.{Unmade}
+use Rattle.pg_meaning.specs.declared.error.MakingError.{MakingError}
 use Rattle.pg_making.specs.declared.making.PlacedGrammar.{PlacedGrammar}
 use Rattle.pg_items.specs.declared.item.Item.{Item}
 use Rattle.pg_tokens.specs.declared.token.Lexeme.{Lexeme}
@@ -14,7 +14,7 @@ use Rattle.pg_file.proofs.ReadLemmas.Spelled.{is_spelled, spelled_items, spelled
 use Rattle.pg_file.proofs.ReadLemmas.Fitting.{grammar_fits}
 use Rattle.pg_file.proofs.file.grammar_in.Goals as goal
 
-abbrev err : Unmade → Result PlacedGrammar Unmade
+abbrev err : MakingError → Result PlacedGrammar MakingError
 err e = Err e
 
 pub returns-in_err-items-clause-refused : goal.returns-in_err-items-clause-refused

@@ -6,7 +6,7 @@ use Rattle.pg_grammar.specs.Fits.{ClassFits}
 use Rattle.pg_grammar.specs.Membership.{Knows}
 use Rattle.pg_grammar.specs.declared.class.ClassPart.TheVariants.{Class}
 use Rattle.pg_grammar.proofs.Each.{all-get, get-known}
-use Rattle.pg_grammar.proofs.Items.{noted_is, asked_is, item_is_below, none_behind, names_before, weight-item, knows-next}
+use Rattle.pg_grammar.proofs.Items.{noted_is, asked_is, item_is_below, none_after, names_before, weight-item, knows-next}
 use Rattle.pg_grammar.proofs.Members.{one_holds-next, drop-next}
 use Rattle.pg_grammar.proofs.Negated.{negated-first}
 use Rattle.pg_grammar.proofs.membership.+first_membership.Goals as goal
@@ -15,7 +15,7 @@ use Rattle.pg_grammar.proofs.membership.+first_membership.Goals.{then-any, else-
 pub prove-unreachable-requires : goal.prove-unreachable-requires
 prove-unreachable-requires g t c =
     let below : c.index-number.result < c.args.below =
-    item_is_below c.args.below c.index-number.result c.args.parts.now c.behind_complements-negated.result.1.now c.in-Some.behind.now c.in-Some.first.now (c.behind_complements-negated.ensures.named c.args.below) c.requires.named c.in-Some.ensures.cases.0 (c.in-Class.is ∙ ap Class (sym c.index-number.ensures)) in
+    item_is_below c.args.below c.index-number.result c.args.parts.now c.after_complements-negated.result.1.now c.in-Some.after.now c.in-Some.first.now (c.after_complements-negated.ensures.named c.args.below) c.requires.named c.in-Some.ensures.cases.0 (c.in-Class.is ∙ ap Class (sym c.index-number.ensures)) in
     omega arith
 
 pub loop-preserved : goal.loop-preserved
@@ -27,10 +27,10 @@ loop-preserved g t c =
     let first = c.first_membership-has.ensures.first in
     let rest = c.first_membership-has.ensures.rest in
     let before = rw left at c.loop.invariant.any in
-    let behind = rw left at c.loop.invariant.rest in
+    let following = rw left at c.loop.invariant.rest in
     record {
       any = rw (any, first, rest) (one_holds-next c.loop.any k bs ∙ before);
-      rest = rw rest (drop-next k bs ∙ behind);
+      rest = rw rest (drop-next k bs ∙ following);
       fewer = omega arith;
       named = c.first_membership-has.ensures.named;
       parts = c.first_membership-has.ensures.parts;
@@ -39,23 +39,23 @@ loop-preserved g t c =
 
 pub returns-after-answers-number-clause-named : goal.returns-after-answers-number-clause-named
 returns-after-answers-number-clause-named g t c =
-    none_behind c.args.below c.args.parts.now c.behind_complements-negated.result.1.now c.in-Some.behind.now c.in-Some.first.now (c.behind_complements-negated.ensures.named c.args.below) c.requires.named c.in-Some.ensures.cases.0
+    none_after c.args.below c.args.parts.now c.after_complements-negated.result.1.now c.in-Some.after.now c.in-Some.first.now (c.after_complements-negated.ensures.named c.args.below) c.requires.named c.in-Some.ensures.cases.0
 
 pub returns-after-answers-number-clause-parts : goal.returns-after-answers-number-clause-parts
 returns-after-answers-number-clause-parts g t c =
-    (subst (ClassFits (offer_of c.args.registry.now)) c.in-Some.ensures.cases.0 (c.behind_complements-negated.ensures.fit (offer_of c.args.registry.now) c.requires.parts)).1
+    (subst (ClassFits (offer_of c.args.registry.now)) c.in-Some.ensures.cases.0 (c.after_complements-negated.ensures.fit (offer_of c.args.registry.now) c.requires.parts)).1
 
 pub returns-in-Literal-clause-named : goal.returns-in-Literal-clause-named
 returns-in-Literal-clause-named g t c =
-    none_behind c.args.below c.args.parts.now c.behind_complements-negated.result.1.now c.in-Some.behind.now c.in-Some.first.now (c.behind_complements-negated.ensures.named c.args.below) c.requires.named c.in-Some.ensures.cases.0
+    none_after c.args.below c.args.parts.now c.after_complements-negated.result.1.now c.in-Some.after.now c.in-Some.first.now (c.after_complements-negated.ensures.named c.args.below) c.requires.named c.in-Some.ensures.cases.0
 
 pub returns-in-Literal-clause-parts : goal.returns-in-Literal-clause-parts
 returns-in-Literal-clause-parts g t c =
-    (subst (ClassFits (offer_of c.args.registry.now)) c.in-Some.ensures.cases.0 (c.behind_complements-negated.ensures.fit (offer_of c.args.registry.now) c.requires.parts)).1
+    (subst (ClassFits (offer_of c.args.registry.now)) c.in-Some.ensures.cases.0 (c.after_complements-negated.ensures.fit (offer_of c.args.registry.now) c.requires.parts)).1
 
 pub atom_has-requires-clause-fits : goal.atom_has-requires-clause-fits
 atom_has-requires-clause-fits g t c =
-    (subst (ClassFits (offer_of c.args.registry.now)) c.in-Some.ensures.cases.0 (c.behind_complements-negated.ensures.fit (offer_of c.args.registry.now) c.requires.parts)).0
+    (subst (ClassFits (offer_of c.args.registry.now)) c.in-Some.ensures.cases.0 (c.after_complements-negated.ensures.fit (offer_of c.args.registry.now) c.requires.parts)).0
 
 pub first_membership-requires : goal.first_membership-requires
 first_membership-requires g t c =
@@ -68,7 +68,7 @@ first_membership-requires g t c =
     let lower : number < c.args.below = omega arith in
     let lighter = weight-item items c.args.below number item at lower in
     let long = ap length own in (
-      omega (arith, lighter, long, c.in-Some.ensures.cases.1, c.behind_complements-negated.ensures.fewer),
+      omega (arith, lighter, long, c.in-Some.ensures.cases.1, c.after_complements-negated.ensures.fewer),
       (
         c.requires.classes,
         (
@@ -94,8 +94,8 @@ loop-init g t c =
       any = rw whole;
       rest = rw whole;
       fewer = omega arith;
-      named = none_behind c.args.below c.args.parts.now c.behind_complements-negated.result.1.now c.in-Some.behind.now c.in-Some.first.now (c.behind_complements-negated.ensures.named c.args.below) c.requires.named c.in-Some.ensures.cases.0;
-      parts = (subst (ClassFits (offer_of c.args.registry.now)) c.in-Some.ensures.cases.0 (c.behind_complements-negated.ensures.fit (offer_of c.args.registry.now) c.requires.parts)).1;
+      named = none_after c.args.below c.args.parts.now c.after_complements-negated.result.1.now c.in-Some.after.now c.in-Some.first.now (c.after_complements-negated.ensures.named c.args.below) c.requires.named c.in-Some.ensures.cases.0;
+      parts = (subst (ClassFits (offer_of c.args.registry.now)) c.in-Some.ensures.cases.0 (c.after_complements-negated.ensures.fit (offer_of c.args.registry.now) c.requires.parts)).1;
       answers = c.requires.answers;
     }
 
@@ -132,6 +132,6 @@ returns-after-answers-number-clause-first g t c =
     ] in
     let all = item_answers items c.args.c in
     let first : c.in-Some.first.now ≡ Class number = c.in-Class.is ∙ ap Class (sym c.index-number.ensures) in
-    let spelled : c.behind_complements-negated.result.1.now ≡ Class number ∷ c.in-Some.behind.now = c.in-Some.ensures.cases.0 ∙ ap (λ part. part ∷ c.in-Some.behind.now) first in
-    let meaning = rw spelled at (c.behind_complements-negated.ensures.meaning all c.args.c) in
-    rw (meaning, is) (negated-first c.behind_complements-negated.result.0 (answer_at all number) (memberships all c.in-Some.behind.now c.args.c))
+    let spelled : c.after_complements-negated.result.1.now ≡ Class number ∷ c.in-Some.after.now = c.in-Some.ensures.cases.0 ∙ ap (λ part. part ∷ c.in-Some.after.now) first in
+    let meaning = rw spelled at (c.after_complements-negated.ensures.meaning all c.args.c) in
+    rw (meaning, is) (negated-first c.after_complements-negated.result.0 (answer_at all number) (memberships all c.in-Some.after.now c.args.c))

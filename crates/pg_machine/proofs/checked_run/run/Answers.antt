@@ -3,9 +3,10 @@ use Rattle.std.proofs.lemmas.Result.{IfOk-weaker}
 use Rattle.pg_grammar.specs.Grammar.{Grammar}
 use Rattle.pg_language.specs.Answers.{given}
 use Rattle.pg_language.specs.declared.reading.Reading.TheVariants.{Library}
+use Rattle.pg_derive.proofs.AcceptedTexts.{loses_none, accepted_rounds, accepted_links}
 use Rattle.pg_machine.specs.CheckedRuns.{IsStartAnswer}
 use Rattle.pg_machine.specs.Halting.{Halts}
-use Rattle.pg_machine.proofs.Going.{halts}
+use Rattle.pg_machine.proofs.HaltingRuns.{halts}
 use Rattle.pg_machine.proofs.Whole.{whole_if_ok, derived, refused}
 use Rattle.pg_machine.proofs.checked_run.run.Goals as goal
 
@@ -33,3 +34,21 @@ pub returns-clause-refused : goal.returns-clause-refused
 returns-clause-refused g c =
     IfOk-weaker c.whole_answer.result _ _
     (λ a h. refused (given Library c.args.checked.now.grammar c.args.text.now) (c.args.checked.now.sets, c.accepted-grammar.ensures.accepts) c.args.table.now c.requires.table a h) (returns-clause-answer g c)
+
+pub returns-clause-choices : goal.returns-clause-choices
+returns-clause-choices g c = loses_none (given Library c.args.checked.now.grammar c.args.text.now) c.args.checked.now.sets c.accepted-grammar.ensures.accepts
+
+pub returns-clause-rounds : goal.returns-clause-rounds
+returns-clause-rounds g c = accepted_rounds (given Library c.args.checked.now.grammar c.args.text.now) c.args.checked.now.sets c.accepted-grammar.ensures.accepts
+
+pub returns-clause-links : goal.returns-clause-links
+returns-clause-links g c = accepted_links (given Library c.args.checked.now.grammar c.args.text.now) c.args.checked.now.sets c.accepted-grammar.ensures.accepts
+
+pub returns-in_err-answer-clause-choices : goal.returns-in_err-answer-clause-choices
+returns-in_err-answer-clause-choices g c = loses_none (given Library c.args.checked.now.grammar c.args.text.now) c.args.checked.now.sets c.accepted-grammar.ensures.accepts
+
+pub returns-in_err-answer-clause-rounds : goal.returns-in_err-answer-clause-rounds
+returns-in_err-answer-clause-rounds g c = accepted_rounds (given Library c.args.checked.now.grammar c.args.text.now) c.args.checked.now.sets c.accepted-grammar.ensures.accepts
+
+pub returns-in_err-answer-clause-links : goal.returns-in_err-answer-clause-links
+returns-in_err-answer-clause-links g c = accepted_links (given Library c.args.checked.now.grammar c.args.text.now) c.args.checked.now.sets c.accepted-grammar.ensures.accepts

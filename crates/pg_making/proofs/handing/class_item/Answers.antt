@@ -4,7 +4,7 @@ use Rattle.pg_grammar.specs.declared.fault.MakerFault.TheVariants as fault
 use Rattle.pg_grammar.specs.Made.{class_fault}
 use Rattle.pg_meaning.specs.Names.{ClassIsKnown, is_predicate_name}
 use Rattle.pg_making.specs.Spells.{made_classes}
-use Rattle.pg_meaning.specs.declared.error.Unmade.TheVariants.{Memory}
+use Rattle.pg_meaning.specs.declared.error.MakingError.TheVariants.{Memory}
 use Rattle.pg_making.proofs.MakingLemmas.Refused.{class_no_fault, class_is_new, where_none, no_fault}
 use Rattle.pg_making.proofs.handing.class_item.Goals as goal
 

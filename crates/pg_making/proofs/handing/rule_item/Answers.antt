@@ -6,7 +6,7 @@ use Rattle.pg_grammar.specs.declared.fault.MakerFault.TheVariants as fault
 use Rattle.pg_grammar.specs.Made.{rule_fault}
 use Rattle.pg_items.specs.Entries.{forms_of}
 use Rattle.pg_meaning.specs.Names.{FormIsKnown}
-use Rattle.pg_meaning.specs.declared.error.Unmade.TheVariants.{Memory, Refused}
+use Rattle.pg_meaning.specs.declared.error.MakingError.TheVariants.{Memory, Refused}
 use Rattle.pg_making.proofs.MakingLemmas.Refused.{rule_is_body, rule_no_fault, rule_is_new, where_none, no_fault}
 use Rattle.pg_making.proofs.handing.rule_item.Goals as goal
 

@@ -5,7 +5,7 @@ use Rattle.pg_grammar.specs.declared.fault.MakerFault.TheVariants as fault
 use Rattle.pg_grammar.specs.Made.{Says, finish_fault}
 use Rattle.pg_items.specs.Entries.{entries_of}
 use Rattle.pg_making.specs.Spells.{HasInitialTable}
-use Rattle.pg_meaning.specs.declared.error.Unmade.TheVariants.{Memory, Refused}
+use Rattle.pg_meaning.specs.declared.error.MakingError.TheVariants.{Memory, Refused}
 use Rattle.pg_making.proofs.MakingLemmas.Refused.{where_none}
 use Rattle.pg_making.proofs.MakingLemmas.Turns.{proper_next, hand_next, next_nowhere, all_handed, grammar_no_fault, only_grammar, said_nodes}
 use Rattle.pg_making.proofs.making.grammar_of.Goals as goal

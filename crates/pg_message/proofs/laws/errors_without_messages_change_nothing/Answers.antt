@@ -1,8 +1,8 @@
 use Rattle.pg_message.proofs.Nothing.{merged-nothing, nothing-merged}
 use Rattle.pg_message.proofs.laws.errors_without_messages_change_nothing.Goals as goal
 
-pub returns-clause-behind : goal.returns-clause-behind
-returns-clause-behind c = merged-nothing
+pub returns-clause-after : goal.returns-clause-after
+returns-clause-after c = merged-nothing
 
 pub returns-clause-before : goal.returns-clause-before
 returns-clause-before c = nothing-merged

@@ -25,17 +25,17 @@ more_atoms-loop-preserved t c =
 pub more_atoms-returns : goal.more_atoms-returns
 more_atoms-returns t c = is_full Bar (atom_at (group_at c.args.depth)) (classes_of c.loop.atoms.items) _ c.loop.counter (tokens_of c.loop.rest.now) _ c.loop-test.false c.loop.invariant
 
-pub atom-loop-behind-preserved : goal.atom-loop-behind-preserved
-atom-loop-behind-preserved t c =
-    rw c.in_ok-push.ensures.items (not_read (group_at c.args.depth) c.loop-behind.parts.items (tokens_of c.loop-behind.rest.now) (tokens_of c.in-Some.behind.now) _ (sym c.in-Some.ensures) c.loop-behind.invariant)
+pub atom-loop-after-preserved : goal.atom-loop-after-preserved
+atom-loop-after-preserved t c =
+    rw c.in_ok-push.ensures.items (not_read (group_at c.args.depth) c.loop-after.parts.items (tokens_of c.loop-after.rest.now) (tokens_of c.in-Some.after.now) _ (sym c.in-Some.ensures) c.loop-after.invariant)
 
 pub atom-returns-in_err-atom : goal.atom-returns-in_err-atom
 atom-returns-in_err-atom t c =
     let p = err_from_is_err_and c.from_residual-in_err-atom.result c.from_residual-in_err-atom.ensures.1 in
-    let plain = plain_read (group_at c.args.depth) (tokens_of c.loop-behind.rest.now) (sym c.in_default.ensures) in
-    rw (p.1, p.2) (front_fails c.in_err-atom.field-0.0 c.loop-behind.parts.items (atom_at (group_at c.args.depth) (tokens_of c.loop-behind.rest.now)) _ (rw plain c.in_err-atom.ensures) c.loop-behind.invariant)
+    let plain = plain_read (group_at c.args.depth) (tokens_of c.loop-after.rest.now) (sym c.in_default.ensures) in
+    rw (p.1, p.2) (front_fails c.in_err-atom.field-0.0 c.loop-after.parts.items (atom_at (group_at c.args.depth) (tokens_of c.loop-after.rest.now)) _ (rw plain c.in_err-atom.ensures) c.loop-after.invariant)
 
 pub atom-returns : goal.atom-returns
 atom-returns t c =
-    let plain = plain_read (group_at c.args.depth) (tokens_of c.loop-behind.rest.now) (sym c.in_default.ensures) in
-    rw c.in_ok-append.ensures.items (front_read c.loop-behind.parts.items c.in_ok-atom.atom.items (tokens_of c.in_ok-atom.rest.now) (atom_at (group_at c.args.depth) (tokens_of c.loop-behind.rest.now)) _ (plain ∙ c.in_ok-atom.ensures) c.loop-behind.invariant)
+    let plain = plain_read (group_at c.args.depth) (tokens_of c.loop-after.rest.now) (sym c.in_default.ensures) in
+    rw c.in_ok-append.ensures.items (front_read c.loop-after.parts.items c.in_ok-atom.atom.items (tokens_of c.in_ok-atom.rest.now) (atom_at (group_at c.args.depth) (tokens_of c.loop-after.rest.now)) _ (plain ∙ c.in_ok-atom.ensures) c.loop-after.invariant)

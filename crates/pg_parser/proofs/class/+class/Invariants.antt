@@ -24,11 +24,11 @@ decreases-atoms l = 7 * l.depth + 4
 abbrev pub decreases-class : goal.decreases-class
 decreases-class l = 7 * l.depth + 5
 
-abbrev pub invariant-atom-loop-behind : goal.invariant-atom-loop-behind
-invariant-atom-loop-behind l = with_front l.parts.items (atom_at (group_at l.depth) (tokens_of l.rest)) ≡ atom_at (group_at l.depth) (tokens_of l.tokens)
+abbrev pub invariant-atom-loop-after : goal.invariant-atom-loop-after
+invariant-atom-loop-after l = with_front l.parts.items (atom_at (group_at l.depth) (tokens_of l.rest)) ≡ atom_at (group_at l.depth) (tokens_of l.tokens)
 
-abbrev pub decreases-atom-loop-behind : goal.decreases-atom-loop-behind
-decreases-atom-loop-behind l = length l.rest
+abbrev pub decreases-atom-loop-after : goal.decreases-atom-loop-after
+decreases-atom-loop-after l = length l.rest
 
 abbrev pub invariant-more_atoms-loop : goal.invariant-more_atoms-loop
 invariant-more_atoms-loop l = with_front (classes_of l.atoms.items) (more_at Bar (atom_at (group_at l.depth)) (l.most - l.counter) (tokens_of l.rest)) ≡ more_at Bar (atom_at (group_at l.depth)) l.most (tokens_of l.tokens)

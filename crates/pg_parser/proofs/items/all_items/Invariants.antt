@@ -6,7 +6,7 @@ use Rattle.pg_parser.proofs.ParserLemmas.Files.{ItemsLeft}
 use Rattle.pg_parser.proofs.items.all_items.Given as goal
 
 abbrev pub invariant-loop-rest : goal.invariant-loop-rest
-invariant-loop-rest l = ItemsLeft l.room (tokens_of l.rest) (entries_of l.items.items) (file_at (tokens_of l.fn.lexemes))
+invariant-loop-rest l = ItemsLeft l.allowance (tokens_of l.rest) (entries_of l.items.items) (file_at (tokens_of l.fn.lexemes))
 
 abbrev pub decreases-loop-rest : goal.decreases-loop-rest
 decreases-loop-rest l = length l.rest

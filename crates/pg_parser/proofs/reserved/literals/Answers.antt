@@ -11,7 +11,7 @@ returns-in_err-text c =
 
 pub loop-alloc-preserved : goal.loop-alloc-preserved
 loop-alloc-preserved c =
-    rw c.in_ok-push.ensures.items (literal_read c.loop-alloc.texts.items (tokens_of c.loop-alloc.rest.now) c.in_ok-text.text (tokens_of c.in_ok-text.behind.now) _ c.in_ok-text.ensures c.loop-alloc.invariant)
+    rw c.in_ok-push.ensures.items (literal_read c.loop-alloc.texts.items (tokens_of c.loop-alloc.rest.now) c.in_ok-text.text (tokens_of c.in_ok-text.after.now) _ c.in_ok-text.ensures c.loop-alloc.invariant)
 
 pub returns : goal.returns
 returns c = literals_end c.loop-alloc.texts.items (tokens_of c.loop-alloc.rest.now) _ (sym c.has_literal.ensures ∙ c.loop-alloc-test.false) c.loop-alloc.invariant

@@ -5,7 +5,7 @@ use Rattle.pg_tokens.specs.declared.token.Mark.TheVariants.{Close}
 use Rattle.pg_tokens.specs.Tokens.{Token, mark}
 use Rattle.pg_items.specs.Syntax.{class_written, opened}
 use Rattle.pg_print.specs.Canonical.{class_from, class_names}
-use Rattle.pg_print.specs.Printed.{Laid, with_tokens}
+use Rattle.pg_print.specs.Layout.{Laid, with_tokens}
 use Rattle.pg_print.specs.Levels.{ended}
 use Rattle.pg_print.proofs.PrinterLemmas.Tokens.{laid_both, on_ok}
 use Rattle.pg_print.proofs.body.put_class_form.Goals as goal

@@ -9,8 +9,8 @@ use Rattle.pg_print.specs.declared.levels.Level.{Level}
 use Rattle.pg_tokens.specs.Tokens.{Token}
 use Rattle.pg_items.specs.Syntax.{atom_written, class_written}
 use Rattle.pg_print.specs.Canonical.{atoms_of, class_from}
-use Rattle.pg_print.specs.Printed.{Laid, with_tokens}
-use Rattle.pg_print.specs.Levels.{needed, coming, closing, first_piece, with_piece, levels_behind}
+use Rattle.pg_print.specs.Layout.{Laid, with_tokens}
+use Rattle.pg_print.specs.Levels.{needed, coming, closing, first_piece, with_piece, levels_after}
 use Rattle.pg_print.proofs.PrinterLemmas.Tokens.{laid_both, on_ok}
 use Rattle.pg_print.proofs.PrinterLemmas.Classes.{root, whole_written, first_spelled}
 use Rattle.pg_print.proofs.class.put_class.Goals as goal
@@ -29,7 +29,7 @@ put_parts-requires c =
     let whole = expression c.args.class.now c.parts.result.now first rest c.parts.ensures.whole c.parts.ensures.same c.in-Some.ensures.cases.0 in
     let at_root = root_is c.enter.new.levels.items c.new-levels.result.items c.in_ok-enter.ensures.levels c.new-levels.ensures.items in
     record {
-      whole = subst (λ (ls : List Level). SpellForms (needed ls) (map member_count rest)) (sym (c.in_ok-put_first.ensures.levels ∙ ap (levels_behind (first_piece items first)) at_root)) (first_spelled items first rest whole.whole);
+      whole = subst (λ (ls : List Level). SpellForms (needed ls) (map member_count rest)) (sym (c.in_ok-put_first.ensures.levels ∙ ap (levels_after (first_piece items first)) at_root)) (first_spelled items first rest whole.whole);
       unions = whole.unions.1;
     }
 
@@ -43,11 +43,11 @@ returns c =
     let whole = expression c.args.class.now c.parts.result.now first rest c.parts.ensures.whole c.parts.ensures.same c.in-Some.ensures.cases.0 in
     let at_root = root_is c.enter.new.levels.items c.new-levels.result.items c.in_ok-enter.ensures.levels c.new-levels.ensures.items in
     let here = c.in_ok-put_first.ensures in
-    let after : List Token = coming atom_written (levels_behind piece root) (atoms_of items rest) in
+    let after : List Token = coming atom_written (levels_after piece root) (atoms_of items rest) in
     let text : c.put_first.new.out ≡ with_piece out piece root =
     here.text ∙ ap (λ (laid : Laid). with_piece laid piece c.enter.new.levels.items) c.in_ok-enter.ensures.text ∙ ap (with_piece out piece) at_root in
     on_ok c.put_parts.result
-    (λ e. e ∙ ap (λ (ls : List Level). with_tokens c.put_first.new.out (coming atom_written ls (atoms_of items rest))) (here.levels ∙ ap (levels_behind piece) at_root)
+    (λ e. e ∙ ap (λ (ls : List Level). with_tokens c.put_first.new.out (coming atom_written ls (atoms_of items rest))) (here.levels ∙ ap (levels_after piece) at_root)
     ∙ ap (λ (laid : Laid). with_tokens laid after) text
     ∙ laid_both out (piece.front ++ closing piece.count piece.ending root) after
     ∙ ap (with_tokens out) (whole_written items first rest whole.unions.0 whole.whole)

@@ -9,8 +9,8 @@ use Rattle.pg_print.specs.declared.levels.Level.{Level}
 use Rattle.pg_tokens.specs.Tokens.{Token}
 use Rattle.pg_items.specs.Syntax.{atom_written}
 use Rattle.pg_print.specs.Canonical.{atoms_of}
-use Rattle.pg_print.specs.Printed.{Laid, with_tokens}
-use Rattle.pg_print.specs.Levels.{needed, coming, closing, part_piece, levels_behind}
+use Rattle.pg_print.specs.Layout.{Laid, with_tokens}
+use Rattle.pg_print.specs.Levels.{needed, coming, closing, part_piece, levels_after}
 use Rattle.pg_print.proofs.PrinterLemmas.Tokens.{laid_both}
 use Rattle.pg_print.proofs.PrinterLemmas.Classes.{part_step, part_spelled}
 use Rattle.pg_print.proofs.class.put_parts.Goals as goal
@@ -29,7 +29,7 @@ loop-part-preserved c =
     let whole : SpellForms (needed levels) (map member_count (p ∷ rest)) = subst (λ (l : List ClassPart). SpellForms (needed levels) (map member_count l)) front c.loop-part.invariant.whole in
     let unions : AllByRecursion IsProperUnion (p ∷ rest) = subst (AllByRecursion IsProperUnion) front c.loop-part.invariant.unions in
     let here = c.in_ok-put_part.ensures in
-    let after : List Token = coming atom_written (levels_behind piece levels) (atoms_of items rest) in
+    let after : List Token = coming atom_written (levels_after piece levels) (atoms_of items rest) in
     record {
       whole = subst (λ (ls : List Level). SpellForms (needed ls) (map member_count rest)) (sym here.levels) (part_spelled items levels p rest whole);
       unions = unions.1;

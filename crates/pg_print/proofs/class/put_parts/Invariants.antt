@@ -5,7 +5,7 @@ use Rattle.pg_grammar.specs.Classes.{member_count, IsProperUnion}
 use Rattle.pg_grammar.specs.ClassItems.{item_name}
 use Rattle.pg_items.specs.Syntax.{atom_written}
 use Rattle.pg_print.specs.Canonical.{atoms_of}
-use Rattle.pg_print.specs.Printed.{with_tokens}
+use Rattle.pg_print.specs.Layout.{with_tokens}
 use Rattle.pg_print.specs.Levels.{needed, coming}
 use Rattle.pg_print.proofs.class.put_parts.Given as goal
 

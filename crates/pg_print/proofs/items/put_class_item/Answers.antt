@@ -5,7 +5,7 @@ use Rattle.pg_tokens.specs.Tokens.{Token, name, mark}
 use Rattle.pg_items.specs.Tree.{Class}
 use Rattle.pg_items.specs.Syntax.{class_written}
 use Rattle.pg_print.specs.Canonical.{class_from}
-use Rattle.pg_print.specs.Printed.{with_token}
+use Rattle.pg_print.specs.Layout.{with_token}
 use Rattle.pg_print.proofs.PrinterLemmas.Tokens.{on_ok}
 use Rattle.pg_print.proofs.PrinterLemmas.Writing.{token_step, class_step}
 use Rattle.pg_print.proofs.items.put_class_item.Goals as goal

@@ -1,6 +1,6 @@
 use Rattle.std.proofs.Common.{◌≡◌, drop, map}
 use Rattle.pg_items.specs.Syntax.{file_written}
-use Rattle.pg_print.specs.Printed.{with_tokens}
+use Rattle.pg_print.specs.Layout.{with_tokens}
 use Rattle.pg_print.specs.Canonical.{table_item}
 use Rattle.pg_print.proofs.items.put_initials.Given as goal
 

@@ -8,7 +8,7 @@ use Rattle.pg_grammar.specs.declared.word_item.WordItem.{WordItem}
 use Rattle.pg_items.specs.Tree.{Item, Start}
 use Rattle.pg_items.specs.Syntax.{file_written}
 use Rattle.pg_print.specs.Canonical.{class_names, class_item, word_item, operators_items, table_item, rule_items}
-use Rattle.pg_print.specs.Printed.{with_tokens}
+use Rattle.pg_print.specs.Layout.{with_tokens}
 use Rattle.pg_print.specs.Levels.{node_values}
 use Rattle.pg_print.proofs.PrinterLemmas.Tokens.{on_ok}
 use Rattle.pg_print.proofs.PrinterLemmas.Writing.{item_step, items_step}

@@ -19,14 +19,14 @@ returns c =
     let count : List Token = number (decimal item.max) ∷ end in
     let most : List Token = name (codes "max") ∷ count in
     let reserved : List Token = reserved_written item.reserved most in
-    let behind : List Token = class_written second reserved in
-    let gap : List Token = name (codes "gap") ∷ behind in
+    let after : List Token = class_written second reserved in
+    let gap : List Token = name (codes "gap") ∷ after in
     on_ok c.put_mark.result
     (λ e. e ∙ token_step c.put_word-3.new.self c.put_number.new.self (number (decimal item.max)) end c.in_ok-put_number.ensures
     ∙ token_step c.put_reserved.new.out c.put_word-3.new.self (name (codes "max")) count c.in_ok-put_word-3.ensures
     ∙ reserved_step c.put_class-2.new.out c.put_reserved.new.out item.reserved most c.in_ok-put_reserved.ensures
     ∙ class_step c.put_word-2.new.self c.put_class-2.new.out second reserved c.in_ok-put_class-2.ensures
-    ∙ token_step c.put_class.new.out c.put_word-2.new.self (name (codes "gap")) behind c.in_ok-put_word-2.ensures
+    ∙ token_step c.put_class.new.out c.put_word-2.new.self (name (codes "gap")) after c.in_ok-put_word-2.ensures
     ∙ class_step c.put_word.new.self c.put_class.new.out first gap c.in_ok-put_class.ensures
     ∙ token_step c.args.out.now c.put_word.new.self (name (codes "operators")) (class_written first gap) c.in_ok-put_word.ensures)
     c.put_mark.ensures

@@ -1,6 +1,6 @@
 use Rattle.std.proofs.Common.{◌≡◌, [], drop}
 use Rattle.pg_items.specs.Syntax.{literals_written, reserved_written}
-use Rattle.pg_print.specs.Printed.{with_tokens}
+use Rattle.pg_print.specs.Layout.{with_tokens}
 use Rattle.pg_print.proofs.items.put_reserved.Given as goal
 
 abbrev pub invariant-loop-text : goal.invariant-loop-text

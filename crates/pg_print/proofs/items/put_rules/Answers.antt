@@ -8,7 +8,7 @@ use Rattle.pg_tokens.specs.Tokens.{Token, name, mark}
 use Rattle.pg_items.specs.Tree.{Value, Rule_item}
 use Rattle.pg_items.specs.Syntax.{written, file_written, item_written}
 use Rattle.pg_print.specs.Canonical.{value_at, rule_items}
-use Rattle.pg_print.specs.Printed.{with_token, with_tokens}
+use Rattle.pg_print.specs.Layout.{with_token, with_tokens}
 use Rattle.pg_print.specs.Levels.{node_values, AreBodies}
 use Rattle.pg_print.proofs.PrinterLemmas.Writing.{token_step, value_step, item_step}
 use Rattle.pg_print.proofs.PrinterLemmas.Grammars.{grammar_bodies, first_value}

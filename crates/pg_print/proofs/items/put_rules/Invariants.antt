@@ -2,7 +2,7 @@ use Rattle.std.proofs.Common.{◌≡◌, length, drop, map}
 use Rattle.pg_grammar.specs.Grammar.{rule_name, rule_names}
 use Rattle.pg_items.specs.Syntax.{file_written}
 use Rattle.pg_print.specs.Canonical.{rule_items}
-use Rattle.pg_print.specs.Printed.{with_tokens}
+use Rattle.pg_print.specs.Layout.{with_tokens}
 use Rattle.pg_print.specs.Levels.{node_values, AreBodies}
 use Rattle.pg_print.proofs.items.put_rules.Given as goal
 

@@ -3,7 +3,7 @@ use Rattle.std.proofs.lemmas.List.{drop_more}
 use Rattle.pg_grammar.specs.ClassItems.{item_name}
 use Rattle.pg_print.specs.Canonical.{word_item}
 use Rattle.pg_items.specs.Syntax.{file_written}
-use Rattle.pg_print.specs.Printed.{with_tokens}
+use Rattle.pg_print.specs.Layout.{with_tokens}
 use Rattle.pg_print.proofs.PrinterLemmas.Writing.{item_step}
 use Rattle.pg_print.proofs.items.put_words.Goals as goal
 

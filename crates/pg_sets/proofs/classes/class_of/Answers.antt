@@ -1,10 +1,11 @@
 use Rattle.std.proofs.Common.{rules, ◌≡◌, ◌∷◌, take, [], ◌++◌, sym, ap, ◌∙◌}
+use Rattle.std.proofs.lemmas.List.{nil_from_length}
 use Rattle.pg_grammar.specs.Classes.{one_holds}
 use Rattle.pg_sets.specs.Classes.{answers_of}
 use Rattle.std.proofs.lemmas.Result.{IfOk-weaker}
 use Rattle.pg_grammar.specs.Classes.{memberships}
 use Rattle.pg_sets.specs.Classes.{with_parts}
-use Rattle.pg_sets.proofs.ClassStack.{parts_on_none, parts_last, empty_is}
+use Rattle.pg_sets.proofs.ClassStack.{parts_on_none, parts_last}
 use Rattle.pg_sets.proofs.classes.class_of.Goals as goal
 
 pub loop-part-init : goal.loop-part-init
@@ -23,7 +24,7 @@ loop-part-preserved c = λ x is.
 
 pub returns : goal.returns
 returns c =
-    let none : c.loop-part.rest.now ≡ [] = empty_is c.loop-part.rest.now c.in_default.ensures.cases in
+    let none : c.loop-part.rest.now ≡ [] = nil_from_length c.loop-part.rest.now c.in_default.ensures.cases in
     IfOk-weaker c.first_of.result _ _
     (λ class same x is. same x is ∙ ap (λ answers. one_holds (take 1 answers))
     (ap (λ ps. with_parts (answers_of c.args.items.now x) x ps (answers_of c.loop-part.stack.items x)) (sym none) ∙ c.loop-part.invariant x is)) c.first_of.ensures.class

@@ -3,7 +3,7 @@ use Rattle.pg_class.specs.Ranges.{has}
 use Rattle.pg_grammar.specs.Classes.{one_holds}
 use Rattle.pg_sets.specs.Classes.{answers_of}
 use Rattle.std.proofs.lemmas.Result.{on_ok_weaker}
-use Rattle.pg_sets.proofs.ClassStack.{drop_further, one_further, answers_behind_first}
+use Rattle.pg_sets.proofs.ClassStack.{drop_further, one_further, answers_after_first}
 use Rattle.pg_sets.proofs.classes.push_union.Goals as goal
 
 pub loop-taken-init : goal.loop-taken-init
@@ -22,7 +22,7 @@ loop-taken-preserved c =
           ∙ (one_further k (answers_of first x) ∙ ap (λ n. one_holds (take n (answers_of first x))) next)));
       rest = λ x.
           ap (λ stack. answers_of stack x) c.first_of.ensures.rest
-          ∙ (answers_behind_first c.loop-taken.stack.items x
+          ∙ (answers_after_first c.loop-taken.stack.items x
           ∙ (ap (drop 1) (c.loop-taken.invariant.rest x) ∙ (drop_further k (answers_of first x) ∙ ap (λ n. drop n (answers_of first x)) next)));
     }
 

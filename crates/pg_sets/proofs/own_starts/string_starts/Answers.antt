@@ -1,11 +1,11 @@
 use Rattle.std.proofs.Common.{◌≡◌, ◌<◌, ◌∷◌, [], ℕ, length, List, get_or, sym, ap, subst, ◌∙◌, arith}
+use Rattle.std.proofs.lemmas.List.{nil_from_length}
 use Rattle.std.proofs.lemmas.Result.{IfOk-weaker}
 use Rattle.pg_grammar.specs.declared.form.Form.TheVariants as form
 use Rattle.pg_grammar.specs.declared.form.Leaf.TheVariants as leaf
 use Rattle.pg_start.specs.declared.kind.StartKind.TheVariants.{Class}
 use Rattle.pg_sets.specs.Own.{AreOwn}
 use Rattle.pg_sets.proofs.Owned.{string_own, empty_own}
-use Rattle.pg_sets.proofs.ClassStack.{empty_is}
 use Rattle.pg_sets.proofs.own_starts.string_starts.Goals as goal
 
 pub returns-in-empty : goal.returns-in-empty
@@ -13,7 +13,7 @@ returns-in-empty c =
     let same = ap length c.as_slice.ensures in
     let short : length c.args.text.now ≡ 0 = omega arith in
     subst (AreOwn c.args.grammar.now (form.Leaf (leaf.String c.args.text.now))) (sym c.new.ensures.items)
-    (subst (λ t. AreOwn c.args.grammar.now (form.Leaf (leaf.String t)) []) (sym (empty_is c.args.text.now short)) empty_own)
+    (subst (λ t. AreOwn c.args.grammar.now (form.Leaf (leaf.String t)) []) (sym (nil_from_length c.args.text.now short)) empty_own)
 
 pub returns-in_ok-start-in-len1-up : goal.returns-in_ok-start-in-len1-up
 returns-in_ok-start-in-len1-up c =

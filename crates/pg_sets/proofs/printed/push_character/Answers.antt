@@ -13,7 +13,7 @@ zeros_in_front numeral =
     let short : 4 - length numeral - 0 - 0 ≡ 4 - length numeral = omega arith in
     rw (short, append-nil numeral) refl
 
--- a text is `U+` and what is given behind it
+-- a text is `U+` and what is given after it
 abbrev Spells : List ℕ → Option (List ℕ) → Type 0
 Spells text given = IfSome (Some (codes "U+") ++? given) (λ bs. text ≡ bs)
 

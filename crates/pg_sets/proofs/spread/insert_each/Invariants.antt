@@ -1,5 +1,5 @@
 use Rattle.std.proofs.Common.{◌≡◌, ◌<◌, ℕ, length, drop}
-use Rattle.pg_numbers.specs.Numbers.{set_at}
+use Rattle.pg_bit_set.specs.Numbers.{set_at}
 use Rattle.pg_sets.specs.Spread.{with_number_each}
 use Rattle.pg_sets.proofs.spread.insert_each.Given as goal
 

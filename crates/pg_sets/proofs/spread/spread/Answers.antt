@@ -3,7 +3,7 @@ use Rattle.std.proofs.lemmas.List.{take_at, get_or_read}
 use Rattle.pg_sets.specs.Graphs.{numbers_at}
 use Rattle.pg_sets.specs.Marks.{is_marked}
 use Rattle.pg_sets.specs.Spread.{with_number_each, IsHandedOn, vertex_at}
-use Rattle.pg_sets.proofs.Growing.{contains_below}
+use Rattle.pg_bit_set.proofs.Inside.{contains_below}
 use Rattle.pg_sets.proofs.Spreading.{AreRooted, rooted_more, spreading_starts, spreading_on, spreading_ends}
 use Rattle.pg_sets.proofs.spread.spread.Goals as goal
 

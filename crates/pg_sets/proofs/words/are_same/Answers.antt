@@ -1,6 +1,6 @@
 use Rattle.std.proofs.Common.{◌≡◌, sym, ap, ◌∙◌}
 use Rattle.std.proofs.lemmas.Bool.{both_ways}
-use Rattle.pg_start.specs.Fronts.{is_reserved}
+use Rattle.pg_start.specs.Prefixes.{is_reserved}
 use Rattle.pg_sets.proofs.Ordered.{equal_is, same_texts}
 use Rattle.pg_sets.proofs.Reading.{same_from_both, both_from_same}
 use Rattle.pg_sets.proofs.words.are_same.Goals as goal

@@ -11,7 +11,7 @@ loop-item-preserved c =
     let k = c.loop-item.item-index in
     let item = c.item-item.result in
     let words = c.loop-item.words.items in
-    let added : WordClasses = record { head = c.in_ok-head.head; rest = c.in_ok-rest.rest } in
+    let added : WordClasses = c.in_ok-word.word in
     let items = c.word_items-item-items.ensures.all in
     let counted = ap length items in
     let inside : k < length g.words = omega arith in
@@ -25,13 +25,13 @@ loop-item-preserved c =
             | inl old ↦ before.heads w other word known old
             | inr new ↦
                 let one : other ≡ item = same_Some other item (sym known ∙ (ap (slice_get g.words) (new.0 ∙ before.long) ∙ at)) in
-                subst (λ i. IsClassOf g i.head word.head) (sym one) (subst (λ x. IsClassOf g item.head x.head) new.1 c.in_ok-head.ensures)
+                subst (λ i. IsClassOf g i.head word.head) (sym one) (subst (λ x. IsClassOf g item.head x.head) new.1 c.in_ok-word.ensures.0)
           ];
       rests = λ w other word known there.
           elim (at_before words added w word (ap (λ ws. slice_get ws w) (sym pushed) ∙ there)) [
             | inl old ↦ before.rests w other word known old
             | inr new ↦
                 let one : other ≡ item = same_Some other item (sym known ∙ (ap (slice_get g.words) (new.0 ∙ before.long) ∙ at)) in
-                subst (λ i. IsClassOf g i.rest word.rest) (sym one) (subst (λ x. IsClassOf g item.rest x.rest) new.1 c.in_ok-rest.ensures)
+                subst (λ i. IsClassOf g i.rest word.rest) (sym one) (subst (λ x. IsClassOf g item.rest x.rest) new.1 c.in_ok-word.ensures.1)
           ];
     }

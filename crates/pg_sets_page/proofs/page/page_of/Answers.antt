@@ -19,8 +19,8 @@ loop-rule-preserved c =
     let lines = c.in_ok-push_node_lines.ensures
     ∙ ap₂ (λ (b e : ℕ). c.push_rule_line.new.page.items ++ node_lines g starts sets b e) body c.end_of-end.ensures in
     let nodes = node_lines g starts sets (body_of g.rules rule) (end_of g rule) in
-    let behind = ap (λ (p : List ℕ). p ++ nodes) line in (
+    let after = ap (λ (p : List ℕ). p ++ nodes) line in (
       omega arith,
       range_pushed (rule_text g names starts sets) page c.push_node_lines.new.page.items _ rule (length g.rules) low
-          (lines ∙ behind ∙ append_assoc page (rule_line names sets rule) nodes) c.loop-rule.invariant.1,
+          (lines ∙ after ∙ append_assoc page (rule_line names sets rule) nodes) c.loop-rule.invariant.1,
     )

@@ -13,9 +13,9 @@ loop-node-preserved c =
     let placed = c.in_ok-push_place.ensures in
     let given = c.in_ok-push_sets.ensures in
     let here = ap (λ (n : ℕ). c.push_place.new.page.items ++ sets_text starts sets n) c.new.ensures in
-    let behind = ap (λ (p : List ℕ). p ++ sets_text starts sets node) placed in
+    let after = ap (λ (p : List ℕ). p ++ sets_text starts sets node) placed in
     let joined = append_assoc page (place_text g c.args.body node) (sets_text starts sets node) in (
       omega arith,
       range_pushed (node_line g starts sets c.args.body) page c.push_sets.new.page.items _ node c.args.end c.loop-node-test.true
-          (given ∙ here ∙ behind ∙ joined) c.loop-node.invariant.1,
+          (given ∙ here ∙ after ∙ joined) c.loop-node.invariant.1,
     )

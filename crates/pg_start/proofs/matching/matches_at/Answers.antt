@@ -1,5 +1,5 @@
 use Rattle.std.proofs.Common.{drop, ap, sym, ◌∙◌}
-use Rattle.pg_start.specs.Fronts.{begins_in, word_front, is_reserved}
+use Rattle.pg_start.specs.Prefixes.{begins_in, word_prefix, is_reserved}
 use Rattle.pg_start.proofs.Told.{from_place, class_told, key_told, word_told, no_word_told}
 use Rattle.pg_start.proofs.matching.matches_at.Goals as goal
 
@@ -20,8 +20,8 @@ returns-then-begins_in c =
     let ahead = from_place c.characters.result.now c.args.place ∙ ap (drop c.args.place) c.characters.ensures.same in
     let start = sym c.view.ensures.same ∙ c.in-Word.is in
     let begins = sym (ap (begins_in c.in-Word.heads) ahead) ∙ sym c.begins_in-in-Word.ensures ∙ c.if-begins_in.true in
-    let front = c.word_front.ensures ∙ ap (word_front c.in-Word.rest) ahead in
-    word_told _ _ _ _ _ _ _ start begins (c.has.ensures ∙ ap (is_reserved c.in-Word.reserved) front)
+    let prefix = c.word_prefix.ensures ∙ ap (word_prefix c.in-Word.rest) ahead in
+    word_told _ _ _ _ _ _ _ start begins (c.has.ensures ∙ ap (is_reserved c.in-Word.reserved) prefix)
 
 pub returns-else-begins_in : goal.returns-else-begins_in
 returns-else-begins_in c =

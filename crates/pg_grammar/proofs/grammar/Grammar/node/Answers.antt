@@ -2,7 +2,7 @@ use Rattle.std.proofs.Common.{◌≡◌, length, get_or, ap, subst}
 use Rattle.pg_grammar.specs.Grammar.{Grammar, IsGrammar, rule_names, word_names}
 use Rattle.pg_grammar.specs.Forms.{form_of, has_bad_literal, has_unknown_class, lacks_alternative, InPreorder}
 use Rattle.pg_grammar.proofs.Each.{get-known, none-get}
-use Rattle.pg_grammar.proofs.Numbers.{parts_are_behind}
+use Rattle.pg_grammar.proofs.Numbers.{parts_are_after}
 use Rattle.pg_grammar.proofs.grammar.Grammar.node.Goals as goal
 
 pub returns-clause-parts : goal.returns-clause-parts
@@ -10,7 +10,7 @@ returns-clause-parts c =
     let nodes : c.self.inside.nodes.items ≡ c.args.self.now.nodes = ap (λ (g : Grammar). g.nodes) c.self.view_is in
     let preorder = subst (InPreorder 0) nodes c.self.invariant.preorder in
     let is : c.index-2.result.now ≡ get_or c.args.self.now.nodes c.args.id c.index-2.result.now = rw (nodes, c.index.ensures) at c.index-2.ensures in
-    parts_are_behind _ _ _ preorder (get-known _ _ _ c.requires is)
+    parts_are_after _ _ _ preorder (get-known _ _ _ c.requires is)
 
 pub returns-clause-proper : goal.returns-clause-proper
 returns-clause-proper c =

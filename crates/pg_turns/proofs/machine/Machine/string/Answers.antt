@@ -9,7 +9,7 @@ use Rattle.pg_turns.proofs.machine.Machine.string.Goals as goal
 pub returns-then-count-characters : goal.returns-then-count-characters
 returns-then-count-characters c =
     let m = c.args.self.now in
-    let rest : c.behind-rest.result.now ≡ drop c.args.place c.args.text.now = c.behind-rest.ensures ∙ ap (drop c.args.place) c.characters.ensures.same in
+    let rest : c.after-rest.result.now ≡ drop c.args.place c.args.text.now = c.after-rest.ensures ∙ ap (drop c.args.place) c.characters.ensures.same in
     let whole : common_prefix_len nat_eq c.args.characters.now (drop c.args.place c.args.text.now) ≡ length c.args.characters.now =
     ap (common_prefix_len nat_eq c.args.characters.now) (sym rest) ∙ sym c.matched-count.ensures.value ∙ c.if-count-characters.true in
     IfOk-weaker c.take.result _ _
@@ -18,7 +18,7 @@ returns-then-count-characters c =
 pub returns : goal.returns
 returns c =
     let m = c.args.self.now in
-    let rest : c.behind-rest.result.now ≡ drop c.args.place c.args.text.now = c.behind-rest.ensures ∙ ap (drop c.args.place) c.characters.ensures.same in
+    let rest : c.after-rest.result.now ≡ drop c.args.place c.args.text.now = c.after-rest.ensures ∙ ap (drop c.args.place) c.characters.ensures.same in
     let count : common_prefix_len nat_eq c.args.characters.now (drop c.args.place c.args.text.now) ≡ c.matched-count.result = ap (common_prefix_len nat_eq c.args.characters.now) (sym rest) ∙ sym c.matched-count.ensures.value in
     let next : c.character_at-next.result ≡ slice_get (drop c.args.place c.args.text.now) c.matched-count.result = c.character_at-next.ensures ∙ ap (λ xs. slice_get xs c.matched-count.result) rest in
     let other : (c.matched-count.result == length c.args.characters.now) ≡ false = other_length c.matched-count.result (length c.args.characters.now) c.if-count-characters.false in

@@ -11,20 +11,20 @@ use Rattle.pg_turns.proofs.machine.Machine.word.Goals as goal
 
 pub slice_bounds-word-end : goal.slice_bounds-word-end
 slice_bounds-word-end g c =
-    let all : c.behind.result.now ≡ drop c.args.place c.args.text.now = c.behind.ensures ∙ ap (drop c.args.place) c.characters-in-Some.ensures.same in
-    let rest : c.behind-rest.result.now ≡ drop (c.args.place + 1) c.args.text.now = c.behind-rest.ensures ∙ ap (drop (c.args.place + 1)) c.characters.ensures.same in
-    word_fits c.args.text.now c.behind.result.now c.behind-rest.result.now c.args.place c.run_len-count.result c.next_in.result c.in-Some.c (sym c.next_in.ensures.value) c.in-Some.is all rest c.run_len-count.ensures.within
+    let all : c.after.result.now ≡ drop c.args.place c.args.text.now = c.after.ensures ∙ ap (drop c.args.place) c.characters-in-Some.ensures.same in
+    let rest : c.after-rest.result.now ≡ drop (c.args.place + 1) c.args.text.now = c.after-rest.ensures ∙ ap (drop (c.args.place + 1)) c.characters.ensures.same in
+    word_fits c.args.text.now c.after.result.now c.after-rest.result.now c.args.place c.run_len-count.result c.next_in.result c.in-Some.c (sym c.next_in.ensures.value) c.in-Some.is all rest c.run_len-count.ensures.within
 
 pub returns-else-not-test : goal.returns-else-not-test
 returns-else-not-test g c =
     let m = c.args.self.now in
     let p = has_character c.args.grammar.now.classes c.args.item.now.rest in
-    let all : c.behind.result.now ≡ drop c.args.place c.args.text.now = c.behind.ensures ∙ ap (drop c.args.place) c.characters-in-Some.ensures.same in
-    let rest : c.behind-rest.result.now ≡ drop (c.args.place + 1) c.args.text.now = c.behind-rest.ensures ∙ ap (drop (c.args.place + 1)) c.characters.ensures.same in
+    let all : c.after.result.now ≡ drop c.args.place c.args.text.now = c.after.ensures ∙ ap (drop c.args.place) c.characters-in-Some.ensures.same in
+    let rest : c.after-rest.result.now ≡ drop (c.args.place + 1) c.args.text.now = c.after-rest.ensures ∙ ap (drop (c.args.place + 1)) c.characters.ensures.same in
     let there : slice_get c.args.text.now c.args.place ≡ Some c.in-Some.c = sym c.next_in.ensures.value ∙ c.in-Some.is in
     let count : c.run_len-count.result ≡ prefix_len p (drop (c.args.place + 1) c.args.text.now) = c.run_len-count.ensures.value ∙ ap (prefix_len p) rest in
-    let whole : take (c.run_len-count.result + 1) c.behind.result.now ≡ c.in-Some.c ∷ run_at c.args.grammar.now c.args.text.now c.args.item.now.rest (suc c.args.place) =
+    let whole : take (c.run_len-count.result + 1) c.after.result.now ≡ c.in-Some.c ∷ run_at c.args.grammar.now c.args.text.now c.args.item.now.rest (suc c.args.place) =
     ap (take (c.run_len-count.result + 1)) all ∙ word_taken p c.args.text.now c.args.place c.in-Some.c c.run_len-count.result there count in
     IfOk-weaker c.read_word.result _ _
     (λ mode h. word_told (stack_of m.frames.items) m.forest m.trail.items m.messages m.table (tape_of mode c.read_word.new.self) c.args.grammar.now c.args.text.now c.args.item.now c.args.place c.in-Some.c
-    (take (c.run_len-count.result + 1) c.behind.result.now) there (sym c.test.ensures ∙ c.if-not-test.false) whole h) c.read_word.ensures
+    (take (c.run_len-count.result + 1) c.after.result.now) there (sym c.test.ensures ∙ c.if-not-test.false) whole h) c.read_word.ensures

@@ -1,0 +1,207 @@
+-- The faults of a run: in which order they are judged, and which step refuses with which, and why.
+use Rattle.std.specs.Prelude.{◌<◌, ℕ, List, length, Bool, true, false, ◌&&◌, nat_le, Option}
+use Rattle.std.specs.Str.{chars, IsUtf8}
+use Rattle.pg_text.specs.declared.text.TheConstants.{LIMIT}
+use Rattle.pg_message.specs.declared.error.ParseError as message
+use Rattle.pg_pred.specs.Offer.{Offer}
+use Rattle.pg_grammar.specs.Grammar.{Grammar}
+use Rattle.pg_predict.specs.Findings.{AreFindings}
+use Rattle.pg_predict.specs.Operators.{HasNoOperators}
+use Rattle.pg_predict.specs.declared.finding.Finding.{Finding}
+use Rattle.pg_bench.specs.Parsed.{IsErrorOf, IsErrorOfBytes, AreFindingsOf, SpellsNone, SpellsSome, SpellsOther, ReadsText}
+use Rattle.pg_bench.specs.Promise.{IsAccepted, IsErrorOfText}
+use Rattle.pg_bench.specs.declared.fault.BenchFault.{BenchFault}
+use Rattle.pg_bench.specs.declared.fault.BenchFault.TheVariants.{File, NotRun, Refused, Reader, NotUtf8, TooLong, ParseError, Writer, Memory}
+
+-- ---- the order
+
+-- the step that judges a fault, the first one being 1; memory may run out at each
+abbrev pub step_of : BenchFault → ℕ
+step_of Memory = 0
+step_of (File fault) = 1
+step_of NotRun = 2
+step_of (Refused findings) = 3
+step_of Reader = 4
+step_of NotUtf8 = 5
+step_of TooLong = 6
+step_of (ParseError error) = 7
+step_of Writer = 8
+
+abbrev pub IsSo : Bool → Type 0
+IsSo true = Unit {0}
+IsSo false = ⊥
+
+-- a fault of the steps from the one to the other
+abbrev pub IsOfSteps : ℕ → ℕ → BenchFault → Type 0
+IsOfSteps first last fault = IsSo (nat_le first (step_of fault) && nat_le (step_of fault) last)
+
+-- a fault of the grammar file
+abbrev pub IsFileFault : BenchFault → Type 0
+IsFileFault = IsOfSteps 1 1
+
+-- a fault that is judged once the grammar file is read, and all of it can be run
+abbrev pub IsAfterFile : BenchFault → Type 0
+IsAfterFile = IsOfSteps 4 8
+
+-- a fault before the reader is asked for the first time, unless memory runs out
+abbrev pub IsBeforeReading : BenchFault → Type 0
+IsBeforeReading = IsOfSteps 1 3
+
+-- a fault that is judged once the text is read
+abbrev pub IsAfterReading : BenchFault → Type 0
+IsAfterReading = IsOfSteps 5 8
+
+-- a fault before the first byte is written, or want of memory
+abbrev pub IsBeforeWriting : BenchFault → Type 0
+IsBeforeWriting = IsOfSteps 0 7
+
+-- ---- what is claimed of faults
+
+-- a claim for each fault
+pub record Claims : Type 1 where
+  pub file : Type 0
+  pub not_run : Type 0
+  pub refused : List Finding → Type 0
+  pub reader : Type 0
+  pub not_utf8 : Type 0
+  pub too_long : Type 0
+  pub parse_error : message.ParseError → Type 0
+  pub writer : Type 0
+  pub memory : Type 0
+
+-- the claim that is made of this one
+abbrev pub Claimed : Claims → BenchFault → Type 0
+Claimed of (File fault) = of.file
+Claimed of NotRun = of.not_run
+Claimed of (Refused findings) = of.refused findings.items
+Claimed of Reader = of.reader
+Claimed of NotUtf8 = of.not_utf8
+Claimed of TooLong = of.too_long
+Claimed of (ParseError error) = of.parse_error error
+Claimed of Writer = of.writer
+Claimed of Memory = of.memory
+
+-- no fault can be but want of memory
+abbrev pub memory_alone : Claims
+memory_alone =
+    record {
+      file = ⊥;
+      not_run = ⊥;
+      refused = λ findings. ⊥;
+      reader = ⊥;
+      not_utf8 = ⊥;
+      too_long = ⊥;
+      parse_error = λ error. ⊥;
+      writer = ⊥;
+      memory = Unit {0};
+    }
+
+-- each may be
+abbrev pub any_fault : Claims
+any_fault =
+    record {
+      file = Unit {0};
+      not_run = Unit {0};
+      refused = λ findings. Unit {0};
+      reader = Unit {0};
+      not_utf8 = Unit {0};
+      too_long = Unit {0};
+      parse_error = λ error. Unit {0};
+      writer = Unit {0};
+      memory = Unit {0};
+    }
+
+-- what is claimed of the findings, where the grammar is refused
+abbrev pub IfRefused : (List Finding → Type 0) → BenchFault → Type 0
+IfRefused Claim = Claimed (record any_fault { refused = Claim })
+
+-- what is claimed of the error, where the text doesn't parse
+abbrev pub IfParseError : (message.ParseError → Type 0) → BenchFault → Type 0
+IfParseError Claim = Claimed (record any_fault { parse_error = Claim })
+
+-- ---- which step refuses with which fault
+
+-- memory ran out
+abbrev pub IsMemory : BenchFault → Type 0
+IsMemory = Claimed memory_alone
+
+-- what reading the grammar file refuses with
+abbrev pub IsFileRefusal : BenchFault → Type 0
+IsFileRefusal = Claimed (record memory_alone { file = Unit {0} })
+
+-- what reading the file of a grammar without operators refuses with
+abbrev pub IsPlainRefusal : BenchFault → Type 0
+IsPlainRefusal = Claimed (record memory_alone { file = Unit {0}; not_run = Unit {0} })
+
+-- what checking a grammar refuses with, and why
+abbrev pub IsFindingRefusal : Grammar → BenchFault → Type 0
+IsFindingRefusal g = Claimed (record memory_alone { refused = λ findings. AreFindings g findings × (0 < length findings) })
+
+-- what reading the file of an accepted grammar refuses with
+abbrev pub IsGrammarRefusal : BenchFault → Type 0
+IsGrammarRefusal = Claimed (record memory_alone { file = Unit {0}; not_run = Unit {0}; refused = λ findings. Unit {0} })
+
+-- what reading the text refuses with
+abbrev pub IsReadRefusal : BenchFault → Type 0
+IsReadRefusal = Claimed (record memory_alone { reader = Unit {0} })
+
+-- what decoding these bytes refuses with, and why
+abbrev pub IsTextRefusal : List ℕ → BenchFault → Type 0
+IsTextRefusal bytes = Claimed (record memory_alone { not_utf8 = ¬ (IsUtf8 bytes); too_long = IsUtf8 bytes × (LIMIT < length (chars bytes)) })
+
+-- what probing the reader's text refuses with, and why
+abbrev pub IsProbeRefusal : Option (List ℕ) → Option (List ℕ) → BenchFault → Type 0
+IsProbeRefusal reader left =
+    Claimed (record memory_alone {
+      reader = Unit {0};
+      not_utf8 = ReadsText reader left (λ bytes. ¬ (IsUtf8 bytes));
+      too_long = ReadsText reader left (λ bytes. IsUtf8 bytes × (LIMIT < length (chars bytes)));
+    })
+
+-- what parsing a text refuses with, and why
+abbrev pub IsRunRefusal : Grammar → List ℕ → BenchFault → Type 0
+IsRunRefusal g text = Claimed (record memory_alone { parse_error = IsErrorOfText g text })
+
+-- what parsing the text that these bytes spell refuses with, and why
+abbrev pub IsParseRefusal : Grammar → List ℕ → BenchFault → Type 0
+IsParseRefusal g bytes =
+    Claimed (record memory_alone {
+      not_utf8 = ¬ (IsUtf8 bytes);
+      too_long = IsUtf8 bytes × (LIMIT < length (chars bytes));
+      parse_error = IsErrorOfBytes g bytes;
+    })
+
+-- what parsing what a reader gives refuses with, and why
+abbrev pub IsReadingRefusal : Grammar → Option (List ℕ) → Option (List ℕ) → BenchFault → Type 0
+IsReadingRefusal g reader left =
+    Claimed (record memory_alone {
+      reader = Unit {0};
+      not_utf8 = ReadsText reader left (λ bytes. ¬ (IsUtf8 bytes));
+      too_long = ReadsText reader left (λ bytes. IsUtf8 bytes × (LIMIT < length (chars bytes)));
+      parse_error = λ error. ReadsText reader left (λ bytes. IsErrorOfBytes g bytes error);
+    })
+
+-- the same by the grammar that a file spells
+abbrev pub IsForestRefusal : Offer → List ℕ → Option (List ℕ) → Option (List ℕ) → BenchFault → Type 0
+IsForestRefusal offer file reader left =
+    Claimed (record memory_alone {
+      file = SpellsNone offer file;
+      not_run = SpellsOther HasNoOperators offer file;
+      refused = AreFindingsOf offer file;
+      reader = SpellsSome IsAccepted offer file;
+      not_utf8 = SpellsSome IsAccepted offer file × ReadsText reader left (λ bytes. ¬ (IsUtf8 bytes));
+      too_long = SpellsSome IsAccepted offer file × ReadsText reader left (λ bytes. IsUtf8 bytes × (LIMIT < length (chars bytes)));
+      parse_error = IsErrorOf offer file reader left;
+    })
+
+-- what printing a grammar or its sets refuses with
+abbrev pub IsPrintRefusal : BenchFault → Type 0
+IsPrintRefusal = Claimed (record memory_alone { file = Unit {0}; writer = Unit {0} })
+
+-- what checking the grammar of a file refuses with
+abbrev pub IsCheckRefusal : BenchFault → Type 0
+IsCheckRefusal = Claimed (record memory_alone { file = Unit {0}; not_run = Unit {0}; writer = Unit {0} })
+
+-- what writing refuses with
+abbrev pub IsWriteRefusal : BenchFault → Type 0
+IsWriteRefusal = Claimed (record memory_alone { writer = Unit {0} })

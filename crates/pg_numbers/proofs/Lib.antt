@@ -1,5 +1,0 @@
-pub mod Bits
-pub mod Uniting
-pub mod Meeting
-pub mod Halves
-pub mod Counting

@@ -1,0 +1,32 @@
+//! Violations: broken conditions, with where they are.
+//!
+//! `S` is what a start is known by: by its number in the grammar's sets while a grammar is judged, so that nothing is copied,
+//! and by itself in the definitions. Texts are written in `texts.rt`.
+
+/// How a condition is broken. Alternatives count from 1.
+#[derive(Debug, Drop)]
+pub(crate) enum ViolationKind<S> {
+    /// C1: the rule heads itself.
+    LeftRecursion,
+    /// C2: a round can be empty.
+    EmptyRound,
+    /// C3: this alternative can be empty and isn't the last.
+    EmptyAlternative(usize),
+    /// C4: these alternatives meet at these starts.
+    AlternativesMeet(usize, usize, S, S),
+    /// C5: this alternative meets what follows the choice, whose last alternative can be empty, at these starts.
+    AlternativeMeetsFollow(usize, S, S),
+    /// C6: a round meets what follows the repetition at these starts.
+    RoundMeetsFollow(S, S),
+    // C7 to C9, which judge expressions and declarations, come here.
+    /// C10: a try stands around more than a lexeme.
+    TryAroundMore,
+    // C11, which judges the cost, comes here.
+}
+
+/// A broken condition, and the number of the node at which it is.
+#[derive(Debug, Drop)]
+pub(crate) struct Violation<S> {
+    pub(crate) node: usize,
+    pub(crate) kind: ViolationKind<S>,
+}

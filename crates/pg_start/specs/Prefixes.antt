@@ -1,0 +1,27 @@
+-- What a text begins with.
+use Rattle.std.specs.Prelude.{◌≡◌, ℕ, Bool, false, List, [], ◌∷◌, length, take}
+use Rattle.std.specs.List.{list_any, take_while}
+use Rattle.std.specs.Str.{bytes_eq}
+use Rattle.pg_class.specs.Ranges.{Range, has}
+
+-- whether a text begins with a character of a class
+abbrev pub begins_in : List Range → List ℕ → Bool
+begins_in class [] = false
+begins_in class (c ∷ cs) = has class c
+
+-- a text begins with another, which may be all of it
+abbrev pub IsPrefix : List ℕ → List ℕ → Type 0
+IsPrefix prefix text = take (length prefix) text ≡ prefix
+
+-- the run of a class: the longest list of its characters that a text begins with
+abbrev pub run : List Range → List ℕ → List ℕ
+run class text = take_while (has class) text
+
+-- the first character of a text with the run after it
+abbrev pub word_prefix : List Range → List ℕ → List ℕ
+word_prefix rest [] = []
+word_prefix rest (c ∷ cs) = c ∷ run rest cs
+
+-- whether a text is among those that are reserved
+abbrev pub is_reserved : List (List ℕ) → List ℕ → Bool
+is_reserved reserved text = list_any (λ s. bytes_eq s text) reserved

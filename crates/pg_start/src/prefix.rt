@@ -1,0 +1,41 @@
+//! What a text begins with: a character of a class, a run, a word.
+//!
+//! Keys are looked at as texts are, so both `matching.rt` and `pairs.rt` ask here. Nothing takes memory.
+ghost use Rattle.std.specs.Prelude.{◌≡◌, ◌↔◌, length, IsTrue};
+ghost use Rattle.pg_start.specs.Prefixes.{begins_in, IsPrefix, run, word_prefix};
+
+use pg_class::Class;
+
+/// Whether the text begins with a character of the class.
+pub fn begins_in(text: &[char], class: &Class) -> bool
+    ensures { result ≡ begins_in class.now text.now }
+{
+    match text {
+        [] => false,
+        [first, ..] => class.has(*first),
+    }
+}
+
+/// Whether the text begins with another, which may be all of it.
+pub fn begins_with(text: &[char], prefix: &[char]) -> bool
+    ensures { IsTrue result ↔ IsPrefix prefix.now text.now }
+{
+    text.starts_with(prefix)
+}
+
+/// The first character of the text with all characters of the class that follow it.
+pub fn word_prefix<'a>(text: &'a [char], rest: &Class) -> &'a [char]
+    ensures { result.now ≡ word_prefix rest.now text.now }
+{
+    match text {
+        [] => text,
+        [_, ..] => &text[..1 + run_length(&text[1..], rest)],
+    }
+}
+
+/// How many characters of the class the text begins with.
+fn run_length(text: &[char], class: &Class) -> usize
+    ensures { result ≡ length (run class.now text.now) }
+{
+    text.iter().take_while(|c| class.has(**c)).count()
+}
