@@ -15,9 +15,13 @@ use Rattle.pg_start.specs.declared.kind.StartKind.{StartKind}
 use Rattle.pg_table.specs.Tables.{ComesFrom}
 use Rattle.pg_language.specs.Derives as derives
 use Rattle.pg_language.specs.Derives.{Spot, Link, Derives, at_node, DerivesForm, Reads, satisfy, string, word, not_followed_by, end_of_text, declare, seq, choice, many, rule, expression, DerivesParts, no_part, first_part, DerivesRounds, no_round, first_round, DerivesLinks, no_link, first_link}
-use Rattle.pg_derive.specs.ClosedSets.{NodeSets, SomeMatches, AllNullable, BeginsParts}
+use Rattle.pg_derive.specs.ClosedSets.{NodeSets, SomeMatches, Covers, AllNullable, BeginsParts}
 use Rattle.pg_derive.specs.Predictive.{PartIsPredictive, TryIsPredictive, of_part, of_string, of_key, AlternativesArePredictive, ManyIsPredictive, ChainIsPredictive, LeafIsPredictive, AroundIsPredictive, IsPredictiveAt}
 use Rattle.pg_derive.proofs.Inverted.{form_at, spans_string, spans_key, first_stands, forward, forward_parts, forward_rounds, forward_links}
+
+-- a list covers what is in it
+pub contained_covers : (starts : List StartKind) (s : StartKind) → Contains starts s → Covers starts s
+contained_covers starts s h text scalars place there = record { start = s; among = h; there = there }
 
 -- one of these starts matches at the place
 pub record Begun (text : List ℕ) (IsStart : StartKind → Type 0) (place : ℕ) : Type 0 where
@@ -37,14 +41,24 @@ pub data Beginning (g : Grammar) (text : List ℕ) (Empty : Type 0) (IsStart : S
 more_begun : (g : Grammar) (text : List ℕ) (S T : StartKind → Type 0) (a : Spot) → ((s : StartKind) → S s → T s) → BegunUnder g text S a → BegunUnder g text T a
 more_begun g text S T a f h from = let m = h from in record { start = m.start; among = f m.start m.among; there = m.there }
 
+-- wherever a start of the one kind matches in the text, so does one of the other kind
+abbrev pub AreCovered : List ℕ → (StartKind → Type 0) → (StartKind → Type 0) → Type 0
+AreCovered text S T = (s : StartKind) → S s → (place : ℕ) → MatchesAt s text place → Begun text T place
+
+pub covered : (text : List ℕ) (S : StartKind → Type 0) (starts : List StartKind) → all_scalars text ≡ true → ((s : StartKind) → S s → Covers starts s) → AreCovered text S (Contains starts)
+covered text S starts scalars f s b place there = let m = f s b text scalars place there in record { start = m.start; among = m.among; there = m.there }
+
+covered_begun : (g : Grammar) (text : List ℕ) (S T : StartKind → Type 0) (a : Spot) → AreCovered text S T → BegunUnder g text S a → BegunUnder g text T a
+covered_begun g text S T a f h from = let m = h from in f m.start m.among a.place m.there
+
 -- at a spot that is the same
 elsewhere : (g : Grammar) (text : List ℕ) (S : StartKind → Type 0) {a b : Spot} → a ≡ b → BegunUnder g text S b → BegunUnder g text S a
 elsewhere g text S e h = subst (λ (x : Spot). BegunUnder g text S x) (sym e) h
 
-pub widened : {g : Grammar} {text : List ℕ} {E F : Type 0} {S T : StartKind → Type 0} {a b : Spot} → (E → F) → ((s : StartKind) → S s → T s) →
+pub widened : {g : Grammar} {text : List ℕ} {E F : Type 0} {S T : StartKind → Type 0} {a b : Spot} → (E → F) → AreCovered text S T →
     Beginning g text E S a b → Beginning g text F T a b
-widened f g (still e x) = still e (f x)
-widened f g (moves l h) = moves l (more_begun _ _ _ _ _ g h)
+widened f c (still e x) = still e (f x)
+widened f c (moves l h) = moves l (covered_begun _ _ _ _ _ c h)
 
 abbrev pub BeginsNode : Grammar → NodeSets → List ℕ → ℕ → Spot → Spot → Type 0
 BeginsNode g sets text p a b = Beginning g text (sets.nullable p ≡ true) (Contains (sets.first p)) a b
@@ -66,18 +80,21 @@ pub consumes : (g : Grammar) (sets : NodeSets) (text : List ℕ) (p : ℕ) {a b 
 consumes g sets text p full (still e n) = absurd (cc)
 consumes g sets text p full (moves l h) = l
 
-a_round : {g : Grammar} {sets : NodeSets} {text : List ℕ} {p q : ℕ} {a b c : Spot} → ManyIsPredictive sets p q → b.place ≤ c.place → BeginsNode g sets text q a b → BeginsNode g sets text p a c
-a_round f l (still e n) = let full = f.full in absurd (cc)
-a_round f l (moves m h) = moves (omega arith) (more_begun _ _ _ _ _ f.first h)
+a_round : {g : Grammar} {sets : NodeSets} {text : List ℕ} {p q : ℕ} {a b c : Spot} → all_scalars text ≡ true → ManyIsPredictive sets p q → b.place ≤ c.place → BeginsNode g sets text q a b → BeginsNode g sets text p a c
+a_round scalars f l (still e n) = let full = f.full in absurd (cc)
+a_round {g} {sets} {text} {p} {q} scalars f l (moves m h) =
+    moves (omega arith) (covered_begun _ _ _ (Contains (sets.first p)) _ (covered text (Contains (sets.first q)) (sets.first p) scalars f.first) h)
 
 -- an operand, and then nothing or a round
-a_chain : {g : Grammar} {sets : NodeSets} {text : List ℕ} {p q r : ℕ} {a b c : Spot} → ChainIsPredictive sets p q r → b.place ≤ c.place → BeginsNode g sets text q a b →
+a_chain : {g : Grammar} {sets : NodeSets} {text : List ℕ} {p q r : ℕ} {a b c : Spot} → all_scalars text ≡ true → ChainIsPredictive sets p q r → b.place ≤ c.place → BeginsNode g sets text q a b →
     (b ≡ c) ⊎ BeginsList g sets text (r ∷ q ∷ []) b c → BeginsNode g sets text p a c
-a_chain f l (moves m h) rest = moves (omega arith) (more_begun _ _ _ _ _ f.first h)
-a_chain f l (still e n) (inl x) = still (e ∙ x) (f.empty n)
-a_chain f l (still e n) (inr (still x y)) = absurd (f.full y)
-a_chain f l (still e n) (inr (moves m h)) =
-    let same = ap (λ (x : Spot). x.place) e in moves (omega arith) (more_begun _ _ _ _ _ (f.next n) (elsewhere _ _ _ e h))
+a_chain {g} {sets} {text} {p} {q} {r} scalars f l (moves m h) rest =
+    moves (omega arith) (covered_begun _ _ _ (Contains (sets.first p)) _ (covered text (Contains (sets.first q)) (sets.first p) scalars f.first) h)
+a_chain scalars f l (still e n) (inl x) = still (e ∙ x) (f.empty n)
+a_chain scalars f l (still e n) (inr (still x y)) = absurd (f.full y)
+a_chain {g} {sets} {text} {p} {q} {r} scalars f l (still e n) (inr (moves m h)) =
+    let same = ap (λ (x : Spot). x.place) e in
+    moves (omega arith) (covered_begun _ _ _ (Contains (sets.first p)) _ (covered text (BeginsParts sets (r ∷ q ∷ [])) (sets.first p) scalars (f.next n)) (elsewhere _ _ _ e h))
 
 longer : (g : Grammar) (sets : NodeSets) (text : List ℕ) (ps : List ℕ) {a b c : Spot} → b.place ≤ c.place → (AllNullable sets ps → ⊥) → BeginsList g sets text ps a b → BeginsList g sets text ps a c
 longer g sets text ps l full (still e n) = absurd (full n)
@@ -90,7 +107,7 @@ alternative_fits sets p (r ∷ ps) f (suc k) q e = alternative_fits sets p ps f.
 
 module _ (g : Grammar) (s : List ℕ) (scalars : all_scalars s ≡ true) (sets : NodeSets) (good : (p : ℕ) (n : Node) → slice_get g.nodes p ≡ Some n → IsPredictiveAt g sets p n) where
   in_part : {p q : ℕ} {a b : Spot} → PartIsPredictive sets p q → BeginsNode g sets s q a b → BeginsNode g sets s p a b
-  in_part f d = widened f.empty f.first d
+  in_part {p} {q} f d = widened f.empty (covered s (Contains (sets.first q)) (sets.first p) scalars f.first) d
 
   in_try : {p q : ℕ} {a b : Spot} {v : List Tree} {t : List TrailItem} → Derives g s q a b v t → BeginsNode g sets s q a b → TryIsPredictive g sets p q → BeginsNode g sets s p a b
   in_try d h (of_part f) = in_part f h
@@ -124,10 +141,10 @@ module _ (g : Grammar) (s : List ℕ) (scalars : all_scalars s ≡ true) (sets :
 
     begins_form : {n : Node} {a b : Spot} {v : List Tree} {t : List TrailItem} → DerivesForm g s n a b v t → (p : ℕ) → IsPredictiveAt g sets p n → BeginsNode g sets s p a b
     begins_form (derives.leaf h) p f = begins_leaf h p f
-    begins_form (seq d) p f = widened f.empty f.first (begins_parts d)
+    begins_form (seq {parts = ps} d) p f = widened f.empty (covered s (BeginsParts sets ps) (sets.first p) scalars f.first) (begins_parts d)
     begins_form (choice {parts = ps} {k = k} {p = q} e d) p f = in_part (alternative_fits sets p ps f k q e) (begins d)
     begins_form (many {p = q} d) p f = begins_rounds d p f
-    begins_form (derives.chain {p = q} {s = r} d ds) p f = a_chain f (forward_links ds) (begins d) (begins_links ds p f)
+    begins_form (derives.chain {p = q} {s = r} d ds) p f = a_chain scalars f (forward_links ds) (begins d) (begins_links ds p f)
     begins_form (rule {named = named} e d) p f = in_part (f.body named e) (begins d)
     begins_form (expression e x d) p f = absurd f
     begins_form (derives.around {k = k} d) p f = begins_around k d (begins d) f
@@ -138,7 +155,7 @@ module _ (g : Grammar) (s : List ℕ) (scalars : all_scalars s ≡ true) (sets :
 
     pub begins_rounds : {q n : ℕ} {a b : Spot} {v : List Tree} {t : List TrailItem} → DerivesRounds g s q n a b v t → (p : ℕ) → ManyIsPredictive sets p q → BeginsNode g sets s p a b
     begins_rounds no_round p f = still refl f.empty
-    begins_rounds (first_round d ds) p f = a_round f (forward_rounds ds) (begins d)
+    begins_rounds (first_round d ds) p f = a_round scalars f (forward_rounds ds) (begins d)
 
     pub begins_links : {q r n : ℕ} {a b : Spot} {links : List Link} {t : List TrailItem} → DerivesLinks g s q r n a b links t → (p : ℕ) → ChainIsPredictive sets p q r →
         (a ≡ b) ⊎ BeginsList g sets s (r ∷ q ∷ []) a b

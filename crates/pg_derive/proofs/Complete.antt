@@ -60,8 +60,8 @@ renamed : (Run : Outcome → ℕ → Type 0) (a : Spot) {b c : Spot} {v w : List
 renamed Run a {b = b} {c = c} {v = v} {w = w} {t = t} {u = u} p q r h =
     subst (λ x. IsOk Run a x v t) (sym p) (subst (λ x. IsOk Run a c x t) (sym q) (subst (λ x. IsOk Run a c w x) (sym r) h))
 
-widen : {text : List ℕ} {xs ys : List StartKind} {i : ℕ} → Within xs ys → SomeMatches text xs i → SomeMatches text ys i
-widen w m = record { start = m.start; among = w m.start m.among; there = m.there }
+widen : {text : List ℕ} {xs ys : List StartKind} {i : ℕ} → all_scalars text ≡ true → Within xs ys → SomeMatches text xs i → SomeMatches text ys i
+widen {text} {i = i} scalars w m = w m.start m.among text scalars i m.there
 
 elsewhere : (text : List ℕ) (xs : List StartKind) {a b : Spot} → a ≡ b → SomeMatches text xs b.place → SomeMatches text xs a.place
 elsewhere text xs e m = subst (λ (x : Spot). SomeMatches text xs x.place) (sym e) m
@@ -102,8 +102,8 @@ module _ (G : Given) (scalars : all_scalars G.text ≡ true) (whole : IsWhole G.
 
   part_after : (q : ℕ) (b c : Spot) → Comes b → (qs : List ℕ) (follow : List StartKind) → PartsFollowed sets follow (q ∷ qs) → BeginsList G.grammar sets G.text qs b c →
       SomeMatches G.text follow c.place → SomeMatches G.text (sets.follow q) b.place
-  part_after q b c from qs follow f (still e ns) m = elsewhere G.text (sets.follow q) e (widen (f.1 ns) m)
-  part_after q b c from qs follow f (moves l h) m = let s = h from in record { start = s.start; among = f.0 s.start s.among; there = s.there }
+  part_after q b c from qs follow f (still e ns) m = elsewhere G.text (sets.follow q) e (widen scalars (f.1 ns) m)
+  part_after q b c from qs follow f (moves l h) m = let s = h from in f.0 s.start s.among G.text scalars b.place s.there
 
   -- ---- choices
 
@@ -150,31 +150,31 @@ module _ (G : Given) (scalars : all_scalars G.text ≡ true) (whole : IsWhole G.
 
   round_after : (p : ℕ) {q n : ℕ} {b c : Spot} {v : List Tree} {t : List TrailItem} → DerivesRounds G.grammar G.text q n b c v t → Comes b → ManyIsPredictive sets p q →
       SomeMatches G.text (sets.follow p) c.place → SomeMatches G.text (sets.follow q) b.place
-  round_after p derives.no_round from f m = widen f.follow m
+  round_after p derives.no_round from f m = widen scalars f.follow m
   round_after p (derives.first_round {p = q} {a = b} {b = c} d ds) from f m = go (begun d)
     where
       go : BeginsNode G.grammar sets G.text q b c → SomeMatches G.text (sets.follow q) b.place
       go (still e n) = let full = f.full in absurd (cc)
-      go (moves l h) = let s = h from in record { start = s.start; among = f.again s.start s.among; there = s.there }
+      go (moves l h) = let s = h from in f.again s.start s.among G.text scalars b.place s.there
 
   -- ---- chains
 
   -- after an operand
   link_after : (p q r : ℕ) (b c : Spot) → Comes b → ChainIsPredictive sets p q r → (b ≡ c) ⊎ BeginsList G.grammar sets G.text (r ∷ q ∷ []) b c → SomeMatches G.text (sets.follow p) c.place →
       SomeMatches G.text (sets.follow q) b.place
-  link_after p q r b c from f (inl e) m = elsewhere G.text (sets.follow q) e (widen f.follow m)
+  link_after p q r b c from f (inl e) m = elsewhere G.text (sets.follow q) e (widen scalars f.follow m)
   link_after p q r b c from f (inr (still e n)) m = absurd (f.full n)
-  link_after p q r b c from f (inr (moves l h)) m = let s = h from in record { start = s.start; among = f.again s.start s.among; there = s.there }
+  link_after p q r b c from f (inr (moves l h)) m = let s = h from in f.again s.start s.among G.text scalars b.place s.there
 
   -- after a separator
   operand_after : (p q r : ℕ) (b c z : Spot) → Comes b → ChainIsPredictive sets p q r → BeginsNode G.grammar sets G.text q b c → (c ≡ z) ⊎ BeginsList G.grammar sets G.text (r ∷ q ∷ []) c z →
       SomeMatches G.text (sets.follow p) z.place → SomeMatches G.text (sets.follow r) b.place
-  operand_after p q r b c z from f (moves l h) rest m = let s = h from in record { start = s.start; among = f.between s.start s.among; there = s.there }
-  operand_after p q r b c z from f (still e n) (inl d) m = elsewhere G.text (sets.follow r) (e ∙ d) (widen (f.over_last n) m)
+  operand_after p q r b c z from f (moves l h) rest m = let s = h from in f.between s.start s.among G.text scalars b.place s.there
+  operand_after p q r b c z from f (still e n) (inl d) m = elsewhere G.text (sets.follow r) (e ∙ d) (widen scalars (f.over_last n) m)
   operand_after p q r b c z from f (still e n) (inr (still d o)) m = absurd (f.full o)
   operand_after p q r b c z from f (still e n) (inr (moves l h)) m =
       let s = h (subst (λ (x : Spot). Comes x) e from) in
-      elsewhere G.text (sets.follow r) e (record { start = s.start; among = f.over_next n s.start s.among; there = s.there })
+      elsewhere G.text (sets.follow r) e (f.over_next n s.start s.among G.text scalars c.place s.there)
 
   -- a link consumes
   pub link_moves : (p q r : ℕ) (a b c : Spot) → ChainIsPredictive sets p q r → b.place ≤ c.place → BeginsNode G.grammar sets G.text r a b → BeginsNode G.grammar sets G.text q b c → a.place < c.place
@@ -245,7 +245,7 @@ module _ (G : Given) (scalars : all_scalars G.text ≡ true) (whole : IsWhole G.
   -- a form that makes something of a part that fits
   around_part : (k : Around) (p q : ℕ) {a b : Spot} {v : List Tree} {t : List TrailItem} → PartIsPredictive sets p q → Derives G.grammar G.text q a b v t → (SomeMatches G.text (sets.follow q) b.place → IsOk (Answers G q a) a b v t) →
       SomeMatches G.text (sets.follow p) b.place → IsOk (AnswersForm G (form.Around k q) a) a b (made_by k G.text a.place b.place v) t
-  around_part k p q f d answered m = let r = answered (widen f.follow m) in record { error = _; count = r.count; run = answers.around r.run }
+  around_part k p q f d answered m = let r = answered (widen scalars f.follow m) in record { error = _; count = r.count; run = answers.around r.run }
 
   complete_try : {q : ℕ} {a b : Spot} {v : List Tree} {t : List TrailItem} → Derives G.grammar G.text q a b v t → (SomeMatches G.text (sets.follow q) b.place → IsOk (Answers G q a) a b v t) → (p : ℕ) → TryIsPredictive G.grammar sets p q →
       SomeMatches G.text (sets.follow p) b.place → IsOk (AnswersForm G (form.Around kind.Try q) a) a b v t
@@ -284,7 +284,7 @@ module _ (G : Given) (scalars : all_scalars G.text ≡ true) (whole : IsWhole G.
         let r = complete_parts d from (sets.follow p) f.follow m in record { error = r.error; count = r.count; run = seq r.run }
     complete_form (derives.choice {parts = ps} {k = k} {p = q} {a = a} {b = b} {forest = v} {trail = t} x d) from p e f m =
         let part_fits = alternative_fits sets p ps f k q x in
-        let r = reached p q a b v t from (begun d) m (complete d from (widen part_fits.follow m)) ps (suc zero) k f (whole.parts p _ e) x in
+        let r = reached p q a b v t from (begun d) m (complete d from (widen scalars part_fits.follow m)) ps (suc zero) k f (whole.parts p _ e) x in
         let number : suc zero + k ≡ suc k = omega arith in
         subst (λ i. IsOk (AnswersForm G (form.Choice ps) a) a b v (Alt i ∷ t)) number (record { error = r.error; count = r.count; run = choice r.run })
     complete_form (derives.many {p = q} d) from p e f m =
@@ -295,7 +295,7 @@ module _ (G : Given) (scalars : all_scalars G.text ≡ true) (whole : IsWhole G.
         let links = complete_links side used.shape ds (comes_on d from) p there.0 there.1.0 f _ m in
         let r = chained side used.shape q r _ _ _ a b c t u (forward d) (forward_links ds) operand links in
         record { error = r.error; count = r.count; run = answers.chain r.run }
-    complete_form (derives.rule {named = named} x d) from p e f m = let r = complete d from (widen (f.body named x).follow m) in record { error = r.error; count = r.count; run = rule x r.run }
+    complete_form (derives.rule {named = named} x d) from p e f m = let r = complete d from (widen scalars (f.body named x).follow m) in record { error = r.error; count = r.count; run = rule x r.run }
     complete_form (derives.expression x y d) from p e f m = absurd f
     complete_form (derives.around {k = k} {p = q} d) from p e f m = complete_around k p q f d (λ x. complete d from x) m
 

@@ -1,6 +1,5 @@
 -- A grammar at whose nodes nothing is wrong is predictive: its least sets show it.
 use Rattle.std.proofs.Common.{◌≡◌, ◌<◌, inl, inr, ℕ, List, Some, slice_get, length, sym, subst, ◌∙◌}
-use Rattle.std.specs.List.{Contains}
 use Rattle.std.proofs.lemmas.Option.{slice_get_within, same_Some}
 use Rattle.pg_grammar.specs.Grammar.{Grammar, IsGrammar}
 use Rattle.pg_grammar.specs.declared.class.ClassPart.{ClassPart}
@@ -14,22 +13,22 @@ use Rattle.pg_grammar.specs.declared.grammar.Rule as declared
 use Rattle.pg_start.specs.declared.kind.StartKind.TheVariants.{End}
 use Rattle.pg_sets.specs.First as of
 use Rattle.pg_sets.specs.Follow as follow
-use Rattle.pg_sets.specs.Nullable.{Nullable, NullableForm}
 use Rattle.pg_sets.specs.Nullable as null
 use Rattle.pg_sets.specs.OwnStarts.{IsKeyTry}
 use Rattle.pg_sets.specs.OwnStarts as own
 use Rattle.pg_sets.specs.Ranks.{Chain, head, heads}
-use Rattle.pg_sets.specs.Reached.{ReachedPart, Heads}
+use Rattle.pg_sets.specs.Reached.{Heads}
 use Rattle.pg_sets.specs.Reached as reached
 use Rattle.pg_sets.specs.Sets.{Sets, AreSets}
 use Rattle.pg_predict.specs.Conditions.{IsFaultless, IsLexeme, left_recursion, try_around_more}
 use Rattle.pg_predict.specs.Conditions as lexeme
 use Rattle.pg_predict.specs.Operators.{HasNoOperators}
 use Rattle.pg_derive.specs.Accepted.{AcceptedGrammarsArePredictive}
+use Rattle.pg_derive.specs.ClosedSets.{Covers}
 use Rattle.pg_derive.specs.LeastSets.{node_sets}
 use Rattle.pg_derive.specs.Predictive.{PartIsPredictive, TryIsPredictive, of_part, RuleIsPredictive, LeafIsPredictive, AroundIsPredictive, IsPredictiveAt}
 use Rattle.pg_derive.proofs.FormsFit.{choice_fits, many_fits, links_fit}
-use Rattle.pg_derive.proofs.LeastSets.{first_is, first_in, follow_is, follow_in}
+use Rattle.pg_derive.proofs.LeastSets.{first_is, first_covers, follow_is, follow_covers}
 use Rattle.pg_derive.proofs.LeavesFit.{satisfy_meets, string_fits, word_meets, string_try, key_try}
 use Rattle.pg_derive.proofs.Levels.{rule_falls}
 use Rattle.pg_derive.proofs.LexemesDecided.{lexeme_decided}
@@ -90,8 +89,8 @@ module _ (g : Grammar) (sets : Sets) (are : AreSets g sets) (grammar : IsGrammar
           let below = slice_get_within g.nodes p (form.Rule r) e in
           record {
             empty = λ h. (are.nullable p).1 (null.at_node e (null.rule at ((are.nullable named.body).0 h)));
-            first = λ s h. first_in g sets are p below s (of.rule e at (first_is g sets are named.body inside s h));
-            follow = λ s h. follow_in g sets are named.body inside s (follow.used e at (follow_is g sets are p below s h));
+            first = λ s h. first_covers g sets are p below s (of.rule e at (first_is g sets are named.body inside s h));
+            follow = λ s h. follow_covers g sets are named.body inside s (follow.used e at (follow_is g sets are p below s h));
             falls = rule_falls g sets are none_on_cycle p r named e at;
           }
 
@@ -122,11 +121,11 @@ module _ (g : Grammar) (sets : Sets) (are : AreSets g sets) (grammar : IsGrammar
   fits p (form.Around k q) e = around_fits p q k e
 
   -- the end of the text follows the start rule
-  end_follows : (start : declared.Rule) → slice_get g.rules g.start ≡ Some start → Contains ((node_sets g sets).follow start.body) End
+  end_follows : (start : declared.Rule) → slice_get g.rules g.start ≡ Some start → Covers ((node_sets g sets).follow start.body) End
   end_follows start e =
       let known = start_found g grammar in
       let inside = subst (λ (rule : declared.Rule). rule.body < length g.nodes) (same_Some known.0 start (sym known.1 ∙ e)) known.2 in
-      follow_in g sets are start.body inside End (follow.at_end e)
+      follow_covers g sets are start.body inside End (follow.at_end e)
 
 pub accepted : AcceptedGrammarsArePredictive
 accepted g sets grammar bare are faultless = record { nodes = fits g sets are grammar bare faultless; end = end_follows g sets are grammar bare faultless }

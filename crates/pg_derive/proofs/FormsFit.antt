@@ -8,7 +8,7 @@ use Rattle.pg_grammar.specs.Forms.{Node}
 use Rattle.pg_grammar.specs.declared.form.Form.TheVariants as form
 use Rattle.pg_grammar.specs.declared.side.Side.{Side}
 use Rattle.pg_grammar.specs.declared.used.BuilderUse.{BuilderUse}
-use Rattle.pg_sets.specs.Follow.{IsFollow, IsChain}
+use Rattle.pg_sets.specs.Follow.{IsChain}
 use Rattle.pg_sets.specs.Follow as follow
 use Rattle.pg_sets.specs.Nullable.{Nullable, NullableForm}
 use Rattle.pg_sets.specs.Nullable as null
@@ -21,7 +21,7 @@ use Rattle.pg_predict.specs.Conditions.{IsFaultless, EndsNullable, empty_round, 
 use Rattle.pg_derive.specs.ClosedSets.{NodeSets}
 use Rattle.pg_derive.specs.LeastSets.{node_sets}
 use Rattle.pg_derive.specs.Predictive.{PartIsPredictive, AlternativesArePredictive, ComesBefore, ManyIsPredictive, ChainIsPredictive}
-use Rattle.pg_derive.proofs.LeastSets.{first_is, follow_is, follow_in, full, firsts_apart, follow_apart, rounds_apart}
+use Rattle.pg_derive.proofs.LeastSets.{first_is, follow_is, follow_covers, full, firsts_apart, follow_apart, rounds_apart}
 use Rattle.pg_derive.proofs.PartsFit.{IsPart, AreNodes, are_parts, reached_is, begins_first, first_reached, parts_fall, in_falls, part_first, part_fits}
 
 no_key_choice : {g : Grammar} {parts : List ℕ} → IsKeyTry g (form.Choice parts) → ⊥
@@ -119,8 +119,8 @@ module _ (g : Grammar) (sets : Sets) (are : AreSets g sets) (acyclic : (r : ℕ)
         empty = (are.nullable p).1 (null.at_node e null.many);
         full = full g sets are q (λ n. faultless p _ (empty_round e n));
         first = λ s h. part_first g sets are acyclic p q (form.Many q) e no_key_many reached.many s (first_is g sets are q part.inside s h);
-        again = λ s h. follow_in g sets are q part.inside s (follow.next_round p e (first_is g sets are q part.inside s h));
-        follow = λ s h. follow_in g sets are q part.inside s (follow.last_round e (follow_is g sets are p below s h));
+        again = λ s h. follow_covers g sets are q part.inside s (follow.next_round p e (first_is g sets are q part.inside s h));
+        follow = λ s h. follow_covers g sets are q part.inside s (follow.last_round e (follow_is g sets are p below s h));
         apart = λ s t h m.
             follow_apart g sets are q p part.inside below (λ x y first. faultless p _ (round_meets_follow e first)) s t
             (first_is g sets are q part.inside s h) (follow_is g sets are p below t m);
@@ -141,12 +141,12 @@ module _ (g : Grammar) (sets : Sets) (are : AreSets g sets) (acyclic : (r : ℕ)
         next = λ empty s b.
             let found = first_reached g sets are acyclic (begins_first g sets are acyclic (r ∷ q ∷ []) round s b) in
             part_first g sets are acyclic p found.part n e linked.bare (linked.reached found.part (reached.later ((are.nullable q).0 empty) found.reached)) s found.first;
-        again = λ s b. follow_in g sets are q operand.inside s (follow.next_link p e linked.chain (begins_first g sets are acyclic (r ∷ q ∷ []) round s b));
-        follow = λ s h. follow_in g sets are q operand.inside s (follow.last_link e linked.chain (follow_is g sets are p below s h));
-        between = λ s h. follow_in g sets are r separator.inside s (follow.operand p e linked.chain (first_is g sets are q operand.inside s h));
+        again = λ s b. follow_covers g sets are q operand.inside s (follow.next_link p e linked.chain (begins_first g sets are acyclic (r ∷ q ∷ []) round s b));
+        follow = λ s h. follow_covers g sets are q operand.inside s (follow.last_link e linked.chain (follow_is g sets are p below s h));
+        between = λ s h. follow_covers g sets are r separator.inside s (follow.operand p e linked.chain (first_is g sets are q operand.inside s h));
         over_next = λ empty s b.
-            follow_in g sets are r separator.inside s (follow.over_operand p e linked.chain ((are.nullable q).0 empty) (begins_first g sets are acyclic (r ∷ q ∷ []) round s b));
-        over_last = λ empty s h. follow_in g sets are r separator.inside s (follow.last_operand e linked.chain ((are.nullable q).0 empty) (follow_is g sets are p below s h));
+            follow_covers g sets are r separator.inside s (follow.over_operand p e linked.chain ((are.nullable q).0 empty) (begins_first g sets are acyclic (r ∷ q ∷ []) round s b));
+        over_last = λ empty s h. follow_covers g sets are r separator.inside s (follow.last_operand e linked.chain ((are.nullable q).0 empty) (follow_is g sets are p below s h));
         apart = λ s t b m.
             rounds_apart g sets are r q p separator.inside operand.inside below (λ x y first. faultless p _ (link_meets_follow e linked.chain first)) s t
             (begins_first g sets are acyclic (r ∷ q ∷ []) round s b) (follow_is g sets are p below t m);

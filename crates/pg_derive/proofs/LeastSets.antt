@@ -5,7 +5,7 @@ use Rattle.std.proofs.lemmas.Bool.{cases_Bool}
 use Rattle.pg_grammar.specs.Grammar.{Grammar}
 use Rattle.pg_start.specs.Apart.{Apart}
 use Rattle.pg_start.specs.declared.kind.StartKind.{StartKind}
-use Rattle.pg_sets.specs.First.{IsFirst, IsFirstOf}
+use Rattle.pg_sets.specs.First.{IsFirst}
 use Rattle.pg_sets.specs.First as of
 use Rattle.pg_sets.specs.Follow.{IsFollow}
 use Rattle.pg_bit_set.specs.Numbers.{contains, set_at}
@@ -14,7 +14,9 @@ use Rattle.pg_sets.specs.Nullable.{Nullable}
 use Rattle.pg_sets.specs.Sets.{Sets, AreSets, HasStart}
 use Rattle.pg_sets.specs.declared.listed.ListedStart.{ListedStart}
 use Rattle.pg_predict.specs.Conditions.{BeginsLink, AreFirstToMeet}
+use Rattle.pg_derive.specs.ClosedSets.{Covers}
 use Rattle.pg_derive.specs.LeastSets.{node_sets}
+use Rattle.pg_derive.proofs.Begins.{contained_covers}
 use Rattle.pg_derive.proofs.Least.{Decided, decided_true, decided_as, decided_both, decided_either}
 use Rattle.pg_derive.proofs.Meetings.{IsListable, Stands, apart_all}
 use Rattle.pg_derive.proofs.Ranked.{listed_once, one_place}
@@ -29,11 +31,14 @@ module _ (g : Grammar) (sets : Sets) (are : AreSets g sets) where
   pub first_in : (p : ℕ) → p < length g.nodes → (s : StartKind) → IsFirst g s p → Contains ((node_sets g sets).first p) s
   first_in p below s h = list_from_start sets.starts (set_at sets.firsts p) s ((are.start_sets.first p s below).1 h)
 
+  pub first_covers : (p : ℕ) → p < length g.nodes → (s : StartKind) → IsFirst g s p → Covers ((node_sets g sets).first p) s
+  first_covers p below s h = contained_covers ((node_sets g sets).first p) s (first_in p below s h)
+
   pub follow_is : (p : ℕ) → p < length g.nodes → (s : StartKind) → Contains ((node_sets g sets).follow p) s → IsFollow g s p
   follow_is p below s h = (are.start_sets.follow p s below).0 (start_from_list sets.starts (set_at sets.follows p) s h)
 
-  pub follow_in : (p : ℕ) → p < length g.nodes → (s : StartKind) → IsFollow g s p → Contains ((node_sets g sets).follow p) s
-  follow_in p below s h = list_from_start sets.starts (set_at sets.follows p) s ((are.start_sets.follow p s below).1 h)
+  pub follow_covers : (p : ℕ) → p < length g.nodes → (s : StartKind) → IsFollow g s p → Covers ((node_sets g sets).follow p) s
+  follow_covers p below s h = contained_covers ((node_sets g sets).follow p) s (list_from_start sets.starts (set_at sets.follows p) s ((are.start_sets.follow p s below).1 h))
 
   -- ---- nullable nodes
 

@@ -21,16 +21,15 @@ use Rattle.pg_start.specs.Starts.{MatchesAt}
 use Rattle.pg_start.specs.declared.kind.StartKind.{StartKind}
 use Rattle.pg_start.specs.declared.kind.StartKind.TheVariants.{Class, Key, Word}
 use Rattle.pg_sets.proofs.Owned.{spelled}
-use Rattle.pg_sets.specs.First.{IsFirst}
 use Rattle.pg_sets.specs.First as of
 use Rattle.pg_sets.specs.Own as plain
-use Rattle.pg_sets.specs.OwnStarts.{IsClassOf, OwnStart, IsKeyed, IsKeyTry, ReservedAs}
+use Rattle.pg_sets.specs.OwnStarts.{IsClassOf, OwnStart, IsKeyed, ReservedAs}
 use Rattle.pg_sets.specs.OwnStarts as own
 use Rattle.pg_sets.specs.Sets.{Sets, AreSets}
 use Rattle.pg_language.specs.Runs.{HasAt, StandsAt, run_at}
-use Rattle.pg_derive.specs.ClosedSets.{SomeMatches}
+use Rattle.pg_derive.specs.ClosedSets.{SomeMatches, Meets}
 use Rattle.pg_derive.specs.LeastSets.{node_sets}
-use Rattle.pg_derive.specs.Predictive.{Meets, BeginsAt, IsSomeWordAt, StringIsPredictive, TryIsPredictive, of_string, of_key}
+use Rattle.pg_derive.specs.Predictive.{BeginsAt, IsSomeWordAt, StringIsPredictive, TryIsPredictive, of_string, of_key}
 use Rattle.pg_derive.proofs.LeastSets.{first_in}
 
 -- ---- characters of a text

@@ -1,5 +1,5 @@
 -- What `try` answers around a string, and around a string that some characters may not follow.
-use Rattle.std.proofs.Common.{◌≡◌, ◌==◌, ◌+◌, ◌⊎◌, inl, inr, ℕ, zero, List, [], ◌∷◌, Bool, true, false, refl, ap, subst, length, Some, slice_get, nat_lt}
+use Rattle.std.proofs.Common.{◌≡◌, ◌==◌, ◌+◌, ◌⊎◌, inl, inr, ℕ, List, [], ◌∷◌, Bool, true, false, refl, ap, subst, length, Some, slice_get, nat_lt}
 use Rattle.pg_grammar.specs.Grammar.{Grammar}
 use Rattle.pg_grammar.specs.declared.class.ClassPart.{ClassPart}
 use Rattle.pg_grammar.specs.declared.form.Form.TheVariants as form
@@ -7,7 +7,7 @@ use Rattle.pg_grammar.specs.declared.form.Leaf.TheVariants as leaf
 use Rattle.pg_language.specs.Derives.{Spot, after, DerivesForm}
 use Rattle.pg_language.specs.Runs.{HasAt, StandsAt}
 use Rattle.pg_language.specs.Answers as answers
-use Rattle.pg_language.specs.Answers.{Given, Answers, entered, AnswersForm, seq, part, part_last, part_failed, part_ok}
+use Rattle.pg_language.specs.Answers.{Given, Answers, entered, seq, part, part_last, part_failed, part_ok}
 use Rattle.pg_language.specs.Errors.{Error, quote, seen_at, stopped_before}
 use Rattle.pg_language.specs.Leaves.{taken, matched, string_outcome, not_followed_outcome}
 use Rattle.pg_language.specs.Outcomes.{Outcome, failed}

@@ -1,6 +1,6 @@
 -- The least sets are closed at the parts of a node, one after another.
 use Rattle.std.proofs.Common.{◌≡◌, ◌<◌, inl, inr, ℕ, List, [], ◌∷◌, Some, slice_get, length}
-use Rattle.std.specs.List.{Contains, AllByRecursion}
+use Rattle.std.specs.List.{AllByRecursion}
 use Rattle.std.proofs.lemmas.Option.{slice_get_within}
 use Rattle.pg_grammar.proofs.Numbers.{parts_are_after}
 use Rattle.pg_grammar.specs.Forms.{Node, parts_of}
@@ -18,10 +18,10 @@ use Rattle.pg_sets.specs.Ranks.{Chain}
 use Rattle.pg_sets.specs.Reached.{ReachedIn, ReachedPart}
 use Rattle.pg_sets.specs.Reached as reached
 use Rattle.pg_sets.specs.Sets.{Sets, AreSets}
-use Rattle.pg_derive.specs.ClosedSets.{AllNullable, BeginsParts, PartsFollowed, PartsFall}
+use Rattle.pg_derive.specs.ClosedSets.{Covers, AllNullable, BeginsParts, PartsFollowed, PartsFall}
 use Rattle.pg_derive.specs.LeastSets.{node_sets}
 use Rattle.pg_derive.specs.Predictive.{PartIsPredictive, SeqIsPredictive}
-use Rattle.pg_derive.proofs.LeastSets.{first_is, first_in, follow_is, follow_in}
+use Rattle.pg_derive.proofs.LeastSets.{first_is, first_covers, follow_is, follow_covers}
 use Rattle.pg_derive.proofs.Levels.{part_falls}
 
 no_key_seq : {g : Grammar} {parts : List ℕ} → IsKeyTry g (form.Seq parts) → ⊥
@@ -83,8 +83,8 @@ module _ (g : Grammar) (sets : Sets) (are : AreSets g sets) (acyclic : (r : ℕ)
   pub in_falls : (p q : ℕ) (n : Node) → slice_get g.nodes p ≡ Some n → IsPart g p q → ReachedPart g n q → (node_sets g sets).level q < (node_sets g sets).level p
   in_falls p q n e part is = part_falls g sets are acyclic p q n e is part.after part.inside
 
-  pub part_first : (p q : ℕ) (n : Node) → slice_get g.nodes p ≡ Some n → (IsKeyTry g n → ⊥) → ReachedPart g n q → (s : StartKind) → IsFirst g s q → Contains ((node_sets g sets).first p) s
-  part_first p q n e bare is s h = first_in g sets are p (slice_get_within g.nodes p n e) s (of.part e bare is h)
+  pub part_first : (p q : ℕ) (n : Node) → slice_get g.nodes p ≡ Some n → (IsKeyTry g n → ⊥) → ReachedPart g n q → (s : StartKind) → IsFirst g s q → Covers ((node_sets g sets).first p) s
+  part_first p q n e bare is s h = first_covers g sets are p (slice_get_within g.nodes p n e) s (of.part e bare is h)
 
   pub part_fits : (p q : ℕ) (n : Node) → slice_get g.nodes p ≡ Some n → IsPart g p q → (IsKeyTry g n → ⊥) → ReachedPart g n q → (Nullable g q → NullableForm g n) →
       ((s : StartKind) → IsFollow g s p → IsFollow g s q) → PartIsPredictive (node_sets g sets) p q
@@ -93,7 +93,7 @@ module _ (g : Grammar) (sets : Sets) (are : AreSets g sets) (acyclic : (r : ℕ)
       record {
         empty = λ h. (are.nullable p).1 (null.at_node e (empty ((are.nullable q).0 h)));
         first = λ s h. part_first p q n e bare is s (first_is g sets are q part.inside s h);
-        follow = λ s h. follow_in g sets are q part.inside s (follow s (follow_is g sets are p below s h));
+        follow = λ s h. follow_covers g sets are q part.inside s (follow s (follow_is g sets are p below s h));
         falls = in_falls p q n e part is;
       }
 
@@ -103,8 +103,8 @@ module _ (g : Grammar) (sets : Sets) (are : AreSets g sets) (acyclic : (r : ℕ)
       ((q : ℕ) (rest : List ℕ) → StandsBefore q rest these → StandsBefore q rest parts) → PartsFollowed (node_sets g sets) ((node_sets g sets).follow p) these
   followed p parts e [] h among = tt
   followed p parts e (q ∷ qs) h among = (
-    λ s b. follow_in g sets are q h.0 s (next p e (among q qs stands.here) (begins_first qs h.1 s b)),
-    λ n s b. follow_in g sets are q h.0 s (last e (among q qs stands.here) (all_nullable qs n) (follow_is g sets are p (slice_get_within g.nodes p (form.Seq parts) e) s b)),
+    λ s b. follow_covers g sets are q h.0 s (next p e (among q qs stands.here) (begins_first qs h.1 s b)),
+    λ n s b. follow_covers g sets are q h.0 s (last e (among q qs stands.here) (all_nullable qs n) (follow_is g sets are p (slice_get_within g.nodes p (form.Seq parts) e) s b)),
     followed p parts e qs h.1 (λ r rest is. among r rest (stands.further is)),
   )
 

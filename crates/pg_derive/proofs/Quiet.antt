@@ -30,7 +30,7 @@ use Rattle.pg_grammar.specs.declared.used.BuilderUse.{BuilderUse}
 use Rattle.pg_language.specs.declared.reading.Reading.{Reading}
 use Rattle.pg_language.specs.declared.reading.Reading.TheVariants.{Library, Report}
 use Rattle.pg_tree.specs.declared.shape.Shape.{Shape}
-use Rattle.pg_derive.specs.ClosedSets.{NodeSets, SomeMatches, AllNullable, BeginsParts, PartsFall}
+use Rattle.pg_derive.specs.ClosedSets.{NodeSets, SomeMatches, Covers, AllNullable, BeginsParts, PartsFall}
 use Rattle.pg_derive.specs.Predictive.{PartIsPredictive, TryIsPredictive, of_part, of_string, of_key, AlternativesArePredictive, ChainIsPredictive, LeafIsPredictive, AroundIsPredictive, IsPredictiveAt}
 use Rattle.pg_derive.proofs.LeavesAnswered.{FailsEmpty, StaysOk, satisfy_fails, string_fails, word_fails, not_followed_decided, end_decided}
 use Rattle.pg_derive.proofs.Lexemes.{NodeFails, string_node_fails, key_node_fails}
@@ -51,6 +51,11 @@ NoStart text IsStart i = (s : StartKind) → IsStart s → MatchesAt s text i �
 
 unmatched : (text : List ℕ) (starts : List StartKind) (i : ℕ) → NoStart text (Contains starts) i → SomeMatches text starts i → ⊥
 unmatched text starts i bare m = bare m.start m.among m.there
+
+-- where none of a list matches, none matches that the list covers
+bare_within : (text : List ℕ) (IsStart : StartKind → Type 0) (starts : List StartKind) (i : ℕ) → all_scalars text ≡ true → ((s : StartKind) → IsStart s → Covers starts s) →
+    NoStart text (Contains starts) i → NoStart text IsStart i
+bare_within text IsStart starts i scalars f bare s b there = unmatched text starts i bare (f s b text scalars i there)
 
 pub found : {X : Type 0} (xs : List X) (i : ℕ) → i < length xs → (x : X) × (slice_get xs i ≡ Some x)
 found [] i l = absurd (omega arith)
@@ -111,7 +116,7 @@ module _ (G : Given) (scalars : all_scalars G.text ≡ true) (whole : IsWhole G.
       NoStart G.text (Contains (sets.first p)) a.place → Quietly (AnswersAlternatives G k qs a) (sets.nullable p ≡ true) a
   quiet_alternatives n a lower p k [] f l there bare = refuses _ _ no_alternative
   quiet_alternatives n a lower p k (q ∷ qs) f l there bare =
-      go (lower q (let falls = f.0.falls in omega arith) there.0 (λ s b. bare s (f.0.first s b))) (quiet_alternatives n a lower p (suc k) qs f.2 l there.1 bare) G.reading refl
+      go (lower q (let falls = f.0.falls in omega arith) there.0 (bare_within G.text (Contains (sets.first q)) (sets.first p) a.place scalars f.0.first bare)) (quiet_alternatives n a lower p (suc k) qs f.2 l there.1 bare) G.reading refl
     where
       Result : Type 0
       Result = Quietly (AnswersAlternatives G k (q ∷ qs) a) (sets.nullable p ≡ true) a
@@ -141,7 +146,7 @@ module _ (G : Given) (scalars : all_scalars G.text ≡ true) (whole : IsWhole G.
       Result = Quietly (AnswersChain G side shape q r zero a) (sets.nullable p ≡ true) a
 
       quiet_operand : sets.level q < n → QuietNode q a
-      quiet_operand below = lower q below is_q (λ s b. bare s (f.first s b))
+      quiet_operand below = lower q below is_q (bare_within G.text (Contains (sets.first q)) (sets.first p) a.place scalars f.first bare)
 
       again : (en : sets.nullable q ≡ true) (er : sets.nullable r ≡ true) (v w : List Tree) (t u : List TrailItem) (e g : Error) (m i : ℕ) →
           Answers G q a (ok false a v t e) m → Answers G r a (ok false a w u g) i → QuietNode q a → Result
@@ -157,7 +162,8 @@ module _ (G : Given) (scalars : all_scalars G.text ≡ true) (whole : IsWhole G.
       go : QuietNode q a → Result
       go (refuses e m run) = refuses e _ (first_operand run first_failed)
       go (skips en v t e m run) =
-          linked en v t e m run (lower r (let falls = (f.falls.1 en).0 in omega arith) is_r (λ s b. bare s (f.next en s (inl b))))
+          let round = bare_within G.text (BeginsParts sets (r ∷ q ∷ [])) (sets.first p) a.place scalars (f.next en) bare in
+          linked en v t e m run (lower r (let falls = (f.falls.1 en).0 in omega arith) is_r (λ s b. round s (inl b)))
 
   quiet_links : (a : Spot) (p q r : ℕ) (side : Side) (used : BuilderUse) → Quietly (AnswersChain G side used.shape q r zero a) (sets.nullable p ≡ true) a → QuietForm (form.Chain side used q r) p a
   quiet_links a p q r side used (refuses e m run) = refuses e _ (answers.chain run)
@@ -168,7 +174,7 @@ module _ (G : Given) (scalars : all_scalars G.text ≡ true) (whole : IsWhole G.
 
   module _ (n : ℕ) (a : Spot) (from : ComesFrom G.grammar a.table) (lower : Lower n a) (p : ℕ) (l : sets.level p < suc n) (bare : NoStart G.text (Contains (sets.first p)) a.place) where
     quiet_part : (q : ℕ) → PartIsPredictive sets p q → q < length G.grammar.nodes → QuietNode q a
-    quiet_part q f there = lower q (let falls = f.falls in omega arith) there (λ s b. bare s (f.first s b))
+    quiet_part q f there = lower q (let falls = f.falls in omega arith) there (bare_within G.text (Contains (sets.first q)) (sets.first p) a.place scalars f.first bare)
 
     -- a form that makes something of a part that fits
     of_quiet : (k : Around) (q : ℕ) → PartIsPredictive sets p q → QuietNode q a → QuietForm (form.Around k q) p a
@@ -206,7 +212,8 @@ module _ (G : Given) (scalars : all_scalars G.text ≡ true) (whole : IsWhole G.
     quiet_form : (f : Node) → slice_get G.grammar.nodes p ≡ Some f → IsPredictiveAt G.grammar sets p f → QuietForm f p a
     quiet_form (form.Leaf l) e f = quiet_leaf l e f
     quiet_form (form.Seq []) e f = skips (f.empty tt) [] [] _ _ nothing
-    quiet_form (form.Seq (q ∷ qs)) e f = go (quiet_parts n a lower q qs (falls_further sets (sets.level p) n (q ∷ qs) (omega arith) f.falls) (whole.parts p _ e) (λ s b. bare s (f.first s b)))
+    quiet_form (form.Seq (q ∷ qs)) e f = go (quiet_parts n a lower q qs (falls_further sets (sets.level p) n (q ∷ qs) (omega arith) f.falls) (whole.parts p _ e)
+        (bare_within G.text (BeginsParts sets (q ∷ qs)) (sets.first p) a.place scalars f.first bare))
       where
         go : QuietParts q qs a → QuietForm (form.Seq (q ∷ qs)) p a
         go (refuses e m run) = refuses e _ (seq run)
@@ -216,7 +223,7 @@ module _ (G : Given) (scalars : all_scalars G.text ≡ true) (whole : IsWhole G.
         go : Quietly (AnswersAlternatives G (suc zero) qs a) (sets.nullable p ≡ true) a → QuietForm (form.Choice qs) p a
         go (refuses e m run) = refuses e _ (choice run)
         go (skips x v t e m run) = skips x v t e _ (choice run)
-    quiet_form (form.Many q) e f = go (lower q (let falls = f.falls in omega arith) (whole.parts p _ e).0 (λ s b. bare s (f.first s b)))
+    quiet_form (form.Many q) e f = go (lower q (let falls = f.falls in omega arith) (whole.parts p _ e).0 (bare_within G.text (Contains (sets.first q)) (sets.first p) a.place scalars f.first bare))
       where
         go : QuietNode q a → QuietForm (form.Many q) p a
         go (refuses e m run) = skips f.empty [] (Rounds zero ∷ []) e _ (many (round run round_ended))

@@ -5,7 +5,6 @@ use Rattle.pg_grammar.specs.declared.form.Form.TheVariants as form
 use Rattle.pg_grammar.specs.declared.form.Leaf.TheVariants as leaf
 use Rattle.pg_grammar.specs.declared.grammar.Rule as declared
 use Rattle.pg_grammar.specs.declared.trail.TrailItem.{TrailItem}
-use Rattle.pg_start.specs.declared.kind.StartKind.TheVariants.{End}
 use Rattle.pg_language.specs.Derives as derives
 use Rattle.pg_language.specs.Derives.{Spot, Derives, DerivesText, DerivesForm, end_of_text}
 use Rattle.pg_table.specs.Tables.{Table}
@@ -96,7 +95,7 @@ pub derived_answered : DerivedTextsAreAnswered
 derived_answered G sets h before after forest trail from d =
     let a : Spot = beginning before in
     let b : Spot = record { place = length G.text; table = after } in
-    let m : SomeMatches G.text (sets.follow d.start.body) (length G.text) = record { start = End; among = h.predictive.end d.start d.is_start; there = refl } in
+    let m : SomeMatches G.text (sets.follow d.start.body) (length G.text) = h.predictive.end d.start d.is_start G.text h.text (length G.text) refl in
     let r = answered G sets h d.start.body a b forest trail from d.body m in
     let whole = ended G before _ b forest trail r.error (suc r.count) (end_ok G.text b refl) (from_start d.is_start r.answers) in
     (whole.0, suc r.count, whole.1)

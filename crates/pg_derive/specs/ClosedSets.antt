@@ -1,6 +1,7 @@
 -- Sets that are claimed of the nodes of a grammar.
 use Rattle.std.specs.Prelude.{◌≡◌, ◌<◌, ◌⊎◌, ℕ, List, [], ◌∷◌, Bool, true}
 use Rattle.std.specs.List.{Contains}
+use Rattle.std.specs.Str.{all_scalars}
 use Rattle.pg_start.specs.Apart.{Apart}
 use Rattle.pg_start.specs.Starts.{MatchesAt}
 use Rattle.pg_start.specs.declared.kind.StartKind.{StartKind}
@@ -19,11 +20,19 @@ pub record SomeMatches (text : List ℕ) (starts : List StartKind) (place : ℕ)
   pub among : Contains starts start
   pub there : MatchesAt start text place
 
--- each start of the one is in the other
-abbrev pub Within : List StartKind → List StartKind → Type 0
-Within starts others = (s : StartKind) → Contains starts s → Contains others s
+-- wherever this stands in a text of characters, some start of the list matches
+abbrev pub Meets : List StartKind → (List ℕ → ℕ → Type 0) → Type 0
+Meets starts Is = (text : List ℕ) → all_scalars text ≡ true → (place : ℕ) → Is text place → SomeMatches text starts place
 
--- each start of the one is apart from each of the other
+-- the list covers the start: wherever this one matches, some start of the list does, spelled alike or wider
+abbrev pub Covers : List StartKind → StartKind → Type 0
+Covers starts s = Meets starts (MatchesAt s)
+
+-- each start of the one is covered by the other
+abbrev pub Within : List StartKind → List StartKind → Type 0
+Within starts others = (s : StartKind) → Contains starts s → Covers others s
+
+-- each start of the one is apart from each of the other, as they are claimed
 abbrev pub AllApart : List StartKind → List StartKind → Type 0
 AllApart starts others = (s t : StartKind) → Contains starts s → Contains others t → Apart s t
 
@@ -33,16 +42,16 @@ abbrev pub AllNullable : NodeSets → List ℕ → Type 0
 AllNullable sets [] = Unit {0}
 AllNullable sets (q ∷ qs) = (sets.nullable q ≡ true) × AllNullable sets qs
 
--- the start is a first one of some part before which all parts are nullable
+-- the start is claimed as a first one of some part before which all parts are nullable
 abbrev pub BeginsParts : NodeSets → List ℕ → StartKind → Type 0
 BeginsParts sets [] s = ⊥
 BeginsParts sets (q ∷ qs) s = Contains (sets.first q) s ⊎ ((sets.nullable q ≡ true) × BeginsParts sets qs s)
 
--- what follows each part is what begins the parts after it, and what follows the sequence where these are nullable
+-- what follows each part covers what begins the parts after it, and what follows the sequence where these are nullable
 abbrev pub PartsFollowed : NodeSets → List StartKind → List ℕ → Type 0
 PartsFollowed sets follow [] = Unit {0}
 PartsFollowed sets follow (q ∷ qs) =
-    ((s : StartKind) → BeginsParts sets qs s → Contains (sets.follow q) s)
+    ((s : StartKind) → BeginsParts sets qs s → Covers (sets.follow q) s)
     × (AllNullable sets qs → Within follow (sets.follow q))
     × PartsFollowed sets follow qs
 

@@ -1,8 +1,8 @@
 -- When sets that are claimed of a grammar's nodes are closed and show that it is predictive: what a parser meets next tells
--- it which way to go.
+-- it which way to go. Sets are closed where they cover what they have to, so that they may be wider than need be; what
+-- has to be apart is what is claimed.
 use Rattle.std.specs.Prelude.{◌≡◌, ◌<◌, ◌+◌, ℕ, List, [], ◌∷◌, true, false, Some, slice_get, length}
 use Rattle.std.specs.List.{Contains}
-use Rattle.std.specs.Str.{all_scalars}
 use Rattle.pg_grammar.specs.Grammar.{Grammar}
 use Rattle.pg_grammar.specs.declared.class.ClassPart.{ClassPart}
 use Rattle.pg_grammar.specs.Forms.{Node}
@@ -17,13 +17,9 @@ use Rattle.pg_start.specs.Apart.{Apart}
 use Rattle.pg_start.specs.declared.kind.StartKind.{StartKind}
 use Rattle.pg_start.specs.declared.kind.StartKind.TheVariants.{End}
 use Rattle.pg_language.specs.Runs.{HasAt, StandsAt, IsWordAt}
-use Rattle.pg_derive.specs.ClosedSets.{NodeSets, SomeMatches, Within, AllApart, AllNullable, BeginsParts, PartsFollowed, PartsFall}
+use Rattle.pg_derive.specs.ClosedSets.{NodeSets, Meets, Covers, Within, AllApart, AllNullable, BeginsParts, PartsFollowed, PartsFall}
 
 -- ---- leaves
-
--- wherever this stands in a text, one of the starts matches
-abbrev pub Meets : List StartKind → (List ℕ → ℕ → Type 0) → Type 0
-Meets starts Is = (text : List ℕ) → all_scalars text ≡ true → (place : ℕ) → Is text place → SomeMatches text starts place
 
 -- the first character of some characters stands at the place
 pub record BeginsAt (text : List ℕ) (place : ℕ) (characters : List ℕ) : Type 0 where
@@ -69,7 +65,7 @@ pub record RuleIsPredictive (g : Grammar) (sets : NodeSets) (p r : ℕ) : Type 0
 
 pub record SeqIsPredictive (sets : NodeSets) (p : ℕ) (parts : List ℕ) : Type 0 where
   pub empty : AllNullable sets parts → sets.nullable p ≡ true
-  pub first : (s : StartKind) → BeginsParts sets parts s → Contains (sets.first p) s
+  pub first : (s : StartKind) → BeginsParts sets parts s → Covers (sets.first p) s
   pub follow : PartsFollowed sets (sets.follow p) parts
   pub falls : PartsFall sets (sets.level p) parts
 
@@ -102,11 +98,11 @@ pub record ChainIsPredictive (sets : NodeSets) (p q r : ℕ) : Type 0 where
   pub empty : sets.nullable q ≡ true → sets.nullable p ≡ true
   pub full : AllNullable sets (r ∷ q ∷ []) → ⊥
   pub first : Within (sets.first q) (sets.first p)
-  pub next : sets.nullable q ≡ true → (s : StartKind) → BeginsParts sets (r ∷ q ∷ []) s → Contains (sets.first p) s
-  pub again : (s : StartKind) → BeginsParts sets (r ∷ q ∷ []) s → Contains (sets.follow q) s
+  pub next : sets.nullable q ≡ true → (s : StartKind) → BeginsParts sets (r ∷ q ∷ []) s → Covers (sets.first p) s
+  pub again : (s : StartKind) → BeginsParts sets (r ∷ q ∷ []) s → Covers (sets.follow q) s
   pub follow : Within (sets.follow p) (sets.follow q)
   pub between : Within (sets.first q) (sets.follow r)
-  pub over_next : sets.nullable q ≡ true → (s : StartKind) → BeginsParts sets (r ∷ q ∷ []) s → Contains (sets.follow r) s
+  pub over_next : sets.nullable q ≡ true → (s : StartKind) → BeginsParts sets (r ∷ q ∷ []) s → Covers (sets.follow r) s
   pub over_last : sets.nullable q ≡ true → Within (sets.follow p) (sets.follow r)
   pub apart : (s t : StartKind) → BeginsParts sets (r ∷ q ∷ []) s → Contains (sets.follow p) t → Apart s t
   pub falls : PartsFall sets (sets.level p) (q ∷ r ∷ q ∷ [])
@@ -144,4 +140,4 @@ IsPredictiveAt g sets p (form.Around k q) = AroundIsPredictive g sets p k q
 -- each node fits; the end of the text follows the start rule
 pub record IsPredictive (g : Grammar) (sets : NodeSets) : Type 0 where
   pub nodes : (p : ℕ) (n : Node) → slice_get g.nodes p ≡ Some n → IsPredictiveAt g sets p n
-  pub end : (start : declared.Rule) → slice_get g.rules g.start ≡ Some start → Contains (sets.follow start.body) End
+  pub end : (start : declared.Rule) → slice_get g.rules g.start ≡ Some start → Covers (sets.follow start.body) End
