@@ -1,4 +1,7 @@
 pub mod InText
+pub mod Still
+pub mod Chains
+pub mod ChainExample
 pub mod LeavesAnswered
 pub mod Inverted
 pub mod Begins

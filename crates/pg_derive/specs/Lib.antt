@@ -1,4 +1,5 @@
 pub mod Laws
+pub mod Chains
 pub mod ClosedSets
 pub mod Predictive
 pub mod PredictiveLaws

@@ -15,7 +15,10 @@ pub use accepted::{
     accepted_grammars_lose_no_alternative, accepted_grammars_refuse_rightly,
     accepted_links_consume, accepted_rounds_consume,
 };
-pub use laws::{errors_stand_in_text, ok_answers_are_derivations, outcomes_are_unique};
+pub use laws::{
+    chains_are_operands_and_rests, errors_stand_in_text, ok_answers_are_derivations,
+    outcomes_are_unique,
+};
 pub use predictive::{
     answers_exist, derivations_are_answers, derivations_are_unique, links_consume,
     no_alternative_is_lost, readings_agree, rounds_consume,
