@@ -37,6 +37,13 @@ def crates_of(root):
     return {it.name: it for it in rt.rtlib.crates_below(root)}
 
 
+def refusal(crate, edit, kept):
+    """Whether an edit that is tried alone counts as refused, and what is said of it, as the toolchain's own command has it: a newer
+    one answers by a word, an older one by a truth value."""
+    came_to, said = rt.must_fail(crate, edit, ["--jobs", "1"], kept)
+    return came_to if isinstance(came_to, bool) else came_to in (rt.REFUSED, rt.AT_LIMIT), said
+
+
 def lanes():
     """How many checks run side by side."""
     return int(subprocess.run([sys.executable, f"{TESTS}/jobs"], stdout=subprocess.PIPE, text=True).stdout)

@@ -8,11 +8,11 @@ ghost use Rattle.pg_registry.specs.ProgramOffer.{IsProgramOffer};
 
 use crate::files::{grammar_alone, inputs};
 use crate::printing::{UNUSABLE, print_report};
-use crate::request::Request;
 use pg_bench::{check_bytes, parse_bytes, print_bytes, probe_bytes, sets_bytes};
 use pg_language::Reading;
 use pg_pred::Registry;
 use pg_registry::UsesRegistry;
+use pg_request::Request;
 use pg_tree::Meter;
 use std::alloc::AllocError;
 use std::io;

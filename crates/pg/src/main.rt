@@ -11,15 +11,14 @@ mod files;
 mod printing;
 mod report;
 mod reporting;
-mod request;
 
 use clap::ArgMatches;
 use clap::error::ErrorKind;
 use commands::Asked;
 use pg_bench::BenchFault;
 use pg_registry::with_registry;
+use pg_request::{command, request_of};
 use printing::{UNUSABLE, refuse, say};
-use request::{command, request_of};
 use std::alloc::AllocError;
 use std::process::ExitCode;
 use std::rt::{Env, Files};

@@ -1,6 +1,6 @@
 -- What is printed of a grammar is what the check says of it.
 use Rattle.std.proofs.Common.{◌≡◌, ℕ, Bool, List, true, false, codes, ap, subst, subst₂, sym, ◌∙◌}
-use Rattle.pg_grammar.specs.Grammar.{Grammar}
+use Rattle.pg_value.specs.Grammar.{Grammar}
 use Rattle.pg_predict.specs.Checked.{GrammarWithSets, IsChecked, IsRefused}
 use Rattle.pg_predict.specs.Conditions.{IsFaultless}
 use Rattle.pg_predict.specs.declared.checking.Refused as declared

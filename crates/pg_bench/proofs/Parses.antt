@@ -1,14 +1,13 @@
 -- What a run of an accepted grammar says of a text, in terms of the promise and of the bytes that spell the text.
-use Rattle.std.proofs.Common.{◌≡◌, ◌<◌, ℕ, List, Bool, Option, Some, None, length, refl, subst}
+use Rattle.std.proofs.Common.{◌≡◌, ◌<◌, ℕ, List, Option, None, refl, subst}
 use Rattle.std.specs.Io.KnownBytes.{Consumes, IsAtEnd}
-use Rattle.pg_text.specs.Position.{position_of}
 use Rattle.pg_message.specs.declared.error.ParseError as message
 use Rattle.pg_tree.specs.Trees.{Tree}
 use Rattle.pg_pred.specs.Offer.{Offer}
-use Rattle.pg_grammar.specs.Grammar.{Grammar}
+use Rattle.pg_value.specs.Grammar.{Grammar}
 use Rattle.pg_table.specs.Tables.{Table, initial, whole}
 use Rattle.pg_language.specs.Answers.{given}
-use Rattle.pg_language.specs.Errors.{in_text, without_position}
+use Rattle.pg_language.specs.Errors.{without_position}
 use Rattle.pg_language.specs.WholeTexts.{AnswersText}
 use Rattle.pg_language.specs.declared.reading.Reading.TheVariants.{Library}
 use Rattle.pg_making.specs.Spells.{SpellsWithinLimits}
@@ -16,10 +15,10 @@ use Rattle.pg_machine.specs.CheckedRuns.{IsTextAnswer, IsOnlyDerivation, IsUnder
 use Rattle.pg_machine.specs.Outcomes.{outcome_with}
 use Rattle.pg_machine.specs.declared.answer.Answer.{Answer}
 use Rattle.pg_machine.specs.declared.answer.Success.{Success}
-use Rattle.pg_predict.specs.Checked.{GrammarWithSets, IsChecked, IsRefused}
+use Rattle.pg_predict.specs.Checked.{GrammarWithSets, IsChecked}
 use Rattle.pg_predict.specs.Operators.{HasNoOperators}
 use Rattle.pg_predict.specs.declared.checking.Refused as declared
-use Rattle.pg_bench.specs.Parsed.{IsSpelledBy, IsForestOf, IsErrorOf, IsForestOfBytes, IsErrorOfBytes, ReadsText, SpellsNone, SpellsSome, SpellsOther, AreFindingsOf}
+use Rattle.pg_bench.specs.Parsed.{IsSpelledBy, IsForestOf, IsErrorOf, IsForestOfBytes, ReadsText, SpellsNone, SpellsSome, SpellsOther, AreFindingsOf}
 use Rattle.pg_bench.specs.Faults.{IsFileFault, IsAfterFile, IsReadRefusal, IsTextRefusal, IsParseRefusal, IsRunRefusal, IsFindingRefusal, IsGrammarRefusal, IsReadingRefusal, IsProbeRefusal, IsForestRefusal, IfRefused, IfParseError}
 use Rattle.pg_derive.specs.LeastSets.{node_sets}
 use Rattle.pg_derive.specs.PredictiveLaws.{LosesNoAlternative, EachRoundConsumes, EachLinkConsumes}

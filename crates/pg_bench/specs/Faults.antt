@@ -4,7 +4,7 @@ use Rattle.std.specs.Str.{chars, IsUtf8}
 use Rattle.pg_text.specs.declared.text.TheConstants.{LIMIT}
 use Rattle.pg_message.specs.declared.error.ParseError as message
 use Rattle.pg_pred.specs.Offer.{Offer}
-use Rattle.pg_grammar.specs.Grammar.{Grammar}
+use Rattle.pg_value.specs.Grammar.{Grammar}
 use Rattle.pg_predict.specs.Findings.{AreFindings}
 use Rattle.pg_predict.specs.Operators.{HasNoOperators}
 use Rattle.pg_predict.specs.declared.finding.Finding.{Finding}

@@ -10,8 +10,8 @@ use Rattle.pg_tree.specs.Bytes.{AppendsPrefix}
 use Rattle.pg_tree.specs.Json.{json}
 use Rattle.pg_tree.specs.Trees.{Tree}
 use Rattle.pg_pred.specs.Offer.{Offer}
-use Rattle.pg_grammar.specs.Grammar.{Grammar}
-use Rattle.pg_grammar.specs.declared.trail.TrailItem.{TrailItem}
+use Rattle.pg_value.specs.Grammar.{Grammar}
+use Rattle.pg_value.specs.declared.trail.TrailItem.{TrailItem}
 use Rattle.pg_language.specs.Derives.{Spot}
 use Rattle.pg_table.specs.Tables.{Table, initial, whole}
 use Rattle.pg_language.specs.Answers.{Given, given, AnswersStart}

@@ -3,8 +3,8 @@
 use Rattle.std.specs.Prelude.{◌≡◌, ℕ, List, Bool}
 use Rattle.pg_message.specs.declared.error.ParseError.{ParseError}
 use Rattle.pg_tree.specs.Trees.{Tree}
-use Rattle.pg_grammar.specs.Grammar.{Grammar}
-use Rattle.pg_grammar.specs.declared.trail.TrailItem.{TrailItem}
+use Rattle.pg_value.specs.Grammar.{Grammar}
+use Rattle.pg_value.specs.declared.trail.TrailItem.{TrailItem}
 use Rattle.pg_language.specs.Derives.{DerivesText}
 use Rattle.pg_table.specs.Tables.{Table, initial, whole}
 use Rattle.pg_language.specs.Answers.{given}

@@ -3,7 +3,7 @@ use Rattle.std.specs.Prelude.{ℕ, List, Option}
 use Rattle.std.specs.Io.KnownBytes.{Appends}
 use Rattle.pg_tree.specs.Bytes.{AppendsPrefix}
 use Rattle.pg_pred.specs.Offer.{Offer}
-use Rattle.pg_grammar.specs.Grammar.{Grammar}
+use Rattle.pg_value.specs.Grammar.{Grammar}
 use Rattle.pg_making.specs.Spells.{SpellsWithinLimits}
 use Rattle.pg_sets_page.specs.SetsPage.{IsSetsPage}
 

@@ -10,10 +10,10 @@ ghost use Rattle.pg_bench.specs.Faults.{IsCheckRefusal, IsFileFault, IsMemory, I
 use crate::fault::BenchFault;
 use crate::grammar_file::plain_grammar_of;
 use crate::output::write_page;
-use pg_grammar::Grammar;
 use pg_pred::Registry;
 use pg_predict::{CheckFault, Finding, check};
 use pg_tree::Meter;
+use pg_value::Grammar;
 use std::alloc::{AllocError, Global};
 use std::io::Write;
 

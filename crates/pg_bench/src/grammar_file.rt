@@ -2,7 +2,7 @@
 
 ghost use Rattle.std.specs.Prelude.{◌≡◌, IfOk, IfErr, IsErrOf};
 ghost use Rattle.pg_pred.specs.Offer.{offer_of};
-ghost use Rattle.pg_grammar.specs.Fits.{Fits};
+ghost use Rattle.pg_value.specs.Fits.{Fits};
 ghost use Rattle.pg_making.specs.Spells.{SpellsWithinLimits};
 ghost use Rattle.pg_predict.specs.Operators.{HasNoOperators};
 ghost use Rattle.pg_bench.specs.Parsed.{SpellsNone, SpellsOther, AreFindingsOf};
@@ -11,9 +11,9 @@ ghost use Rattle.pg_bench.specs.Promise.{IsAccepted};
 
 use crate::fault::BenchFault;
 use pg_file::FileError;
-use pg_grammar::Grammar;
 use pg_pred::Registry;
 use pg_predict::{CheckFault, Checked, check, has_no_operators};
+use pg_value::Grammar;
 use std::alloc::Global;
 
 /// The grammar that the bytes of a file spell.

@@ -6,8 +6,8 @@ ghost use Rattle.pg_making.specs.Spells.{HasInitialTable};
 ghost use Rattle.pg_bench.specs.Faults.{IsMemory};
 
 use crate::fault::BenchFault;
-use pg_grammar::Grammar;
 use pg_table::{InitialFault, Table};
+use pg_value::Grammar;
 use std::alloc::Global;
 
 /// The initial operator table of a grammar that has one.

@@ -3,7 +3,7 @@
 ghost use Rattle.std.specs.Prelude.{◌≡◌, ◌≤◌, ◌<◌, ◌+◌, ◌*◌, ◌⊎◌, false, true, length, IfOk, IfErr, OnOk, IsErrOf};
 ghost use Rattle.std.specs.Str.{chars, IsUtf8};
 ghost use Rattle.pg_pred.specs.Offer.{offer_of};
-ghost use Rattle.pg_grammar.specs.Fits.{Fits};
+ghost use Rattle.pg_value.specs.Fits.{Fits};
 ghost use Rattle.pg_making.specs.Spells.{HasInitialTable};
 ghost use Rattle.pg_table.specs.Tables.{initial, whole};
 ghost use Rattle.pg_tree.specs.Meter.{saturating_sum};
@@ -18,13 +18,13 @@ use crate::initial::initial_table;
 use crate::input::{read_text, text_of};
 use crate::output::write_page;
 use crate::page::{is_ok, page_of};
-use pg_grammar::Grammar;
 use pg_language::Reading;
 use pg_machine::{Outcome, probe};
 use pg_pred::Registry;
 use pg_table::Table;
 use pg_text::{LIMIT, Text};
 use pg_tree::Meter;
+use pg_value::Grammar;
 use std::alloc::Global;
 use std::io::{Read, Write};
 

@@ -4,13 +4,13 @@ use Rattle.std.proofs.Common.{◌≡◌, ◌+◌, ◌<◌, ℕ, zero, suc, List,
 use Rattle.pg_text.specs.Position.{start}
 use Rattle.pg_tree.specs.Trees.{Tree}
 use Rattle.pg_tree.specs.declared.shape.Shape.{Shape}
-use Rattle.pg_grammar.specs.Forms.{Node}
-use Rattle.pg_grammar.specs.declared.form.Form.TheVariants as form
-use Rattle.pg_grammar.specs.declared.grammar.Rule as declared
-use Rattle.pg_grammar.specs.declared.side.Side.{Side}
-use Rattle.pg_grammar.specs.declared.trail.TrailItem.{TrailItem}
-use Rattle.pg_grammar.specs.declared.trail.TrailItem.TheVariants.{Alt, Rounds}
-use Rattle.pg_grammar.specs.declared.used.BuilderUse.{BuilderUse}
+use Rattle.pg_form.specs.Forms.{Node}
+use Rattle.pg_form.specs.declared.form.Form.TheVariants as form
+use Rattle.pg_value.specs.declared.grammar.Rule as declared
+use Rattle.pg_form.specs.declared.side.Side.{Side}
+use Rattle.pg_value.specs.declared.trail.TrailItem.{TrailItem}
+use Rattle.pg_value.specs.declared.trail.TrailItem.TheVariants.{Alt, Rounds}
+use Rattle.pg_form.specs.declared.used.BuilderUse.{BuilderUse}
 use Rattle.pg_message.proofs.Nothing.{merged-nothing}
 use Rattle.pg_language.proofs.Unique.{same}
 use Rattle.pg_language.specs.Answers as answers

@@ -5,16 +5,16 @@ use Rattle.std.specs.List.{list_any}
 use Rattle.std.specs.Str.{bytes_eq}
 use Rattle.pg_tree.specs.Trees.{Tree}
 use Rattle.pg_tree.specs.declared.shape.Shape.{Shape}
-use Rattle.pg_grammar.specs.ClassItems.{has_character}
-use Rattle.pg_grammar.specs.Grammar.{Grammar}
-use Rattle.pg_grammar.specs.declared.class.ClassPart.{ClassPart}
-use Rattle.pg_grammar.specs.Forms.{Node}
-use Rattle.pg_grammar.specs.declared.form.Leaf.{Leaf}
-use Rattle.pg_grammar.specs.declared.form.Leaf.TheVariants as leaf
-use Rattle.pg_grammar.specs.declared.form.Around.{Around}
-use Rattle.pg_grammar.specs.declared.form.Around.TheVariants as kind
-use Rattle.pg_grammar.specs.declared.trail.TrailItem.{TrailItem}
-use Rattle.pg_grammar.specs.declared.word_item.WordItem.{WordItem}
+use Rattle.pg_form.specs.ClassItems.{has_character}
+use Rattle.pg_value.specs.Grammar.{Grammar}
+use Rattle.pg_form.specs.declared.class.ClassPart.{ClassPart}
+use Rattle.pg_form.specs.Forms.{Node}
+use Rattle.pg_form.specs.declared.form.Leaf.{Leaf}
+use Rattle.pg_form.specs.declared.form.Leaf.TheVariants as leaf
+use Rattle.pg_form.specs.declared.form.Around.{Around}
+use Rattle.pg_form.specs.declared.form.Around.TheVariants as kind
+use Rattle.pg_value.specs.declared.trail.TrailItem.{TrailItem}
+use Rattle.pg_form.specs.declared.word_item.WordItem.{WordItem}
 use Rattle.pg_language.specs.Derives.{Spot}
 use Rattle.pg_language.specs.Runs.{run_at}
 use Rattle.pg_language.specs.Answers as answers
@@ -23,7 +23,7 @@ use Rattle.pg_language.specs.Errors.{Error, with_position, without_position, mer
 use Rattle.pg_language.specs.Leaves.{taken, satisfy_next, word_read, word_next, not_followed_next, string_outcome, matched, end_outcome, word_outcome, some_word_outcome, leaf_outcome}
 use Rattle.pg_language.specs.Outcomes.{Outcome, ok, failed, empty_round}
 use Rattle.pg_language.specs.Reactions.{error_after, ok_kind, error_kind, then_rest, then_round, noted, after_failure, unless_consumed, labelled_by, surrounded, as_finished, unless_begun}
-use Rattle.pg_grammar.specs.declared.side.Side.{Side}
+use Rattle.pg_form.specs.declared.side.Side.{Side}
 use Rattle.pg_text.specs.Position.{start}
 use Rattle.pg_message.specs.Errors.{renamed}
 use Rattle.pg_message.specs.Messages.{Text, is_empty, with_messages}

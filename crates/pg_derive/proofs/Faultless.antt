@@ -1,27 +1,25 @@
 -- A grammar at whose nodes nothing is wrong is predictive: its least sets show it.
-use Rattle.std.proofs.Common.{◌≡◌, ◌<◌, inl, inr, ℕ, List, Some, slice_get, length, sym, subst, ◌∙◌}
+use Rattle.std.proofs.Common.{◌≡◌, ◌<◌, inl, inr, ℕ, Some, slice_get, length, sym, subst, ◌∙◌}
 use Rattle.std.proofs.lemmas.Option.{slice_get_within, same_Some}
-use Rattle.pg_grammar.specs.Grammar.{Grammar, IsGrammar}
-use Rattle.pg_grammar.specs.declared.class.ClassPart.{ClassPart}
-use Rattle.pg_grammar.specs.Forms.{Node}
-use Rattle.pg_grammar.specs.declared.form.Form.TheVariants as form
-use Rattle.pg_grammar.specs.declared.form.Leaf.{Leaf}
-use Rattle.pg_grammar.specs.declared.form.Leaf.TheVariants as leaf
-use Rattle.pg_grammar.specs.declared.form.Around.{Around}
-use Rattle.pg_grammar.specs.declared.form.Around.TheVariants as kind
-use Rattle.pg_grammar.specs.declared.grammar.Rule as declared
+use Rattle.pg_value.specs.Grammar.{Grammar, IsGrammar}
+use Rattle.pg_form.specs.Forms.{Node}
+use Rattle.pg_form.specs.declared.form.Form.TheVariants as form
+use Rattle.pg_form.specs.declared.form.Leaf.{Leaf}
+use Rattle.pg_form.specs.declared.form.Leaf.TheVariants as leaf
+use Rattle.pg_form.specs.declared.form.Around.{Around}
+use Rattle.pg_form.specs.declared.form.Around.TheVariants as kind
+use Rattle.pg_value.specs.declared.grammar.Rule as declared
 use Rattle.pg_start.specs.declared.kind.StartKind.TheVariants.{End}
 use Rattle.pg_sets.specs.First as of
 use Rattle.pg_sets.specs.Follow as follow
-use Rattle.pg_sets.specs.Nullable as null
-use Rattle.pg_sets.specs.OwnStarts.{IsKeyTry}
-use Rattle.pg_sets.specs.OwnStarts as own
-use Rattle.pg_sets.specs.Ranks.{Chain, head, heads}
-use Rattle.pg_sets.specs.Reached.{Heads}
-use Rattle.pg_sets.specs.Reached as reached
+use Rattle.pg_heads.specs.Nullable as null
+use Rattle.pg_own_starts.specs.OwnStarts.{IsKeyTry}
+use Rattle.pg_own_starts.specs.OwnStarts as own
+use Rattle.pg_heads.specs.Ranks.{Chain, head, heads}
+use Rattle.pg_heads.specs.Reached.{Heads}
+use Rattle.pg_heads.specs.Reached as reached
 use Rattle.pg_sets.specs.Sets.{Sets, AreSets}
-use Rattle.pg_predict.specs.Conditions.{IsFaultless, IsLexeme, left_recursion, try_around_more}
-use Rattle.pg_predict.specs.Conditions as lexeme
+use Rattle.pg_predict.specs.Conditions.{IsFaultless, left_recursion}
 use Rattle.pg_predict.specs.Operators.{HasNoOperators}
 use Rattle.pg_derive.specs.Accepted.{AcceptedGrammarsArePredictive}
 use Rattle.pg_derive.specs.ClosedSets.{Covers}
@@ -31,7 +29,7 @@ use Rattle.pg_derive.proofs.FormsFit.{choice_fits, many_fits, links_fit}
 use Rattle.pg_derive.proofs.LeastSets.{first_is, first_covers, follow_is, follow_covers}
 use Rattle.pg_derive.proofs.LeavesFit.{satisfy_meets, string_fits, word_meets, string_try, key_try}
 use Rattle.pg_derive.proofs.Levels.{rule_falls}
-use Rattle.pg_derive.proofs.LexemesDecided.{lexeme_decided}
+use Rattle.pg_derive.proofs.KeyTriesDecided.{key_try_decided}
 use Rattle.pg_derive.proofs.PartsFit.{are_parts, in_falls, part_fits, seq_fits}
 use Rattle.pg_derive.proofs.Quiet.{found}
 use Rattle.pg_derive.proofs.Whole.{is_whole, start_found}
@@ -44,15 +42,6 @@ first_rule (heads {b = b} h rest) = (b, h)
 pub acyclic : (g : Grammar) → IsFaultless g → (r : ℕ) → Chain g r r → ⊥
 acyclic g faultless r chain = let first = (first_rule chain).1 in faultless first.rule.body _ (left_recursion first.is_rule chain)
 
--- a try around a character of a class or a word gives no key
-no_key_class : {g : Grammar} {q : ℕ} {class : List ClassPart} → slice_get g.nodes q ≡ Some (form.Leaf (leaf.Satisfy class)) → IsKeyTry g (form.Around kind.Try q) → ⊥
-no_key_class {class = class} e (own.string {characters = s} f) = let same : ◌≡◌ {A = Node} (form.Leaf (leaf.Satisfy class)) (form.Leaf (leaf.String s)) = same_Some _ _ (sym e ∙ f) in absurd cc
-no_key_class {class = class} e (own.keyed k) = let same = same_Some (form.Leaf (leaf.Satisfy class)) _ (sym e ∙ k.both) in absurd cc
-
-no_key_word : {g : Grammar} {q w : ℕ} → slice_get g.nodes q ≡ Some (form.Leaf (leaf.Word w)) → IsKeyTry g (form.Around kind.Try q) → ⊥
-no_key_word {w = w} e (own.string {characters = s} f) = let same : ◌≡◌ {A = Node} (form.Leaf (leaf.Word w)) (form.Leaf (leaf.String s)) = same_Some _ _ (sym e ∙ f) in absurd cc
-no_key_word {w = w} e (own.keyed k) = let same = same_Some (form.Leaf (leaf.Word w)) _ (sym e ∙ k.both) in absurd cc
-
 module _ (g : Grammar) (sets : Sets) (are : AreSets g sets) (grammar : IsGrammar g) (bare : HasNoOperators g) (faultless : IsFaultless g) where
   none_on_cycle : (r : ℕ) → Chain g r r → ⊥
   none_on_cycle = acyclic g faultless
@@ -64,17 +53,15 @@ module _ (g : Grammar) (sets : Sets) (are : AreSets g sets) (grammar : IsGrammar
   try_falls : (p q : ℕ) → slice_get g.nodes p ≡ Some (form.Around kind.Try q) → (node_sets g sets).level q < (node_sets g sets).level p
   try_falls p q e = in_falls g sets are none_on_cycle p q (form.Around kind.Try q) e (are_parts g grammar p (form.Around kind.Try q) e).0 reached.around
 
-  lexeme_fits : (p q : ℕ) → slice_get g.nodes p ≡ Some (form.Around kind.Try q) → IsLexeme g q → TryIsPredictive g (node_sets g sets) p q
-  lexeme_fits p q e (lexeme.string {text = s} f) = string_try g grammar sets are p q s e f (try_falls p q e)
-  lexeme_fits p q e (lexeme.keyed {text = s} {excluded = class} f) = key_try g grammar sets are p q s class e f (try_falls p q e)
-  lexeme_fits p q e (lexeme.satisfy f) = try_part p q e (no_key_class f)
-  lexeme_fits p q e (lexeme.word f) = try_part p q e (no_key_word f)
+  key_fits : (p q : ℕ) → slice_get g.nodes p ≡ Some (form.Around kind.Try q) → IsKeyTry g (form.Around kind.Try q) → TryIsPredictive g (node_sets g sets) p q
+  key_fits p q e (own.string {characters = s} f) = string_try g grammar sets are p q s e f (try_falls p q e)
+  key_fits p q e (own.keyed {characters = s} {excluded = class} k) = key_try g grammar sets are p q s class e k (try_falls p q e)
 
   try_fits : (p q : ℕ) → slice_get g.nodes p ≡ Some (form.Around kind.Try q) → TryIsPredictive g (node_sets g sets) p q
   try_fits p q e =
       let part = (are_parts g grammar p (form.Around kind.Try q) e).0 in
       let there = found g.nodes q part.inside in
-      elim (lexeme_decided g q there.0 there.1) [ inl is ↦ lexeme_fits p q e is | inr not ↦ absurd (faultless p _ (try_around_more e not)) ]
+      elim (key_try_decided g q there.0 there.1) [ inl is ↦ key_fits p q e is | inr not ↦ try_part p q e not ]
 
   body_inside : (p r : ℕ) → slice_get g.nodes p ≡ Some (form.Rule r) → (named : declared.Rule) → slice_get g.rules r ≡ Some named → named.body < length g.nodes
   body_inside p r e named at =

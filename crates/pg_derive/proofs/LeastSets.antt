@@ -1,25 +1,26 @@
 -- What the least sets of a grammar hold.
 use Rattle.std.proofs.Common.{◌≡◌, ◌<◌, ◌⊎◌, inl, inr, ℕ, List, Bool, true, false, Some, slice_get, length, refl, ap, ◌∙◌, subst}
+use Rattle.pg_predict.proofs.Numbered.{listed_once}
 use Rattle.std.specs.List.{Contains}
 use Rattle.std.proofs.lemmas.Bool.{cases_Bool}
-use Rattle.pg_grammar.specs.Grammar.{Grammar}
+use Rattle.pg_value.specs.Grammar.{Grammar}
 use Rattle.pg_start.specs.Apart.{Apart}
 use Rattle.pg_start.specs.declared.kind.StartKind.{StartKind}
 use Rattle.pg_sets.specs.First.{IsFirst}
 use Rattle.pg_sets.specs.First as of
 use Rattle.pg_sets.specs.Follow.{IsFollow}
 use Rattle.pg_bit_set.specs.Numbers.{contains, set_at}
-use Rattle.pg_sets.specs.Marks.{is_marked}
-use Rattle.pg_sets.specs.Nullable.{Nullable}
+use Rattle.pg_graph.specs.Marks.{is_marked}
+use Rattle.pg_heads.specs.Nullable.{Nullable}
 use Rattle.pg_sets.specs.Sets.{Sets, AreSets, HasStart}
-use Rattle.pg_sets.specs.declared.listed.ListedStart.{ListedStart}
+use Rattle.pg_own_starts.specs.declared.listed.ListedStart.{ListedStart}
 use Rattle.pg_predict.specs.Conditions.{BeginsLink, AreFirstToMeet}
 use Rattle.pg_derive.specs.ClosedSets.{Covers}
 use Rattle.pg_derive.specs.LeastSets.{node_sets}
 use Rattle.pg_derive.proofs.Begins.{contained_covers}
 use Rattle.pg_derive.proofs.Least.{Decided, decided_true, decided_as, decided_both, decided_either}
 use Rattle.pg_derive.proofs.Meetings.{IsListable, Stands, apart_all}
-use Rattle.pg_derive.proofs.Ranked.{listed_once, one_place}
+use Rattle.pg_derive.proofs.Ranked.{one_place}
 use Rattle.pg_derive.proofs.StartLists.{start_from_list, list_from_start}
 
 module _ (g : Grammar) (sets : Sets) (are : AreSets g sets) where

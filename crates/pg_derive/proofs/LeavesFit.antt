@@ -1,5 +1,5 @@
 -- Where a character, a string, a word or a key stands that a node reads, one of the node's first starts matches.
-use Rattle.std.proofs.Common.{◌≡◌, ◌<◌, ◌+◌, inl, inr, ℕ, zero, suc, List, [], ◌∷◌, Bool, true, false, cond, Some, slice_get, length, drop, refl, sym, ap, ◌∙◌, subst, arith}
+use Rattle.std.proofs.Common.{◌≡◌, ◌<◌, ◌+◌, inl, inr, ℕ, zero, suc, List, [], ◌∷◌, Bool, true, false, cond, Some, slice_get, length, drop, refl, sym, ap, ◌∙◌, arith}
 use Rattle.std.specs.Char.{IsScalar}
 use Rattle.std.specs.List.{take_while}
 use Rattle.std.specs.Str.{all_scalars}
@@ -8,23 +8,24 @@ use Rattle.std.proofs.lemmas.List.Sums.{take_while-cons}
 use Rattle.std.proofs.lemmas.Option.{same_Some, slice_get_within}
 use Rattle.pg_class.proofs.Unique.{has-first}
 use Rattle.pg_class.specs.Ranges.{Range, has}
-use Rattle.pg_grammar.specs.ClassItems.{has_character}
-use Rattle.pg_grammar.specs.Grammar.{Grammar, IsGrammar}
-use Rattle.pg_grammar.specs.declared.class.ClassPart.{ClassPart}
-use Rattle.pg_grammar.specs.Forms.{Node}
-use Rattle.pg_grammar.specs.declared.form.Form.TheVariants as form
-use Rattle.pg_grammar.specs.declared.form.Leaf.TheVariants as leaf
-use Rattle.pg_grammar.specs.declared.form.Around.TheVariants as around
-use Rattle.pg_grammar.specs.declared.word_item.WordItem.{WordItem}
+use Rattle.pg_form.specs.ClassItems.{has_character}
+use Rattle.pg_value.specs.Grammar.{Grammar, IsGrammar}
+use Rattle.pg_form.specs.declared.class.ClassPart.{ClassPart}
+use Rattle.pg_form.specs.Forms.{Node}
+use Rattle.pg_form.specs.declared.form.Form.TheVariants as form
+use Rattle.pg_form.specs.declared.form.Leaf.TheVariants as leaf
+use Rattle.pg_form.specs.declared.form.Around.TheVariants as around
+use Rattle.pg_form.specs.declared.word_item.WordItem.{WordItem}
+use Rattle.pg_start.proofs.Meeting.{scalar_at}
 use Rattle.pg_start.specs.Prefixes.{run, is_reserved}
 use Rattle.pg_start.specs.Starts.{MatchesAt}
 use Rattle.pg_start.specs.declared.kind.StartKind.{StartKind}
 use Rattle.pg_start.specs.declared.kind.StartKind.TheVariants.{Class, Key, Word}
-use Rattle.pg_sets.proofs.Owned.{spelled}
+use Rattle.pg_own_starts.proofs.Owned.{spelled}
 use Rattle.pg_sets.specs.First as of
-use Rattle.pg_sets.specs.Own as plain
-use Rattle.pg_sets.specs.OwnStarts.{IsClassOf, OwnStart, IsKeyed, ReservedAs}
-use Rattle.pg_sets.specs.OwnStarts as own
+use Rattle.pg_own_starts.specs.Own as plain
+use Rattle.pg_own_starts.specs.OwnStarts.{IsClassOf, OwnStart, IsKeyed, ReservedAs}
+use Rattle.pg_own_starts.specs.OwnStarts as own
 use Rattle.pg_sets.specs.Sets.{Sets, AreSets}
 use Rattle.pg_language.specs.Runs.{HasAt, StandsAt, run_at}
 use Rattle.pg_derive.specs.ClosedSets.{SomeMatches, Meets}
@@ -33,11 +34,6 @@ use Rattle.pg_derive.specs.Predictive.{BeginsAt, IsSomeWordAt, StringIsPredictiv
 use Rattle.pg_derive.proofs.LeastSets.{first_in}
 
 -- ---- characters of a text
-
-scalar_at : (text : List ℕ) (i c : ℕ) → all_scalars text ≡ true → slice_get text i ≡ Some c → IsScalar c
-scalar_at [] i c s e = cc
-scalar_at (x ∷ xs) zero c s e = let same : x ≡ c = cc in subst IsScalar same (and_parts _ _ s).0
-scalar_at (x ∷ xs) (suc i) c s e = scalar_at xs i c (and_parts _ _ s).1 e
 
 scalars_after : (text : List ℕ) (i : ℕ) → all_scalars text ≡ true → all_scalars (drop i text) ≡ true
 scalars_after text zero s = s

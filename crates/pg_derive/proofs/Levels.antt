@@ -4,16 +4,16 @@ use Rattle.std.specs.Option.{option_map_or}
 use Rattle.std.proofs.lemmas.Bool.{true≢false}
 use Rattle.std.proofs.lemmas.Nat.{mul-le}
 use Rattle.std.proofs.lemmas.Option.{slice_get_within}
-use Rattle.pg_grammar.specs.Grammar.{Grammar}
-use Rattle.pg_grammar.specs.Forms.{Node}
-use Rattle.pg_grammar.specs.declared.form.Form.TheVariants as form
-use Rattle.pg_grammar.specs.declared.grammar.Rule as declared
-use Rattle.pg_sets.proofs.Heading.{part_shown, part_noted}
-use Rattle.pg_sets.proofs.Lists.{has_first, has_cases, has_after}
-use Rattle.pg_sets.specs.Graphs.{has}
-use Rattle.pg_sets.specs.Parts.{reached_parts, used_rules}
-use Rattle.pg_sets.specs.Ranks.{IsRank, no_heads, above, RankUpTo, up_to, Chain, ReachesCycle, on_cycle, leads_to, rank_at}
-use Rattle.pg_sets.specs.Reached.{ReachedPart, ReachesUse, here, through, Heads}
+use Rattle.pg_value.specs.Grammar.{Grammar}
+use Rattle.pg_form.specs.Forms.{Node}
+use Rattle.pg_form.specs.declared.form.Form.TheVariants as form
+use Rattle.pg_value.specs.declared.grammar.Rule as declared
+use Rattle.pg_heads.proofs.Heading.{part_shown, part_noted, used_is}
+use Rattle.pg_graph.proofs.Lists.{has_first, has_cases, has_after}
+use Rattle.pg_graph.specs.Graphs.{has}
+use Rattle.pg_heads.specs.Parts.{reached_parts, used_rules}
+use Rattle.pg_heads.specs.Ranks.{IsRank, no_heads, above, RankUpTo, up_to, Chain, ReachesCycle, on_cycle, leads_to, rank_at}
+use Rattle.pg_heads.specs.Reached.{ReachedPart, ReachesUse, here, through, Heads}
 use Rattle.pg_sets.specs.Sets.{Sets, AreSets}
 use Rattle.pg_derive.specs.LeastSets.{greatest, above_rank, rank_within, level_of}
 
@@ -37,21 +37,6 @@ greatest_at_most f (m ∷ ms) k h =
 greatest_grows : (f h : ℕ → ℕ) (ns : List ℕ) → ((n : ℕ) → f n ≤ h n) → greatest f ns ≤ greatest h ns
 greatest_grows f h [] l = omega arith
 greatest_grows f h (m ∷ ms) l = let first = l m in let rest = greatest_grows f h ms l in omega arith
-
--- ---- the one rule that a node uses
-
-only_one : (part q : ℕ) → has (part ∷ []) q ≡ true → part ≡ q
-only_one part q h = elim (has_cases [] part q h) [ inl e ↦ e | inr none ↦ absurd (true≢false (sym none)) ]
-
-used_is : (n : Node) (r : ℕ) → has (used_rules n) r ≡ true → n ≡ form.Rule r
-used_is (form.Leaf leaf) r h = absurd (true≢false (sym h))
-used_is (form.Seq parts) r h = absurd (true≢false (sym h))
-used_is (form.Choice parts) r h = absurd (true≢false (sym h))
-used_is (form.Many part) r h = absurd (true≢false (sym h))
-used_is (form.Chain side used operand separator) r h = absurd (true≢false (sym h))
-used_is (form.Around around part) r h = absurd (true≢false (sym h))
-used_is (form.Rule rule) r h = ap form.Rule (only_one rule r h)
-used_is (form.Expression builders term) r h = absurd (true≢false (sym h))
 
 module _ (g : Grammar) (sets : Sets) (are : AreSets g sets) (acyclic : (r : ℕ) → Chain g r r → ⊥) where
   -- ---- more steps

@@ -23,7 +23,7 @@ pub mod Meetings
 pub mod LeastSets
 pub mod Levels
 pub mod LeavesFit
-pub mod LexemesDecided
+pub mod KeyTriesDecided
 pub mod PartsFit
 pub mod FormsFit
 pub mod Faultless

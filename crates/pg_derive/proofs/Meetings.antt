@@ -1,16 +1,17 @@
 -- Where some starts of two kinds aren't apart, there are two that are the first to meet.
 use Rattle.std.proofs.Common.{◌≡◌, inl, inr, ℕ, List, Option, Some, None, slice_get, length, refl, sym, ap, ◌∙◌, subst}
+use Rattle.pg_predict.proofs.Numbered.{listed_once}
 use Rattle.std.specs.List.Sorted.{IsStrictlySortedBy}
 use Rattle.std.proofs.lemmas.Option.{same_Some, none-some, slice_get_within}
-use Rattle.pg_grammar.specs.Grammar.{Grammar}
+use Rattle.pg_value.specs.Grammar.{Grammar}
 use Rattle.pg_start.specs.Apart.{Apart}
 use Rattle.pg_start.specs.declared.kind.StartKind.{StartKind}
-use Rattle.pg_sets.specs.Listed.{IsListed, start_order}
-use Rattle.pg_sets.specs.declared.listed.ListedStart.{ListedStart}
+use Rattle.pg_own_starts.specs.Listed.{IsListed, start_order}
+use Rattle.pg_own_starts.specs.declared.listed.ListedStart.{ListedStart}
 use Rattle.pg_predict.specs.Conditions.{AreFirstToMeet}
 use Rattle.pg_derive.proofs.ApartDecided.{apart_decided}
 use Rattle.pg_derive.proofs.Least.{Decided, LeastOf, decided_both, decided_not, decided_as, decided_some, least_from}
-use Rattle.pg_derive.proofs.Ranked.{earlier, listed_once}
+use Rattle.pg_derive.proofs.Ranked.{earlier}
 
 -- the start is in the list, under its name
 pub record Stands (starts : List ListedStart) (s : StartKind) : Type 0 where

@@ -5,13 +5,9 @@ use Rattle.std.proofs.lemmas.Bool.{cases_order}
 use Rattle.std.proofs.lemmas.Cmp.{tied_itself}
 use Rattle.std.proofs.lemmas.Map.Keys.{sorted_head, sorted_tail}
 use Rattle.std.proofs.lemmas.Option.{same_Some}
-use Rattle.pg_grammar.specs.Grammar.{Grammar}
-use Rattle.pg_class.specs.Ranges.{Range}
-use Rattle.pg_start.specs.declared.kind.StartKind.{StartKind}
-use Rattle.pg_start.specs.declared.kind.StartKind.TheVariants.{Class, Key, Word, End}
-use Rattle.pg_sets.specs.Listed.{IsListed, IsNumbered, IsFirstReader, start_order, start_order_total}
-use Rattle.pg_sets.specs.declared.listed.ListedStart.{ListedStart}
-use Rattle.pg_sets.proofs.Lists.{all_get}
+use Rattle.pg_own_starts.specs.Listed.{start_order, start_order_total}
+use Rattle.pg_own_starts.specs.declared.listed.ListedStart.{ListedStart}
+use Rattle.pg_graph.proofs.Lists.{all_get}
 
 less-equal : Less ≡ Equal → ⊥
 less-equal e = grind (arith, e)
@@ -54,29 +50,3 @@ one_place starts sorted i j x e f =
             | inr more ↦ absurd (no_less_itself x (ordered_at starts sorted j i x x f e more))
           ]
     ]
-
--- ---- under one name
-
-one_reader : {g : Grammar} {heads rest : List Range} {texts : List (List ℕ)} (w v : ℕ) → IsFirstReader g heads rest texts w → IsFirstReader g heads rest texts v → w ≡ v
-one_reader w v one other =
-    elim (cases_order w v) [
-      | inl same ↦ same
-      | inr differ ↦
-          elim differ [
-            | inl less ↦ let bound = other.bound in absurd (other.none_before w less (one.reads (omega arith)))
-            | inr more ↦ let bound = one.bound in absurd (one.none_before v more (other.reads (omega arith)))
-          ]
-    ]
-
-one_number : (g : Grammar) (s : StartKind) (w v : ℕ) → IsNumbered g s w → IsNumbered g s v → w ≡ v
-one_number g (Class ranges) w v h k = h ∙ sym k
-one_number g (Key text excluded) w v h k = h ∙ sym k
-one_number g (Word heads rest reserved) w v h k = one_reader w v h k
-one_number g End w v h k = h ∙ sym k
-
-pub listed_once : (g : Grammar) (x y : ListedStart) → IsListed g x → IsListed g y → x.start ≡ y.start → x ≡ y
-listed_once g x y h k e =
-    let number : x.word ≡ y.word = one_number g y.start x.word y.word (subst (λ s. IsNumbered g s x.word) e h) k in
-    let moved : ◌≡◌ {A = ListedStart} (record { start = x.start; word = x.word }) (record { start = y.start; word = y.word }) =
-    ap (λ s. record { start = s; word = x.word }) e ∙ ap (λ w. record { start = y.start; word = w }) number in
-    moved

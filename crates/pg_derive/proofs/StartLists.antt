@@ -4,7 +4,7 @@ use Rattle.std.specs.List.{Contains}
 use Rattle.pg_start.specs.declared.kind.StartKind.{StartKind}
 use Rattle.pg_bit_set.specs.Numbers.{contains}
 use Rattle.pg_sets.specs.Sets.{HasStart}
-use Rattle.pg_sets.specs.declared.listed.ListedStart.{ListedStart}
+use Rattle.pg_own_starts.specs.declared.listed.ListedStart.{ListedStart}
 use Rattle.pg_derive.specs.LeastSets.{numbered_in}
 
 pub contains_first : {X : Type 0} (x : X) (xs : List X) → Contains (x ∷ xs) x

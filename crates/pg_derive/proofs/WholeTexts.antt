@@ -1,10 +1,10 @@
 -- What runs of the start rule with the end of the text after it say of a whole text.
 use Rattle.std.proofs.Common.{◌≡◌, ◌<◌, ◌⊎◌, inl, inr, ℕ, suc, List, [], ◌++◌, Bool, true, false, ◌||◌, refl, sym, ap, subst, length, Some, slice_get, arith, append-nil}
 use Rattle.pg_tree.specs.Trees.{Tree}
-use Rattle.pg_grammar.specs.declared.form.Form.TheVariants as form
-use Rattle.pg_grammar.specs.declared.form.Leaf.TheVariants as leaf
-use Rattle.pg_grammar.specs.declared.grammar.Rule as declared
-use Rattle.pg_grammar.specs.declared.trail.TrailItem.{TrailItem}
+use Rattle.pg_form.specs.declared.form.Form.TheVariants as form
+use Rattle.pg_form.specs.declared.form.Leaf.TheVariants as leaf
+use Rattle.pg_value.specs.declared.grammar.Rule as declared
+use Rattle.pg_value.specs.declared.trail.TrailItem.{TrailItem}
 use Rattle.pg_language.specs.Derives as derives
 use Rattle.pg_language.specs.Derives.{Spot, Derives, DerivesText, DerivesForm, end_of_text}
 use Rattle.pg_table.specs.Tables.{Table}

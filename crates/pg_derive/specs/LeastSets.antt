@@ -1,14 +1,14 @@
 -- The least sets of a grammar, as sets that are claimed of its nodes.
 use Rattle.std.specs.Prelude.{Bool, ℕ, zero, suc, ◌+◌, ◌-◌, ◌*◌, max, if◌then◌else◌, List, [], ◌∷◌, Option, slice_get, length}
 use Rattle.std.specs.Option.{option_map_or}
-use Rattle.pg_grammar.specs.Grammar.{Grammar}
+use Rattle.pg_value.specs.Grammar.{Grammar}
 use Rattle.pg_start.specs.declared.kind.StartKind.{StartKind}
 use Rattle.pg_bit_set.specs.Numbers.{contains, set_at}
-use Rattle.pg_sets.specs.Marks.{is_marked}
-use Rattle.pg_sets.specs.Parts.{reached_parts, used_rules}
-use Rattle.pg_sets.specs.Ranks.{rank_at}
+use Rattle.pg_graph.specs.Marks.{is_marked}
+use Rattle.pg_heads.specs.Parts.{reached_parts, used_rules}
+use Rattle.pg_heads.specs.Ranks.{rank_at}
 use Rattle.pg_sets.specs.Sets.{Sets}
-use Rattle.pg_sets.specs.declared.listed.ListedStart.{ListedStart}
+use Rattle.pg_own_starts.specs.declared.listed.ListedStart.{ListedStart}
 use Rattle.pg_derive.specs.ClosedSets.{NodeSets}
 
 -- those of some starts whose numbers are in a set, the first start having the number k

@@ -2,11 +2,11 @@
 use Rattle.std.specs.Prelude.{◌≡◌, ◌<◌, ◌≤◌, ◌⊎◌, ℕ, List, Bool, true, Some, slice_get, length, nat_lt}
 use Rattle.std.specs.Str.{all_scalars}
 use Rattle.pg_tree.specs.Trees.{Tree}
-use Rattle.pg_grammar.specs.Grammar.{IsGrammar}
-use Rattle.pg_grammar.specs.declared.form.Form.TheVariants as form
-use Rattle.pg_grammar.specs.declared.side.Side.TheVariants as side
-use Rattle.pg_grammar.specs.declared.trail.TrailItem.{TrailItem}
-use Rattle.pg_grammar.specs.declared.used.BuilderUse.{BuilderUse}
+use Rattle.pg_value.specs.Grammar.{IsGrammar}
+use Rattle.pg_form.specs.declared.form.Form.TheVariants as form
+use Rattle.pg_form.specs.declared.side.Side.TheVariants as side
+use Rattle.pg_value.specs.declared.trail.TrailItem.{TrailItem}
+use Rattle.pg_form.specs.declared.used.BuilderUse.{BuilderUse}
 use Rattle.pg_language.specs.Derives.{Spot, Derives}
 use Rattle.pg_table.specs.Tables.{ComesFrom}
 use Rattle.pg_language.specs.Answers.{Given, Answers}

@@ -1,7 +1,7 @@
 -- What runs of the start rule, with the end of the text after it, say of a whole text, as one fact each.
 use Rattle.std.specs.Prelude.{◌≡◌, ℕ, List, Bool, length, nat_lt}
 use Rattle.pg_tree.specs.Trees.{Tree}
-use Rattle.pg_grammar.specs.declared.trail.TrailItem.{TrailItem}
+use Rattle.pg_value.specs.declared.trail.TrailItem.{TrailItem}
 use Rattle.pg_table.specs.Tables.{Table, ComesFrom}
 use Rattle.pg_language.specs.Answers.{Given}
 use Rattle.pg_language.specs.Derives.{Spot, DerivesText}

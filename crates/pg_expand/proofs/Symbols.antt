@@ -1,17 +1,19 @@
 -- In a table of a grammar a symbol and a side tell the operator, so that a reading tells the operators of its tree.
 use Rattle.std.proofs.Common.{◌≡◌, ◌⊎◌, ℕ, suc, Bool, true, false, not, ◌&&◌, ◌||◌, if◌then◌else◌, nat_lt, nat_le, List, [], ◌∷◌, ◌++◌, map, Option, Some, None, length, inl, inr, refl, sym, ap, subst, ◌∙◌}
+use Rattle.std.specs.Cmp.Derive.{both_true}
+use Rattle.pg_table.proofs.Added.{same_table}
 use Rattle.std.specs.List.{AllByRecursion, list_any}
 use Rattle.std.specs.Str.{bytes_eq}
 use Rattle.std.proofs.lemmas.Slice.Eq.{bytes_eq-Decides}
 use Rattle.std.proofs.lemmas.List.{map-append}
-use Rattle.pg_grammar.specs.Grammar.{Grammar}
-use Rattle.pg_grammar.specs.Operators.{Operator}
-use Rattle.pg_grammar.specs.declared.decl.Role.{Role}
-use Rattle.pg_grammar.specs.declared.decl.Role.TheVariants.{InfixLeft, InfixRight, InfixNone, Prefix, Postfix}
-use Rattle.pg_grammar.specs.declared.operators_item.OperatorsItem.{OperatorsItem}
-use Rattle.pg_grammar.specs.declared.trail.AppliedOperator.{AppliedOperator}
-use Rattle.pg_grammar.specs.declared.trail.Fixity.{Fixity}
-use Rattle.pg_grammar.specs.declared.trail.Fixity.TheVariants as fixity
+use Rattle.pg_value.specs.Grammar.{Grammar}
+use Rattle.pg_form.specs.Operators.{Operator}
+use Rattle.pg_form.specs.declared.decl.Role.{Role}
+use Rattle.pg_form.specs.declared.decl.Role.TheVariants.{InfixLeft, InfixRight, InfixNone, Prefix, Postfix}
+use Rattle.pg_form.specs.declared.operators_item.OperatorsItem.{OperatorsItem}
+use Rattle.pg_value.specs.declared.trail.AppliedOperator.{AppliedOperator}
+use Rattle.pg_value.specs.declared.trail.Fixity.{Fixity}
+use Rattle.pg_value.specs.declared.trail.Fixity.TheVariants as fixity
 use Rattle.pg_table.specs.declared.fault.AdmitFault.{AdmitFault}
 use Rattle.pg_table.specs.declared.fault.AdmitFault.TheVariants.{SymbolTooLong, SymbolReserved, PrefixThere, SymbolThere, TableFull}
 use Rattle.pg_table.specs.Tables.{Table, is_prefix, has_prefix, has_other, Admits, with_operator, empty_table, Added, whole, added_unless, added_from, ComesFrom}
@@ -33,9 +35,6 @@ any_member : (test : Operator → Bool) (os : List Operator) (o : Operator) → 
 any_member test [] o h t = absurd h
 any_member test (p ∷ os) o (inl e) t = ap (λ b. b || list_any test os) (sym (ap test e) ∙ t)
 any_member test (p ∷ os) o (inr h) t = either_true (test p) (list_any test os) (any_member test os o h t)
-
-both_true : (b c : Bool) → b ≡ true → c ≡ true → (b && c) ≡ true
-both_true b c e h = ap (λ d. d && c) e ∙ h
 
 same_bytes : (a b : List ℕ) → a ≡ b → bytes_eq a b ≡ true
 same_bytes a b e = (bytes_eq-Decides a b).1 e
@@ -62,11 +61,11 @@ new_symbol table d o admits among side symbol =
   where
     by_side : (b : Bool) → is_prefix d.role ≡ b → (is_prefix d.role && has_prefix table.operators d.symbol) ≡ false → (not (is_prefix d.role) && has_other table.operators d.symbol) ≡ false → ⊥
     by_side true e p q =
-        true_not_false _ (both_true (is_prefix d.role) (has_prefix table.operators d.symbol) e
-        (any_member (λ o. is_prefix o.role && bytes_eq o.symbol d.symbol) table.operators o among (both_true (is_prefix o.role) (bytes_eq o.symbol d.symbol) (side ∙ e) (same_bytes o.symbol d.symbol symbol)))) p
+        true_not_false _ (both_true e
+        (any_member (λ o. is_prefix o.role && bytes_eq o.symbol d.symbol) table.operators o among (both_true (side ∙ e) (same_bytes o.symbol d.symbol symbol)))) p
     by_side false e p q =
-        true_not_false _ (both_true (not (is_prefix d.role)) (has_other table.operators d.symbol) (ap not e)
-        (any_member (λ o. not (is_prefix o.role) && bytes_eq o.symbol d.symbol) table.operators o among (both_true (not (is_prefix o.role)) (bytes_eq o.symbol d.symbol) (ap not (side ∙ e)) (same_bytes o.symbol d.symbol symbol)))) q
+        true_not_false _ (both_true (ap not e)
+        (any_member (λ o. not (is_prefix o.role) && bytes_eq o.symbol d.symbol) table.operators o among (both_true (ap not (side ∙ e)) (same_bytes o.symbol d.symbol symbol)))) q
 
 told_with : (table : Table) (d : Operator) → AreTold table.operators → Admits table d → AreTold (table.operators ++ d ∷ [])
 told_with table d told admits o p m n side symbol = by_place (among_either o table.operators (d ∷ []) m) (among_either p table.operators (d ∷ []) n)
@@ -85,9 +84,6 @@ told_with table d told admits o p m n side symbol = by_place (among_either o tab
 added_whole : (fault : Option AdmitFault) (k : ℕ) (others : Added) (u : Table) → added_unless fault k others ≡ whole u → (fault ≡ None) × (others ≡ whole u)
 added_whole None k others u e = (refl, e)
 added_whole (Some fault) k others u e = absurd cc
-
-same_table : (t u : Table) → whole t ≡ whole u → t ≡ u
-same_table t u e = cc
 
 told_added : (k : ℕ) (t u : Table) (ds : List Operator) → AreTold t.operators → added_from k t ds ≡ whole u → AreTold u.operators
 told_added k t u [] told e = subst (λ (t : Table). AreTold t.operators) (same_table t u e) told

@@ -1,7 +1,7 @@
 -- What is so of the rows and of the fitting trees of every table.
 use Rattle.std.specs.Prelude.{◌≡◌, ◌↔◌, List}
-use Rattle.pg_grammar.specs.Grammar.{Grammar}
-use Rattle.pg_grammar.specs.Operators.{Operator}
+use Rattle.pg_value.specs.Grammar.{Grammar}
+use Rattle.pg_form.specs.Operators.{Operator}
 use Rattle.pg_table.specs.Tables.{Table, IsTable, ComesFrom}
 use Rattle.pg_table.specs.Fitting.{Expression, IsFitting}
 use Rattle.pg_table.specs.Trails.{operators_read}

@@ -1,7 +1,7 @@
 -- The reading of an operator tree: what stands in a text from left to right.
 use Rattle.std.specs.Prelude.{List, [], ◌∷◌, ◌++◌}
-use Rattle.pg_grammar.specs.declared.trail.AppliedOperator.{AppliedOperator}
-use Rattle.pg_grammar.specs.declared.trail.Fixity.TheVariants as fixity
+use Rattle.pg_value.specs.declared.trail.AppliedOperator.{AppliedOperator}
+use Rattle.pg_value.specs.declared.trail.Fixity.TheVariants as fixity
 use Rattle.pg_table.specs.Fitting.{Expression, term, prefixed, postfixed, joined}
 use Rattle.pg_table.specs.Trails.{applied}
 

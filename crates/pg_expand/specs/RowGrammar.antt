@@ -1,8 +1,8 @@
 -- The parser of the rows read as a grammar: what each row derives, in no order of trying (Text.Parsec.Expr). The parsers
 -- that tell an ambiguous use never succeed, so they derive nothing.
 use Rattle.std.specs.Prelude.{List, [], ◌∷◌, ◌++◌}
-use Rattle.pg_grammar.specs.Operators.{Operator}
-use Rattle.pg_grammar.specs.declared.trail.Fixity.TheVariants as fixity
+use Rattle.pg_form.specs.Operators.{Operator}
+use Rattle.pg_value.specs.declared.trail.Fixity.TheVariants as fixity
 use Rattle.pg_table.specs.Trails.{applied}
 use Rattle.pg_expand.specs.declared.rows.Row.{Row}
 use Rattle.pg_table.specs.Fitting.{Expression, term, prefixed, postfixed, joined, IsAmong}

@@ -1,8 +1,8 @@
 -- The rows of a table, as the parser of an expression takes them: the tightest first, each row's operators by role.
 use Rattle.std.specs.Prelude.{ℕ, Bool, true, false, ◌==◌, List, filter, map}
-use Rattle.pg_grammar.specs.Operators.{Operator}
-use Rattle.pg_grammar.specs.declared.decl.Role.{Role}
-use Rattle.pg_grammar.specs.declared.decl.Role.TheVariants.{InfixLeft, InfixRight, InfixNone, Prefix, Postfix}
+use Rattle.pg_form.specs.Operators.{Operator}
+use Rattle.pg_form.specs.declared.decl.Role.{Role}
+use Rattle.pg_form.specs.declared.decl.Role.TheVariants.{InfixLeft, InfixRight, InfixNone, Prefix, Postfix}
 use Rattle.pg_expand.specs.declared.rows.Row.{Row}
 use Rattle.pg_table.specs.Rows.{rows}
 use Rattle.pg_table.specs.Tables.{is_prefix}

@@ -6,7 +6,7 @@ ghost use Rattle.pg_expand.specs.Rows.{row_at, rows_of};
 ghost use Rattle.pg_expand.specs.Laws.{DeriveFittingTrees};
 
 use crate::rows::{Row, RowList, Rows};
-use pg_grammar::{Decl, NodeId};
+use pg_form::{Decl, NodeId};
 use pg_table::{PRECEDENCES, Table};
 use std::alloc::{AllocError, Global};
 

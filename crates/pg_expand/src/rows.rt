@@ -4,22 +4,22 @@
 //! that call promises, and no invariant of these types.
 
 ghost use Rattle.std.specs.Prelude.{◌≡◌, [], ◌∷◌, ◌++◌, List, OnOk};
-ghost use Rattle.pg_grammar.specs.Operators.{Operator};
+ghost use Rattle.pg_form.specs.Operators.{Operator};
 ghost use Rattle.pg_expand.specs.Rows.{by_role};
 
-use pg_grammar::{Decl, NodeId, Role};
+use pg_form::{Decl, NodeId, Role};
 use std::alloc::{AllocError, Global};
 use std::marker::Model;
 
 /// Some operators, in order, seen as their list.
-#[derive(Debug, Drop)]
+#[derive(Drop)]
 pub struct Operators {
     operators: Vec<Decl>,
 }
 
 impl Model for Operators {
     ghost use Rattle.std.specs.Prelude.{List};
-    ghost use Rattle.pg_grammar.specs.Operators.{Operator};
+    ghost use Rattle.pg_form.specs.Operators.{Operator};
 
     ghost Value = { List Operator };
 
@@ -53,7 +53,7 @@ impl Operators {
 }
 
 /// The operators of one precedence, by role.
-#[derive(Debug, Drop)]
+#[derive(Drop)]
 pub struct Row {
     /// The infix operators that associate to the right.
     pub right: Operators,
@@ -96,7 +96,7 @@ impl Row {
 }
 
 /// Some rows, the tightest first, seen as their list.
-#[derive(Debug, Drop)]
+#[derive(Drop)]
 pub struct RowList {
     rows: Vec<Row>,
 }
@@ -127,7 +127,7 @@ impl RowList {
 }
 
 /// A table's rows over a term, as the parser of an expression takes them.
-#[derive(Debug, Drop)]
+#[derive(Drop)]
 pub struct Rows {
     /// The node of the term.
     pub term: NodeId,

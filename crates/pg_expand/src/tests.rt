@@ -3,11 +3,11 @@
 ghost use Rattle.std.specs.Prelude.{◌<◌, ◌≤◌, length, IfOk};
 
 use super::*;
-use pg_grammar::{
-    ClassExpression, ClassPart, Decl, Form, Grammar, Leaf, Maker, NodeId, Role, Texts,
-};
+use pg_form::{ClassExpression, ClassPart, Decl, Form, Leaf, NodeId, Role, Texts};
+use pg_grammar::Maker;
 use pg_table::Table;
 use pg_text::Characters;
+use pg_value::Grammar;
 use std::alloc::{AllocError, Global};
 use std::test::Fail;
 
@@ -44,7 +44,7 @@ fn table_of(alloc: Global, declared: &[Declared]) -> Result<Table, Fail> {
         vec![in alloc; Form::Leaf(Leaf::EndOfText)]?,
     )?;
     maker.start(spelled(alloc, 's')?)?;
-    let grammar: Grammar = maker.finish()?;
+    let grammar: Grammar = maker.finish().map_err(|unfinished| unfinished.fault)?;
     Ok(Table::of(alloc, &grammar)?)
 }
 

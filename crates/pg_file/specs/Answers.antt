@@ -1,6 +1,6 @@
 -- What is answered for a file.
 use Rattle.std.specs.Prelude.{◌≡◌, Result, Ok, Err}
-use Rattle.pg_grammar.specs.Grammar.{Grammar}
+use Rattle.pg_value.specs.Grammar.{Grammar}
 use Rattle.pg_file.specs.declared.error.ReadError.{ReadError}
 use Rattle.pg_file.specs.declared.error.ReadError.TheVariants as unread
 use Rattle.pg_file.specs.declared.fault.FileError.{FileError}

@@ -2,28 +2,33 @@
 //!
 //! Which fault is the first: bytes that are no UTF-8; then, from the left, bad tokens, unexpected ones, bad literals and
 //! passed limits, at one place the one with the lowest number; then, in file order, faults of names and of initial
-//! operators. That a grammar is read exactly where the file spells one is proved; the faults and their positions are
-//! tested.
+//! operators. That a grammar is read exactly where the file spells one is proved, and so are the first two of these faults
+//! with their positions, as far as they are answered; the order of the others and their positions are tested.
 
-ghost use Rattle.std.specs.Prelude.{◌≡◌, ◌≤◌, ◌↔◌, length, IfOk, IfErr, IsNone};
+ghost use Rattle.std.specs.Prelude.{◌≡◌, ◌≤◌, ◌↔◌, true, List, length, IfOk, IfErr, IsNone};
+ghost use Rattle.std.specs.List.{list_any};
 ghost use Rattle.std.specs.Str.{chars, IsUtf8};
 ghost use Rattle.pg_pred.specs.Offer.{offer_of};
-ghost use Rattle.pg_grammar.specs.Fits.{Fits};
-ghost use Rattle.pg_grammar.specs.Grammar.{Grammar};
+ghost use Rattle.pg_value.specs.Fits.{Fits};
+ghost use Rattle.pg_value.specs.Grammar.{Grammar};
 ghost use Rattle.pg_making.specs.Spells.{SpellsWithinLimits, SpelledWithinDepth};
+ghost use Rattle.pg_tokens.specs.View.{is_bad_at, tokens_of};
+ghost use Rattle.pg_items.specs.Entries.{Entry, entries_of};
+ghost use Rattle.pg_parser.specs.Items.{AreItems, OnlyItems};
 ghost use Rattle.pg_file.specs.Answers.{IsAnswered, IsFault};
+ghost use Rattle.pg_file.specs.Refusals.{IsBadAt, IsErrorAt, IsNotUtf8After, IsRefusalOf, shown_error, shown_position};
 
-use crate::error::{ReadError, kind_of};
+use crate::error::{ReadError, kind_of, kind_of_name, syntax_error};
 use crate::fault::{FaultKind, FileError, FileFault};
 use crate::names::name_fault;
-use pg_grammar::Grammar;
 use pg_items::Item;
 use pg_making::{PlacedGrammar, grammar_of};
 use pg_meaning::MakingError;
 use pg_parser::{SyntaxError, read_items};
 use pg_pred::Registry;
 use pg_text::position_in;
-use pg_tokens::{characters_of, lex, lex_up_to};
+use pg_tokens::{Lexeme, characters_of, lex, lex_up_to};
+use pg_value::Grammar;
 use std::alloc::Global;
 
 /// The most bytes of a grammar file.
@@ -40,6 +45,7 @@ pub fn read(alloc: Global, bytes: &[u8], registry: &Registry) -> Result<Grammar,
     ensures ok { IfOk result (SpellsWithinLimits (offer_of registry.now) bytes.now) }
     ensures fits { IfOk result (Fits (offer_of registry.now)) }
     ensures only { (g : Grammar) → SpellsWithinLimits (offer_of registry.now) bytes.now g → IsAnswered g result }
+    ensures err { IfErr result (IsRefusalOf bytes.now) }
 {
     let PlacedGrammar { grammar, .. } = read_placed(alloc, bytes, registry)?;
     Ok(grammar)
@@ -52,6 +58,7 @@ fn read_placed(alloc: Global, bytes: &[u8], registry: &Registry) -> Result<Place
     ensures places { IfOk result (λ read. length read.places.items ≡ length read.grammar.nodes) }
     ensures only { (g : Grammar) → SpellsWithinLimits (offer_of registry.now) bytes.now g → IfOk result (λ read. read.grammar ≡ g) }
     ensures refused { (g : Grammar) → SpellsWithinLimits (offer_of registry.now) bytes.now g → IfErr result (λ e. e ≡ FileError.Memory) }
+    ensures err { IfErr result (IsRefusalOf bytes.now) }
 {
     let text = match std::str::from_utf8(bytes) {
         Ok(text) => text,
@@ -80,9 +87,10 @@ fn grammar_in(
     ensures places { IfOk result (λ read. length read.places.items ≡ length read.grammar.nodes) }
     ensures only { IfOk result (λ read. (g : Grammar) → SpelledWithinDepth (offer_of registry.now) characters.now g → read.grammar ≡ g) }
     ensures refused { IfErr result (λ e. IsFault e → (g : Grammar) → SpelledWithinDepth (offer_of registry.now) characters.now g → ⊥) }
+    ensures err { IfErr result (IsErrorAt (IsBadAt characters.now)) }
 {
     let lexemes = lex(alloc, characters)?;
-    let items = read_items(alloc, lexemes.as_slice())?;
+    let items = items_of(alloc, lexemes.as_slice())?;
     match grammar_of(alloc, registry, items.as_slice()) {
         Ok(read) => Ok(read),
         Err(MakingError::Memory) => Err(ReadError::Memory),
@@ -90,26 +98,43 @@ fn grammar_in(
     }
 }
 
+/// The items that the tokens spell.
+fn items_of(alloc: Global, lexemes: &[Lexeme]) -> Result<Vec<Item>, ReadError>
+    ensures items { IfOk result (λ items. AreItems (tokens_of lexemes.now) (entries_of items.items)) }
+    ensures only { IfOk result (λ items. OnlyItems (tokens_of lexemes.now) (entries_of items.items)) }
+    ensures refused { IfErr result (λ e. IsFault e → (entries : List Entry) → AreItems (tokens_of lexemes.now) entries → ⊥) }
+    ensures err { IfErr result (IsErrorAt (λ place. list_any (is_bad_at place) lexemes.now ≡ true)) }
+{
+    match read_items(alloc, lexemes) {
+        Ok(items) => Ok(items),
+        Err(error) => Err(syntax_error(error, lexemes)),
+    }
+}
+
 /// Why no grammar can be made of the items: the first fault of a name or an initial operator, or else that there is no
 /// start.
-fn refusal(alloc: Global, registry: &Registry, items: &[Item]) -> ReadError {
+fn refusal(alloc: Global, registry: &Registry, items: &[Item]) -> ReadError
+    ensures { IsErrorAt (λ place. ⊥) result }
+{
     match name_fault(alloc, registry, items) {
-        Ok(Some(fault)) => ReadError::Fault(fault.kind, Some(fault.place)),
+        Ok(Some(fault)) => ReadError::Fault(kind_of_name(fault.kind), Some(fault.place)),
         Ok(None) => ReadError::Fault(FaultKind::NoStart, None),
-        Err(error) => error,
+        Err(_) => ReadError::Memory,
     }
 }
 
 /// Why a file is refused whose length limit is passed by the character at this place: a fault up to there, if there
 /// is one, or the limit.
-fn fault_before(alloc: Global, characters: &[char], limit: usize) -> ReadError {
+fn fault_before(alloc: Global, characters: &[char], limit: usize) -> ReadError
+    ensures { IsErrorAt (IsBadAt characters.now) result }
+{
     let Ok(lexemes) = lex_up_to(alloc, characters, limit) else {
         return ReadError::Memory;
     };
     match read_items(alloc, lexemes.as_slice()) {
         Err(SyntaxError::Memory) => ReadError::Memory,
         Err(SyntaxError::Fault(fault, Some(place))) if place <= limit => {
-            ReadError::Fault(kind_of(fault), Some(place))
+            ReadError::Fault(kind_of(fault, Some(place), lexemes.as_slice()), Some(place))
         }
         Ok(_) | Err(SyntaxError::Fault(_, _)) => {
             ReadError::Fault(FaultKind::LimitPassed, Some(limit))
@@ -131,6 +156,7 @@ fn limit_place(text: &str) -> Option<usize>
 /// The fault of a file in which only the first bytes are UTF-8.
 fn not_utf8(alloc: Global, front: &[u8]) -> FileError
     requires { IsUtf8 front.now }
+    ensures { IsNotUtf8After (chars front.now) result }
 {
     let Ok(text) = std::str::from_utf8(front) else {
         unreachable!()
@@ -143,7 +169,7 @@ fn not_utf8(alloc: Global, front: &[u8]) -> FileError
 
 /// Why a file with these characters isn't read, with the position of its fault.
 fn reported(error: ReadError, characters: &[char]) -> FileError
-    ensures { (IsFault error → ⊥) → result ≡ FileError.Memory }
+    ensures { result ≡ shown_error characters.now error }
 {
     match error {
         ReadError::Memory => FileError::Memory,
@@ -153,7 +179,9 @@ fn reported(error: ReadError, characters: &[char]) -> FileError
     }
 }
 
-fn fault_at(kind: FaultKind, characters: &[char], place: usize) -> FileError {
+fn fault_at(kind: FaultKind, characters: &[char], place: usize) -> FileError
+    ensures { result ≡ FileError.Fault (record { kind = kind; position = shown_position characters.now place }) }
+{
     let place = place.min(characters.len()).min(LAST_PLACE);
     let position = position_in(characters, place);
     FileError::Fault(FileFault { kind, position })

@@ -3,14 +3,13 @@
 //! The crate of operator tables judges whole grammars. Where a file makes none, the operator is found by a grammar of one
 //! rule with the file's initial operators.
 
-use crate::error::ReadError;
-use pg_grammar::{
-    ClassExpression, ClassPart, Form, Grammar, Leaf, Maker, MakerFault, OPERATOR_LIMIT,
-};
+use pg_form::{ClassExpression, ClassPart, Form, Leaf, OPERATOR_LIMIT};
+use pg_grammar::{Maker, MakerFault};
 use pg_items::Item;
 use pg_making::{declaration, texts};
 use pg_table::{AdmitFault, InitialFault, Table};
 use pg_text::Characters;
+use pg_value::Grammar;
 use std::alloc::{AllocError, Global};
 
 /// An initial operator that isn't admitted by those above it.
@@ -28,7 +27,7 @@ pub fn first_refused(
     reserved: &[Characters],
     most: usize,
     items: &[Item],
-) -> Result<Option<RefusedInitial>, ReadError> {
+) -> Result<Option<RefusedInitial>, AllocError> {
     let mut places = Vec::new(alloc);
     let grammar = grammar_of_initials(alloc, reserved, most, items, &mut places)?;
     match Table::of(alloc, &grammar) {
@@ -42,7 +41,7 @@ pub fn first_refused(
                 }),
             )
         }
-        Err(InitialFault::Memory) => Err(ReadError::Memory),
+        Err(InitialFault::Memory) => Err(AllocError),
     }
 }
 
@@ -55,14 +54,14 @@ fn grammar_of_initials(
     most: usize,
     items: &[Item],
     places: &mut Vec<usize>,
-) -> Result<Grammar, ReadError> {
+) -> Result<Grammar, AllocError> {
     let mut maker = Maker::new(alloc);
     hand_in_operators(alloc, &mut maker, reserved, most)?;
     for item in items {
         hand_in_initial(alloc, &mut maker, item, places)?;
     }
     hand_in_rule(alloc, &mut maker)?;
-    maker.finish().map_err(|_| ReadError::Memory)
+    maker.finish().map_err(|_| AllocError)
 }
 
 /// Hands in an operators item with these reserved symbols and so many operators at most.
@@ -71,12 +70,12 @@ fn hand_in_operators(
     maker: &mut Maker,
     reserved: &[Characters],
     most: usize,
-) -> Result<(), ReadError> {
+) -> Result<(), AllocError> {
     let reserved = texts(alloc, reserved)?;
     let (class, gap) = (some_class(alloc)?, some_class(alloc)?);
     maker
         .operators(class, gap, reserved, most.min(OPERATOR_LIMIT))
-        .map_err(unread)
+        .map_err(out_of_memory)
 }
 
 /// Hands in the initial operator that the item is, if it is one, and notes where its symbol stands.
@@ -85,7 +84,7 @@ fn hand_in_initial(
     maker: &mut Maker,
     item: &Item,
     places: &mut Vec<usize>,
-) -> Result<(), ReadError> {
+) -> Result<(), AllocError> {
     if let Item::Table {
         role,
         precedence,
@@ -95,7 +94,7 @@ fn hand_in_initial(
     } = item
     {
         if let Some(declaration) = declaration(alloc, *role, *precedence, symbol)? {
-            maker.initial(declaration).map_err(unread)?;
+            maker.initial(declaration).map_err(out_of_memory)?;
             places.push(*symbol_place)?;
         }
     }
@@ -103,14 +102,14 @@ fn hand_in_initial(
 }
 
 /// Hands in a rule, and a start that names it.
-fn hand_in_rule(alloc: Global, maker: &mut Maker) -> Result<(), ReadError> {
+fn hand_in_rule(alloc: Global, maker: &mut Maker) -> Result<(), AllocError> {
     let body = vec![in alloc; Form::Leaf(Leaf::EndOfText)]?;
-    maker.rule(some_name(alloc)?, body).map_err(unread)?;
-    maker.start(some_name(alloc)?).map_err(unread)
+    maker.rule(some_name(alloc)?, body).map_err(out_of_memory)?;
+    maker.start(some_name(alloc)?).map_err(out_of_memory)
 }
 
-fn unread(_fault: MakerFault) -> ReadError {
-    ReadError::Memory
+fn out_of_memory(_fault: MakerFault) -> AllocError {
+    AllocError
 }
 
 fn some_name(alloc: Global) -> Result<Characters, AllocError> {

@@ -4,7 +4,7 @@
 
 ghost use Rattle.std.specs.Prelude.{◌≡◌, ℕ, List};
 ghost use Rattle.pg_pred.specs.Offer.{Offer};
-ghost use Rattle.pg_grammar.specs.Grammar.{Grammar};
+ghost use Rattle.pg_value.specs.Grammar.{Grammar};
 ghost use Rattle.pg_print.specs.Printed.{printed, PrintKeepsLimits};
 ghost use Rattle.pg_making.specs.Spells.{Spells, SpellsWithinLimits};
 

@@ -3,21 +3,33 @@
 //! It is asked only where no grammar can be made of the items, and answers nothing else: kinds and places of faults are
 //! tested. A word, a rule and the operators may be defined below their use; a class may not.
 
-use crate::error::ReadError;
-use crate::fault::FaultKind;
 use crate::initials::{RefusedInitial, first_refused};
 use indexmap::IndexSet;
-use pg_grammar::OPERATOR_LIMIT;
+use pg_form::OPERATOR_LIMIT;
 use pg_items::{ClassForm, Item, PlacedClass, PlacedForm, WrittenForm, WrittenPart};
 use pg_meaning::{is_builder_name, is_predicate_name};
 use pg_pred::Registry;
+use pg_table::AdmitFault;
 use pg_text::Characters;
 use std::alloc::{AllocError, Global};
+
+/// What can be wrong with a name or an initial operator.
+#[derive(Clone, Copy, Debug, PartialEq, Eq)]
+pub enum NameFaultKind {
+    /// It stands for nothing.
+    Unknown,
+    /// It is defined already, or is a second start or `operators` item.
+    Twice,
+    /// It is to be the start, and is no rule.
+    NoStart,
+    /// The initial operator isn't admitted by those above it.
+    NotAdmitted(AdmitFault),
+}
 
 /// A fault and how many characters stand before it.
 #[derive(Clone, Copy, Debug, PartialEq, Eq)]
 pub struct NameFault {
-    pub kind: FaultKind,
+    pub kind: NameFaultKind,
     pub place: usize,
 }
 
@@ -59,7 +71,7 @@ pub fn name_fault(
     alloc: Global,
     registry: &Registry,
     items: &[Item],
-) -> Result<Option<NameFault>, ReadError> {
+) -> Result<Option<NameFault>, AllocError> {
     let defined = defined_in(alloc, items)?;
     let mut above = Above::nothing(alloc);
     Ok(first_fault(alloc, registry, &defined, &mut above, items)?)
@@ -81,7 +93,7 @@ fn first_fault<'a>(
     Ok(None)
 }
 
-fn defined_in<'a>(alloc: Global, items: &'a [Item]) -> Result<Defined<'a>, ReadError> {
+fn defined_in<'a>(alloc: Global, items: &'a [Item]) -> Result<Defined<'a>, AllocError> {
     let mut defined = Defined {
         words: IndexSet::new(alloc),
         rules: IndexSet::new(alloc),
@@ -97,7 +109,7 @@ fn note_defined<'a>(
     alloc: Global,
     defined: &mut Defined<'a>,
     items: &'a [Item],
-) -> Result<(), ReadError> {
+) -> Result<(), AllocError> {
     for item in items {
         match item {
             Item::Word { name, .. } => {
@@ -119,7 +131,7 @@ fn note_defined<'a>(
     Ok(())
 }
 
-fn fault(kind: FaultKind, place: usize) -> Option<NameFault> {
+fn fault(kind: NameFaultKind, place: usize) -> Option<NameFault> {
     Some(NameFault { kind, place })
 }
 
@@ -178,7 +190,7 @@ fn twice(is_new: bool, place: usize) -> Option<NameFault> {
     if is_new {
         return None;
     }
-    fault(FaultKind::NameTwice, place)
+    fault(NameFaultKind::Twice, place)
 }
 
 /// The first fault of a class item; where it has none, its name stands above from then on.
@@ -191,7 +203,7 @@ fn class_item_fault<'a>(
     class: &PlacedClass,
 ) -> Result<Option<NameFault>, AllocError> {
     if above.classes.contains(name) || is_predicate_name(alloc, registry, name)? {
-        return Ok(fault(FaultKind::NameTwice, name_place));
+        return Ok(fault(NameFaultKind::Twice, name_place));
     }
     let found = class_fault(
         alloc,
@@ -245,7 +257,7 @@ fn class_fault(
             let place = places.next().copied().unwrap_or(0);
             let name = name.as_slice();
             if !above.classes.contains(name) && !is_predicate_name(alloc, registry, name)? {
-                return Ok(fault(FaultKind::UnknownName, place));
+                return Ok(fault(NameFaultKind::Unknown, place));
             }
         }
     }
@@ -262,7 +274,7 @@ fn operators_fault(
     gap: &PlacedClass,
 ) -> Result<Option<NameFault>, AllocError> {
     if above.has_operators {
-        return Ok(fault(FaultKind::NameTwice, place));
+        return Ok(fault(NameFaultKind::Twice, place));
     }
     above.has_operators = true;
     classes_fault(alloc, registry, above, class, gap)
@@ -277,23 +289,23 @@ fn start_fault<'a>(
     name_place: usize,
 ) -> Option<NameFault> {
     if above.has_start {
-        return fault(FaultKind::NameTwice, place);
+        return fault(NameFaultKind::Twice, place);
     }
     above.has_start = true;
     if defined.rules.contains(name) {
         return None;
     }
-    fault(FaultKind::NoStart, name_place)
+    fault(NameFaultKind::NoStart, name_place)
 }
 
 /// The fault of a table item: there is no operators item, or its operator is the first that isn't admitted.
 fn table_fault(defined: &Defined<'_>, place: usize, symbol_place: usize) -> Option<NameFault> {
     if !defined.has_operators {
-        return fault(FaultKind::UnknownName, place);
+        return fault(NameFaultKind::Unknown, place);
     }
     match defined.refused {
         Some(refused) if refused.place == symbol_place => {
-            fault(FaultKind::NotAdmitted(refused.reason), symbol_place)
+            fault(NameFaultKind::NotAdmitted(refused.reason), symbol_place)
         }
         Some(_) | None => None,
     }
@@ -327,7 +339,7 @@ fn form_fault(
     let places = placed.names.as_slice();
     match &placed.form {
         WrittenForm::OfClass(ClassForm::Declare, _) | WrittenForm::Expression { .. }
-            if !defined.has_operators => { Ok(fault(FaultKind::UnknownName, placed.place)) }
+            if !defined.has_operators => { Ok(fault(NameFaultKind::Unknown, placed.place)) }
         WrittenForm::OfClass(_, class) => {
             class_fault(alloc, registry, above, class.parts(), places)
         }
@@ -343,11 +355,11 @@ fn form_fault(
             Ok(
                 places
                     .first()
-                    .and_then(|place| fault(FaultKind::UnknownName, *place)),
+                    .and_then(|place| fault(NameFaultKind::Unknown, *place)),
             )
         }
         WrittenForm::Rule(name) if !defined.rules.contains(name.as_slice()) => {
-            Ok(fault(FaultKind::UnknownName, placed.place))
+            Ok(fault(NameFaultKind::Unknown, placed.place))
         }
         WrittenForm::Word(_)
         | WrittenForm::Rule(_)
@@ -373,7 +385,7 @@ fn builders_fault(
     for name in names {
         let place = places.next().copied().unwrap_or(0);
         if !is_builder_name(alloc, registry, name.as_slice())? {
-            return Ok(fault(FaultKind::UnknownName, place));
+            return Ok(fault(NameFaultKind::Unknown, place));
         }
     }
     Ok(None)

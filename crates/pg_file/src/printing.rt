@@ -5,7 +5,7 @@ ghost use Rattle.pg_pred.specs.Offer.{Offer};
 ghost use Rattle.pg_making.specs.Spells.{Spells, SpellsWithinLimits};
 ghost use Rattle.pg_print.specs.Printed.{printed, PrintKeepsLimits};
 
-use pg_grammar::Grammar;
+use pg_value::Grammar;
 use std::alloc::{AllocError, Global};
 
 /// The grammar as a file in the canonical form (ours): an item a line; classes, words, operators, table, start and

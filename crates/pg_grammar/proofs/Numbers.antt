@@ -1,20 +1,15 @@
 -- The nodes of whole forms are those forms in preorder, with numbers for parts and names.
-use Rattle.std.proofs.Common.{◌≡◌, ℕ, zero, suc, ◌+◌, ◌<◌, Bool, true, false, not, List, [], ◌∷◌, length, map, take, Some, slice_get, refl, sym, ap, subst, arith}
+use Rattle.std.proofs.Common.{◌≡◌, ℕ, zero, suc, ◌+◌, Bool, true, false, not, List, [], ◌∷◌, length, map, take, refl, sym, ap}
 use Rattle.std.proofs.lemmas.Bool.{or_parts}
-use Rattle.std.proofs.lemmas.List.{length-map}
 use Rattle.std.specs.List.{AllByRecursion, list_any}
-use Rattle.pg_grammar.specs.Preorder.{SpellForms, roots}
-use Rattle.pg_grammar.specs.Names.{Name, has_name}
-use Rattle.pg_grammar.specs.Forms.{BaseForm, Node, part_count, parts_of, node_part_count, form_of, has_unknown_name, InPreorder, NamesRule, NamesWord}
-use Rattle.pg_grammar.specs.Follows.{PartsFollow, BodiesAreNodes}
-use Rattle.pg_grammar.specs.Grammar.{rule_body}
-use Rattle.pg_grammar.specs.declared.grammar.Rule.{Rule}
+use Rattle.pg_form.specs.Preorder.{SpellForms}
+use Rattle.pg_form.specs.Names.{Name, has_name}
+use Rattle.pg_form.specs.Forms.{BaseForm, part_count, parts_of, node_part_count, form_of, has_unknown_name, InPreorder, NamesRule, NamesWord}
+use Rattle.pg_form.specs.declared.form.Form.TheVariants as form
+use Rattle.pg_form.specs.declared.form.Leaf.TheVariants as leaf
 use Rattle.pg_grammar.specs.Numbering.{first_part, second_part, node_of, nodes_from}
-use Rattle.pg_grammar.specs.declared.form.Form.TheVariants as form
-use Rattle.pg_grammar.specs.declared.form.Leaf.TheVariants as leaf
-use Rattle.pg_grammar.proofs.Each.{all-take, all-weaker, all-map}
-use Rattle.pg_grammar.proofs.Lookup.{number_is_found}
-use Rattle.pg_grammar.proofs.Preorder.{length-parts, roots_within}
+use Rattle.pg_form.proofs.Lookup.{number_is_found}
+use Rattle.pg_form.proofs.Preorder.{length-parts}
 
 -- ---- one node
 
@@ -126,35 +121,3 @@ words_named-nodes_from rules words i (form ∷ forms) e =
 pub length-nodes_from : (rules words : List Name) (i : ℕ) (forms : List BaseForm) → length (nodes_from rules words i forms) ≡ length forms
 length-nodes_from rules words i [] = refl
 length-nodes_from rules words i (form ∷ forms) = ap suc (length-nodes_from rules words (suc i) forms)
-
--- ---- where parts lie
-
--- the parts of a node stand after it
-pub parts_follow : (i : ℕ) (nodes : List Node) (k : ℕ) (n : Node) → InPreorder i nodes → slice_get nodes k ≡ Some n
-    → PartsFollow (i + k) (i + length nodes) (parts_of n)
-parts_follow i [] zero n h e = absurd cc
-parts_follow i [] (suc k) n h e = absurd cc
-parts_follow i (m ∷ nodes) zero n h e =
-    let same : m ≡ n = cc in
-    let counts = length-map nodes node_part_count in
-    let after = all-take _ (node_part_count m) _ (roots_within (suc i) (map node_part_count nodes)) in
-    let parts = subst (AllByRecursion _) (sym h.0) after in
-    subst (λ x. PartsFollow (i + 0) (i + suc (length nodes)) (parts_of x)) same
-    (all-weaker _ _ (λ q w. (omega (arith, w.0), omega (arith, w.1, counts))) _ parts)
-parts_follow i (m ∷ nodes) (suc k) n h e =
-    let after = parts_follow (suc i) nodes k n h.1 e in
-    all-weaker _ _ (λ q w. (omega (arith, w.0), omega (arith, w.1))) _ after
-
--- the same, the first node having the number 0
-pub parts_are_after : (nodes : List Node) (k : ℕ) (n : Node) → InPreorder 0 nodes → slice_get nodes k ≡ Some n
-    → PartsFollow k (length nodes) (parts_of n)
-parts_are_after nodes k n h e =
-    all-weaker _ _ (λ q w. (omega (arith, w.0), omega (arith, w.1))) _ (parts_follow 0 nodes k n h e)
-
--- the bodies of rules are nodes
-pub bodies_are_nodes : (rules : List Rule) (nodes : List Node) → map rule_body rules ≡ roots 0 (map node_part_count nodes)
-    → BodiesAreNodes (length nodes) rules
-bodies_are_nodes rules nodes e =
-    let counts = length-map nodes node_part_count in
-    let within = all-weaker _ (λ q. q < length nodes) (λ q w. omega (arith, w.1, counts)) _ (roots_within 0 (map node_part_count nodes)) in
-    all-map (λ q. q < length nodes) rule_body rules (subst (AllByRecursion _) (sym e) within)

@@ -1,17 +1,3 @@
-pub mod Preorder
-pub mod Names
-pub mod Literals
-pub mod Classes
-pub mod ClassItems
-pub mod Contents
-pub mod Forms
-pub mod Operators
-pub mod WordItems
-pub mod OperatorsItems
-pub mod Grammar
-pub mod Follows
 pub mod Made
 pub mod Numbering
 pub mod Room
-pub mod Fits
-pub mod Membership

@@ -2,20 +2,20 @@
 use Rattle.std.specs.Prelude.{◌≡◌, ◌<◌, ◌≤◌, ◌+◌, ℕ, ◌++◌, if◌then◌else◌, Bool, false, ◌||◌, nat_lt, nat_le, List, [], ◌∷◌, length, map, Option, Some, None}
 use Rattle.std.specs.List.{list_any, AllByRecursion}
 use Rattle.std.specs.Option.{is_some, option_map_or}
-use Rattle.pg_grammar.specs.Preorder.{SpellForms, roots, parts_from}
-use Rattle.pg_grammar.specs.Names.{Name, name_at, has_name, AreDistinct}
-use Rattle.pg_grammar.specs.Forms.{BaseForm, part_count, lacks_alternative, has_bad_literal, has_long_text, has_unknown_name, has_unknown_class}
-use Rattle.pg_grammar.specs.Classes.{lacks_item, descends, is_long}
-use Rattle.pg_grammar.specs.ClassItems.{AreClasses, has_item}
-use Rattle.pg_grammar.specs.WordItems.{word_name, has_word, word_lacks_item, word_has_bad_literal, word_has_long_text, AreWords}
-use Rattle.pg_grammar.specs.Literals.{is_long_literal}
-use Rattle.pg_grammar.specs.Operators.{Operator, IsOperator}
-use Rattle.pg_grammar.specs.OperatorsItems.{operators_lack_item, operators_have_bad_literal, operators_have_long_text, lacks_operators, AreOperators}
-use Rattle.pg_grammar.specs.Grammar.{Grammar, IsGrammar, rule_names, forms_of}
-use Rattle.pg_grammar.specs.declared.class.ClassPart.{ClassPart}
-use Rattle.pg_grammar.specs.declared.class_item.ClassItem.{ClassItem}
-use Rattle.pg_grammar.specs.declared.operators_item.OperatorsItem.{OperatorsItem}
-use Rattle.pg_grammar.specs.declared.word_item.WordItem.{WordItem}
+use Rattle.pg_form.specs.Preorder.{SpellForms, roots, parts_from}
+use Rattle.pg_form.specs.Names.{Name, name_at, has_name, AreDistinct}
+use Rattle.pg_form.specs.Forms.{BaseForm, part_count, lacks_alternative, has_bad_literal, has_long_text, has_unknown_name, has_unknown_class}
+use Rattle.pg_form.specs.Classes.{lacks_item, descends, is_long}
+use Rattle.pg_form.specs.ClassItems.{AreClasses, has_item}
+use Rattle.pg_form.specs.WordItems.{word_name, has_word, word_lacks_item, word_has_bad_literal, word_has_long_text, AreWords}
+use Rattle.pg_form.specs.Literals.{is_long_literal}
+use Rattle.pg_form.specs.Operators.{Operator, IsOperator}
+use Rattle.pg_form.specs.OperatorsItems.{operators_lack_item, operators_have_bad_literal, operators_pass_limit, lacks_operators, AreOperators}
+use Rattle.pg_value.specs.Grammar.{Grammar, IsGrammar, rule_names, forms_of}
+use Rattle.pg_form.specs.declared.class.ClassPart.{ClassPart}
+use Rattle.pg_form.specs.declared.class_item.ClassItem.{ClassItem}
+use Rattle.pg_form.specs.declared.operators_item.OperatorsItem.{OperatorsItem}
+use Rattle.pg_form.specs.declared.word_item.WordItem.{WordItem}
 use Rattle.pg_grammar.specs.declared.fault.MakerFault.{MakerFault}
 use Rattle.pg_grammar.specs.declared.fault.MakerFault.TheVariants.{UnknownName, NameTwice, NoStart, BadLiteral, LimitPassed}
 
@@ -61,11 +61,6 @@ with_initial made operator = record made { initials = made.initials ++ operator 
 -- the names of the word items
 abbrev pub made_words : Made → List Name
 made_words made = map word_name made.words
-
--- a list of base forms that is one whole form, each choice in it with an alternative
-pub record IsBody (forms : List BaseForm) : Type 0 where
-  pub whole : SpellForms 1 (map part_count forms)
-  pub alternatives : list_any lacks_alternative forms ≡ false
 
 -- whether a body names a rule or a word item that isn't there, or operators are used and their item isn't there
 abbrev pub is_incomplete : Made → Bool
@@ -138,10 +133,6 @@ word_fault made item =
     if has_word made.words item.name then Some NameTwice else
     if word_has_bad_literal item then Some BadLiteral else
     if word_passes_limit made item then Some LimitPassed else None
-
--- whether a literal has over 1,024 characters, a name over 64, or `max` isn't from 1 to 64
-abbrev pub operators_pass_limit : OperatorsItem → Bool
-operators_pass_limit item = operators_have_long_text item || (nat_lt item.max 1 || nat_lt 64 item.max)
 
 -- why an operators item is refused, if it is
 abbrev pub operators_fault : Made → OperatorsItem → Option MakerFault

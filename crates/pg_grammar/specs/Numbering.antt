@@ -1,9 +1,9 @@
 -- The nodes of base forms, with a number in place of each part and name.
 use Rattle.std.specs.Prelude.{ℕ, suc, List, [], ◌∷◌, map, take}
-use Rattle.pg_grammar.specs.Preorder.{roots}
-use Rattle.pg_grammar.specs.Names.{Name, number_of}
-use Rattle.pg_grammar.specs.Forms.{BaseForm, Node, part_count, leaf_with}
-use Rattle.pg_grammar.specs.declared.form.Form.TheVariants as form
+use Rattle.pg_form.specs.Preorder.{roots}
+use Rattle.pg_form.specs.Names.{Name, number_of}
+use Rattle.pg_form.specs.Forms.{BaseForm, Node, part_count, leaf_with}
+use Rattle.pg_form.specs.declared.form.Form.TheVariants as form
 
 -- the first of some parts
 abbrev pub first_part : List ℕ → ℕ

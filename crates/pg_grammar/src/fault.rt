@@ -51,7 +51,7 @@ impl<T: Drop> From<AllocFailed<T>> for MakerFault {
 }
 
 /// A maker that didn't finish, as it was, and why.
-#[derive(Debug, Drop)]
+#[derive(Drop)]
 pub struct Unfinished {
     /// The maker as it was before, to be completed and finished again.
     pub maker: Maker,

@@ -4,18 +4,18 @@
 //! relies on them for F4, F7 and F8.
 
 ghost use Rattle.std.specs.Prelude.{◌≡◌, not, length, map};
-ghost use Rattle.pg_grammar.specs.Names.{has_name};
+ghost use Rattle.pg_form.specs.Names.{has_name};
 ghost use Rattle.std.specs.List.{list_any};
-ghost use Rattle.pg_grammar.specs.Classes.{descends, is_long, lacks_item};
-ghost use Rattle.pg_grammar.specs.Contents.{class_parts, builders_in, literal_in, name_in, all_builders};
-ghost use Rattle.pg_grammar.specs.Forms.{has_bad_literal, has_long_name, has_long_text, has_unknown_name, has_unknown_class, is_empty_string, uses_operators};
-ghost use Rattle.pg_grammar.specs.WordItems.{word_name};
+ghost use Rattle.pg_form.specs.Classes.{descends, is_long, lacks_item};
+ghost use Rattle.pg_form.specs.Contents.{class_parts, builders_in, literal_in, name_in, all_builders};
+ghost use Rattle.pg_form.specs.Forms.{has_bad_literal, has_long_name, has_long_text, has_unknown_name, has_unknown_class, is_empty_string, uses_operators};
+ghost use Rattle.pg_form.specs.WordItems.{word_name};
 
-use crate::form::{Around, BaseForm, Form, Leaf};
-use crate::limits::{LITERAL_LIMIT, NAME_LIMIT, characters_in};
 use crate::names::{has_name, has_word};
-use crate::used::{BuilderUse, OperatorBuilders};
-use crate::word_item::WordItem;
+use pg_form::{
+    Around, BaseForm, BuilderUse, Form, LITERAL_LIMIT, Leaf, NAME_LIMIT, OperatorBuilders,
+    WordItem, characters_in,
+};
 use pg_text::Characters;
 
 /// Whether a string is empty, or a range descends.

@@ -3,7 +3,7 @@
 //! A law is a function that does nothing when it runs: its clause is the law, and whoever calls it has the clause.
 
 ghost use Rattle.std.specs.Prelude.{◌≡◌};
-ghost use Rattle.pg_grammar.specs.Grammar.{Grammar};
+ghost use Rattle.pg_value.specs.Grammar.{Grammar};
 ghost use Rattle.pg_grammar.specs.Made.{Made, Says};
 
 /// The law that what was handed in determines the grammar: two that say it have equal class items,

@@ -1,51 +1,25 @@
-//! Grammars as values: rules in file order, over nodes that are held flat and named by typed numbers.
+//! Grammars: a [`Maker`] takes the parts of one, one after another, and finishes it.
 //!
-//! A [`Maker`] takes the parts of a grammar one after another and finishes it; a [`Grammar`] is read only.
-//! Every number in a grammar names something: that is an invariant of the type, and all layers above rely on it.
-//! `Grammar::test` tells whether a class expression has a character, with the functions of a registry that fits
-//! (`Grammar::fits`).
+//! What a grammar consists of (`pg_form`) and what is read of one (`pg_value`) is named here again, so that whoever makes
+//! grammars needs no other crate; layers that make none stand on those two. What is handed in is judged first (`judged`), and a refusal changes nothing. At the end each form gets the numbers of its
+//! parts (`numbering`) and of what it names (`nodes`). What was handed in determines the grammar (`laws`).
 #![tactic(auto)]
 
-mod class;
-mod class_item;
-mod decl;
 mod fault;
-mod fits;
-mod form;
-mod grammar;
 mod judged;
 mod laws;
-mod limits;
 mod maker;
-mod membership;
 mod names;
 mod nodes;
-mod number;
 mod numbering;
-mod operators_item;
-mod parts;
-mod side;
-mod texts;
-mod trail;
-mod used;
-mod word_item;
 
-pub use class::{ClassExpression, ClassPart};
-pub use class_item::ClassItem;
-pub use decl::{Decl, Role};
 pub use fault::{MakerFault, Unfinished};
-pub use form::{Around, BaseForm, Form, Leaf, NextForm, Node};
-pub use grammar::{Grammar, Rule};
 pub use laws::grammars_are_unique;
-pub use limits::{
-    CLASS_LIMIT, LITERAL_LIMIT, NAME_LIMIT, NODE_LIMIT, OPERATOR_LIMIT, RULE_LIMIT, WORD_LIMIT,
-};
 pub use maker::Maker;
-pub use number::{ClassId, NodeId, RuleId, WordId};
-pub use operators_item::OperatorsItem;
-pub use parts::Parts;
-pub use side::Side;
-pub use texts::Texts;
-pub use trail::{AppliedOperator, AppliedOperators, Fixity, Trail, TrailItem};
-pub use used::{BuilderUse, OperatorBuilders, PredicateUse};
-pub use word_item::WordItem;
+pub use pg_form::{
+    Around, BaseForm, BuilderUse, CLASS_LIMIT, ClassExpression, ClassId, ClassItem, ClassPart,
+    Decl, Form, LITERAL_LIMIT, Leaf, NAME_LIMIT, NODE_LIMIT, NextForm, Node, NodeId,
+    OPERATOR_LIMIT, OperatorBuilders, OperatorsItem, Parts, PredicateUse, RULE_LIMIT, Role, RuleId,
+    Side, Texts, WORD_LIMIT, WordId, WordItem,
+};
+pub use pg_value::{AppliedOperator, AppliedOperators, Fixity, Grammar, Rule, Trail, TrailItem};

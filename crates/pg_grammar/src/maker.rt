@@ -6,32 +6,27 @@
 //! one with the lowest number.
 
 ghost use Rattle.std.specs.Prelude.{◌≡◌, ◌<◌, ◌≤◌, ◌↔◌, length, option_and_then, Err, MatchOption, IsOk, IsOkUnless, IsSome, IsNone, IfOk, IfErr, OnOk, OnErr, IsErrOf, IsErrAnd};
-ghost use Rattle.pg_grammar.specs.Names.{place_of_name};
-ghost use Rattle.pg_grammar.specs.ClassItems.{has_item};
+ghost use Rattle.pg_form.specs.Names.{place_of_name};
+ghost use Rattle.pg_form.specs.ClassItems.{has_item};
 
-use crate::class::ClassExpression;
-use crate::class_item::ClassItem;
-use crate::decl::Decl;
 use crate::fault::{MakerFault, Unfinished};
-use crate::form::BaseForm;
-use crate::grammar::Grammar;
 use crate::judged::{has_bad_literals, has_long_texts, lacks_class, lacks_name, use_operators};
-use crate::limits::{CLASS_LIMIT, LITERAL_LIMIT, NAME_LIMIT, NODE_LIMIT, RULE_LIMIT, WORD_LIMIT};
 use crate::names::{has_name, has_word, place_of_name};
 use crate::nodes::{nodes_of, rules_of};
-use crate::number::{ClassId, RuleId, WordId};
 use crate::numbering::{Numbers, numbers_of};
-use crate::operators_item::OperatorsItem;
-use crate::texts::Texts;
-use crate::word_item::WordItem;
+use pg_form::{
+    BaseForm, CLASS_LIMIT, ClassExpression, ClassId, ClassItem, Decl, LITERAL_LIMIT, NAME_LIMIT,
+    NODE_LIMIT, OperatorsItem, RULE_LIMIT, RuleId, Texts, WORD_LIMIT, WordId, WordItem,
+};
 use pg_text::Characters;
+use pg_value::Grammar;
 use std::alloc::Global;
 use std::marker::Model;
 
 /// A grammar in the making, seen as what it was given so far: each rule's body is one whole form, the rules have
 /// different names, so have the class items and the word items, each class item that is named is there, no string or
 /// reserved text is empty, no range descends and no limit is passed.
-#[derive(Debug, Drop)]
+#[derive(Drop)]
 pub struct Maker {
     start: Option<Characters>,
     classes: Vec<ClassItem>,
@@ -53,7 +48,8 @@ impl Model for Maker {
 }
 
 impl Maker {
-    ghost use Rattle.pg_grammar.specs.Made.{nothing_made, with_start, with_class, with_word, with_operators, with_initial, with_rule, class_fault, word_fault, operators_fault, initial_fault, rule_fault, word_passes_limit, passes_limit, is_incomplete, finish_fault, IsBody, IsReady, AreNumbers, Says};
+    ghost use Rattle.pg_form.specs.Forms.{IsBody};
+    ghost use Rattle.pg_grammar.specs.Made.{nothing_made, with_start, with_class, with_word, with_operators, with_initial, with_rule, class_fault, word_fault, operators_fault, initial_fault, rule_fault, word_passes_limit, passes_limit, is_incomplete, finish_fault, IsReady, AreNumbers, Says};
     ghost use Rattle.pg_grammar.specs.Room.{HasRoom};
 
     /// A maker that was given nothing yet. It takes no memory until it is.

@@ -5,10 +5,10 @@
 
 ghost use Rattle.std.specs.Prelude.{◌≡◌, position};
 ghost use Rattle.std.specs.Str.{bytes_eq};
-ghost use Rattle.pg_grammar.specs.Names.{has_name, place_of_name};
-ghost use Rattle.pg_grammar.specs.WordItems.{has_word};
+ghost use Rattle.pg_form.specs.Names.{has_name, place_of_name};
+ghost use Rattle.pg_form.specs.WordItems.{has_word};
 
-use crate::word_item::WordItem;
+use pg_form::WordItem;
 use pg_text::Characters;
 
 /// Whether the name is among these.

@@ -4,19 +4,16 @@
 //! memory and can't be refused.
 
 ghost use Rattle.std.specs.Prelude.{◌≡◌, ◌≤◌, [], map, length, vec_capacity};
-ghost use Rattle.pg_grammar.specs.Forms.{leaf_with};
+ghost use Rattle.pg_form.specs.Forms.{leaf_with};
 ghost use Rattle.pg_grammar.specs.Numbering.{first_part, second_part, node_of, nodes_with};
-ghost use Rattle.pg_grammar.specs.Names.{number_of};
-ghost use Rattle.pg_grammar.specs.Grammar.{rule_name, rule_body};
-ghost use Rattle.pg_grammar.specs.WordItems.{word_name};
+ghost use Rattle.pg_form.specs.Names.{number_of};
+ghost use Rattle.pg_value.specs.Grammar.{rule_name, rule_body};
+ghost use Rattle.pg_form.specs.WordItems.{word_name};
 
-use crate::form::{BaseForm, Form, Leaf, Node};
-use crate::grammar::Rule;
 use crate::names::{place_of_name, place_of_word};
-use crate::number::{NodeId, RuleId, WordId};
-use crate::parts::Parts;
-use crate::word_item::WordItem;
+use pg_form::{BaseForm, Form, Leaf, Node, NodeId, Parts, RuleId, WordId, WordItem};
 use pg_text::Characters;
+use pg_value::Rule;
 use std::collections::VecDeque;
 
 /// The nodes of these forms with these parts, of which there are as many, in an empty list with room for them.

@@ -5,13 +5,11 @@
 //! so whoever wants memory that isn't there still has what it came with.
 
 ghost use Rattle.std.specs.Prelude.{◌≡◌, ◌≤◌, [], take, drop, map, length, IfOk, OnOk, vec_capacity};
-ghost use Rattle.pg_grammar.specs.Preorder.{roots, parts_from};
-ghost use Rattle.pg_grammar.specs.Forms.{part_count};
+ghost use Rattle.pg_form.specs.Preorder.{roots, parts_from};
+ghost use Rattle.pg_form.specs.Forms.{part_count};
 
-use crate::form::{BaseForm, Node};
-use crate::grammar::Rule;
-use crate::number::NodeId;
-use crate::parts::Parts;
+use pg_form::{BaseForm, Node, NodeId, Parts};
+use pg_value::Rule;
 use std::alloc::{AllocError, Global};
 use std::collections::VecDeque;
 

@@ -1,6 +1,6 @@
 -- The items of a grammar file, without their places.
 use Rattle.std.specs.Prelude.{ℕ, List, map, Option}
-use Rattle.pg_grammar.specs.declared.decl.Role.{Role}
+use Rattle.pg_form.specs.declared.decl.Role.{Role}
 use Rattle.pg_items.specs.declared.written.WrittenPart.{WrittenPart}
 use Rattle.pg_items.specs.declared.written.WrittenForm.{WrittenForm}
 use Rattle.pg_items.specs.declared.item.PlacedForm.{PlacedForm}

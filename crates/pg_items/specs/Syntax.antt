@@ -1,7 +1,7 @@
 -- The tokens that a tree is written with.
 use Rattle.std.specs.Prelude.{ℕ, List, [], ◌∷◌, Option, Some, None, codes}
-use Rattle.pg_grammar.specs.declared.decl.Role.{Role}
-use Rattle.pg_grammar.specs.declared.decl.Role.TheVariants.{InfixLeft, InfixRight, InfixNone, Prefix, Postfix}
+use Rattle.pg_form.specs.declared.decl.Role.{Role}
+use Rattle.pg_form.specs.declared.decl.Role.TheVariants.{InfixLeft, InfixRight, InfixNone, Prefix, Postfix}
 use Rattle.pg_items.specs.declared.words.ClassForm.{ClassForm}
 use Rattle.pg_items.specs.declared.words.ClassForm.TheVariants.{Satisfy, NotFollowedBy, Declare}
 use Rattle.pg_items.specs.declared.words.SomeForm.{SomeForm}
@@ -10,8 +10,8 @@ use Rattle.pg_items.specs.declared.words.OneForm.{OneForm}
 use Rattle.pg_items.specs.declared.words.OneForm.TheVariants as one
 use Rattle.pg_items.specs.declared.words.TwoForm.{TwoForm}
 use Rattle.pg_items.specs.declared.words.TwoForm.TheVariants.{SepBy, SepBy1, EndBy}
-use Rattle.pg_grammar.specs.declared.side.Side.{Side}
-use Rattle.pg_grammar.specs.declared.side.Side.TheVariants.{Left, Right}
+use Rattle.pg_form.specs.declared.side.Side.{Side}
+use Rattle.pg_form.specs.declared.side.Side.TheVariants.{Left, Right}
 use Rattle.pg_tokens.specs.declared.token.Mark.TheVariants.{Open, Close, Comma, Semicolon, Equals, Bar, Dots}
 use Rattle.pg_tokens.specs.Tokens.{Token, name, number, literal, mark}
 use Rattle.pg_items.specs.Tree.{Atom, Set, Range, Name, Not, Group, Class, Of, Atoms, No_atom, Or, Value, Of_class, String, Seq, Of_some, Of_one, Of_two, Between, Chain, Expression, Build, Build_symbol, Label, End_of_text, Word, Rule, Values, No_value, And, Item, Class_item, Word_item, Operators, Table, Start, Rule_item}

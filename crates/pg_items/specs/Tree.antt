@@ -1,11 +1,11 @@
 -- A grammar file as a tree: its items, their values and their class expressions, as they are written.
 use Rattle.std.specs.Prelude.{ℕ, List, Option}
-use Rattle.pg_grammar.specs.declared.decl.Role.{Role}
+use Rattle.pg_form.specs.declared.decl.Role.{Role}
 use Rattle.pg_items.specs.declared.words.ClassForm.{ClassForm}
 use Rattle.pg_items.specs.declared.words.SomeForm.{SomeForm}
 use Rattle.pg_items.specs.declared.words.OneForm.{OneForm}
 use Rattle.pg_items.specs.declared.words.TwoForm.{TwoForm}
-use Rattle.pg_grammar.specs.declared.side.Side.{Side}
+use Rattle.pg_form.specs.declared.side.Side.{Side}
 
 mutual
   -- an atom of a class expression: a set of characters, a range, a name, `not` and an atom, or a class in parentheses

@@ -1,7 +1,7 @@
 -- Class expressions as they are written, their names not yet looked up.
 use Rattle.std.specs.Prelude.{◌≤◌, ℕ, List, map}
 use Rattle.std.specs.List.{AllByRecursion}
-use Rattle.pg_grammar.specs.Preorder.{SpellForms}
+use Rattle.pg_form.specs.Preorder.{SpellForms}
 use Rattle.pg_items.specs.declared.written.WrittenPart.{WrittenPart}
 use Rattle.pg_items.specs.declared.written.WrittenPart.TheVariants as part
 

@@ -4,7 +4,7 @@
 //! which relies on the places here. A place counts the characters of the file before it.
 
 use crate::written::{WrittenClass, WrittenForm};
-use pg_grammar::Role;
+use pg_form::Role;
 use pg_text::Characters;
 
 /// A form and where it stands in the file.

@@ -12,7 +12,7 @@ ghost use Rattle.pg_items.specs.Sizes.{counted, part_count, size_at, sum_of, siz
 use crate::item::PlacedForm;
 use crate::words::{OneForm, SomeForm, TwoForm};
 use crate::written::WrittenForm;
-use pg_grammar::NODE_LIMIT;
+use pg_form::NODE_LIMIT;
 use std::alloc::{AllocError, Global};
 use std::collections::VecDeque;
 

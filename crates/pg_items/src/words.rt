@@ -9,7 +9,7 @@ ghost use Rattle.std.specs.Str.{bytes_eq};
 ghost use Rattle.pg_items.specs.Proper.{is_reserved};
 ghost use Rattle.pg_items.specs.Words as words;
 
-use pg_grammar::{Role, Side};
+use pg_form::{Role, Side};
 use pg_tokens::is_word;
 
 /// The words that no rule, no class and no word has for a name.

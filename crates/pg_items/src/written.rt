@@ -7,7 +7,7 @@ ghost use Rattle.std.specs.Prelude.{◌≡◌};
 ghost use Rattle.pg_items.specs.Written.{IsClass};
 
 use crate::words::{ClassForm, OneForm, SomeForm, TwoForm};
-use pg_grammar::Side;
+use pg_form::Side;
 use pg_text::Characters;
 use std::marker::Model;
 

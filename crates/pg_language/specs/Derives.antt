@@ -5,26 +5,26 @@ use Rattle.pg_tree.specs.Trees.{Tree, node, kids_of}
 use Rattle.pg_tree.specs.Trees as trees
 use Rattle.pg_tree.specs.Built.{built}
 use Rattle.pg_tree.specs.declared.shape.Shape.{Shape}
-use Rattle.pg_grammar.specs.Grammar.{Grammar}
-use Rattle.pg_grammar.specs.Operators.{Operator}
-use Rattle.pg_grammar.specs.declared.class.ClassPart.{ClassPart}
-use Rattle.pg_grammar.specs.declared.used.BuilderUse.{BuilderUse}
-use Rattle.pg_grammar.specs.declared.used.OperatorBuilders.{OperatorBuilders}
-use Rattle.pg_grammar.specs.Forms.{Node}
-use Rattle.pg_grammar.specs.declared.form.Form.TheVariants as form
-use Rattle.pg_grammar.specs.declared.form.Leaf.TheVariants as read
-use Rattle.pg_grammar.specs.declared.form.Leaf.{Leaf}
-use Rattle.pg_grammar.specs.declared.form.Around.{Around}
-use Rattle.pg_grammar.specs.declared.form.Around.TheVariants as kind
-use Rattle.pg_grammar.specs.declared.side.Side.{Side}
-use Rattle.pg_grammar.specs.declared.side.Side.TheVariants.{Left, Right}
-use Rattle.pg_grammar.specs.declared.grammar.Rule as declared
-use Rattle.pg_grammar.specs.declared.operators_item.OperatorsItem.{OperatorsItem}
-use Rattle.pg_grammar.specs.declared.word_item.WordItem.{WordItem}
+use Rattle.pg_value.specs.Grammar.{Grammar}
+use Rattle.pg_form.specs.Operators.{Operator}
+use Rattle.pg_form.specs.declared.class.ClassPart.{ClassPart}
+use Rattle.pg_form.specs.declared.used.BuilderUse.{BuilderUse}
+use Rattle.pg_form.specs.declared.used.OperatorBuilders.{OperatorBuilders}
+use Rattle.pg_form.specs.Forms.{Node}
+use Rattle.pg_form.specs.declared.form.Form.TheVariants as form
+use Rattle.pg_form.specs.declared.form.Leaf.TheVariants as read
+use Rattle.pg_form.specs.declared.form.Leaf.{Leaf}
+use Rattle.pg_form.specs.declared.form.Around.{Around}
+use Rattle.pg_form.specs.declared.form.Around.TheVariants as kind
+use Rattle.pg_form.specs.declared.side.Side.{Side}
+use Rattle.pg_form.specs.declared.side.Side.TheVariants.{Left, Right}
+use Rattle.pg_value.specs.declared.grammar.Rule as declared
+use Rattle.pg_form.specs.declared.operators_item.OperatorsItem.{OperatorsItem}
+use Rattle.pg_form.specs.declared.word_item.WordItem.{WordItem}
 use Rattle.pg_table.specs.Tables.{Table, Admits, with_operator}
 use Rattle.pg_table.specs.Fitting.{Expression, term, prefixed, postfixed, joined, IsFitting}
-use Rattle.pg_grammar.specs.declared.trail.TrailItem.{TrailItem}
-use Rattle.pg_grammar.specs.declared.trail.TrailItem.TheVariants.{Alt, Rounds, Ops}
+use Rattle.pg_value.specs.declared.trail.TrailItem.{TrailItem}
+use Rattle.pg_value.specs.declared.trail.TrailItem.TheVariants.{Alt, Rounds, Ops}
 use Rattle.pg_table.specs.Trails.{operators_read}
 use Rattle.pg_language.specs.Runs.{HasAt, StandsAt, IsWordAt, IsOperatorAt, IsDeclarationAt, keyword}
 

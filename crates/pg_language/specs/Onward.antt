@@ -2,10 +2,10 @@
 use Rattle.std.specs.Prelude.{◌≡◌, ◌≤◌, ◌++◌, ℕ, List, length}
 use Rattle.std.specs.List.{AllByRecursion}
 use Rattle.pg_tree.specs.Trees.{Tree}
-use Rattle.pg_grammar.specs.Grammar.{Grammar}
-use Rattle.pg_grammar.specs.Operators.{Operator, IsOperator}
+use Rattle.pg_value.specs.Grammar.{Grammar}
+use Rattle.pg_form.specs.Operators.{Operator, IsOperator}
 use Rattle.pg_table.specs.Tables.{whole, added_from, ComesFrom}
-use Rattle.pg_grammar.specs.declared.trail.TrailItem.{TrailItem}
+use Rattle.pg_value.specs.declared.trail.TrailItem.{TrailItem}
 use Rattle.pg_language.specs.Derives.{Spot, Derives}
 
 -- from the one spot on to the other: not back and not past the text's end, and with further operators, each of which can be

@@ -2,7 +2,7 @@
 use Rattle.std.specs.Prelude.{List, Bool}
 use Rattle.pg_tree.specs.Trees.{Tree}
 use Rattle.pg_language.specs.Derives.{Spot}
-use Rattle.pg_grammar.specs.declared.trail.TrailItem.{TrailItem}
+use Rattle.pg_value.specs.declared.trail.TrailItem.{TrailItem}
 use Rattle.pg_language.specs.Errors.{Error}
 
 pub data Outcome : Type 0 where

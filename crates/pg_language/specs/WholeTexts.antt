@@ -1,6 +1,6 @@
 -- Runs of the start rule with the end of the text after it.
 use Rattle.std.specs.Prelude.{◌≡◌, ℕ, zero, suc, List, Some, slice_get}
-use Rattle.pg_grammar.specs.declared.grammar.Rule as declared
+use Rattle.pg_value.specs.declared.grammar.Rule as declared
 use Rattle.pg_table.specs.Tables.{Table}
 use Rattle.pg_language.specs.Answers.{Given, Answers}
 use Rattle.pg_language.specs.Derives.{Spot}

@@ -3,13 +3,13 @@ use Rattle.std.proofs.Common.{◌≡◌, ℕ, zero, suc, ◌+◌, ◌*◌, ◌�
 use Rattle.std.specs.Prelude.{Option, Some, None, slice_get, option_map, if◌then◌else◌}
 use Rattle.pg_tree.specs.Trees.{Tree}
 use Rattle.pg_pred.specs.Offer.{Offer}
-use Rattle.pg_grammar.specs.Fits.{Fits}
-use Rattle.pg_grammar.specs.Forms.{Node, parts_of, node_part_count, InPreorder}
-use Rattle.pg_grammar.specs.Grammar.{rule_body}
-use Rattle.pg_grammar.specs.Preorder.{roots}
-use Rattle.pg_grammar.specs.declared.form.Form.TheVariants as form
-use Rattle.pg_grammar.specs.declared.grammar.Rule as declared
-use Rattle.pg_grammar.specs.declared.trail.TrailItem.{TrailItem}
+use Rattle.pg_value.specs.Fits.{Fits}
+use Rattle.pg_form.specs.Forms.{Node, parts_of, node_part_count, InPreorder}
+use Rattle.pg_value.specs.Grammar.{rule_body}
+use Rattle.pg_form.specs.Preorder.{roots}
+use Rattle.pg_form.specs.declared.form.Form.TheVariants as form
+use Rattle.pg_value.specs.declared.grammar.Rule as declared
+use Rattle.pg_value.specs.declared.trail.TrailItem.{TrailItem}
 use Rattle.pg_table.specs.Tables.{Table, ComesFrom}
 use Rattle.pg_language.specs.Derives.{Spot}
 use Rattle.pg_language.specs.Answers.{Given, Answers}

@@ -1,8 +1,8 @@
 -- An answer that isn't the last one: some frame still waits for it.
-use Rattle.std.proofs.Common.{◌≡◌, ℕ, List, length, false, sym, subst, refl}
+use Rattle.std.proofs.Common.{◌≡◌, List, length, false, sym, subst, refl}
 use Rattle.std.specs.Prelude.{◌==◌, None}
 use Rattle.pg_tree.specs.Trees.{Tree}
-use Rattle.pg_grammar.specs.declared.trail.TrailItem.{TrailItem}
+use Rattle.pg_value.specs.declared.trail.TrailItem.{TrailItem}
 use Rattle.pg_table.specs.Tables.{Table}
 use Rattle.pg_turns.specs.Messages.{TapeMessage}
 use Rattle.pg_turns.specs.Tape.{OnFrame, tape_with}

@@ -3,7 +3,7 @@ use Rattle.std.specs.Prelude.{◌≡◌, ℕ, zero, suc, [], Option, Some, None,
 use Rattle.std.specs.Coded.{×_prop, Coded-set, coded_bool}
 use Rattle.std.proofs.Common.{refl, ap}
 use mathlib.Core.HLevel.{Σ_prop_path}
-use Rattle.pg_grammar.specs.declared.grammar.Rule as declared
+use Rattle.pg_value.specs.declared.grammar.Rule as declared
 use Rattle.pg_table.specs.Tables.{Table}
 use Rattle.pg_language.specs.Answers.{Given}
 use Rattle.pg_turns.specs.Tape.{Tape, tape_at, tape_endless, tape_turn, tape_is_last}

@@ -1,9 +1,9 @@
 //! What a run of a grammar ends with.
 
-use pg_grammar::Trail;
 use pg_message::ParseError;
 use pg_table::Table;
 use pg_tree::Forest;
+use pg_value::Trail;
 
 /// What an ok answer gives.
 #[derive(Drop)]

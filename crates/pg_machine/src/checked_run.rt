@@ -4,7 +4,7 @@
 //! comes to it: the run goes on until it is there, however many turns that takes. After an ok answer the text has to end.
 
 ghost use Rattle.std.specs.Prelude.{◌≡◌, ◌≤◌, length, IfOk, IfSome, IfNone};
-ghost use Rattle.pg_grammar.specs.Fits.{Fits};
+ghost use Rattle.pg_value.specs.Fits.{Fits};
 ghost use Rattle.pg_pred.specs.Offer.{offer_of};
 ghost use Rattle.pg_table.specs.Tables.{ComesFrom};
 ghost use Rattle.pg_text.specs.Position.{position_of};
@@ -21,13 +21,13 @@ ghost use Rattle.pg_machine.specs.Outcomes.{outcome_of};
 
 use crate::answer::{Answer, Outcome};
 use crate::probing::{ended, start_of};
-use pg_grammar::Grammar;
 use pg_language::Reading;
 use pg_pred::Registry;
 use pg_predict::Checked;
 use pg_table::Table;
 use pg_text::Text;
 use pg_turns::{Machine, Mode, error_at_end};
+use pg_value::Grammar;
 use std::alloc::{AllocError, Global};
 
 /// Runs the start rule over the whole text, under the table, in the library's reading, until there is an answer: ok, with

@@ -1,20 +1,21 @@
 //! Runs of a grammar's start rule, on any grammar.
 
 ghost use Rattle.std.specs.Prelude.{◌≡◌, slice_get, option_map, Some, IfOk};
-ghost use Rattle.pg_grammar.specs.Grammar.{rule_body};
+ghost use Rattle.pg_value.specs.Grammar.{rule_body};
 ghost use Rattle.pg_pred.specs.Offer.{offer_of};
-ghost use Rattle.pg_grammar.specs.Fits.{Fits};
+ghost use Rattle.pg_value.specs.Fits.{Fits};
 ghost use Rattle.pg_machine.specs.Outcomes.{IsOutcome, Ends};
 ghost use Rattle.pg_language.specs.Answers.{given};
 ghost use Rattle.pg_turns.specs.View.{tape_of};
 
 use crate::answer::{Answer, Outcome, Success};
-use pg_grammar::{Grammar, NodeId, Trail};
+use pg_form::NodeId;
 use pg_language::Reading;
 use pg_pred::Registry;
 use pg_table::Table;
 use pg_text::Text;
 use pg_turns::{Machine, Mode, Reply};
+use pg_value::{Grammar, Trail};
 use std::alloc::{AllocError, Global};
 
 /// Runs the start rule at the beginning of the text, under the table, in at most so many turns: each enters a node or
@@ -80,7 +81,7 @@ pub(crate) fn ended(
                         consumed,
                         error,
                         steps,
-                        success: Some(success(machine, end)),
+                        success: Some(success(machine, end)?),
                     }))
                 }
                 Reply::Failed { consumed, error } => {
@@ -99,17 +100,23 @@ pub(crate) fn ended(
     }
 }
 
-/// What an ok answer gives that ends at this place.
-fn success(machine: Machine<'_>, end: usize) -> Success
-    ensures place { result.place ≡ end }
-    ensures table { result.table ≡ machine.entry.table }
-    ensures forest { result.forest ≡ machine.entry.forest }
-    ensures trail { result.trail ≡ machine.entry.trail.items }
+/// What an ok answer gives that ends at this place. The only error is that memory ran out.
+fn success(machine: Machine<'_>, end: usize) -> Result<Success, AllocError>
+    ensures place { IfOk result (λ success. success.place ≡ end) }
+    ensures table { IfOk result (λ success. success.table ≡ machine.entry.table) }
+    ensures forest { IfOk result (λ success. success.forest ≡ machine.entry.forest) }
+    ensures trail { IfOk result (λ success. success.trail ≡ machine.entry.trail.items) }
 {
-    Success {
+    let Machine {
+        forest,
+        trail,
+        table,
+        ..
+    } = machine;
+    Ok(Success {
         place: end,
-        table: machine.table,
-        forest: machine.forest,
-        trail: Trail::from_items(machine.trail),
-    }
+        table,
+        forest: forest.into_forest()?,
+        trail: Trail::from_items(trail),
+    })
 }

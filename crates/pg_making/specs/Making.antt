@@ -2,8 +2,8 @@
 use Rattle.std.specs.Prelude.{◌≡◌, false, List, [], ◌∷◌, map, None}
 use Rattle.std.specs.List.{AllByRecursion}
 use Rattle.pg_pred.specs.Offer.{Offer}
-use Rattle.pg_grammar.specs.Names.{Name, has_name}
-use Rattle.pg_grammar.specs.Grammar.{Grammar}
+use Rattle.pg_form.specs.Names.{Name, has_name}
+use Rattle.pg_value.specs.Grammar.{Grammar}
 use Rattle.pg_grammar.specs.Made.{Made, nothing_made, made_words, with_class, with_word, with_operators, with_initial, with_start, with_rule, Says}
 use Rattle.pg_items.specs.Tree.{Item}
 use Rattle.pg_items.specs.Proper.{IsProperItem}

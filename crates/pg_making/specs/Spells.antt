@@ -4,9 +4,9 @@ use Rattle.std.specs.Prelude.{◌≡◌, ◌≤◌, ℕ, false, List, [], ◌∷
 use Rattle.std.specs.List.{AllByRecursion}
 use Rattle.std.specs.Str.{chars, IsUtf8}
 use Rattle.pg_pred.specs.Offer.{Offer}
-use Rattle.pg_grammar.specs.Names.{Name, has_name}
-use Rattle.pg_grammar.specs.ClassItems.{item_name}
-use Rattle.pg_grammar.specs.Grammar.{Grammar}
+use Rattle.pg_form.specs.Names.{Name, has_name}
+use Rattle.pg_form.specs.ClassItems.{item_name}
+use Rattle.pg_value.specs.Grammar.{Grammar}
 use Rattle.pg_grammar.specs.Made.{Made, nothing_made, made_words, with_class, with_word, with_operators, with_initial, with_start, with_rule, Says}
 use Rattle.pg_table.specs.Tables as tables
 use Rattle.pg_table.specs.Tables.{whole, initial}

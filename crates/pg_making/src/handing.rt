@@ -13,7 +13,8 @@ ghost use Rattle.pg_items.specs.Entries.{forms_of};
 ghost use Rattle.pg_making.specs.Spells.{made_classes};
 ghost use Rattle.pg_making.specs.Making.{with_entry, MayFollow, LeadsNowhere, IsProperEntry};
 
-use pg_grammar::{BaseForm, Decl, Maker, MakerFault, OPERATOR_LIMIT, Role, Texts};
+use pg_form::{BaseForm, Decl, OPERATOR_LIMIT, Role, Texts};
+use pg_grammar::{Maker, MakerFault};
 use pg_items::{PlacedForm, WrittenClass};
 use pg_meaning::{MakingError, PlacedBase, body_meant, class_meant, is_predicate_name};
 use pg_pred::Registry;

@@ -5,9 +5,9 @@
 ghost use Rattle.std.specs.Prelude.{OnOk, IsErrOf};
 ghost use Rattle.pg_making.specs.Spells.{HasInitialTable};
 
-use pg_grammar::Grammar;
 use pg_meaning::MakingError;
 use pg_table::{InitialFault, Table};
+use pg_value::Grammar;
 use std::alloc::Global;
 
 /// Whether a grammar has an initial table. Refused where it has none.

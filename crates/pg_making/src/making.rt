@@ -14,15 +14,16 @@ use crate::handing::{
     class_item, operators_item, rule_item, start_item, table_item, unmade, word_item,
 };
 use crate::initials::has_initial_table;
-use pg_grammar::{Grammar, Maker};
+use pg_grammar::Maker;
 use pg_items::Item;
 use pg_meaning::MakingError;
 use pg_pred::Registry;
 use pg_text::Characters;
+use pg_value::Grammar;
 use std::alloc::Global;
 
 /// A grammar, and where its nodes were written.
-#[derive(Debug, Drop)]
+#[derive(Drop)]
 pub struct PlacedGrammar {
     pub grammar: Grammar,
     /// For each node, how many characters of the file stand before the form that was written for it.

@@ -5,11 +5,11 @@ use Rattle.std.specs.Option.{is_some}
 use Rattle.std.specs.Str.{encode_utf8_all}
 use Rattle.pg_tree.specs.declared.shape.Shape.TheVariants.{Symbol}
 use Rattle.pg_pred.specs.Offer.{Offer, predicate_class, builder_shape}
-use Rattle.pg_grammar.specs.Names.{Name, has_name, place_of_name}
-use Rattle.pg_grammar.specs.declared.class.ClassPart.{ClassPart}
-use Rattle.pg_grammar.specs.declared.class.ClassPart.TheVariants as class
-use Rattle.pg_grammar.specs.declared.used.PredicateUse.{PredicateUse}
-use Rattle.pg_grammar.specs.declared.used.BuilderUse.{BuilderUse}
+use Rattle.pg_form.specs.Names.{Name, has_name, place_of_name}
+use Rattle.pg_form.specs.declared.class.ClassPart.{ClassPart}
+use Rattle.pg_form.specs.declared.class.ClassPart.TheVariants as class
+use Rattle.pg_form.specs.declared.used.PredicateUse.{PredicateUse}
+use Rattle.pg_form.specs.declared.used.BuilderUse.{BuilderUse}
 use Rattle.pg_items.specs.declared.written.WrittenPart.{WrittenPart}
 use Rattle.pg_items.specs.declared.written.WrittenPart.TheVariants as part
 use Rattle.pg_items.specs.declared.written.WrittenForm.{WrittenForm}

@@ -8,12 +8,12 @@ ghost use Rattle.std.specs.Global.{Vec};
 ghost use Rattle.pg_meaning.specs.Bodies.{bases_of, all_bases_of};
 ghost use Rattle.pg_meaning.specs.Meaning as meaning;
 
-use pg_grammar::{Around, BaseForm, Form, NextForm};
+use pg_form::{Around, BaseForm, Form, NextForm};
 use pg_items::{OneForm, SomeForm, TwoForm};
 use std::alloc::{AllocError, Global};
 
 /// A base form and where the form stands that was written for it.
-#[derive(Debug, Drop)]
+#[derive(Drop)]
 pub struct PlacedBase {
     pub form: BaseForm,
     /// How many characters of the file stand before that form.

@@ -5,14 +5,14 @@
 ghost use Rattle.std.specs.Prelude.{◌≡◌, ◌↔◌, true, false, string_bytes, IfOk, OnOk, IsErrOf};
 ghost use Rattle.std.specs.Str.{encode_utf8_all};
 ghost use Rattle.pg_pred.specs.Offer.{offer_of};
-ghost use Rattle.pg_grammar.specs.Names.{place_of_name};
+ghost use Rattle.pg_form.specs.Names.{place_of_name};
 ghost use Rattle.pg_meaning.specs.Names as names;
 ghost use Rattle.pg_meaning.specs.Names.{is_predicate_name, is_class_name, is_builder_name, BuilderIsKnown, PartIsKnown, ClassIsKnown};
 ghost use Rattle.pg_meaning.specs.Bodies.{part_meant, parts_meant};
 ghost use Rattle.pg_meaning.specs.Meaning as meaning;
 
 use crate::error::MakingError;
-use pg_grammar::{BuilderUse, ClassExpression, ClassId, ClassPart, OperatorBuilders, PredicateUse};
+use pg_form::{BuilderUse, ClassExpression, ClassId, ClassPart, OperatorBuilders, PredicateUse};
 use pg_items::{WrittenClass, WrittenPart};
 use pg_pred::Registry;
 use pg_text::Characters;

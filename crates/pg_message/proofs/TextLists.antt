@@ -1,5 +1,6 @@
 -- Texts put after others without repeats: what is there stays, and it doesn't matter which are put together first.
 use Rattle.std.proofs.Common.{◌≡◌, ℕ, suc, arith, List, [], ◌∷◌, ◌++◌, Bool, true, false, refl, sym, ap, subst, ◌∙◌, length, length-append}
+use Rattle.std.proofs.Math.Bool.{or-true}
 use Rattle.std.specs.Prelude.{◌||◌, ◌&&◌, ◌==◌, ◌≤◌, ◌+◌, not, if◌then◌else◌}
 use Rattle.std.specs.Str.{bytes_eq}
 use Rattle.std.proofs.lemmas.Bool.Decides.{nat_tests}
@@ -7,10 +8,6 @@ use Rattle.std.proofs.lemmas.Slice.Eq.{bytes_eq-Decides}
 use Rattle.std.proofs.lemmas.List.Folds.{list_any-append}
 use Rattle.std.proofs.lemmas.List.Sums.{sum_by-cons, sum_by-le-sum_by}
 use Rattle.pg_message.specs.Messages.{Text, has_text, missing_count, with_text, with_texts}
-
-or-true : (b : Bool) → (b || true) ≡ true
-or-true true = refl
-or-true false = refl
 
 pub equal_texts : (xs ys : Text) → bytes_eq xs ys ≡ true → xs ≡ ys
 equal_texts xs ys = (bytes_eq-Decides xs ys).0
@@ -73,7 +70,8 @@ with_texts_assoc xs ys (z ∷ zs) =
 pub no_length : (n : ℕ) → (suc n == 0) ≡ false
 no_length n = grind (arith, nat_tests)
 
-length-with_text : (xs : List Text) (y : Text) → (length (with_text xs y) == 0) ≡ false
+-- where a text has come to others there is one
+pub length-with_text : (xs : List Text) (y : Text) → (length (with_text xs y) == 0) ≡ false
 length-with_text xs y = either (has_text xs y) xs refl
   where
     either : (b : Bool) (texts : List Text) → has_text texts y ≡ b → (length (if b then texts else texts ++ y ∷ []) == 0) ≡ false

@@ -1,5 +1,5 @@
 -- Reading the items of a file, in the same way: what was read and the tokens after it, or None at a fault.
-use Rattle.std.specs.Prelude.{ℕ, zero, suc, Bool, true, false, if◌then◌else◌, List, [], ◌∷◌, length, Option, Some, None, codes}
+use Rattle.std.specs.Prelude.{ℕ, zero, suc, if◌then◌else◌, List, [], ◌∷◌, length, Option, Some, None, codes}
 use Rattle.std.specs.Str.{bytes_eq}
 use Rattle.pg_tokens.specs.declared.token.Mark.TheVariants.{Semicolon, Equals}
 use Rattle.pg_parser.specs.declared.allowance.Allowance.{Allowance}

@@ -10,7 +10,7 @@ use Rattle.pg_tokens.specs.declared.token.Mark.{Mark}
 use Rattle.pg_tokens.specs.declared.token.Mark.TheVariants.{Open, Close, Comma, Bar, Dots}
 use Rattle.pg_items.specs.declared.words.ClassForm.{ClassForm}
 use Rattle.pg_items.specs.declared.words.SomeForm.{SomeForm}
-use Rattle.pg_grammar.specs.declared.side.Side.{Side}
+use Rattle.pg_form.specs.declared.side.Side.{Side}
 use Rattle.pg_items.specs.declared.words.FormWord.{FormWord}
 use Rattle.pg_items.specs.declared.words.FormWord.TheVariants as word
 use Rattle.pg_tokens.specs.Lexical.{passes}

@@ -7,7 +7,7 @@ ghost use Rattle.std.specs.Prelude.{◌≡◌, IfOk};
 ghost use Rattle.pg_items.specs.Entries.{entry_of};
 ghost use Rattle.pg_parser.specs.Limits.{full_allowance, after_class, after_word, after_rule, allowance_after};
 
-use pg_grammar::{CLASS_LIMIT, NODE_LIMIT, RULE_LIMIT, WORD_LIMIT};
+use pg_form::{CLASS_LIMIT, NODE_LIMIT, RULE_LIMIT, WORD_LIMIT};
 use pg_items::{Item, body_size};
 use std::alloc::{AllocError, Global};
 

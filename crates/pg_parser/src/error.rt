@@ -10,10 +10,8 @@ use std::alloc::{AllocError, AllocFailed};
 /// What can be wrong with the tokens of a file.
 #[derive(Clone, Copy, Debug)]
 pub enum SyntaxFault {
-    /// Characters that are no token.
-    BadToken,
-    /// A token where the syntax has another, a reserved word for a name, a number out of its range, or the end of the file
-    /// inside an item.
+    /// A token where the syntax has another, a bad one among them, a reserved word for a name, a number out of its range, or
+    /// the end of the file inside an item.
     UnexpectedToken,
     /// A wrong escape, a literal that is empty where it mustn't be, an end of a range that isn't one character, or a range
     /// that descends.

@@ -16,9 +16,6 @@ pub fn unexpected(tokens: &[Lexeme]) -> SyntaxError
     ensures { IsFault result }
 {
     match tokens {
-        [first, ..] if matches!(first.token, Token::Bad) => {
-            SyntaxError::Fault(SyntaxFault::BadToken, Some(first.place))
-        }
         [first, ..] => SyntaxError::Fault(SyntaxFault::UnexpectedToken, Some(first.place)),
         [] => SyntaxError::Fault(SyntaxFault::UnexpectedToken, None),
     }

@@ -12,7 +12,7 @@ use crate::class::written_class;
 use crate::error::SyntaxError;
 use crate::front::{expect_mark, has_literal, literal, name};
 use crate::text::{filled_at, free_name, literal_text, short_name};
-use pg_grammar::Side;
+use pg_form::Side;
 use pg_items::{ClassForm, PlacedForm, WrittenForm};
 use pg_text::Characters;
 use pg_tokens::{Lexeme, Mark};

@@ -67,10 +67,9 @@ fn all_items(alloc: Global, lexemes: &[Lexeme]) -> Result<Vec<Item>, SyntaxError
 
 /// The items of a grammar file, given its tokens.
 ///
-/// The first fault from the left is answered, at one place the one with the lowest number: F2 at a `Bad` token and
-/// F3 at another that can't stand where it does, F7 at a literal that is wrong, F8 at a name, a literal or a
-/// parenthesis past its limit, and at the semicolon after which there are over 256 classes, 64 words, 512 rules
-/// or 8,192 nodes (ours).
+/// The first fault from the left is answered, at one place the one with the lowest number: F3 at a token that can't stand
+/// where it does, also at a `Bad` one, F7 at a literal that is wrong, F8 at a name, a literal or a parenthesis past its
+/// limit, and at the semicolon after which there are over 256 classes, 64 words, 512 rules or 8,192 nodes (ours).
 #[tactic(auto, using(crate::proofs::ParserLemmas::Files::are_items))]
 pub fn read_items(alloc: Global, lexemes: &[Lexeme]) -> Result<Vec<Item>, SyntaxError>
     ensures items { IfOk result (λ items. AreItems (tokens_of lexemes.now) (entries_of items.items)) }

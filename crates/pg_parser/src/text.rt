@@ -10,7 +10,7 @@ ghost use Rattle.pg_parser.specs.ItemReading as item_reading;
 
 use crate::error::{SyntaxError, SyntaxFault};
 use crate::front::{literal, name};
-use pg_grammar::{LITERAL_LIMIT, NAME_LIMIT};
+use pg_form::{LITERAL_LIMIT, NAME_LIMIT};
 use pg_items::is_reserved;
 use pg_text::Characters;
 use pg_tokens::Lexeme;

@@ -4,14 +4,14 @@ use Rattle.std.specs.Prelude.{◌↔◌}
 use Rattle.std.proofs.lemmas.Bool.{cases_eq, true≢false}
 use Rattle.std.proofs.lemmas.Option.{same_Some, slice_get_within}
 use Rattle.std.proofs.lemmas.List.{length-replicate, length-set}
-use Rattle.pg_grammar.specs.Grammar.{Grammar}
-use Rattle.pg_grammar.specs.declared.grammar.Rule as declared
-use Rattle.pg_sets.specs.Graphs.{numbers_at, IsReached, root, onward}
-use Rattle.pg_sets.specs.Marks.{is_marked}
-use Rattle.pg_sets.specs.Ranks.{Chain, head, heads, AreRanks, on_cycle, rank_at}
-use Rattle.pg_sets.specs.Reached.{Heads, AreHeads}
-use Rattle.pg_sets.proofs.Marking.{marked_same, marked_kept, marked_others}
-use Rattle.pg_sets.proofs.RankLaws.{chain_on}
+use Rattle.pg_value.specs.Grammar.{Grammar}
+use Rattle.pg_value.specs.declared.grammar.Rule as declared
+use Rattle.pg_graph.specs.Graphs.{numbers_at, IsReached, root, onward}
+use Rattle.pg_graph.specs.Marks.{is_marked}
+use Rattle.pg_heads.specs.Ranks.{Chain, head, heads, AreRanks, on_cycle, rank_at}
+use Rattle.pg_heads.specs.Reached.{Heads, AreHeads}
+use Rattle.pg_graph.proofs.Marking.{marked_same, marked_kept, marked_others}
+use Rattle.pg_heads.proofs.RankLaws.{chain_on}
 use Rattle.pg_bit_set.proofs.Inside.{contains_none}
 use Rattle.pg_predict.specs.Shown.{IsRecursive}
 

@@ -1,32 +1,30 @@
 -- What is wrong is noted.
-use Rattle.std.proofs.Common.{◌≡◌, ℕ, suc, ◌+◌, ◌-◌, ◌<◌, Bool, true, false, List, [], ◌++◌, Option, Some, slice_get, length, refl, sym, ap, subst, ◌∙◌, arith}
-use Rattle.std.specs.Prelude.{not, ◌&&◌, nat_lt, if◌then◌else◌}
+use Rattle.std.proofs.Common.{◌≡◌, ℕ, suc, ◌+◌, ◌-◌, ◌<◌, Bool, true, List, [], ◌++◌, Option, Some, slice_get, length, refl, sym, ap, subst, ◌∙◌, arith}
+use Rattle.std.specs.Prelude.{◌&&◌, nat_lt, if◌then◌else◌}
 use Rattle.std.specs.Option.{option_map_or}
 use Rattle.std.proofs.Math.Numerals.{add-one}
 use Rattle.std.proofs.lemmas.Bool.{and_from}
 use Rattle.std.proofs.lemmas.Option.{slice_get_within, get_or_from_slice_get}
-use Rattle.pg_grammar.specs.Grammar.{Grammar, IsGrammar}
-use Rattle.pg_grammar.specs.Forms.{Node}
-use Rattle.pg_grammar.specs.declared.form.Form.TheVariants as form
-use Rattle.pg_grammar.specs.declared.form.Around.TheVariants as around
-use Rattle.pg_grammar.proofs.Numbers.{bodies_are_nodes}
+use Rattle.pg_value.specs.Grammar.{Grammar, IsGrammar}
+use Rattle.pg_form.specs.Forms.{Node}
+use Rattle.pg_form.specs.declared.form.Form.TheVariants as form
+use Rattle.pg_form.specs.declared.form.Around.TheVariants as around
+use Rattle.pg_value.proofs.Numbers.{bodies_are_nodes}
 use Rattle.pg_sets.specs.Follow.{IsChain}
 use Rattle.pg_sets.specs.Follow as chain
-use Rattle.pg_sets.specs.Marks.{is_marked}
-use Rattle.pg_sets.specs.Nullable.{Nullable}
-use Rattle.pg_sets.specs.declared.listed.ListedStart.{ListedStart}
-use Rattle.pg_sets.proofs.Lists.{all_get}
+use Rattle.pg_graph.specs.Marks.{is_marked}
+use Rattle.pg_heads.specs.Nullable.{Nullable}
+use Rattle.pg_own_starts.specs.declared.listed.ListedStart.{ListedStart}
+use Rattle.pg_graph.proofs.Lists.{all_get}
 use Rattle.pg_predict.specs.WithStarts.{kind_with_starts, start_at}
-use Rattle.pg_predict.specs.Conditions.{Violates, AreFirstToMeet, Begins, Follows, BeginsLink, EndsNullable, IsLexeme}
+use Rattle.pg_predict.specs.Conditions.{Violates, AreFirstToMeet, Begins, Follows, BeginsLink, EndsNullable}
 use Rattle.pg_predict.specs.Conditions as violates
 use Rattle.pg_predict.specs.Judged.{Facts, noted, noted_meeting, all_below, part_at, node_meeting, follow_meeting, link_meeting, empty_alternative, empty_alternatives, meeting_alternatives, meetings_of_alternative, alternatives_that_meet, alternative_and_follow, alternatives_and_follow, ends_nullable, noted_chain, noted_form, noted_node}
-use Rattle.pg_predict.specs.Lexemes.{is_lexeme}
 use Rattle.pg_predict.specs.Shown.{AreFacts}
 use Rattle.pg_predict.specs.declared.violation.Violation.{Violation}
 use Rattle.pg_predict.specs.declared.violation.ViolationKind.{ViolationKind}
-use Rattle.pg_predict.specs.declared.violation.ViolationKind.TheVariants.{LeftRecursion, EmptyRound, EmptyAlternative, AlternativesMeet, AlternativeMeetsFollow, RoundMeetsFollow, TryAroundMore}
+use Rattle.pg_predict.specs.declared.violation.ViolationKind.TheVariants.{LeftRecursion, EmptyRound, EmptyAlternative, AlternativesMeet, AlternativeMeetsFollow, RoundMeetsFollow}
 use Rattle.pg_predict.specs.declared.meetings.Meeting.{Meeting}
-use Rattle.pg_predict.proofs.Lexeme.{lexeme_is}
 use Rattle.pg_predict.proofs.Lists.{In, in_left, in_right, all_below_has, noted_has, noted_meeting_has}
 use Rattle.pg_predict.proofs.Meanings.{MeetAt, first_numbers, first_there, follow_there, link_there, node_found, follow_found, link_found}
 use Rattle.pg_predict.proofs.Pairs.{pair_from}
@@ -200,13 +198,6 @@ module _ (g : Grammar) (facts : Facts) (are : AreFacts g facts) (grammar : IsGra
       → kind_with_starts facts.sets.starts (RoundMeetsFollow m.one m.other) ≡ RoundMeetsFollow s t
   round_same m s t one other = ap (λ (x : ListedStart). RoundMeetsFollow x (start_at facts.sets.starts m.other)) one ∙ ap (RoundMeetsFollow s) other
 
-  not_lexeme : (q : ℕ) → (IsLexeme g q → ⊥) → not (is_lexeme g q) ≡ true
-  not_lexeme q none = go (is_lexeme g q) (lexeme_is g q).0
-    where
-      go : (t : Bool) → (t ≡ true → IsLexeme g q) → not t ≡ true
-      go true is = absurd (none (is refl))
-      go false is = refl
-
   pub violation_noted : (p : ℕ) (what : ViolationKind ListedStart) → Violates g p what → IsNoted g facts p what
   violation_noted p what (violates.left_recursion {r} {rule} there circle) =
       let test = (are.recursive rule.body).1 (record { number = r; rule = rule; there = there; body = refl; chain = circle }) in
@@ -268,12 +259,4 @@ module _ (g : Grammar) (facts : Facts) (are : AreFacts g facts) (grammar : IsGra
             (noted_meeting (link_meeting facts operand separator p) p RoundMeetsFollow) b
             (noted_meeting_has (link_meeting facts operand separator p) p RoundMeetsFollow found.meeting found.found));
         below = p_below;
-      }
-  violation_noted p what (violates.try_around_more {q = q} at none) =
-      let b : Violation ℕ = record { node = p; kind = TryAroundMore } in
-      record {
-        kind = TryAroundMore;
-        same = refl;
-        noted_there = at_form p (form.Around around.Try q) b at (noted_has (not (is_lexeme g q)) p TryAroundMore (not_lexeme q none));
-        below = slice_get_within g.nodes p (form.Around around.Try q) at;
       }

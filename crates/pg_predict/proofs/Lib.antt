@@ -7,8 +7,8 @@ pub mod Numbered
 pub mod Pairs
 pub mod Lists
 pub mod Meanings
-pub mod Lexeme
 pub mod Sound
 pub mod Complete
 pub mod Violations
 pub mod Unsuspected
+pub mod Standing

@@ -6,13 +6,13 @@ use Rattle.std.specs.List.{Contains, AllByRecursion}
 use Rattle.std.specs.List.Sorted.{IsStrictlySortedBy}
 use Rattle.std.specs.Ordering.{nat_cmp, ordering_then}
 use Rattle.std.proofs.lemmas.Bool.{cases_eq, true≢false}
-use Rattle.pg_sets.specs.declared.listed.ListedStart.{ListedStart}
+use Rattle.pg_own_starts.specs.declared.listed.ListedStart.{ListedStart}
 use Rattle.pg_predict.specs.WithStarts.{kind_with_starts, with_starts}
 use Rattle.pg_predict.specs.Findings.{condition_number, alternatives_of, violation_key, violation_order}
 use Rattle.pg_predict.specs.Judged.{noted, noted_meeting, all_below}
 use Rattle.pg_predict.specs.declared.violation.Violation.{Violation}
 use Rattle.pg_predict.specs.declared.violation.ViolationKind.{ViolationKind}
-use Rattle.pg_predict.specs.declared.violation.ViolationKind.TheVariants.{LeftRecursion, EmptyRound, EmptyAlternative, AlternativesMeet, AlternativeMeetsFollow, RoundMeetsFollow, TryAroundMore}
+use Rattle.pg_predict.specs.declared.violation.ViolationKind.TheVariants.{LeftRecursion, EmptyRound, EmptyAlternative, AlternativesMeet, AlternativeMeetsFollow, RoundMeetsFollow}
 use Rattle.pg_predict.specs.declared.meetings.Meeting.{Meeting}
 
 -- ---- what is among others
@@ -160,7 +160,6 @@ same_number starts (EmptyAlternative k) = refl
 same_number starts (AlternativesMeet j k s t) = refl
 same_number starts (AlternativeMeetsFollow k s t) = refl
 same_number starts (RoundMeetsFollow s t) = refl
-same_number starts TryAroundMore = refl
 
 -- and so is all that the order sees
 same_key : (starts : List ListedStart) (p : ℕ) (kind : ViolationKind ℕ) → violation_key (with_starts starts (record { node = p; kind = kind })) ≡ violation_key {S = ℕ} (record { node = p; kind = kind })
@@ -170,7 +169,6 @@ same_key starts p (EmptyAlternative k) = refl
 same_key starts p (AlternativesMeet j k s t) = refl
 same_key starts p (AlternativeMeetsFollow k s t) = refl
 same_key starts p (RoundMeetsFollow s t) = refl
-same_key starts p TryAroundMore = refl
 
 precedes_with : (starts : List ListedStart) (b c : Violation ℕ) → Precedes b c → violation_order (with_starts starts b) (with_starts starts c) ≡ Less
 precedes_with starts b c less =

@@ -3,17 +3,17 @@ use Rattle.std.proofs.Common.{◌≡◌, ℕ, ◌<◌, Bool, true, false, List, 
 use Rattle.std.specs.Prelude.{◌↔◌, if◌then◌else◌}
 use Rattle.std.proofs.lemmas.Bool.{true≢false, and_parts, and_from}
 use Rattle.std.proofs.lemmas.Option.{same_Some, slice_get-get_or}
-use Rattle.pg_grammar.specs.Grammar.{Grammar}
+use Rattle.pg_value.specs.Grammar.{Grammar}
 use Rattle.pg_bit_set.specs.Numbers.{contains, set_at}
 use Rattle.pg_start.specs.Apart.{Apart}
 use Rattle.pg_start.specs.declared.kind.StartKind.{StartKind}
-use Rattle.pg_sets.specs.First.{IsFirst, IsFirstOf}
+use Rattle.pg_sets.specs.First.{IsFirstOf}
 use Rattle.pg_sets.specs.First as first_of
-use Rattle.pg_sets.specs.Listed.{IsListed}
-use Rattle.pg_sets.specs.Marks.{is_marked}
-use Rattle.pg_sets.specs.Nullable.{Nullable}
+use Rattle.pg_own_starts.specs.Listed.{IsListed}
+use Rattle.pg_graph.specs.Marks.{is_marked}
+use Rattle.pg_heads.specs.Nullable.{Nullable}
 use Rattle.pg_sets.specs.Sets.{HasStart}
-use Rattle.pg_sets.specs.declared.listed.ListedStart.{ListedStart}
+use Rattle.pg_own_starts.specs.declared.listed.ListedStart.{ListedStart}
 use Rattle.pg_predict.specs.WithStarts.{start_at}
 use Rattle.pg_predict.specs.Conditions.{AreFirstToMeet, Begins, Follows, BeginsLink}
 use Rattle.pg_predict.specs.Judged.{Facts, node_meeting, follow_meeting, link_meeting}

@@ -8,8 +8,8 @@ use Rattle.pg_bit_set.specs.Numbers.{contains, set_at}
 use Rattle.pg_bit_set.proofs.Inside.{contains_none}
 use Rattle.pg_start.specs.Apart.{Apart}
 use Rattle.pg_start.specs.declared.kind.StartKind.{StartKind}
-use Rattle.pg_sets.specs.declared.listed.ListedStart.{ListedStart}
-use Rattle.pg_sets.proofs.Marking.{marked_same, marked_others}
+use Rattle.pg_own_starts.specs.declared.listed.ListedStart.{ListedStart}
+use Rattle.pg_graph.proofs.Marking.{marked_same, marked_others}
 use Rattle.pg_predict.specs.Shown.{IsMetSet, AreMeetings}
 
 -- the first so many starts were asked

@@ -6,14 +6,14 @@ use Rattle.std.specs.Ordering.{ordering_reverse}
 use Rattle.std.proofs.lemmas.Bool.{cases_eq, cases_lt}
 use Rattle.std.proofs.lemmas.Map.Keys.{Less-from_sorted}
 use Rattle.std.proofs.lemmas.Option.{same_Some, slice_get_within, get_or_from_slice_get}
-use Rattle.pg_grammar.specs.Grammar.{Grammar}
+use Rattle.pg_value.specs.Grammar.{Grammar}
 use lib.ListN.{get_or}
 use Rattle.pg_bit_set.specs.Numbers.{contains}
 use Rattle.pg_start.specs.declared.kind.StartKind.{StartKind}
 use Rattle.pg_start.specs.declared.kind.StartKind.TheVariants.{Class, Key, Word, End}
-use Rattle.pg_sets.specs.Listed.{IsListed, IsNumbered, start_order, start_order_total}
+use Rattle.pg_own_starts.specs.Listed.{IsListed, IsNumbered, start_order, start_order_total}
 use Rattle.pg_sets.specs.Sets.{HasStart}
-use Rattle.pg_sets.specs.declared.listed.ListedStart.{ListedStart}
+use Rattle.pg_own_starts.specs.declared.listed.ListedStart.{ListedStart}
 use Rattle.pg_predict.specs.WithStarts.{start_at}
 
 less_greater : Less ≡ Greater → ⊥

@@ -4,7 +4,7 @@ use Rattle.std.specs.Prelude.{nat_le, if◌then◌else◌}
 use Rattle.std.proofs.lemmas.Bool.{cases_eq, cases_lt, true≢false}
 use Rattle.pg_predict.specs.Meetings.{first_meeting, earlier}
 use Rattle.pg_predict.specs.declared.meetings.Meeting.{Meeting}
-use Rattle.pg_predict.proofs.FirstMeetings.{Met, IsFirstMeeting, MeetingFound, meeting_found}
+use Rattle.pg_predict.proofs.FirstMeetings.{Met, MeetingFound, meeting_found}
 use Rattle.pg_predict.proofs.FirstMeetings as of_sets
 
 -- the two are in the relation, and are the first: by the one number, and then by the other

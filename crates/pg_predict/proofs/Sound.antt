@@ -1,32 +1,30 @@
 -- What is noted is wrong.
 use Rattle.std.proofs.Common.{◌≡◌, ℕ, suc, ◌+◌, ◌-◌, ◌<◌, Bool, true, false, List, [], ◌++◌, Option, Some, None, slice_get, length, refl, sym, subst, ◌⊎◌, inl, inr, arith}
-use Rattle.std.specs.Prelude.{not, ◌&&◌, nat_lt, if◌then◌else◌}
+use Rattle.std.specs.Prelude.{◌&&◌, nat_lt, if◌then◌else◌}
 use Rattle.std.specs.Option.{option_map_or}
 use Rattle.std.proofs.Math.Numerals.{add-one}
-use Rattle.std.proofs.lemmas.Bool.{true≢false, and_parts}
+use Rattle.std.proofs.lemmas.Bool.{and_parts}
 use Rattle.std.proofs.lemmas.Option.{slice_get-get_or, slice_get_within}
-use Rattle.pg_grammar.specs.Forms.{Node, parts_of}
-use Rattle.pg_grammar.specs.Grammar.{Grammar, IsGrammar}
-use Rattle.pg_grammar.specs.declared.form.Form.TheVariants as form
-use Rattle.pg_grammar.specs.declared.form.Around.TheVariants as around
-use Rattle.pg_grammar.proofs.Numbers.{parts_are_after}
+use Rattle.pg_form.specs.Forms.{Node, parts_of}
+use Rattle.pg_value.specs.Grammar.{Grammar, IsGrammar}
+use Rattle.pg_form.specs.declared.form.Form.TheVariants as form
+use Rattle.pg_form.specs.declared.form.Around.TheVariants as around
+use Rattle.pg_value.proofs.Numbers.{parts_are_after}
 use Rattle.pg_sets.specs.Follow.{IsChain}
 use Rattle.pg_sets.specs.Follow as chain
-use Rattle.pg_sets.specs.Marks.{is_marked}
-use Rattle.pg_sets.specs.declared.listed.ListedStart.{ListedStart}
-use Rattle.pg_sets.proofs.Lists.{all_get}
+use Rattle.pg_graph.specs.Marks.{is_marked}
+use Rattle.pg_own_starts.specs.declared.listed.ListedStart.{ListedStart}
+use Rattle.pg_graph.proofs.Lists.{all_get}
 use Rattle.pg_predict.specs.WithStarts.{kind_with_starts, start_at}
 use Rattle.pg_predict.specs.Conditions.{Violates, AreFirstToMeet, Begins, Follows, BeginsLink, EndsNullable}
 use Rattle.pg_predict.specs.Conditions as violates
 use Rattle.pg_predict.specs.Findings.{condition_number}
-use Rattle.pg_predict.specs.Judged.{Facts, noted, noted_meeting, all_below, part_at, node_meeting, follow_meeting, link_meeting, empty_alternative, empty_alternatives, meeting_alternatives, meetings_of_alternative, alternatives_that_meet, alternative_and_follow, alternatives_and_follow, ends_nullable, noted_many, noted_chain, noted_try, noted_form, noted_node}
-use Rattle.pg_predict.specs.Lexemes.{is_lexeme}
+use Rattle.pg_predict.specs.Judged.{Facts, noted, noted_meeting, all_below, part_at, node_meeting, follow_meeting, link_meeting, empty_alternative, empty_alternatives, meeting_alternatives, meetings_of_alternative, alternatives_that_meet, alternative_and_follow, alternatives_and_follow, ends_nullable, noted_many, noted_chain, noted_form, noted_node}
 use Rattle.pg_predict.specs.Shown.{AreFacts}
 use Rattle.pg_predict.specs.declared.violation.Violation.{Violation}
 use Rattle.pg_predict.specs.declared.violation.ViolationKind.{ViolationKind}
-use Rattle.pg_predict.specs.declared.violation.ViolationKind.TheVariants.{LeftRecursion, EmptyRound, EmptyAlternative, AlternativesMeet, AlternativeMeetsFollow, RoundMeetsFollow, TryAroundMore}
+use Rattle.pg_predict.specs.declared.violation.ViolationKind.TheVariants.{LeftRecursion, EmptyRound, EmptyAlternative, AlternativesMeet, AlternativeMeetsFollow, RoundMeetsFollow}
 use Rattle.pg_predict.specs.declared.meetings.Meeting.{Meeting}
-use Rattle.pg_predict.proofs.Lexeme.{lexeme_is}
 use Rattle.pg_predict.proofs.Lists.{In, in_cases, NotedFor, in_all_below, in_noted, NotedMeeting, in_noted_meeting, Tagged}
 use Rattle.pg_predict.proofs.Meanings.{MeetAt, numbers_first, first_there, follow_there, link_there, node_found, follow_found, link_found}
 use Rattle.pg_predict.proofs.Pairs.{pair_is}
@@ -193,15 +191,6 @@ module _ (g : Grammar) (facts : Facts) (are : AreFacts g facts) (grammar : IsGra
             inr (wrong_where p 6 (RoundMeetsFollow found.meeting.one found.meeting.other) b found.same refl (violates.link_meets_follow at is_chain first))
       ]
 
-  pub try_wrong : (p q : ℕ) (b : Violation ℕ) → slice_get g.nodes p ≡ Some (form.Around around.Try q) → In (noted_try g p q) b → IsWrong g facts.sets.starts p 10 b
-  try_wrong p q b at is =
-      let test = in_noted (not (is_lexeme g q)) p TryAroundMore b is in
-      wrong_where p 10 TryAroundMore b test.1 refl (violates.try_around_more at (λ lexeme. not_both (is_lexeme g q) ((lexeme_is g q).1 lexeme) test.0))
-    where
-      not_both : (t : Bool) → t ≡ true → not t ≡ true → ⊥
-      not_both true e f = true≢false (sym f)
-      not_both false e f = true≢false (sym e)
-
   -- ---- nodes
 
   -- what is noted is wrong, under a number above another
@@ -229,7 +218,6 @@ module _ (g : Grammar) (facts : Facts) (are : AreFacts g facts) (grammar : IsGra
       let parts = form.Chain side used operand separator in
       either_above 1 p 2 6 b (omega arith) (omega arith)
       (chain_wrong p operand separator parts b at chain.chain (parts_below g p parts 0 operand grammar at refl) (parts_below g p parts 1 separator grammar at refl) is)
-  form_wrong p (form.Around around.Try part) b at is = record { number = 10; above = omega arith; wrong = try_wrong p part b at is }
   form_wrong p n b at is = absurd is
 
   pub recursion_wrong : (p : ℕ) (b : Violation ℕ) → In (noted (is_marked facts.recursive p) p LeftRecursion) b → IsWrong g facts.sets.starts p 1 b

@@ -3,10 +3,10 @@ use Rattle.std.proofs.Common.{◌≡◌, ℕ, ◌+◌, ◌<◌, ◌≤◌, Bool,
 use Rattle.std.specs.Prelude.{◌||◌, nat_lt, is_some, if◌then◌else◌}
 use Rattle.std.proofs.lemmas.Bool.{cases_eq, true≢false, or_left, or_right}
 use Rattle.std.proofs.lemmas.List.{get_or-set_same, get_or-set_other, length-replicate}
-use Rattle.pg_grammar.specs.Grammar.{Grammar, IsGrammar}
-use Rattle.pg_grammar.specs.declared.form.Form.TheVariants as form
+use Rattle.pg_value.specs.Grammar.{Grammar, IsGrammar}
+use Rattle.pg_form.specs.declared.form.Form.TheVariants as form
 use Rattle.pg_bit_set.specs.Numbers.{contains, set_at}
-use Rattle.pg_sets.specs.Marks.{is_marked}
+use Rattle.pg_graph.specs.Marks.{is_marked}
 use Rattle.pg_predict.specs.Judged.{Facts, part_at, node_meeting, noted_meeting, meeting_alternatives, meetings_of_alternative}
 use Rattle.pg_predict.specs.Meetings.{first_meeting}
 use Rattle.pg_predict.specs.Shown.{AreFacts}

@@ -1,19 +1,18 @@
 -- What is noted of a grammar is all that is wrong with it, in order.
 use Rattle.std.proofs.Common.{◌≡◌, ℕ, zero, suc, ◌+◌, ◌-◌, ◌<◌, Bool, true, false, List, [], ◌∷◌, ◌++◌, Option, Some, None, map, slice_get, length, refl, sym, ap, subst, ◌∙◌, inl, inr, arith}
-use Rattle.std.specs.Prelude.{not, ◌&&◌, nat_lt, if◌then◌else◌}
+use Rattle.std.specs.Prelude.{◌&&◌, nat_lt, if◌then◌else◌}
 use Rattle.std.proofs.Common.{Less}
 use Rattle.std.specs.Cmp.Lexicographic.{slice_cmp}
 use Rattle.std.specs.Ordering.{nat_cmp}
-use Rattle.pg_predict.specs.Lexemes.{is_lexeme}
 use Rattle.std.specs.List.{All, Contains}
 use Rattle.std.specs.Option.{option_map_or}
 use lib.ListN.{get_or}
-use Rattle.pg_grammar.specs.Grammar.{Grammar, IsGrammar}
-use Rattle.pg_grammar.specs.Forms.{Node}
-use Rattle.pg_grammar.specs.declared.form.Form.TheVariants as form
-use Rattle.pg_grammar.specs.declared.form.Around.TheVariants as around
-use Rattle.pg_sets.specs.Marks.{is_marked}
-use Rattle.pg_sets.specs.declared.listed.ListedStart.{ListedStart}
+use Rattle.pg_value.specs.Grammar.{Grammar, IsGrammar}
+use Rattle.pg_form.specs.Forms.{Node}
+use Rattle.pg_form.specs.declared.form.Form.TheVariants as form
+use Rattle.pg_form.specs.declared.form.Around.TheVariants as around
+use Rattle.pg_graph.specs.Marks.{is_marked}
+use Rattle.pg_own_starts.specs.declared.listed.ListedStart.{ListedStart}
 use Rattle.pg_predict.specs.WithStarts.{kind_with_starts, with_starts}
 use Rattle.pg_predict.specs.Conditions.{Violates, IsFaultless}
 use Rattle.pg_predict.specs.Findings.{AreViolations, AreFindings, said, saying_of}
@@ -21,7 +20,7 @@ use Rattle.pg_predict.specs.Judged.{Facts, noted, noted_meeting, all_below, part
 use Rattle.pg_predict.specs.Shown.{AreFacts}
 use Rattle.pg_predict.specs.declared.violation.Violation.{Violation}
 use Rattle.pg_predict.specs.declared.violation.ViolationKind.{ViolationKind}
-use Rattle.pg_predict.specs.declared.violation.ViolationKind.TheVariants.{LeftRecursion, EmptyRound, EmptyAlternative, AlternativesMeet, AlternativeMeetsFollow, RoundMeetsFollow, TryAroundMore}
+use Rattle.pg_predict.specs.declared.violation.ViolationKind.TheVariants.{LeftRecursion, EmptyRound, EmptyAlternative, AlternativesMeet, AlternativeMeetsFollow, RoundMeetsFollow}
 use Rattle.pg_predict.specs.declared.meetings.Meeting.{Meeting}
 use Rattle.pg_predict.specs.declared.finding.Finding.{Finding}
 use Rattle.pg_predict.proofs.Complete.{violation_noted}
@@ -128,7 +127,6 @@ module _ (g : Grammar) (facts : Facts) (are : AreFacts g facts) (grammar : IsGra
   form_ascends p (form.Many part) at = round_ascends p (is_marked facts.sets.nullable part) (follow_meeting facts part p)
   form_ascends p (form.Chain side used operand separator) at =
       round_ascends p (is_marked facts.sets.nullable separator && is_marked facts.sets.nullable operand) (link_meeting facts operand separator p)
-  form_ascends p (form.Around around.Try part) at = ascends_noted (not (is_lexeme g part)) p TryAroundMore
   form_ascends p n at = tt
 
   standing_ascends : (p : ℕ) → Ascends (option_map_or (noted_form g facts p) (slice_get g.nodes p) [])

@@ -1,6 +1,6 @@
 -- Grammars that were checked.
 use Rattle.std.specs.Prelude.{◌≡◌, ◌<◌, length}
-use Rattle.pg_grammar.specs.Grammar.{Grammar}
+use Rattle.pg_value.specs.Grammar.{Grammar}
 use Rattle.pg_sets.specs.Sets.{Sets, AreSets}
 use Rattle.pg_predict.specs.Conditions.{IsFaultless}
 use Rattle.pg_predict.specs.Findings.{AreFindings}

@@ -1,24 +1,22 @@
 -- What can be wrong at a node of a grammar, so that what comes next in a text doesn't tell a parser which way to go.
 use Rattle.std.specs.Prelude.{◌≡◌, ◌<◌, ℕ, suc, List, [], ◌∷◌, Some, slice_get, length}
 use Rattle.std.specs.declared.cmp.Ordering.TheVariants.{Less}
-use Rattle.pg_grammar.specs.Grammar.{Grammar}
-use Rattle.pg_grammar.specs.declared.class.ClassPart.{ClassPart}
-use Rattle.pg_grammar.specs.Forms.{Node}
-use Rattle.pg_grammar.specs.declared.form.Form.TheVariants as form
-use Rattle.pg_grammar.specs.declared.form.Leaf.TheVariants as leaf
-use Rattle.pg_grammar.specs.declared.form.Around.TheVariants as around
-use Rattle.pg_grammar.specs.declared.grammar.Rule as declared
+use Rattle.pg_value.specs.Grammar.{Grammar}
+use Rattle.pg_form.specs.Forms.{Node}
+use Rattle.pg_form.specs.declared.form.Form.TheVariants as form
+use Rattle.pg_form.specs.declared.form.Leaf.TheVariants as leaf
+use Rattle.pg_form.specs.declared.form.Around.TheVariants as around
+use Rattle.pg_value.specs.declared.grammar.Rule as declared
 use Rattle.pg_start.specs.Apart.{Apart}
 use Rattle.pg_start.specs.declared.kind.StartKind.{StartKind}
 use Rattle.pg_sets.specs.First.{IsFirst, IsFirstOf}
 use Rattle.pg_sets.specs.Follow.{IsFollow, IsChain}
-use Rattle.pg_sets.specs.Listed.{IsListed, start_order}
-use Rattle.pg_sets.specs.Nullable.{Nullable}
-use Rattle.pg_sets.specs.OwnStarts.{IsKeyed}
-use Rattle.pg_sets.specs.Ranks.{Chain}
-use Rattle.pg_sets.specs.declared.listed.ListedStart.{ListedStart}
+use Rattle.pg_own_starts.specs.Listed.{IsListed, start_order}
+use Rattle.pg_heads.specs.Nullable.{Nullable}
+use Rattle.pg_heads.specs.Ranks.{Chain}
+use Rattle.pg_own_starts.specs.declared.listed.ListedStart.{ListedStart}
 use Rattle.pg_predict.specs.declared.violation.ViolationKind.{ViolationKind}
-use Rattle.pg_predict.specs.declared.violation.ViolationKind.TheVariants.{LeftRecursion, EmptyRound, EmptyAlternative, AlternativesMeet, AlternativeMeetsFollow, RoundMeetsFollow, TryAroundMore}
+use Rattle.pg_predict.specs.declared.violation.ViolationKind.TheVariants.{LeftRecursion, EmptyRound, EmptyAlternative, AlternativesMeet, AlternativeMeetsFollow, RoundMeetsFollow}
 
 -- ---- meetings
 
@@ -47,14 +45,6 @@ abbrev pub BeginsLink : Grammar → ℕ → ℕ → StartKind → Type 0
 BeginsLink g operand separator start = IsFirstOf g start (separator ∷ operand ∷ [])
 
 -- ---- parts
-
--- the node is a lexeme, which is all that a try may go back from: a string, a string with a class that doesn't follow it, a
--- character of a class, or a word
-pub data IsLexeme (g : Grammar) (p : ℕ) : Type 0 where
-  string : {text : List ℕ} → slice_get g.nodes p ≡ Some (form.Leaf (leaf.String text)) → IsLexeme g p
-  keyed : {text : List ℕ} {excluded : List ClassPart} → IsKeyed g p text excluded → IsLexeme g p
-  satisfy : {class : List ClassPart} → slice_get g.nodes p ≡ Some (form.Leaf (leaf.Satisfy class)) → IsLexeme g p
-  word : {w : ℕ} → slice_get g.nodes p ≡ Some (form.Leaf (leaf.Word w)) → IsLexeme g p
 
 -- the last of these alternatives can be empty
 pub record EndsNullable (g : Grammar) (parts : List ℕ) : Type 0 where
@@ -87,8 +77,6 @@ pub data Violates (g : Grammar) : ℕ → ViolationKind ListedStart → Type 0 w
       → Violates g p (RoundMeetsFollow s t)
   link_meets_follow : {p operand separator : ℕ} {n : Node} {s t : ListedStart} → slice_get g.nodes p ≡ Some n → IsChain operand separator n
       → AreFirstToMeet g (BeginsLink g operand separator) (Follows g p) s t → Violates g p (RoundMeetsFollow s t)
-  -- a try stands around more than a lexeme
-  try_around_more : {p q : ℕ} → slice_get g.nodes p ≡ Some (form.Around around.Try q) → (IsLexeme g q → ⊥) → Violates g p TryAroundMore
 
 -- nothing is wrong at any node: the grammar is predictive
 abbrev pub IsFaultless : Grammar → Type 0

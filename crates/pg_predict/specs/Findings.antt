@@ -8,14 +8,14 @@ use Rattle.std.specs.Option.{option_map_or}
 use Rattle.std.specs.Ordering.{nat_cmp, on}
 use Rattle.std.specs.Str.{encode_utf8_all}
 use Rattle.std.specs.declared.cmp.Ordering.{Ordering}
-use Rattle.pg_grammar.specs.Grammar.{Grammar, rule_body}
-use Rattle.pg_grammar.specs.declared.grammar.Rule.{Rule}
-use Rattle.pg_sets.specs.PrintedStarts.{start_text}
-use Rattle.pg_sets.specs.declared.listed.ListedStart.{ListedStart}
+use Rattle.pg_value.specs.Grammar.{Grammar, rule_body}
+use Rattle.pg_value.specs.declared.grammar.Rule.{Rule}
+use Rattle.pg_own_starts.specs.PrintedStarts.{start_text}
+use Rattle.pg_own_starts.specs.declared.listed.ListedStart.{ListedStart}
 use Rattle.pg_predict.specs.Conditions.{Violates}
 use Rattle.pg_predict.specs.declared.violation.Violation.{Violation}
 use Rattle.pg_predict.specs.declared.violation.ViolationKind.{ViolationKind}
-use Rattle.pg_predict.specs.declared.violation.ViolationKind.TheVariants.{LeftRecursion, EmptyRound, EmptyAlternative, AlternativesMeet, AlternativeMeetsFollow, RoundMeetsFollow, TryAroundMore}
+use Rattle.pg_predict.specs.declared.violation.ViolationKind.TheVariants.{LeftRecursion, EmptyRound, EmptyAlternative, AlternativesMeet, AlternativeMeetsFollow, RoundMeetsFollow}
 use Rattle.pg_predict.specs.declared.finding.Finding.{Finding}
 
 -- ---- the order
@@ -28,7 +28,6 @@ condition_number (EmptyAlternative k) = 3
 condition_number (AlternativesMeet j k s t) = 4
 condition_number (AlternativeMeetsFollow k s t) = 5
 condition_number (RoundMeetsFollow s t) = 6
-condition_number TryAroundMore = 10
 
 -- the alternatives that it names
 abbrev pub alternatives_of : {S : Type 0} → ViolationKind S → List ℕ
@@ -38,7 +37,6 @@ alternatives_of (EmptyAlternative k) = k ∷ []
 alternatives_of (AlternativesMeet j k s t) = j ∷ k ∷ []
 alternatives_of (AlternativeMeetsFollow k s t) = k ∷ []
 alternatives_of (RoundMeetsFollow s t) = []
-alternatives_of TryAroundMore = []
 
 -- by the number of the node, which stand rule by rule, then by that of the condition, then by the alternatives
 abbrev pub violation_key : {S : Type 0} → Violation S → List ℕ
@@ -65,7 +63,6 @@ violation_text g (EmptyAlternative k) = codes "C3 alternative " ++ (decimal k ++
 violation_text g (AlternativesMeet j k s t) = codes "C4 alternatives " ++ (decimal j ++ (codes " and " ++ (decimal k ++ (codes " meet at " ++ meeting_text g s t))))
 violation_text g (AlternativeMeetsFollow k s t) = codes "C5 alternative " ++ (decimal k ++ (codes " meets the follow set at " ++ meeting_text g s t))
 violation_text g (RoundMeetsFollow s t) = codes "C6 repetition meets its follow set at " ++ meeting_text g s t
-violation_text g TryAroundMore = codes "C10 try around more than a lexeme"
 
 -- ---- the places
 

@@ -1,19 +1,18 @@
 -- What is noted of a grammar, a condition a line, from sets of numbers.
-use Rattle.std.specs.Prelude.{◌+◌, ◌-◌, ℕ, zero, suc, Bool, true, false, not, ◌&&◌, nat_lt, if◌then◌else◌, List, [], ◌∷◌, ◌++◌, length, Option, Some, None, slice_get, slice_index_or}
+use Rattle.std.specs.Prelude.{◌+◌, ◌-◌, ℕ, zero, suc, Bool, true, false, ◌&&◌, nat_lt, if◌then◌else◌, List, [], ◌∷◌, ◌++◌, length, Option, Some, None, slice_get, slice_index_or}
 use Rattle.std.specs.Option.{option_map_or}
-use Rattle.pg_grammar.specs.Grammar.{Grammar}
-use Rattle.pg_grammar.specs.Forms.{Node}
-use Rattle.pg_grammar.specs.declared.form.Form.TheVariants as form
-use Rattle.pg_grammar.specs.declared.form.Around.{Around}
-use Rattle.pg_grammar.specs.declared.form.Around.TheVariants as around
+use Rattle.pg_value.specs.Grammar.{Grammar}
+use Rattle.pg_form.specs.Forms.{Node}
+use Rattle.pg_form.specs.declared.form.Form.TheVariants as form
+use Rattle.pg_form.specs.declared.form.Around.{Around}
+use Rattle.pg_form.specs.declared.form.Around.TheVariants as around
 use Rattle.pg_bit_set.specs.Numbers.{set_at}
-use Rattle.pg_sets.specs.Marks.{is_marked}
+use Rattle.pg_graph.specs.Marks.{is_marked}
 use Rattle.pg_sets.specs.Sets.{Sets}
-use Rattle.pg_predict.specs.Lexemes.{is_lexeme}
 use Rattle.pg_predict.specs.Meetings.{first_meeting, earlier}
 use Rattle.pg_predict.specs.declared.violation.Violation.{Violation}
 use Rattle.pg_predict.specs.declared.violation.ViolationKind.{ViolationKind}
-use Rattle.pg_predict.specs.declared.violation.ViolationKind.TheVariants.{LeftRecursion, EmptyRound, EmptyAlternative, AlternativesMeet, AlternativeMeetsFollow, RoundMeetsFollow, TryAroundMore}
+use Rattle.pg_predict.specs.declared.violation.ViolationKind.TheVariants.{LeftRecursion, EmptyRound, EmptyAlternative, AlternativesMeet, AlternativeMeetsFollow, RoundMeetsFollow}
 use Rattle.pg_predict.specs.declared.meetings.Meeting.{Meeting}
 
 -- ---- what is asked
@@ -98,19 +97,6 @@ noted_chain facts p operand separator =
     noted (is_marked facts.sets.nullable separator && is_marked facts.sets.nullable operand) p EmptyRound
     ++ noted_meeting (link_meeting facts operand separator p) p RoundMeetsFollow
 
--- ---- tries
-
-abbrev pub noted_try : Grammar → ℕ → ℕ → List (Violation ℕ)
-noted_try g p q = noted (not (is_lexeme g q)) p TryAroundMore
-
--- of what stands around a part
-abbrev pub noted_around : Grammar → ℕ → Around → ℕ → List (Violation ℕ)
-noted_around g p around.Try q = noted_try g p q
-noted_around g p around.Text q = []
-noted_around g p around.Skip q = []
-noted_around g p (around.Build used symbol) q = []
-noted_around g p (around.Label message) q = []
-
 -- ---- all forms
 
 abbrev pub noted_form : Grammar → Facts → ℕ → Node → List (Violation ℕ)
@@ -121,7 +107,7 @@ noted_form g facts p (form.Many part) = noted_many facts p part
 noted_form g facts p (form.Chain side used operand separator) = noted_chain facts p operand separator
 noted_form g facts p (form.Rule rule) = []
 noted_form g facts p (form.Expression builders term) = []
-noted_form g facts p (form.Around around part) = noted_around g p around part
+noted_form g facts p (form.Around around part) = []
 
 -- what is noted at a node: first whether it is the body of a rule that heads itself
 abbrev pub noted_node : Grammar → Facts → ℕ → List (Violation ℕ)

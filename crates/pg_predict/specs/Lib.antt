@@ -1,8 +1,8 @@
 pub mod Operators
 pub mod Conditions
 pub mod Findings
+pub mod Places
 pub mod WithStarts
-pub mod Lexemes
 pub mod Meetings
 pub mod Judged
 pub mod Suspects

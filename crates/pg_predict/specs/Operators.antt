@@ -1,9 +1,9 @@
 -- Grammars in which no text reads or declares operators.
 use Rattle.std.specs.Prelude.{◌≡◌, ℕ, Some, slice_get}
-use Rattle.pg_grammar.specs.Grammar.{Grammar}
-use Rattle.pg_grammar.specs.Forms.{Node}
-use Rattle.pg_grammar.specs.declared.form.Form.TheVariants as form
-use Rattle.pg_grammar.specs.declared.form.Leaf.TheVariants as leaf
+use Rattle.pg_value.specs.Grammar.{Grammar}
+use Rattle.pg_form.specs.Forms.{Node}
+use Rattle.pg_form.specs.declared.form.Form.TheVariants as form
+use Rattle.pg_form.specs.declared.form.Leaf.TheVariants as leaf
 
 -- the node neither reads nor declares operators
 abbrev pub IsWithoutOperators : Node → Type 0

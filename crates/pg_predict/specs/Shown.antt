@@ -1,14 +1,14 @@
 -- What the facts say of a grammar.
 use Rattle.std.specs.Prelude.{◌≡◌, ◌↔◌, ℕ, Bool, true, List, Some, slice_get, length}
-use Rattle.pg_grammar.specs.Grammar.{Grammar}
-use Rattle.pg_grammar.specs.declared.grammar.Rule as declared
+use Rattle.pg_value.specs.Grammar.{Grammar}
+use Rattle.pg_value.specs.declared.grammar.Rule as declared
 use Rattle.pg_bit_set.specs.Numbers.{contains, set_at}
 use Rattle.pg_start.specs.Apart.{Apart}
 use Rattle.pg_start.specs.declared.kind.StartKind.{StartKind}
-use Rattle.pg_sets.specs.Marks.{is_marked}
-use Rattle.pg_sets.specs.Ranks.{Chain}
+use Rattle.pg_graph.specs.Marks.{is_marked}
+use Rattle.pg_heads.specs.Ranks.{Chain}
 use Rattle.pg_sets.specs.Sets.{AreSets}
-use Rattle.pg_sets.specs.declared.listed.ListedStart.{ListedStart}
+use Rattle.pg_own_starts.specs.declared.listed.ListedStart.{ListedStart}
 use Rattle.pg_predict.specs.Judged.{Facts}
 
 -- the node is the body of a rule that heads itself

@@ -1,7 +1,7 @@
 -- Alternatives that may meet one after them.
 use Rattle.std.specs.Prelude.{◌≡◌, ◌<◌, ℕ, Bool, false, List, None, length}
 use Rattle.pg_bit_set.specs.Numbers.{set_at}
-use Rattle.pg_sets.specs.Marks.{is_marked}
+use Rattle.pg_graph.specs.Marks.{is_marked}
 use Rattle.pg_predict.specs.Judged.{Facts, part_at, node_meeting}
 
 -- the starts of each of these nodes are numbers below how many starts there are

@@ -4,12 +4,12 @@
 //! on it.
 ghost use Rattle.std.specs.Prelude.{◌≡◌};
 
-use pg_grammar::Grammar;
 use pg_sets::Sets;
+use pg_value::Grammar;
 use std::marker::Model;
 
 /// A predictive grammar with its sets, seen as the two.
-#[derive(Debug, Drop)]
+#[derive(Drop)]
 pub struct Checked {
     grammar: Grammar,
     sets: Sets,

@@ -9,12 +9,12 @@ use crate::checked::Checked;
 use crate::finding::{Finding, findings_of};
 use crate::judge::Judge;
 use crate::judging::judge_grammar;
-use pg_grammar::Grammar;
 use pg_sets::Sets;
+use pg_value::Grammar;
 use std::alloc::{AllocError, Global};
 
 /// A grammar that isn't predictive, and why.
-#[derive(Debug, Drop)]
+#[derive(Drop)]
 pub struct Refused {
     /// The grammar, as it was handed in.
     pub grammar: Grammar,
@@ -23,7 +23,7 @@ pub struct Refused {
 }
 
 /// Why a grammar wasn't accepted.
-#[derive(Debug, Drop)]
+#[derive(Drop)]
 pub enum CheckFault {
     /// It isn't predictive.
     Refused(Refused),

@@ -9,7 +9,7 @@ use crate::marks::is_marked;
 use crate::noting::note_where;
 use crate::suspects::suspects;
 use crate::violation::{Violation, ViolationKind};
-use pg_grammar::NodeId;
+use pg_form::NodeId;
 use std::alloc::{AllocError, Global};
 
 /// Judges a choice of these alternatives. The only error is that memory ran out.

@@ -6,8 +6,8 @@ ghost use Rattle.pg_predict.specs.Findings.{condition_number, rule_of, name_of, 
 
 use crate::texts::violation_text;
 use crate::violation::{Violation, ViolationKind};
-use pg_grammar::{Grammar, Rule};
-use pg_sets::ListedStart;
+use pg_own_starts::ListedStart;
+use pg_value::{Grammar, Rule};
 use std::alloc::{AllocError, Global};
 
 /// A violation with its rule and its node in the rule, and what to print of it.
@@ -17,7 +17,7 @@ pub struct Finding {
     pub rule: usize,
     /// The node's number in the rule's body, from 1, in preorder.
     pub node: usize,
-    /// The number of the condition that is broken: 1 to 6, or 10.
+    /// The number of the condition that is broken: 1 to 6.
     pub number: usize,
     /// The rule's name, the node's number and the text of what is wrong, without a line feed.
     pub line: String,
@@ -130,6 +130,5 @@ fn condition_number(kind: &ViolationKind<usize>) -> usize
         ViolationKind::AlternativesMeet(_, _, _, _) => 4,
         ViolationKind::AlternativeMeetsFollow(_, _, _) => 5,
         ViolationKind::RoundMeetsFollow(_, _) => 6,
-        ViolationKind::TryAroundMore => 10,
     }
 }

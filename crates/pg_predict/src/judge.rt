@@ -3,7 +3,7 @@
 //! Each question of a condition is answered here, and in one place.
 ghost use Rattle.std.specs.Prelude.{◌≡◌, IfOk, is_some};
 ghost use Rattle.pg_bit_set.specs.Numbers.{set_at};
-ghost use Rattle.pg_sets.specs.Marks.{is_marked};
+ghost use Rattle.pg_graph.specs.Marks.{is_marked};
 ghost use Rattle.pg_predict.specs.Judged.{node_meeting, follow_meeting, link_meeting};
 ghost use Rattle.pg_predict.specs.Meetings.{first_meeting};
 ghost use Rattle.pg_predict.specs.Shown.{AreFacts};
@@ -13,8 +13,10 @@ use crate::meetings::{Meeting, earlier, first_meeting};
 use crate::met_starts::met_starts;
 use crate::recursion::recursive_bodies;
 use pg_bit_set::BitSet;
-use pg_grammar::{Grammar, NodeId};
-use pg_sets::{ListedStart, Sets};
+use pg_form::NodeId;
+use pg_own_starts::ListedStart;
+use pg_sets::Sets;
+use pg_value::Grammar;
 use std::alloc::{AllocError, Global};
 use std::marker::Model;
 

@@ -1,16 +1,16 @@
 //! Judging a grammar: each node in its order, by the conditions on its form.
 ghost use Rattle.std.specs.Prelude.{◌≡◌, ◌<◌, ◌++◌, Some, slice_get, length, IfOk, OnOk};
-ghost use Rattle.pg_grammar.specs.Grammar.{IsGrammar};
-ghost use Rattle.pg_predict.specs.Judged.{noted_form, noted_around, noted_try, noted_node, noted_grammar};
+ghost use Rattle.pg_value.specs.Grammar.{IsGrammar};
+ghost use Rattle.pg_predict.specs.Judged.{noted_form, noted_node, noted_grammar};
 ghost use Rattle.pg_predict.specs.Shown.{AreFacts};
 
 use crate::choices::judge_choice;
 use crate::judge::Judge;
 use crate::noting::note_where;
 use crate::repetitions::{judge_chain, judge_many};
-use crate::tries::is_lexeme;
 use crate::violation::{Violation, ViolationKind};
-use pg_grammar::{Around, Form, Grammar, Node, NodeId};
+use pg_form::{Form, Node, NodeId};
+use pg_value::Grammar;
 use std::alloc::{AllocError, Global};
 
 /// All that is wrong with a grammar, by the order of nodes. The only error is that memory ran out.
@@ -72,36 +72,10 @@ fn judge_form(
             judge_chain(judge, node, *operand, *separator, violations)
         }
         // C7 to C9 judge expressions and declarations; whoever checks a grammar owes that it has none of them yet.
-        Form::Leaf(_) | Form::Seq(_) | Form::Rule(_) | Form::Expression(_, _) => Ok(()),
-        Form::Around(around, part) => judge_around(grammar, node, around, *part, violations),
+        Form::Leaf(_)
+        | Form::Seq(_)
+        | Form::Rule(_)
+        | Form::Expression(_, _)
+        | Form::Around(_, _) => Ok(()),
     }
-}
-
-/// Judges what stands around a part. The only error is that memory ran out.
-fn judge_around(
-    grammar: &Grammar,
-    node: NodeId,
-    around: &Around,
-    part: NodeId,
-    violations: &mut Vec<Violation<usize>>,
-) -> Result<(), AllocError>
-    ensures { OnOk result (violations.new.items ≡ violations.old.items ++ noted_around grammar.now node around.now part) }
-{
-    match around {
-        Around::Try => judge_try(grammar, node, part, violations),
-        Around::Text | Around::Skip | Around::Build(_, _) | Around::Label(_) => Ok(()),
-    }
-}
-
-/// Judges a try: it may stand around a lexeme alone (C10). The only error is that memory ran out.
-fn judge_try(
-    grammar: &Grammar,
-    node: NodeId,
-    part: NodeId,
-    violations: &mut Vec<Violation<usize>>,
-) -> Result<(), AllocError>
-    ensures { OnOk result (violations.new.items ≡ violations.old.items ++ noted_try grammar.now node part) }
-{
-    let more = !is_lexeme(grammar, part);
-    note_where(more, node.index(), ViolationKind::TryAroundMore, violations)
 }

@@ -1,6 +1,6 @@
 //! Marks on numbered things.
 ghost use Rattle.std.specs.Prelude.{◌≡◌};
-ghost use Rattle.pg_sets.specs.Marks.{is_marked};
+ghost use Rattle.pg_graph.specs.Marks.{is_marked};
 
 /// Whether a number is marked; one past the end isn't.
 pub(crate) fn is_marked(marks: &[bool], number: usize) -> bool

@@ -5,7 +5,7 @@ ghost use Rattle.std.specs.Prelude.{IfOk};
 ghost use Rattle.pg_predict.specs.Shown.{IsMetSet, AreMeetings};
 
 use pg_bit_set::BitSet;
-use pg_sets::ListedStart;
+use pg_own_starts::ListedStart;
 use pg_start::{Start, apart};
 use std::alloc::{AllocError, Global};
 

@@ -3,7 +3,8 @@
 ghost use Rattle.std.specs.Prelude.{◌↔◌, IsTrue};
 ghost use Rattle.pg_predict.specs.Operators.{HasNoOperators, IsWithoutOperators};
 
-use pg_grammar::{Form, Grammar, Leaf, Node, NodeId};
+use pg_form::{Form, Leaf, Node, NodeId};
+use pg_value::Grammar;
 
 /// Whether no node of a grammar reads or declares operators.
 pub fn has_no_operators(grammar: &Grammar) -> bool

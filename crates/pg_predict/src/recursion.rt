@@ -3,15 +3,16 @@
 //! Only a rule without a rank can, since the heads of others lead to no cycle; from such a rule its heads are followed.
 ghost use Rattle.std.specs.Prelude.{◌≡◌, ◌<◌, ◌↔◌, ℕ, true, length, IfOk, OnOk};
 ghost use Rattle.std.specs.Bool.{OnTrue};
-ghost use Rattle.pg_grammar.specs.Grammar.{IsGrammar};
-ghost use Rattle.pg_sets.specs.Graphs.{has, numbers_at, IsReached};
-ghost use Rattle.pg_sets.specs.Ranks.{Chain};
+ghost use Rattle.pg_value.specs.Grammar.{IsGrammar};
+ghost use Rattle.pg_graph.specs.Graphs.{has, numbers_at, IsReached};
+ghost use Rattle.pg_heads.specs.Ranks.{Chain};
 ghost use Rattle.pg_sets.specs.Sets.{AreSets};
-ghost use Rattle.pg_sets.specs.Walk.{is_new, with_all_met};
+ghost use Rattle.pg_graph.specs.Walk.{is_new, with_all_met};
 ghost use Rattle.pg_predict.specs.Shown.{MarksRecursive};
 
-use pg_grammar::{Grammar, RuleId};
+use pg_form::RuleId;
 use pg_sets::Sets;
+use pg_value::Grammar;
 use std::alloc::{AllocError, Global};
 
 /// For each node a mark, which is on the bodies of rules that head themselves. The only error is that memory ran out.

@@ -6,7 +6,7 @@ use crate::judge::Judge;
 use crate::meetings::Meeting;
 use crate::noting::note_where;
 use crate::violation::{Violation, ViolationKind};
-use pg_grammar::NodeId;
+use pg_form::NodeId;
 use std::alloc::AllocError;
 
 /// Judges a many, whose round is its part. The only error is that memory ran out.

@@ -7,7 +7,7 @@ ghost use Rattle.pg_predict.specs.Suspects.{HaveLimits, MarksSuspects};
 
 use crate::judge::Judge;
 use pg_bit_set::BitSet;
-use pg_grammar::NodeId;
+use pg_form::NodeId;
 use std::alloc::{AllocError, Global};
 
 /// For each alternative a mark; one without a mark meets none after it. The only error is that memory ran out.

@@ -1,12 +1,12 @@
 //! The texts of violations: the one place where they are written.
 ghost use Rattle.std.specs.Prelude.{◌≡◌, IfOk, string_bytes};
-ghost use Rattle.pg_sets.specs.PrintedStarts.{start_text};
+ghost use Rattle.pg_own_starts.specs.PrintedStarts.{start_text};
 ghost use Rattle.pg_predict.specs.WithStarts.{kind_with_starts, start_at};
 ghost use Rattle.pg_predict.specs.Findings.{violation_text, meeting_text};
 
 use crate::violation::ViolationKind;
-use pg_grammar::Grammar;
-use pg_sets::{ListedStart, printed_start};
+use pg_own_starts::{ListedStart, printed_start};
+use pg_value::Grammar;
 use std::alloc::{AllocError, Global};
 
 /// What is wrong, in words. The only error is that memory ran out.
@@ -35,9 +35,6 @@ pub(crate) fn violation_text(
         ViolationKind::RoundMeetsFollow(one, other) => {
             let met = meeting_text(alloc, grammar, starts, *one, *other)?;
             format!(in alloc; "C6 repetition meets its follow set at {met}")
-        }
-        ViolationKind::TryAroundMore => {
-            String::from_str(alloc, "C10 try around more than a lexeme")
         }
     }
 }

@@ -18,10 +18,7 @@ pub(crate) enum ViolationKind<S> {
     AlternativeMeetsFollow(usize, S, S),
     /// C6: a round meets what follows the repetition at these starts.
     RoundMeetsFollow(S, S),
-    // C7 to C9, which judge expressions and declarations, come here.
-    /// C10: a try stands around more than a lexeme.
-    TryAroundMore,
-    // C11, which judges the cost, comes here.
+    // C7 to C9, which judge expressions and declarations, come here, and C11, which judges the cost.
 }
 
 /// A broken condition, and the number of the node at which it is.

@@ -3,23 +3,23 @@
 use Rattle.std.specs.Prelude.{ℕ, zero, suc, List, [], ◌∷◌, ◌++◌, map, take, drop, Option, Some, None}
 use Rattle.std.specs.Str.{chars}
 use Rattle.std.specs.Fmt.{decimal}
-use Rattle.pg_grammar.specs.Names as names
-use Rattle.pg_grammar.specs.Names.{name_at}
-use Rattle.pg_grammar.specs.Classes.{member_count}
-use Rattle.pg_grammar.specs.ClassItems.{item_name}
-use Rattle.pg_grammar.specs.Operators as operators
-use Rattle.pg_grammar.specs.Forms.{BaseForm, part_count}
-use Rattle.pg_grammar.specs.Grammar.{Grammar, rule_names, forms_of}
-use Rattle.pg_grammar.specs.declared.class.ClassPart.{ClassPart}
-use Rattle.pg_grammar.specs.declared.class.ClassPart.TheVariants as part
-use Rattle.pg_grammar.specs.declared.class_item.ClassItem.{ClassItem}
-use Rattle.pg_grammar.specs.declared.form.Form.TheVariants as form
-use Rattle.pg_grammar.specs.declared.form.Leaf.{Leaf}
-use Rattle.pg_grammar.specs.declared.form.Leaf.TheVariants as leaf
-use Rattle.pg_grammar.specs.declared.form.Around.{Around}
-use Rattle.pg_grammar.specs.declared.form.Around.TheVariants as around
-use Rattle.pg_grammar.specs.declared.operators_item.OperatorsItem.{OperatorsItem}
-use Rattle.pg_grammar.specs.declared.word_item.WordItem.{WordItem}
+use Rattle.pg_form.specs.Names as names
+use Rattle.pg_form.specs.Names.{name_at}
+use Rattle.pg_form.specs.Classes.{member_count}
+use Rattle.pg_form.specs.ClassItems.{item_name}
+use Rattle.pg_form.specs.Operators as operators
+use Rattle.pg_form.specs.Forms.{BaseForm, part_count}
+use Rattle.pg_value.specs.Grammar.{Grammar, rule_names, forms_of}
+use Rattle.pg_form.specs.declared.class.ClassPart.{ClassPart}
+use Rattle.pg_form.specs.declared.class.ClassPart.TheVariants as part
+use Rattle.pg_form.specs.declared.class_item.ClassItem.{ClassItem}
+use Rattle.pg_form.specs.declared.form.Form.TheVariants as form
+use Rattle.pg_form.specs.declared.form.Leaf.{Leaf}
+use Rattle.pg_form.specs.declared.form.Leaf.TheVariants as leaf
+use Rattle.pg_form.specs.declared.form.Around.{Around}
+use Rattle.pg_form.specs.declared.form.Around.TheVariants as around
+use Rattle.pg_form.specs.declared.operators_item.OperatorsItem.{OperatorsItem}
+use Rattle.pg_form.specs.declared.word_item.WordItem.{WordItem}
 use Rattle.pg_items.specs.declared.words.ClassForm.TheVariants as class_form
 use Rattle.pg_items.specs.declared.words.SomeForm.TheVariants as some_form
 use Rattle.pg_items.specs.declared.words.OneForm.TheVariants as one_form

@@ -4,7 +4,7 @@ use Rattle.std.specs.Prelude.{◌≤◌, ℕ, ◌==◌, ◌&&◌, nat_le, if◌t
 use Rattle.std.specs.List.{AllByRecursion, flat_map}
 use Rattle.std.specs.Str.{encode_utf8_all}
 use Rattle.std.specs.Fmt.{digits}
-use Rattle.pg_grammar.specs.Grammar.{Grammar}
+use Rattle.pg_value.specs.Grammar.{Grammar}
 use Rattle.pg_items.specs.Tree.{Atom, Set, Range, Name, Not, Group, Class, Of, Atoms, No_atom, Or, Value, Of_class, String, Seq, Of_some, Of_one, Of_two, Between, Chain, Expression, Build, Build_symbol, Label, End_of_text, Word, Rule, Values, No_value, And, Item, Class_item, Word_item, Operators, Table, Start, Rule_item}
 use Rattle.pg_items.specs.Syntax.{class_word, some_word, one_word, two_word, chain_word, role_word}
 use Rattle.pg_items.specs.Depth.{IsShallow}

@@ -2,9 +2,9 @@
 
 ghost use Rattle.std.specs.Prelude.{◌≡◌, ◌<◌, ◌∷◌, [], length, drop, codes, IfOk, OnOk};
 ghost use Rattle.std.specs.Str.{chars};
-ghost use Rattle.pg_grammar.specs.Forms.{leaf_with};
-ghost use Rattle.pg_grammar.specs.Grammar.{rule_names, word_names};
-ghost use Rattle.pg_grammar.specs.Names.{name_at};
+ghost use Rattle.pg_form.specs.Forms.{leaf_with};
+ghost use Rattle.pg_value.specs.Grammar.{rule_names, word_names};
+ghost use Rattle.pg_form.specs.Names.{name_at};
 ghost use Rattle.pg_tokens.specs.Tokens.{name, literal};
 ghost use Rattle.pg_items.specs.Syntax as syntax;
 ghost use Rattle.pg_items.specs.Syntax.{class_written, opened, written};
@@ -15,12 +15,12 @@ ghost use Rattle.pg_print.specs.Levels.{tokens_alone, leaf_piece, around_piece, 
 use crate::class::put_class;
 use crate::layout::Layout;
 use crate::levels::{Ending, Level, enter, put_end};
-use pg_grammar::{
-    Around, BuilderUse, ClassExpression, Form, Grammar, Leaf, Node, OperatorBuilders, RuleId, Side,
-    WordId,
+use pg_form::{
+    Around, BuilderUse, ClassExpression, Form, Leaf, Node, OperatorBuilders, RuleId, Side, WordId,
 };
 use pg_text::Characters;
 use pg_tokens::{Mark, characters_of, copied};
+use pg_value::Grammar;
 use std::alloc::{AllocError, Global};
 use std::collections::VecDeque;
 

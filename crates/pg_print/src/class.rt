@@ -4,11 +4,11 @@
 ghost use Rattle.std.specs.Prelude.{◌≡◌, ◌∷◌, [], map, OnOk};
 ghost use Rattle.pg_tokens.specs.Tokens.{literal, mark};
 ghost use Rattle.pg_tokens.specs.declared.token.Mark.TheVariants.{Dots};
-ghost use Rattle.pg_grammar.specs.Names.{name_at};
+ghost use Rattle.pg_form.specs.Names.{name_at};
 ghost use Rattle.std.specs.List.{AllByRecursion};
-ghost use Rattle.pg_grammar.specs.Preorder.{SpellForms};
-ghost use Rattle.pg_grammar.specs.Classes.{member_count, IsProperUnion};
-ghost use Rattle.pg_grammar.specs.ClassItems.{item_name};
+ghost use Rattle.pg_form.specs.Preorder.{SpellForms};
+ghost use Rattle.pg_form.specs.Classes.{member_count, IsProperUnion};
+ghost use Rattle.pg_form.specs.ClassItems.{item_name};
 ghost use Rattle.pg_items.specs.Syntax.{atom_written, class_written};
 ghost use Rattle.pg_print.specs.Canonical.{atoms_of, class_from};
 ghost use Rattle.pg_print.specs.Layout.{with_tokens};
@@ -16,7 +16,7 @@ ghost use Rattle.pg_print.specs.Levels.{first_piece, part_piece, with_piece, lev
 
 use crate::layout::Layout;
 use crate::levels::{Ending, Level, enter, put_end};
-use pg_grammar::{ClassExpression, ClassId, ClassItem, ClassPart};
+use pg_form::{ClassExpression, ClassId, ClassItem, ClassPart};
 use pg_tokens::Mark;
 use std::alloc::{AllocError, Global};
 use std::collections::VecDeque;

@@ -1,9 +1,9 @@
 //! A whole grammar as it is printed: an item a line, in groups by kind.
 
 ghost use Rattle.std.specs.Prelude.{◌≡◌, [], map, IfOk, OnOk};
-ghost use Rattle.pg_grammar.specs.ClassItems.{item_name};
-ghost use Rattle.pg_grammar.specs.Grammar.{rule_names};
-ghost use Rattle.pg_grammar.specs.Names.{name_at};
+ghost use Rattle.pg_form.specs.ClassItems.{item_name};
+ghost use Rattle.pg_value.specs.Grammar.{rule_names};
+ghost use Rattle.pg_form.specs.Names.{name_at};
 ghost use Rattle.pg_items.specs.Tree.{Start};
 ghost use Rattle.pg_items.specs.Syntax as syntax;
 ghost use Rattle.pg_items.specs.Syntax.{item_written, file_written, reserved_written};
@@ -15,8 +15,9 @@ ghost use Rattle.pg_print.specs.Levels.{node_values};
 use crate::body::{put_body, rule_name};
 use crate::class::put_class;
 use crate::layout::Layout;
-use pg_grammar::{ClassItem, Decl, Grammar, OperatorsItem, Role, Texts, WordItem};
+use pg_form::{ClassItem, Decl, OperatorsItem, Role, Texts, WordItem};
 use pg_tokens::{Mark, utf8};
+use pg_value::Grammar;
 use std::alloc::{AllocError, Global};
 
 /// The grammar as a file in the canonical form (ours): an item a line; classes, words, operators, table, start and

@@ -5,13 +5,13 @@ use Rattle.std.specs.BTreeMap.{get}
 use Rattle.std.specs.Ordering.{is_eq}
 use Rattle.std.proofs.lemmas.Bool.{cases_Bool, both_ways, eqb-true, eq-eqb, or_cases, or_left, or_right}
 use Rattle.std.proofs.lemmas.Cmp.{tied_itself}
-use Rattle.pg_sets.specs.Graphs.{has}
-use Rattle.pg_sets.specs.Listed.{start_order, start_order_total}
+use Rattle.pg_graph.specs.Graphs.{has}
+use Rattle.pg_own_starts.specs.Listed.{start_order, start_order_total}
 use Rattle.pg_sets.specs.Origins.{Origins, sets_of, HoldsIt, IsThere}
-use Rattle.pg_sets.specs.Own.{IsAmong}
-use Rattle.pg_sets.specs.declared.listed.ListedStart.{ListedStart}
-use Rattle.pg_sets.proofs.Lists.{has_push}
-use Rattle.pg_sets.proofs.Ordered.{equal_is, same_start}
+use Rattle.pg_own_starts.specs.Own.{IsAmong}
+use Rattle.pg_own_starts.specs.declared.listed.ListedStart.{ListedStart}
+use Rattle.pg_graph.proofs.Lists.{has_push}
+use Rattle.pg_own_starts.proofs.Ordered.{equal_is, same_start}
 
 pub same_if_tied : (one other : ListedStart) → is_eq (start_order one other) ≡ true → one ≡ other
 same_if_tied one other e = same_start one other (equal_is (start_order one other) e)

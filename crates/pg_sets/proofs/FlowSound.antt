@@ -4,33 +4,33 @@ use Rattle.std.specs.List.{AllByRecursion}
 use Rattle.std.specs.Option.{option_map_or}
 use Rattle.std.proofs.lemmas.Bool.{cases_lt, true≢false, lt-ltb, le-ltb}
 use Rattle.std.proofs.lemmas.Option.{slice_get_within}
-use Rattle.pg_grammar.specs.Forms.{Node, parts_of}
-use Rattle.pg_grammar.specs.Grammar.{Grammar, IsGrammar, rule_body}
-use Rattle.pg_grammar.specs.declared.form.Form.TheVariants as form
-use Rattle.pg_grammar.specs.declared.form.Around.{Around}
-use Rattle.pg_grammar.specs.declared.form.Around.TheVariants as kind
-use Rattle.pg_grammar.specs.declared.grammar.Rule as declared
+use Rattle.pg_form.specs.Forms.{Node, parts_of}
+use Rattle.pg_value.specs.Grammar.{Grammar, IsGrammar, rule_body}
+use Rattle.pg_form.specs.declared.form.Form.TheVariants as form
+use Rattle.pg_form.specs.declared.form.Around.{Around}
+use Rattle.pg_form.specs.declared.form.Around.TheVariants as kind
+use Rattle.pg_value.specs.declared.grammar.Rule as declared
 use Rattle.pg_start.specs.declared.kind.StartKind.{StartKind}
 use Rattle.pg_sets.specs.First.{IsFirst, IsFirstOf}
 use Rattle.pg_sets.specs.First as first_of
 use Rattle.pg_sets.specs.Flows.{Flow, follow_of, flows_of_all, flows_of_some, flows_of_next, flows_after_parts, flows_of_alternatives, flows_of_chain, flows_of_only, around_flows, node_flows, with_flows, all_flows}
 use Rattle.pg_sets.specs.Follow.{StandsBefore, IsChain, HasOnly, IsFollow}
 use Rattle.pg_sets.specs.Follow as follow
-use Rattle.pg_sets.specs.Marks.{is_marked}
-use Rattle.pg_sets.specs.Nullable.{Nullable, AllNullable}
-use Rattle.pg_sets.specs.Nullable as nullable_of
-use Rattle.pg_sets.specs.OwnStarts.{IsKeyTry, MarksKeys}
-use Rattle.pg_sets.specs.Reached.{ReachedIn, ReachedPart}
-use Rattle.pg_sets.specs.Reached as reached
-use Rattle.pg_sets.specs.Graphs.{has, numbers_at, IsReached}
-use Rattle.pg_sets.specs.Graphs as walk
+use Rattle.pg_graph.specs.Marks.{is_marked}
+use Rattle.pg_heads.specs.Nullable.{Nullable, AllNullable}
+use Rattle.pg_heads.specs.Nullable as nullable_of
+use Rattle.pg_own_starts.specs.OwnStarts.{IsKeyTry, MarksKeys}
+use Rattle.pg_heads.specs.Reached.{ReachedIn, ReachedPart}
+use Rattle.pg_heads.specs.Reached as reached
+use Rattle.pg_graph.specs.Graphs.{has, numbers_at, IsReached}
+use Rattle.pg_graph.specs.Graphs as walk
 use Rattle.pg_sets.proofs.Flowing.{IsIn, here, further, in_cases, edge_cases, all_told}
-use Rattle.pg_sets.proofs.Joining.{none_at}
-use Rattle.pg_sets.proofs.Lists.{all_get}
+use Rattle.pg_graph.proofs.Joining.{none_at}
+use Rattle.pg_graph.proofs.Lists.{all_get}
 use Rattle.pg_sets.proofs.Placing.{follow_comes, stands_next}
-use Rattle.pg_grammar.proofs.Each.{all-weaker}
-use Rattle.pg_grammar.proofs.Numbers.{parts_are_after, bodies_are_nodes}
-use Rattle.pg_sets.proofs.Heading.{MarksNullable, again_shown}
+use Rattle.pg_form.proofs.Each.{all-weaker}
+use Rattle.pg_value.proofs.Numbers.{parts_are_after, bodies_are_nodes}
+use Rattle.pg_heads.proofs.Heading.{MarksNullable, again_shown}
 
 -- the start is in the set with this number
 pub record Holds (g : Grammar) (start : StartKind) (v : ℕ) : Type 0 where

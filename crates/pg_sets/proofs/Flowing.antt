@@ -1,11 +1,11 @@
 -- What a graph has when edges were added to it.
 use Rattle.std.proofs.Common.{◌≡◌, ℕ, zero, suc, ◌+◌, ◌<◌, Bool, true, ◌⊎◌, inl, inr, List, [], ◌∷◌, ◌++◌, Some, slice_get, length, refl, sym, subst, ◌∙◌, arith, length-set}
-use Rattle.pg_grammar.specs.Forms.{Node}
-use Rattle.pg_grammar.specs.declared.grammar.Rule.{Rule}
-use Rattle.pg_sets.specs.Graphs.{has, numbers_at, joined}
+use Rattle.pg_form.specs.Forms.{Node}
+use Rattle.pg_value.specs.declared.grammar.Rule.{Rule}
+use Rattle.pg_graph.specs.Graphs.{has, numbers_at, joined}
 use Rattle.pg_sets.specs.Flows.{Flow, with_flows, node_flows, all_flows}
-use Rattle.pg_sets.proofs.Lists.{has_first, only_one}
-use Rattle.pg_sets.proofs.Joining.{each_cases, each_kept, each_new}
+use Rattle.pg_graph.proofs.Lists.{has_first, only_one}
+use Rattle.pg_graph.proofs.Joining.{each_cases, each_kept, each_new}
 
 -- one list of edges after another
 pub with_flows-append : (graph : List (List ℕ)) (flows others : List Flow) → with_flows graph (flows ++ others) ≡ with_flows (with_flows graph flows) others

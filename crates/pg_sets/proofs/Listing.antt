@@ -10,20 +10,20 @@ use Rattle.std.proofs.lemmas.List.{length-map}
 use Rattle.std.proofs.lemmas.Map.Keys.{sorted_head, sorted_tail}
 use Rattle.std.proofs.lemmas.Option.{slice_get_within}
 use Rattle.pg_class.specs.Ranges.{Range}
-use Rattle.pg_grammar.specs.Grammar.{Grammar}
-use Rattle.pg_grammar.specs.Forms.{Node}
+use Rattle.pg_value.specs.Grammar.{Grammar}
+use Rattle.pg_form.specs.Forms.{Node}
 use Rattle.pg_start.specs.declared.kind.StartKind.{StartKind}
-use Rattle.pg_sets.specs.Graphs.{has, numbers_at}
-use Rattle.pg_sets.specs.Listed.{IsListed, IsNumbered, IsFirstReader, start_order, start_order_total}
+use Rattle.pg_graph.specs.Graphs.{has, numbers_at}
+use Rattle.pg_own_starts.specs.Listed.{IsListed, IsNumbered, IsFirstReader, start_order, start_order_total}
 use Rattle.pg_sets.specs.Origins.{Origins, sets_of, AreOrigins, AreListed}
-use Rattle.pg_sets.specs.OwnStarts.{OwnStart, IsOperatorStart, ReservedAs, ReadsWords, SameTexts}
-use Rattle.pg_sets.specs.OwnStarts as own
+use Rattle.pg_own_starts.specs.OwnStarts.{OwnStart, IsOperatorStart, ReservedAs, ReadsWords, SameTexts}
+use Rattle.pg_own_starts.specs.OwnStarts as own
 use Rattle.pg_sets.specs.Sources.{IsSource}
 use Rattle.pg_sets.specs.Sources as source
-use Rattle.pg_sets.specs.declared.listed.ListedStart.{ListedStart}
+use Rattle.pg_own_starts.specs.declared.listed.ListedStart.{ListedStart}
 use Rattle.pg_sets.proofs.Adding.{same_if_tied, tied_if_same}
-use Rattle.pg_sets.proofs.Lists.{all_get}
-use Rattle.pg_sets.proofs.Owned.{reads_like}
+use Rattle.pg_graph.proofs.Lists.{all_get}
+use Rattle.pg_own_starts.proofs.Owned.{reads_like}
 
 abbrev pub Entries : Type 0
 Entries = List (ListedStart × List ℕ)

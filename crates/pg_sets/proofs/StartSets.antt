@@ -2,7 +2,7 @@
 use Rattle.std.proofs.Common.{◌≡◌, ℕ, zero, suc, ◌+◌, ◌<◌, Bool, true, List, [], ◌∷◌, Some, slice_get, length, map, take, drop, replicate, refl, sym, ap, subst, ◌∙◌, arith}
 use Rattle.std.specs.Prelude.{◌↔◌}
 use Rattle.std.proofs.lemmas.List.{length-map, length-replicate}
-use Rattle.pg_grammar.specs.Grammar.{Grammar, IsGrammar}
+use Rattle.pg_value.specs.Grammar.{Grammar, IsGrammar}
 use Rattle.pg_bit_set.specs.Numbers.{contains, set_at}
 use Rattle.pg_start.specs.declared.kind.StartKind.{StartKind}
 use Rattle.pg_sets.specs.First.{IsFirst, IsFirstOf}
@@ -10,18 +10,18 @@ use Rattle.pg_sets.specs.First as first_of
 use Rattle.pg_sets.specs.Flows.{follow_of, with_flows, all_flows}
 use Rattle.pg_sets.specs.Follow.{IsFollow}
 use Rattle.pg_sets.specs.Follow as follow_of_node
-use Rattle.pg_sets.specs.Graphs.{has, numbers_at, AreSpread}
-use Rattle.pg_sets.specs.Listed.{start_of}
+use Rattle.pg_graph.specs.Graphs.{has, numbers_at, AreSpread}
+use Rattle.pg_own_starts.specs.Listed.{start_of}
 use Rattle.pg_sets.specs.Origins.{AreListed}
-use Rattle.pg_sets.specs.OwnStarts.{MarksKeys}
+use Rattle.pg_own_starts.specs.OwnStarts.{MarksKeys}
 use Rattle.pg_sets.specs.Sets.{AreStartSets}
 use Rattle.pg_sets.specs.Sources.{IsSource}
 use Rattle.pg_sets.specs.Sources as source
-use Rattle.pg_sets.specs.declared.listed.ListedStart.{ListedStart}
+use Rattle.pg_own_starts.specs.declared.listed.ListedStart.{ListedStart}
 use Rattle.pg_sets.proofs.FlowSets.{AreSources, first_sets, follow_sets}
 use Rattle.pg_sets.proofs.FlowSound.{follow_is}
 use Rattle.pg_sets.proofs.Flowing.{flows_length}
-use Rattle.pg_sets.proofs.Heading.{MarksNullable}
+use Rattle.pg_heads.proofs.Heading.{MarksNullable}
 
 -- ---- lists in two parts
 

@@ -1,13 +1,13 @@
 -- The starts that can begin what a node reads: the least sets with these cases.
 use Rattle.std.specs.Prelude.{◌≡◌, ℕ, List, ◌∷◌, Some, slice_get}
-use Rattle.pg_grammar.specs.Grammar.{Grammar}
-use Rattle.pg_grammar.specs.Forms.{Node}
-use Rattle.pg_grammar.specs.declared.form.Form.TheVariants as form
-use Rattle.pg_grammar.specs.declared.grammar.Rule as declared
+use Rattle.pg_value.specs.Grammar.{Grammar}
+use Rattle.pg_form.specs.Forms.{Node}
+use Rattle.pg_form.specs.declared.form.Form.TheVariants as form
+use Rattle.pg_value.specs.declared.grammar.Rule as declared
 use Rattle.pg_start.specs.declared.kind.StartKind.{StartKind}
-use Rattle.pg_sets.specs.Nullable.{Nullable}
-use Rattle.pg_sets.specs.OwnStarts.{OwnStart, IsKeyTry}
-use Rattle.pg_sets.specs.Reached.{ReachedPart}
+use Rattle.pg_heads.specs.Nullable.{Nullable}
+use Rattle.pg_own_starts.specs.OwnStarts.{OwnStart, IsKeyTry}
+use Rattle.pg_heads.specs.Reached.{ReachedPart}
 
 -- the start is among the first of the node
 pub data IsFirst (g : Grammar) (start : StartKind) : ℕ → Type 0 where

@@ -1,13 +1,13 @@
 -- Which sets are contained in which: as edges of a graph whose vertices are the first and the follow sets of nodes.
 use Rattle.std.specs.Prelude.{ℕ, suc, ◌+◌, nat_lt, Bool, if◌then◌else◌, List, [], ◌∷◌, ◌++◌, slice_get}
 use Rattle.std.specs.Option.{option_map_or}
-use Rattle.pg_grammar.specs.Forms.{Node}
-use Rattle.pg_grammar.specs.declared.form.Form.TheVariants as form
-use Rattle.pg_grammar.specs.declared.form.Around.{Around}
-use Rattle.pg_grammar.specs.declared.form.Around.TheVariants as kind
-use Rattle.pg_grammar.specs.declared.grammar.Rule.{Rule}
-use Rattle.pg_sets.specs.Graphs.{joined}
-use Rattle.pg_sets.specs.Marks.{is_marked}
+use Rattle.pg_form.specs.Forms.{Node}
+use Rattle.pg_form.specs.declared.form.Form.TheVariants as form
+use Rattle.pg_form.specs.declared.form.Around.{Around}
+use Rattle.pg_form.specs.declared.form.Around.TheVariants as kind
+use Rattle.pg_value.specs.declared.grammar.Rule.{Rule}
+use Rattle.pg_graph.specs.Graphs.{joined}
+use Rattle.pg_graph.specs.Marks.{is_marked}
 
 -- the number of the follow set of a node, where there are so many nodes; the first sets have the numbers below
 abbrev pub follow_of : ℕ → ℕ → ℕ

@@ -1,19 +1,19 @@
 -- The starts that can follow what a node reads: the least sets with these cases. Every rule's body counts, whether the
 -- start rule leads to it or not.
 use Rattle.std.specs.Prelude.{◌≡◌, ℕ, List, [], ◌∷◌, Some, slice_get}
-use Rattle.pg_grammar.specs.Grammar.{Grammar}
-use Rattle.pg_grammar.specs.Forms.{Node}
-use Rattle.pg_grammar.specs.declared.form.Form.TheVariants as form
-use Rattle.pg_grammar.specs.declared.form.Around.{Around}
-use Rattle.pg_grammar.specs.declared.side.Side.{Side}
-use Rattle.pg_grammar.specs.declared.grammar.Rule as declared
-use Rattle.pg_grammar.specs.declared.used.BuilderUse.{BuilderUse}
-use Rattle.pg_grammar.specs.declared.used.OperatorBuilders.{OperatorBuilders}
+use Rattle.pg_value.specs.Grammar.{Grammar}
+use Rattle.pg_form.specs.Forms.{Node}
+use Rattle.pg_form.specs.declared.form.Form.TheVariants as form
+use Rattle.pg_form.specs.declared.form.Around.{Around}
+use Rattle.pg_form.specs.declared.side.Side.{Side}
+use Rattle.pg_value.specs.declared.grammar.Rule as declared
+use Rattle.pg_form.specs.declared.used.BuilderUse.{BuilderUse}
+use Rattle.pg_form.specs.declared.used.OperatorBuilders.{OperatorBuilders}
 use Rattle.pg_start.specs.declared.kind.StartKind.{StartKind}
 use Rattle.pg_start.specs.declared.kind.StartKind.TheVariants.{End}
 use Rattle.pg_sets.specs.First.{IsFirst, IsFirstOf}
-use Rattle.pg_sets.specs.Nullable.{Nullable, AllNullable}
-use Rattle.pg_sets.specs.OwnStarts.{IsOperatorStart}
+use Rattle.pg_heads.specs.Nullable.{Nullable, AllNullable}
+use Rattle.pg_own_starts.specs.OwnStarts.{IsOperatorStart}
 
 -- a part stands in a sequence, with these after it
 pub data StandsBefore (part : ℕ) (rest : List ℕ) : List ℕ → Type 0 where

@@ -2,18 +2,18 @@
 use Rattle.std.specs.Prelude.{◌≡◌, ◌↔◌, ◌<◌, ℕ, true, List, [], Some, slice_get, length, unwrap_or, is_some}
 use Rattle.std.specs.BTreeMap.{BTreeMap, get}
 use Rattle.std.specs.List.Sorted.{IsStrictlySortedBy}
-use Rattle.pg_grammar.specs.Grammar.{Grammar}
-use Rattle.pg_grammar.specs.Forms.{Node}
-use Rattle.pg_grammar.specs.declared.form.Form.TheVariants as form
-use Rattle.pg_grammar.specs.declared.used.OperatorBuilders.{OperatorBuilders}
+use Rattle.pg_value.specs.Grammar.{Grammar}
+use Rattle.pg_form.specs.Forms.{Node}
+use Rattle.pg_form.specs.declared.form.Form.TheVariants as form
+use Rattle.pg_form.specs.declared.used.OperatorBuilders.{OperatorBuilders}
 use Rattle.pg_start.specs.declared.kind.StartKind.{StartKind}
 use Rattle.pg_sets.specs.Flows.{follow_of}
-use Rattle.pg_sets.specs.Graphs.{has, numbers_at}
-use Rattle.pg_sets.specs.Listed.{IsListed, start_order}
-use Rattle.pg_sets.specs.Own.{IsPlain}
-use Rattle.pg_sets.specs.OwnStarts.{OwnStart, IsOperatorStart}
+use Rattle.pg_graph.specs.Graphs.{has, numbers_at}
+use Rattle.pg_own_starts.specs.Listed.{IsListed, start_order}
+use Rattle.pg_own_starts.specs.Own.{IsPlain}
+use Rattle.pg_own_starts.specs.OwnStarts.{OwnStart, IsOperatorStart}
 use Rattle.pg_sets.specs.Sources.{IsSource}
-use Rattle.pg_sets.specs.declared.listed.ListedStart.{ListedStart}
+use Rattle.pg_own_starts.specs.declared.listed.ListedStart.{ListedStart}
 
 -- for each start the numbers of some sets
 abbrev pub Origins : Type 0

@@ -1,20 +1,20 @@
 -- The sets of a grammar.
 use Rattle.std.specs.Prelude.{◌≡◌, ◌↔◌, ◌<◌, ℕ, Bool, true, List, Option, Some, slice_get, length}
 use Rattle.std.specs.List.Sorted.{IsStrictlySortedBy}
-use Rattle.pg_grammar.specs.Grammar.{Grammar}
-use Rattle.pg_grammar.specs.Forms.{Node}
+use Rattle.pg_value.specs.Grammar.{Grammar}
+use Rattle.pg_form.specs.Forms.{Node}
 use Rattle.pg_bit_set.specs.Numbers.{contains, set_at}
 use Rattle.pg_start.specs.declared.kind.StartKind.{StartKind}
 use Rattle.pg_sets.specs.First.{IsFirst}
 use Rattle.pg_sets.specs.Follow.{IsFollow}
-use Rattle.pg_sets.specs.Listed.{IsListed, start_order}
-use Rattle.pg_sets.specs.Marks.{is_marked}
-use Rattle.pg_sets.specs.Nullable.{Nullable}
-use Rattle.pg_sets.specs.Own.{IsPlain}
-use Rattle.pg_sets.specs.OwnStarts.{OwnStart}
-use Rattle.pg_sets.specs.Ranks.{AreRanks}
-use Rattle.pg_sets.specs.Reached.{AreHeads}
-use Rattle.pg_sets.specs.declared.listed.ListedStart.{ListedStart}
+use Rattle.pg_own_starts.specs.Listed.{IsListed, start_order}
+use Rattle.pg_graph.specs.Marks.{is_marked}
+use Rattle.pg_heads.specs.Nullable.{Nullable}
+use Rattle.pg_own_starts.specs.Own.{IsPlain}
+use Rattle.pg_own_starts.specs.OwnStarts.{OwnStart}
+use Rattle.pg_heads.specs.Ranks.{AreRanks}
+use Rattle.pg_heads.specs.Reached.{AreHeads}
+use Rattle.pg_own_starts.specs.declared.listed.ListedStart.{ListedStart}
 
 -- a mark for each node that is nullable; the starts; for each node the set of the numbers of the starts that are among its
 -- first, and of those that can follow it; for each rule its heads, and its rank

@@ -3,12 +3,12 @@
 //! A first set has the number of its node, a follow set a number after those of all first sets. Each node tells the edges
 //! to its own first set and to the follow sets of its parts. A part that can be empty lets through what is after it.
 ghost use Rattle.std.specs.Prelude.{◌≡◌, ◌≤◌, ◌+◌, [], ◌∷◌, ◌++◌, replicate, length, IfOk, OnOk};
-ghost use Rattle.pg_grammar.specs.Grammar.{IsGrammar};
+ghost use Rattle.pg_value.specs.Grammar.{IsGrammar};
 ghost use Rattle.pg_sets.specs.Flows.{follow_of, with_flows, flows_of_all, flows_of_some, flows_of_next, flows_after_parts, flows_of_alternatives, flows_of_chain, flows_of_only, flows_of_use, try_flows, around_flows, node_flows, all_flows};
 
-use crate::marks::is_marked;
-use crate::numbers::{Numbers, empty_lists, join};
-use pg_grammar::{Around, Form, Grammar, Leaf, Node, NodeId, Rule, RuleId};
+use pg_form::{Around, Form, Leaf, Node, NodeId, RuleId};
+use pg_graph::{Numbers, empty_lists, is_marked, join};
+use pg_value::{Grammar, Rule};
 use std::alloc::{AllocError, Global};
 
 /// For each first and each follow set those that contain it, by the marks of the nullable nodes and of the tries that give

@@ -5,24 +5,22 @@
 ghost use Rattle.std.specs.Prelude.{◌≡◌, false, ◌↔◌, ◌⊎◌, ◌≤◌, ℕ, length, IfOk, OnOk, MatchOption};
 ghost use Rattle.std.specs.BTreeMap.{get, keys, values, IsOrdered};
 ghost use Rattle.std.specs.Ordering.{is_eq};
-ghost use Rattle.pg_grammar.specs.declared.used.OperatorBuilders.{OperatorBuilders};
+ghost use Rattle.pg_form.specs.declared.used.OperatorBuilders.{OperatorBuilders};
 ghost use Rattle.pg_start.specs.declared.kind.StartKind.{StartKind};
-ghost use Rattle.pg_sets.specs.Listed.{IsListed, start_order};
+ghost use Rattle.pg_own_starts.specs.Listed.{IsListed, start_order};
 ghost use Rattle.pg_sets.specs.Origins.{sets_of, HoldsIt, IsThere, SourceAt, AreOrigins, AreSoManyOrigins, AreListed};
-ghost use Rattle.pg_sets.specs.Own.{IsAmong, IsPlain};
-ghost use Rattle.pg_sets.specs.OwnStarts.{OwnStart};
-ghost use Rattle.pg_sets.specs.Words.{AreClassesOf, AreWordClasses};
-ghost use Rattle.pg_sets.specs.declared.listed.ListedStart.{ListedStart};
+ghost use Rattle.pg_own_starts.specs.Own.{IsAmong, IsPlain};
+ghost use Rattle.pg_own_starts.specs.OwnStarts.{OwnStart};
+ghost use Rattle.pg_own_starts.specs.Words.{AreClassesOf, AreWordClasses};
+ghost use Rattle.pg_own_starts.specs.declared.listed.ListedStart.{ListedStart};
 
-use crate::classes::classes_of_items;
 use crate::flows::follow_of;
-use crate::listed::ListedStart;
-use crate::numbers::Numbers;
-use crate::own_starts::own_starts;
-use crate::words::{WordClasses, classes_of_words};
 use pg_class::Class;
-use pg_grammar::{Form, Grammar, Node};
+use pg_form::{Form, Node};
+use pg_graph::Numbers;
+use pg_own_starts::{ListedStart, WordClasses, classes_of_items, classes_of_words, own_starts};
 use pg_start::Start;
+use pg_value::Grammar;
 use std::alloc::{AllocError, Global};
 use std::collections::BTreeMap;
 

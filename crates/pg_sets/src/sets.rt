@@ -4,19 +4,17 @@
 //! once they are made, and no call but `compute` takes memory.
 ghost use Rattle.std.specs.Prelude.{◌≡◌, [], IfOk};
 ghost use Rattle.pg_bit_set.specs.Numbers.{set_at};
-ghost use Rattle.pg_sets.specs.Graphs.{numbers_at};
-ghost use Rattle.pg_sets.specs.Marks.{is_marked};
-ghost use Rattle.pg_sets.specs.Ranks.{rank_at};
+ghost use Rattle.pg_graph.specs.Graphs.{numbers_at};
+ghost use Rattle.pg_graph.specs.Marks.{is_marked};
+ghost use Rattle.pg_heads.specs.Ranks.{rank_at};
 
-use crate::heads::heads_of_rules;
-use crate::listed::ListedStart;
-use crate::marks::is_marked;
-use crate::nullable::nullable_nodes;
-use crate::ranks::{rank_at, ranks_of_rules};
-use crate::rules::{Rules, rules_at};
 use crate::start_sets::start_sets;
 use pg_bit_set::BitSet;
-use pg_grammar::{Grammar, NodeId, RuleId};
+use pg_form::{NodeId, RuleId};
+use pg_graph::is_marked;
+use pg_heads::{Rules, heads_of_rules, nullable_nodes, rank_at, ranks_of_rules, rules_at};
+use pg_own_starts::ListedStart;
+use pg_value::Grammar;
 use std::alloc::{AllocError, Global};
 use std::marker::Model;
 

@@ -1,17 +1,16 @@
 //! First and follow sets: the starts that come along the edges of the sets (`flows.rt`), from where they come from
 //! (`origins.rt`).
 ghost use Rattle.std.specs.Prelude.{◌≡◌, ◌↔◌, ℕ, true, IfOk};
-ghost use Rattle.pg_sets.specs.Marks.{is_marked};
-ghost use Rattle.pg_sets.specs.Nullable.{Nullable};
+ghost use Rattle.pg_graph.specs.Marks.{is_marked};
+ghost use Rattle.pg_heads.specs.Nullable.{Nullable};
 ghost use Rattle.pg_sets.specs.Sets.{AreStartSets};
 
 use crate::flows::flow_graph;
-use crate::keys::key_tries;
-use crate::listed::ListedStart;
 use crate::origins::listed_starts;
-use crate::spread::spread;
 use pg_bit_set::BitSet;
-use pg_grammar::Grammar;
+use pg_graph::spread;
+use pg_own_starts::{ListedStart, key_tries};
+use pg_value::Grammar;
 use std::alloc::{AllocError, Global};
 
 /// The starts of a grammar, and for each node the numbers of those that are in its sets.

@@ -3,21 +3,21 @@ use Rattle.std.specs.Prelude.{◌≡◌, ℕ, ◌+◌, ◌-◌, Bool, if◌then�
 use Rattle.std.specs.Fmt.{decimal}
 use Rattle.std.specs.List.{filter, flat_map, join_by, range_with_len}
 use Rattle.std.specs.Option.{option_map_or}
-use Rattle.pg_grammar.specs.Grammar.{Grammar, rule_body}
-use Rattle.pg_grammar.specs.Forms.{Node}
-use Rattle.pg_grammar.specs.declared.form.Form.TheVariants as form
-use Rattle.pg_grammar.specs.declared.form.Leaf.{Leaf}
-use Rattle.pg_grammar.specs.declared.form.Leaf.TheVariants as leaf
-use Rattle.pg_grammar.specs.declared.form.Around.{Around}
-use Rattle.pg_grammar.specs.declared.form.Around.TheVariants as around
-use Rattle.pg_grammar.specs.declared.side.Side.{Side}
-use Rattle.pg_grammar.specs.declared.side.Side.TheVariants as side
+use Rattle.pg_value.specs.Grammar.{Grammar, rule_body}
+use Rattle.pg_form.specs.Forms.{Node}
+use Rattle.pg_form.specs.declared.form.Form.TheVariants as form
+use Rattle.pg_form.specs.declared.form.Leaf.{Leaf}
+use Rattle.pg_form.specs.declared.form.Leaf.TheVariants as leaf
+use Rattle.pg_form.specs.declared.form.Around.{Around}
+use Rattle.pg_form.specs.declared.form.Around.TheVariants as around
+use Rattle.pg_form.specs.declared.side.Side.{Side}
+use Rattle.pg_form.specs.declared.side.Side.TheVariants as side
 use Rattle.pg_bit_set.specs.Numbers.{contains, set_at}
 use Rattle.pg_predict.specs.Findings.{name_text, body_of}
-use Rattle.pg_sets.specs.Graphs.{numbers_at}
-use Rattle.pg_sets.specs.Marks.{is_marked}
-use Rattle.pg_sets.specs.PrintedStarts.{start_text}
-use Rattle.pg_sets.specs.Ranks.{rank_at}
+use Rattle.pg_graph.specs.Graphs.{numbers_at}
+use Rattle.pg_graph.specs.Marks.{is_marked}
+use Rattle.pg_own_starts.specs.PrintedStarts.{start_text}
+use Rattle.pg_heads.specs.Ranks.{rank_at}
 use Rattle.pg_sets.specs.Sets.{Sets, AreSets}
 
 -- ---- what is named by numbers

@@ -7,12 +7,14 @@ ghost use Rattle.std.specs.Prelude.{◌≡◌, ◌++◌, ◌+◌, ◌^◌, ◌<�
 ghost use Rattle.std.specs.List.{filter, join_by, range_with_len};
 ghost use Rattle.pg_bit_set.specs.Numbers.{contains};
 ghost use Rattle.pg_predict.specs.Findings.{name_text, body_of};
-ghost use Rattle.pg_sets.specs.PrintedStarts.{start_text};
+ghost use Rattle.pg_own_starts.specs.PrintedStarts.{start_text};
 ghost use Rattle.pg_sets_page.specs.SetsPage.{IsSetsPage, text_at, list_text, set_text, leaf_word, chain_word, around_word, form_word, word_of, nullable_text, place_text, sets_text, node_line, rank_text, rule_line, end_of, node_lines, rule_text, page_text};
 
 use pg_bit_set::BitSet;
-use pg_grammar::{Around, Form, Grammar, Leaf, Node, NodeId, Rule, RuleId, Side, WordId};
-use pg_sets::{ListedStart, Sets, printed_start};
+use pg_form::{Around, Form, Leaf, Node, NodeId, RuleId, Side, WordId};
+use pg_own_starts::{ListedStart, printed_start};
+use pg_sets::Sets;
+use pg_value::{Grammar, Rule};
 use std::alloc::{AllocError, Global};
 
 /// The page of the sets of a grammar.

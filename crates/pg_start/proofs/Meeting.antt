@@ -38,8 +38,8 @@ Apart-swap End End h = h
 
 -- ---- two starts at one place
 
--- the characters of a text
-scalar_at : (text : List ℕ) (i c : ℕ) → all_scalars text ≡ true → slice_get text i ≡ Some c → IsScalar c
+-- what stands at a place of a text is a character
+pub scalar_at : (text : List ℕ) (i c : ℕ) → all_scalars text ≡ true → slice_get text i ≡ Some c → IsScalar c
 scalar_at [] i c s e = cc
 scalar_at (x ∷ xs) zero c s e =
     let same : x ≡ c = cc in

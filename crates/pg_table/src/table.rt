@@ -12,12 +12,13 @@ ghost use Rattle.pg_table.specs.Tables.{is_prefix};
 
 use crate::fault::{AdmitFault, ExtendFault, InitialFault};
 use crate::limits::{PRECEDENCES, SYMBOL_LIMIT};
-use pg_grammar::{Decl, Grammar, Role, Texts};
+use pg_form::{Decl, Role, Texts};
+use pg_value::Grammar;
 use std::alloc::{AllocError, Global};
 use std::marker::Model;
 
 /// A table, seen as its operators, the reserved symbols, and how many operators there may be.
-#[derive(Debug, Drop)]
+#[derive(Drop)]
 pub struct Table {
     operators: Vec<Decl>,
     reserved: Texts,

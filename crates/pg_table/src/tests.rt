@@ -4,8 +4,10 @@
 ghost use Rattle.std.specs.Prelude.{◌<◌, length, IfOk};
 
 use super::*;
-use pg_grammar::{ClassExpression, ClassPart, Decl, Form, Grammar, Leaf, Maker, Role, Texts};
+use pg_form::{ClassExpression, ClassPart, Decl, Form, Leaf, Role, Texts};
+use pg_grammar::Maker;
 use pg_text::Characters;
+use pg_value::Grammar;
 use std::alloc::{AllocError, Global};
 use std::test::Fail;
 
@@ -54,7 +56,7 @@ fn grammar_of(alloc: Global, most: usize, initials: &[(Role, Symbol)]) -> Result
         vec![in alloc; Form::Leaf(Leaf::EndOfText)]?,
     )?;
     maker.start(spelled(alloc, (0, 's'))?)?;
-    Ok(maker.finish()?)
+    Ok(maker.finish().map_err(|unfinished| unfinished.fault)?)
 }
 
 /// The initial table of such a grammar.
@@ -240,7 +242,7 @@ fn holds_no_operator_without_an_operators_item(rt: HostRuntime) -> Result<(), Fa
     let body = vec![in alloc; Form::Leaf(Leaf::EndOfText)]?;
     maker.rule(spelled(alloc, (0, 's'))?, body)?;
     maker.start(spelled(alloc, (0, 's'))?)?;
-    let grammar = maker.finish()?;
+    let grammar = maker.finish().map_err(|unfinished| unfinished.fault)?;
     let table = Table::of(alloc, &grammar)?;
     let found = admission(alloc, &table, Role::Prefix, (0, '='))?;
     assert_eq!(rt; found.as_str(), "A5");

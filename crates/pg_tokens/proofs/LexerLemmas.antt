@@ -6,3 +6,4 @@ pub mod Prefixes
 pub mod Sound
 pub mod Complete
 pub mod Places
+pub mod Exact

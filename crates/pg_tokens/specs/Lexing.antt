@@ -1,6 +1,6 @@
 -- Reading characters from left to right, as functions. The lexer's code is held to them, and proofs lead from them to
 -- Lexical, which says what a file's characters mean.
-use Rattle.std.specs.Prelude.{ℕ, zero, suc, ◌==◌, if◌then◌else◌, List, [], ◌∷◌, take, drop, length, Option, Some, None}
+use Rattle.std.specs.Prelude.{ℕ, zero, suc, ◌-◌, ◌==◌, nat_lt, if◌then◌else◌, List, [], ◌∷◌, take, drop, length, Option, Some, None}
 use Rattle.std.specs.List.{prefix_len}
 use Rattle.std.specs.Char.{is_ascii_alphabetic, is_ascii_digit}
 use Rattle.std.specs.Str.Parse.{digits_value}
@@ -156,3 +156,26 @@ token_prefix nothing = None
 token_prefix (blank rest) = None
 token_prefix (token t rest) = Some t
 token_prefix broken = Some bad
+
+-- ---- where the tokens stand
+
+-- a token that stands at a place, or none, and the tokens after it
+abbrev pub placed_after : (List ℕ → List (ℕ × Token)) → ℕ → Prefix → List (ℕ × Token)
+placed_after others place nothing = []
+placed_after others place (blank rest) = others rest
+placed_after others place (token t rest) = (place, t) ∷ others rest
+placed_after others place broken = (place, bad) ∷ []
+
+-- of the end of a file that has so many characters in all; n bounds the tokens, blanks and comments
+unfoldable pub placed_within : ℕ → ℕ → List ℕ → List (ℕ × Token)
+placed_within zero all cs = []
+placed_within (suc n) all cs = placed_after (placed_within n all) (all - length cs) (prefix_at cs)
+
+-- the tokens, up to and with the first that is bad, each with its place: how many characters stand before it
+unfoldable pub placed_of : List ℕ → List (ℕ × Token)
+placed_of cs = placed_within (length cs) (length cs) cs
+
+-- those up to and with the first that starts after a place
+abbrev pub up_to : ℕ → List (ℕ × Token) → List (ℕ × Token)
+up_to last [] = []
+up_to last (l ∷ ls) = l ∷ (if nat_lt last l.0 then [] else up_to last ls)

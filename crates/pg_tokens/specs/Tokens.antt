@@ -1,5 +1,5 @@
 -- The tokens of a grammar file, as contracts see them.
-use Rattle.std.specs.Prelude.{ℕ, Bool, false, ◌==◌, List, [], ◌∷◌}
+use Rattle.std.specs.Prelude.{ℕ, Bool, true, false, ◌==◌, List, [], ◌∷◌}
 use Rattle.std.specs.Str.{bytes_eq}
 use Rattle.pg_tokens.specs.declared.token.Mark.{Mark}
 use Rattle.pg_tokens.specs.declared.token.Mark.TheVariants.{Open, Close, Comma, Semicolon, Equals, Bar, Dots}
@@ -55,3 +55,12 @@ is_word word (literal s) = false
 is_word word (mark m) = false
 is_word word wrong = false
 is_word word bad = false
+
+-- whether a token is none
+abbrev pub is_bad : Token → Bool
+is_bad (name s) = false
+is_bad (number s) = false
+is_bad (literal s) = false
+is_bad (mark m) = false
+is_bad wrong = false
+is_bad bad = true

@@ -1,5 +1,5 @@
 -- What the code's tokens stand for.
-use Rattle.std.specs.Prelude.{◌≡◌, ℕ, List, map, drop, Option, Some, None}
+use Rattle.std.specs.Prelude.{◌≡◌, ℕ, Bool, ◌==◌, ◌&&◌, List, map, drop, Option, Some, None}
 use Rattle.std.specs.Borrow.{Bor}
 use Rattle.pg_tokens.specs.declared.token.Mark.{Mark}
 use Rattle.pg_tokens.specs.declared.token.Token as declared
@@ -7,7 +7,7 @@ use Rattle.pg_tokens.specs.declared.token.Token.TheVariants.{Name, Number, Liter
 use Rattle.pg_tokens.specs.declared.token.Lexeme.{Lexeme}
 use Rattle.pg_tokens.specs.declared.token.Prefix as prefixes
 use Rattle.pg_tokens.specs.declared.token.Prefix.TheVariants as prefix
-use Rattle.pg_tokens.specs.Tokens.{Token, name, number, literal, mark, wrong, bad}
+use Rattle.pg_tokens.specs.Tokens.{Token, name, number, literal, mark, wrong, bad, is_bad}
 use Rattle.pg_tokens.specs.Lexing.{Prefix, nothing, blank, token, broken, prefix_at, token_prefix}
 
 abbrev pub token_of : declared.Token → Token
@@ -21,6 +21,14 @@ token_of Bad = bad
 -- without the places
 abbrev pub tokens_of : List Lexeme → List Token
 tokens_of lexemes = map (λ (l : Lexeme). token_of l.token) lexemes
+
+-- with the places
+abbrev pub placed_tokens_of : List Lexeme → List (ℕ × Token)
+placed_tokens_of lexemes = map (λ (l : Lexeme). (l.place, token_of l.token)) lexemes
+
+-- whether a bad token stands at the place
+abbrev pub is_bad_at : ℕ → Lexeme → Bool
+is_bad_at place l = (l.place == place) && is_bad (token_of l.token)
 
 -- the token is the one that stands at its place
 abbrev pub StandsIn : List ℕ → Lexeme → Type 0

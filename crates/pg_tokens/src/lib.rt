@@ -10,4 +10,4 @@ mod token;
 
 pub use characters::{characters_of, copied, is_word, utf8};
 pub use lexer::{lex, lex_up_to};
-pub use token::{Lexeme, Mark, Token};
+pub use token::{Lexeme, Mark, Token, has_bad_at};

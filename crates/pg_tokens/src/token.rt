@@ -4,8 +4,9 @@
 //! tokens, if it stands there at all, since nothing after it is read. The parser relies on both.
 
 ghost use Rattle.std.specs.Prelude.{◌≡◌};
-ghost use Rattle.pg_tokens.specs.View.{token_of};
-ghost use Rattle.pg_tokens.specs.Tokens.{is_mark, is_word};
+ghost use Rattle.std.specs.List.{list_any};
+ghost use Rattle.pg_tokens.specs.View.{token_of, is_bad_at};
+ghost use Rattle.pg_tokens.specs.Tokens.{is_bad, is_mark, is_word};
 
 use crate::characters::is_word;
 
@@ -87,4 +88,20 @@ impl Token {
             | Token::Bad => false,
         }
     }
+
+    /// Whether it is none.
+    pub fn is_bad(&self) -> bool
+        ensures { result ≡ is_bad (token_of self.now) }
+    {
+        matches!(self, Token::Bad)
+    }
+}
+
+/// Whether a bad token stands at the place.
+pub fn has_bad_at(lexemes: &[Lexeme], place: usize) -> bool
+    ensures { result ≡ list_any (is_bad_at place) lexemes.now }
+{
+    lexemes
+        .iter()
+        .any(|lexeme| lexeme.place == place && lexeme.token.is_bad())
 }

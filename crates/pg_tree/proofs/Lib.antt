@@ -1,3 +1,9 @@
-pub mod Sizes
 pub mod Growth
 pub mod Flattening
+pub mod Stored
+pub mod Ends
+pub mod Labels
+pub mod Queues
+pub mod Beginnings
+pub mod Written
+pub mod Stretching

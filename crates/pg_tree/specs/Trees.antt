@@ -1,6 +1,6 @@
 -- Trees as contracts see them: a leaf with a text, or a node with a label and its kids in order. Texts and labels are
 -- the bytes of UTF-8.
-use Rattle.std.specs.Prelude.{◌+◌, ℕ, List, [], ◌∷◌}
+use Rattle.std.specs.Prelude.{ℕ, List, [], ◌∷◌}
 
 -- a tree, and the kids of a node from the first to the last
 mutual
@@ -17,12 +17,7 @@ abbrev pub kids_of : List Tree → Trees
 kids_of [] = no_trees
 kids_of (t ∷ ts) = tree t (kids_of ts)
 
--- how many leaves and nodes stand in a tree, or in several
-abbrev mutual
-  pub tree_size : Tree → ℕ
-  tree_size (leaf text) = 1
-  tree_size (node label kids) = 1 + trees_size kids
-
-  pub trees_size : Trees → ℕ
-  trees_size no_trees = 0
-  trees_size (tree t ts) = tree_size t + trees_size ts
+-- the first tree of a list, and an empty leaf where there is none
+abbrev pub lone_tree : List Tree → Tree
+lone_tree [] = leaf []
+lone_tree (t ∷ ts) = t

@@ -1,75 +1,67 @@
 //! What shapes make of kids.
 //!
-//! One shape joins the texts of all leaves, by a walk over the trees as in `json.rt`. Another puts kids in the
-//! place of nodes: each kid is moved and none copied, so that its cost doesn't grow with what stands below
-//! the kids. Only `shape.rt` calls this.
+//! One shape joins the texts of all leaves. Another puts kids in the place of nodes: what stands before the first of
+//! those nodes stays where it is, its kids too, so that a chain of links costs no more than its operands. Only
+//! `shape.rt` calls this.
 
-ghost use Rattle.std.specs.Prelude.{◌≡◌, ◌++◌, string_bytes, IfOk, OnOk};
-ghost use Rattle.pg_tree.specs.Trees.{kids_of, no_trees, tree};
-ghost use Rattle.pg_tree.specs.Built.{tree_text, kids_text, with_kids, flattened};
+ghost use Rattle.std.specs.Prelude.{◌≡◌, IfOk};
+ghost use Rattle.pg_tree.specs.Trees.{kids_of};
+ghost use Rattle.pg_tree.specs.Built.{kids_text, flattened};
 
+use crate::entry::Entry;
 use crate::forest::Forest;
-use crate::tree::{Kind, Tree};
+use crate::queue::{move_bytes, skip_bytes};
 use std::alloc::{AllocError, Global};
+use std::collections::VecDeque;
 
 /// The texts of all leaves among these trees and below them, joined in order.
-pub(crate) fn joined(alloc: Global, kids: &Forest) -> Result<String, AllocError>
-    ensures { IfOk result (λ text. string_bytes text ≡ kids_text (kids_of kids.now)) }
+pub(crate) fn joined(alloc: Global, kids: Forest) -> Result<VecDeque<u8>, AllocError>
+    ensures { IfOk result (λ text. text.items ≡ kids_text (kids_of kids)) }
 {
-    let mut text = String::new(alloc);
-    push_kids(kids.trees.as_slice(), &mut text)?;
+    let Forest {
+        mut entries,
+        mut bytes,
+        ..
+    } = kids;
+    let mut text = VecDeque::new(alloc);
+    while let Some(entry) = entries.pop_front() {
+        match entry {
+            Entry::Leaf(count) => move_bytes(count, &mut bytes, &mut text)?,
+            Entry::Node { label, .. } => skip_bytes(label, &mut bytes),
+        }
+    }
     Ok(text)
-}
-
-#[cycle(kids)]
-fn push_tree(tree: &Tree, text: &mut String) -> Result<(), AllocError>
-    ensures { OnOk result (string_bytes text.new ≡ string_bytes text.old ++ tree_text tree.now) }
-{
-    match &tree.kind {
-        Kind::Leaf(leaf) => text.push_str(leaf.as_str()),
-        Kind::Node(_, kids) => push_kids(kids.as_slice(), text),
-    }
-}
-
-#[cycle(kids)]
-fn push_kids(kids: &[Tree], text: &mut String) -> Result<(), AllocError>
-    ensures { OnOk result (string_bytes text.new ≡ string_bytes text.old ++ kids_text (kids_of kids.now)) }
-{
-    for kid in kids {
-        push_tree(kid, text)?;
-    }
-    Ok(())
 }
 
 /// The kids with the kids of each node of this label in place of the node.
 pub(crate) fn flattened(alloc: Global, label: &str, kids: Forest) -> Result<Forest, AllocError>
     ensures { IfOk result (λ flat. kids_of flat ≡ flattened label.now (kids_of kids)) }
 {
-    let Forest { trees } = kids;
-    let mut flat = Forest::new(alloc);
-    for kid in trees {
-        push_flattened(label, kid, &mut flat)?;
+    let mut kids = kids;
+    let first = kids.first_labelled(label);
+    if first == kids.len() {
+        return Ok(kids);
     }
-    Ok(flat)
+    let rest = kids.split_off(first + 1)?;
+    kids.open_last(label);
+    let flat = flattened_each(alloc, label, rest)?;
+    kids.append(flat)?;
+    Ok(kids)
 }
 
-fn push_flattened(label: &str, kid: Tree, flat: &mut Forest) -> Result<(), AllocError>
-    ensures { OnOk result (kids_of flat.new ≡
-        with_kids (kids_of flat.old) (flattened label.now (tree kid no_trees))) }
+/// The same of kids that are all moved.
+fn flattened_each(alloc: Global, label: &str, kids: Forest) -> Result<Forest, AllocError>
+    ensures { IfOk result (λ flat. kids_of flat ≡ flattened label.now (kids_of kids)) }
 {
-    let Tree { kind } = kid;
-    match kind {
-        Kind::Leaf(text) => flat.push(Tree {
-            kind: Kind::Leaf(text),
-        }),
-        Kind::Node(other, kids) => {
-            if other.as_str() == label {
-                flat.append(Forest { trees: kids })
-            } else {
-                flat.push(Tree {
-                    kind: Kind::Node(other, kids),
-                })
-            }
-        }
+    let mut kids = kids;
+    let mut flat = Forest::new(alloc);
+    let mut left = kids.len();
+    while left > 0 {
+        left -= 1;
+        let mut last = kids.split_off(left)?;
+        last.open_last(label);
+        last.append(flat)?;
+        flat = last;
     }
+    Ok(flat)
 }

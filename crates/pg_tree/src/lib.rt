@@ -6,11 +6,16 @@
 //! writer of a run stands in one, so that contracts can promise what was asked of the outside.
 #![tactic(auto)]
 
+mod entry;
 mod forest;
-mod json;
+mod forest_tape;
+mod json_text;
 mod kids;
 mod label;
 mod meter;
+mod openings;
+mod queue;
+mod quoted;
 mod read;
 mod shape;
 #[cfg(test)]
@@ -19,6 +24,7 @@ mod tree;
 mod write;
 
 pub use forest::Forest;
+pub use forest_tape::ForestTape;
 pub use label::Label;
 pub use meter::Meter;
 pub use read::{ReadFault, read_bytes};

@@ -9,7 +9,7 @@ ghost use Rattle.pg_tree.specs.Built.{built};
 use crate::forest::Forest;
 use crate::kids::{flattened, joined};
 use crate::label::Label;
-use crate::tree::{Kind, Tree};
+use crate::tree::Tree;
 use std::alloc::{AllocError, Global};
 
 /// How a tree is made of kids and a symbol (ours).
@@ -61,10 +61,8 @@ pub fn built(alloc: Global, shape: &Shape, symbol: &str, kids: Forest) -> Result
         Shape::Node(label) => Tree::node(alloc, label.as_str(), kids),
         Shape::Symbol => Tree::node(alloc, symbol, kids),
         Shape::Join => {
-            let text = joined(alloc, &kids)?;
-            Ok(Tree {
-                kind: Kind::Leaf(text),
-            })
+            let text = joined(alloc, kids)?;
+            Tree::of_text(alloc, text)
         }
         Shape::Flat(label) => {
             let kids = flattened(alloc, label.as_str(), kids)?;

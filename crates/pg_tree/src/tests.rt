@@ -4,7 +4,7 @@
 //! The expected JSON is what Python's json module writes of the same values, with sorted keys and
 //! no spaces.
 
-use super::json::json_text;
+use super::json_text::json_text;
 use super::*;
 use std::alloc::{AllocError, Global};
 use std::io;

@@ -7,43 +7,33 @@
 ghost use Rattle.std.specs.Prelude.{◌≡◌, IfOk};
 ghost use Rattle.pg_tree.specs.Trees.{leaf, node, kids_of};
 
+use crate::entry::Entry;
 use crate::forest::Forest;
+use crate::queue::push_bytes;
 use std::alloc::{AllocError, Global};
+use std::collections::VecDeque;
 use std::marker::Model;
 
 /// A leaf with a text, or a node with a label and its kids in order (ours: the shape of what a
 /// parser's run gives).
-#[cycle(tree)]
 #[derive(Drop)]
 pub struct Tree {
-    pub(crate) kind: Kind,
-}
-
-/// How a tree is stored.
-#[cycle(tree)]
-#[derive(Drop)]
-pub(crate) enum Kind {
-    Leaf(String),
-    Node(String, Vec<Tree>),
+    /// The tree alone.
+    pub(crate) forest: Forest,
 }
 
 impl Model for Tree {
-    ghost use Rattle.pg_tree.specs.Trees.{Tree as Shape, tree_size};
+    ghost use Rattle.std.specs.Prelude.{◌≡◌, [], ◌∷◌};
+    ghost use Rattle.pg_tree.specs.Trees.{Tree as Shape, lone_tree};
     ghost use Rattle.pg_tree.specs.Marks.{tree_code};
 
     ghost Value = { Shape };
 
     ghost coded = { tree_code };
 
-    ghost use Rattle.pg_tree.specs.Shown.{shown};
+    ghost view = { λ t. lone_tree t.forest };
 
-    ghost view = { λ t. shown t.kind };
-
-    ghost size = { tree_size };
-
-    ghost use Rattle.pg_tree.specs.Falls.{deep_le-tree_size};
-
-    ghost size_decreases = { λ t h. deep_le-tree_size t.kind };
+    ghost invariant = { λ t. t.forest ≡ lone_tree t.forest ∷ [] };
 }
 
 impl Tree {
@@ -51,10 +41,23 @@ impl Tree {
     pub fn leaf(alloc: Global, text: &str) -> Result<Tree, AllocError>
         ensures { IfOk result (λ t. t ≡ leaf text.now) }
     {
-        let text = String::from_str(alloc, text)?;
-        Ok(Tree {
-            kind: Kind::Leaf(text),
-        })
+        let mut bytes = VecDeque::new(alloc);
+        push_bytes(&mut bytes, text.as_bytes())?;
+        Tree::of_text(alloc, bytes)
+    }
+
+    /// The leaf with these bytes. The only error is that memory ran out.
+    pub(crate) fn of_text(alloc: Global, text: VecDeque<u8>) -> Result<Tree, AllocError>
+        ensures { IfOk result (λ t. t ≡ leaf text.items) }
+    {
+        let mut entries = VecDeque::new(alloc);
+        entries.push_back(Entry::Leaf(text.len()))?;
+        let forest = Forest {
+            entries,
+            bytes: text,
+            roots: 1,
+        };
+        Ok(Tree { forest })
     }
 
     /// A node with a copy of this label and with these kids, which may be none. The only error is
@@ -62,10 +65,23 @@ impl Tree {
     pub fn node(alloc: Global, label: &str, kids: Forest) -> Result<Tree, AllocError>
         ensures { IfOk result (λ t. t ≡ node label.now (kids_of kids)) }
     {
-        let label = String::from_str(alloc, label)?;
-        let Forest { trees } = kids;
-        Ok(Tree {
-            kind: Kind::Node(label, trees),
-        })
+        let Forest {
+            mut entries,
+            mut bytes,
+            roots,
+        } = kids;
+        push_bytes(&mut bytes, label.as_bytes())?;
+        entries.push_back(Entry::Node {
+            label: label.len(),
+            kids: roots,
+            entries: entries.len() + 1,
+            bytes: bytes.len(),
+        })?;
+        let forest = Forest {
+            entries,
+            bytes,
+            roots: 1,
+        };
+        Ok(Tree { forest })
     }
 }

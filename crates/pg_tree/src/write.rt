@@ -11,7 +11,7 @@ ghost use Rattle.pg_tree.specs.Meter.{saturating_sum};
 ghost use Rattle.pg_tree.specs.Bytes.{AppendsPrefix};
 
 use crate::forest::Forest;
-use crate::json::json_text;
+use crate::json_text::json_text;
 use crate::meter::Meter;
 use std::alloc::Global;
 use std::io::Write;

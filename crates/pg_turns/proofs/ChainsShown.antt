@@ -1,19 +1,20 @@
 -- The same of chains.
 use Rattle.std.proofs.Common.{◌≡◌, ℕ, suc, List, [], ◌∷◌, ◌++◌, Bool, true, false, refl, ap, sym, ◌∙◌, append_assoc, append-nil, length, take}
+use Rattle.std.proofs.Math.Bool.{or-true, or-false}
 use Rattle.std.proofs.Math.Seq.{set-append_seam}
 use Rattle.std.specs.Prelude.{◌||◌, slice_set}
 use Rattle.pg_tree.specs.Trees.{Tree}
 use Rattle.pg_tree.specs.Built.{built}
 use Rattle.pg_tree.specs.declared.shape.Shape.{Shape}
-use Rattle.pg_grammar.specs.declared.trail.TrailItem.{TrailItem}
-use Rattle.pg_grammar.specs.declared.trail.TrailItem.TheVariants.{Rounds}
+use Rattle.pg_value.specs.declared.trail.TrailItem.{TrailItem}
+use Rattle.pg_value.specs.declared.trail.TrailItem.TheVariants.{Rounds}
 use Rattle.pg_language.specs.Derives.{Spot, carried}
 use Rattle.pg_table.specs.Tables.{Table, first_operators}
 use Rattle.pg_language.specs.Errors.{Error, merge, no_messages_at}
 use Rattle.pg_language.specs.Outcomes.{ok, failed}
 use Rattle.pg_language.specs.Reactions.{error_after, noted, then_rest, unless_begun, as_finished}
-use Rattle.pg_grammar.specs.declared.side.Side.{Side}
-use Rattle.pg_grammar.specs.declared.side.Side.TheVariants.{Left, Right}
+use Rattle.pg_form.specs.declared.side.Side.{Side}
+use Rattle.pg_form.specs.declared.side.Side.TheVariants.{Left, Right}
 use Rattle.pg_turns.specs.Frames.{Chain, Linked, folded, Frame}
 use Rattle.pg_turns.specs.Messages.{TapeMessage}
 use Rattle.pg_turns.specs.Shows.{Extends, plain, Waits, none_wait, from_left, from_right, ShowsLinks, links, Stands, stands_separator, stands_operand, Shows, shows_at, shows_succeeded, shows_failed, shows_endless}
@@ -61,14 +62,6 @@ folded_failed : (ch : Chain) (waiting : List (List Tree × List Tree)) (c : Bool
 folded_failed ch [] c e = refl
 folded_failed ch (x ∷ waiting) c e = folded_failed ch waiting c e
 
-or_true : (c : Bool) → (c || true) ≡ true
-or_true true = refl
-or_true false = refl
-
-or_false : (c : Bool) → (c || false) ≡ c
-or_false true = refl
-or_false false = refl
-
 -- a link more waits
 left_waits : {ch : OnChain} {v y : List Tree} {waiting : List (List Tree × List Tree)} {ns : List ℕ} (x : List Tree × List Tree) → ch.side ≡ Left → Waits ch v waiting ns y → Waits ch v (x ∷ waiting) ns y
 left_waits x h none_wait = from_left h
@@ -109,7 +102,7 @@ module _ {T : Table} where
       let lists : v ++ (a ++ w ++ s) ≡ y ++ w ++ s = three v (a ++ w) s ∙ ap (λ q. q ++ s) (three v a w) ∙ ap (λ q. q ++ w ++ s) (sym is) in
       let d : t ++ (item ∷ (u ++ r)) ≡ t ++ item ∷ u ++ r = three t (item ∷ u) r in
       let same : failed true f ≡ noted (Rounds n) (then_rest b [] u e (folded ch waiting (failed true f))) =
-      ap (λ c. failed c f) (sym (or_true b)) ∙ ap (λ o. noted (Rounds n) (then_rest b [] u e o)) (sym (folded_failed ch waiting true f)) in
+      ap (λ c. failed c f) (sym (or-true b)) ∙ ap (λ o. noted (Rounds n) (then_rest b [] u e o)) (sym (folded_failed ch waiting true f)) in
       let shown : Shows (with_outcome (failed true f) fs) (tape_with (Failed true error) gs (y ++ w ++ s) (t ++ item ∷ u ++ r) z W) = moved (shows_failed (a ++ w ++ s) (item ∷ (u ++ r)) h o m) cc in
       turned shown (ap (λ o. with_outcome o fs) same)
 
@@ -125,7 +118,7 @@ module _ {T : Table} where
       let items : t ++ (Rounds n ∷ u) ≡ slice_set (take (length (t ++ item ∷ u)) (t ++ item ∷ u ++ r)) (length t) (Rounds n) =
       sym (set-append_seam t item u (Rounds n)) ∙ ap (λ (q : List TrailItem). slice_set q (length t) (Rounds n)) (sym (take_seam (t ++ item ∷ u) r)) in
       let none = append-nil u in
-      let empty = or_false b in
+      let empty = or-false b in
       let same : ok b (spot_at U i) all.forest (Rounds n ∷ u) (merge e (merge f (no_messages_at i))) ≡ noted (Rounds n) (then_rest b [] u e (folded (plain ch) waiting (ok false (spot_at U i) w [] (merge f (no_messages_at i))))) =
       ap (λ c. ok c (spot_at U i) all.forest (Rounds n ∷ u) (merge e (merge f (no_messages_at i)))) (sym empty)
       ∙ ap (λ q. ok (b || false) (spot_at U i) all.forest (Rounds n ∷ q) (merge e (merge f (no_messages_at i)))) (sym none)

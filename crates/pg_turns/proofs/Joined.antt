@@ -1,9 +1,10 @@
 -- What came of parts can be joined as they answer: joining is associative.
 use Rattle.std.proofs.Common.{◌≡◌, ℕ, suc, ◌+◌, List, [], ◌∷◌, ◌++◌, Bool, true, false, refl, ap, sym, ◌∙◌, append_assoc, append-nil, arith}
+use Rattle.std.proofs.Math.Bool.{or_assoc, or-true}
 use Rattle.std.specs.Prelude.{◌||◌, ◌&&◌, nat_lt, if◌then◌else◌, not}
 use Rattle.pg_tree.specs.Trees.{Tree}
-use Rattle.pg_grammar.specs.declared.trail.TrailItem.{TrailItem}
-use Rattle.pg_grammar.specs.declared.trail.TrailItem.TheVariants.{Rounds}
+use Rattle.pg_value.specs.declared.trail.TrailItem.{TrailItem}
+use Rattle.pg_value.specs.declared.trail.TrailItem.TheVariants.{Rounds}
 use Rattle.pg_message.specs.Messages.{is_empty, with_messages}
 use Rattle.pg_message.specs.Errors.{merged}
 use Rattle.pg_message.specs.declared.error.ParseError.{ParseError}
@@ -42,10 +43,6 @@ merge_assoc e f g =
     ap (λ (x : ParseError). without_position (merged (with_position start e) x)) (placed f g)
     ∙ ap without_position (merged_assoc (with_position start e) (with_position start f) (with_position start g))
     ∙ ap (λ (x : ParseError). without_position (merged x (with_position start g))) (sym (placed e f))
-
-or_assoc : (a b c : Bool) → ((a || b) || c) ≡ (a || (b || c))
-or_assoc true b c = refl
-or_assoc false b c = refl
 
 error_assoc : (d b : Bool) (e f g : Error) → error_after (d || b) e (error_after b f g) ≡ error_after b (error_after d e f) g
 error_assoc true true e f g = refl
@@ -145,10 +142,6 @@ folded_rest chain (x ∷ waiting) c t e o =
     apart (failed d f) = refl
     apart empty_round = refl
 
-or_true : (c : Bool) → (c || true) ≡ true
-or_true true = refl
-or_true false = refl
-
 -- the trails and errors of a link that consumed
 link_rest : (c d k : Bool) (t u s : List TrailItem) (e f g : Error) (o : Outcome) → (c || d) ≡ true →
     then_rest k [] s g (then_rest c [] t e (then_rest d [] u f o)) ≡ then_rest true [] (s ++ (t ++ u)) (error_after d e f) o
@@ -156,7 +149,7 @@ link_rest c d k t u s e f g o h =
     ap (then_rest k [] s g) (rest_rest c d [] [] t u e f o)
     ∙ rest_rest k (c || d) [] [] s (t ++ u) g (error_after d e f) o
     ∙ ap (λ b. then_rest (k || b) [] (s ++ (t ++ u)) (error_after b g (error_after d e f)) o) h
-    ∙ ap (λ b. then_rest b [] (s ++ (t ++ u)) (error_after d e f) o) (or_true k)
+    ∙ ap (λ b. then_rest b [] (s ++ (t ++ u)) (error_after d e f) o) (or-true k)
 
 pub after_link : (chain : Chain) (linked : Linked) (v w : List Tree) (t u : List TrailItem) (e f : Error) (c d : Bool) (o : Outcome) → (c || d) ≡ true →
     after_links chain linked (then_rest c [] t e (then_rest d [] u f (as_finished chain.side chain.shape linked.left v o))) ≡

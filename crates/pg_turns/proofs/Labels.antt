@@ -7,8 +7,8 @@ use Rattle.pg_message.specs.declared.answer.AnswerKind.TheVariants.{EmptyOk, Emp
 use Rattle.pg_message.specs.declared.kind.MessageKind.{MessageKind}
 use Rattle.pg_message.specs.declared.kind.MessageKind.TheVariants.{SystemUnexpected, Unexpected, Expected, Plain}
 use Rattle.pg_language.specs.Errors.{Error, relabel}
-use Rattle.pg_grammar.specs.declared.form.Around.{Around}
-use Rattle.pg_grammar.specs.declared.form.Around.TheVariants as kind
+use Rattle.pg_form.specs.declared.form.Around.{Around}
+use Rattle.pg_form.specs.declared.form.Around.TheVariants as kind
 use Rattle.pg_language.specs.Reactions.{ok_kind, error_kind, labelled_by}
 use Rattle.pg_turns.specs.Messages.{TapeMessage, with_message_once, with_messages_once, error_of, unexpected, named, relabelled}
 use Rattle.pg_turns.specs.Tape.{label_succeeded, label_failed, messages_around}

@@ -2,11 +2,11 @@
 use Rattle.std.proofs.Common.{◌≡◌, ℕ, suc, ◌+◌, List, [], ◌∷◌, ◌++◌, Bool, true, false, not, refl, ap, sym, ◌∙◌, subst, append_assoc, append-nil, arith, length, take, drop, length-append}
 use Rattle.std.proofs.lemmas.Bool.Decides.{nat_tests}
 use Rattle.std.specs.Prelude.{◌&&◌, ◌==◌, nat_lt, if◌then◌else◌}
-use Rattle.pg_message.specs.Messages.{Text, Messages, no_messages, is_empty, with_text, with_messages}
+use Rattle.pg_message.specs.Messages.{Text, Messages, no_messages, is_empty, with_messages}
 use Rattle.pg_message.specs.declared.error.ParseError.{ParseError}
 use Rattle.pg_message.specs.declared.kind.MessageKind.{MessageKind}
 use Rattle.pg_message.specs.declared.kind.MessageKind.TheVariants.{SystemUnexpected, Unexpected, Expected, Plain}
-use Rattle.pg_message.proofs.TextLists.{with_texts-with_text, is_empty-with_texts}
+use Rattle.pg_message.proofs.TextLists.{with_texts-with_text, length-with_text}
 use Rattle.pg_text.specs.Position.{start}
 use Rattle.pg_language.specs.Errors.{Error, merge, with_position, without_position, no_messages_at}
 use Rattle.pg_language.specs.Reactions.{error_after}
@@ -35,33 +35,26 @@ after_all_messages a b (x ∷ xs) = ap (λ m. with_messages_once m xs) (after_me
 pub both_messages : (xs ys : List TapeMessage) → with_messages_once no_messages (xs ++ ys) ≡ with_messages (with_messages_once no_messages xs) (with_messages_once no_messages ys)
 both_messages xs ys = messages_append no_messages xs ys ∙ after_all_messages (with_messages_once no_messages xs) no_messages ys
 
-no_text : (texts : List Text) (text : Text) → (length (with_text texts text) == 0) ≡ false
-no_text texts text = is_empty-with_texts texts (text ∷ []) ∙ and_false (length texts == 0)
-  where
-    and_false : (b : Bool) → (b && false) ≡ false
-    and_false true = refl
-    and_false false = refl
-
 one_false : (a b c d : Bool) → Bool → Type 0
 one_false a b c d r = (a && b && c && d) ≡ r
 
 message_is_there : (m : Messages) (kind : MessageKind) (text : Text) → is_empty (with_message_once m kind text) ≡ false
-message_is_there m SystemUnexpected text = ap (λ b. b && (length m.unexpected == 0) && (length m.expected == 0) && (length m.plain == 0)) (no_text m.system_unexpected text)
+message_is_there m SystemUnexpected text = ap (λ b. b && (length m.unexpected == 0) && (length m.expected == 0) && (length m.plain == 0)) (length-with_text m.system_unexpected text)
 message_is_there m Unexpected text =
-    ap (λ b. (length m.system_unexpected == 0) && b && (length m.expected == 0) && (length m.plain == 0)) (no_text m.unexpected text) ∙ second_false (length m.system_unexpected == 0) (length m.expected == 0) (length m.plain == 0)
+    ap (λ b. (length m.system_unexpected == 0) && b && (length m.expected == 0) && (length m.plain == 0)) (length-with_text m.unexpected text) ∙ second_false (length m.system_unexpected == 0) (length m.expected == 0) (length m.plain == 0)
   where
     second_false : (a c d : Bool) → (a && false && c && d) ≡ false
     second_false true c d = refl
     second_false false c d = refl
 message_is_there m Expected text =
-    ap (λ b. (length m.system_unexpected == 0) && (length m.unexpected == 0) && b && (length m.plain == 0)) (no_text m.expected text) ∙ third_false (length m.system_unexpected == 0) (length m.unexpected == 0) (length m.plain == 0)
+    ap (λ b. (length m.system_unexpected == 0) && (length m.unexpected == 0) && b && (length m.plain == 0)) (length-with_text m.expected text) ∙ third_false (length m.system_unexpected == 0) (length m.unexpected == 0) (length m.plain == 0)
   where
     third_false : (a b d : Bool) → (a && b && false && d) ≡ false
     third_false true true d = refl
     third_false true false d = refl
     third_false false b d = refl
 message_is_there m Plain text =
-    ap (λ b. (length m.system_unexpected == 0) && (length m.unexpected == 0) && (length m.expected == 0) && b) (no_text m.plain text) ∙ last_false (length m.system_unexpected == 0) (length m.unexpected == 0) (length m.expected == 0)
+    ap (λ b. (length m.system_unexpected == 0) && (length m.unexpected == 0) && (length m.expected == 0) && b) (length-with_text m.plain text) ∙ last_false (length m.system_unexpected == 0) (length m.unexpected == 0) (length m.expected == 0)
   where
     last_false : (a b c : Bool) → (a && b && c && false) ≡ false
     last_false true true true = refl

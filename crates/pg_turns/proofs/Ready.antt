@@ -3,17 +3,16 @@ use Rattle.std.proofs.Common.{◌≡◌, ℕ, suc, ◌<◌, ◌≤◌, List, [],
 use Rattle.std.specs.Prelude.{Option, Some, None, slice_get, ◌||◌}
 use Rattle.pg_tree.specs.Trees.{Tree}
 use Rattle.pg_pred.specs.Offer.{Offer}
-use Rattle.pg_grammar.specs.Fits.{Fits, NodeFits, BuilderFits}
-use Rattle.pg_grammar.specs.Forms.{Node}
-use Rattle.pg_grammar.specs.declared.form.Form.TheVariants as form
-use Rattle.pg_grammar.specs.declared.form.Around.{Around}
-use Rattle.pg_grammar.specs.declared.form.Around.TheVariants as kind
-use Rattle.pg_grammar.specs.declared.grammar.Rule as declared
-use Rattle.pg_grammar.specs.declared.trail.TrailItem.{TrailItem}
-use Rattle.pg_grammar.proofs.Each.{all-get}
+use Rattle.pg_value.specs.Fits.{Fits, NodeFits, BuilderFits}
+use Rattle.pg_form.specs.Forms.{Node}
+use Rattle.pg_form.specs.declared.form.Form.TheVariants as form
+use Rattle.pg_form.specs.declared.form.Around.{Around}
+use Rattle.pg_form.specs.declared.form.Around.TheVariants as kind
+use Rattle.pg_value.specs.declared.grammar.Rule as declared
+use Rattle.pg_value.specs.declared.trail.TrailItem.{TrailItem}
+use Rattle.pg_form.proofs.Each.{all-get}
 use Rattle.pg_table.specs.Tables.{Table, first_operators}
 use Rattle.pg_language.specs.Answers.{Given}
-use Rattle.pg_language.specs.Leaves.{leaf_outcome}
 use Rattle.pg_language.specs.Outcomes as outcome
 use Rattle.pg_language.specs.Outcomes.{Outcome}
 use Rattle.pg_language.specs.declared.reading.Reading.{Reading}

@@ -1,9 +1,9 @@
 -- What the machine comes to from a state, told by the relation of answers and not by turns.
 use Rattle.std.specs.Prelude.{◌≡◌, ℕ, zero, ◌+◌, List, [], ◌∷◌, Bool}
 use Rattle.pg_tree.specs.Trees.{Tree}
-use Rattle.pg_grammar.specs.declared.form.Around.{Around}
-use Rattle.pg_grammar.specs.declared.trail.TrailItem.{TrailItem}
-use Rattle.pg_grammar.specs.declared.trail.TrailItem.TheVariants.{Rounds}
+use Rattle.pg_form.specs.declared.form.Around.{Around}
+use Rattle.pg_value.specs.declared.trail.TrailItem.{TrailItem}
+use Rattle.pg_value.specs.declared.trail.TrailItem.TheVariants.{Rounds}
 use Rattle.pg_language.specs.Derives.{Spot}
 use Rattle.pg_language.specs.Answers.{Given, Answers, AfterPart, AfterAlternative, AfterRound, AfterFirst, AfterSeparator, AfterOperand}
 use Rattle.pg_language.specs.Errors.{Error}

@@ -2,9 +2,9 @@
 use Rattle.std.specs.Prelude.{ℕ, List, [], ◌∷◌, ◌++◌, Bool, ◌||◌}
 use Rattle.pg_tree.specs.Trees.{Tree}
 use Rattle.pg_tree.specs.declared.shape.Shape.{Shape}
-use Rattle.pg_grammar.specs.declared.form.Around.{Around}
-use Rattle.pg_grammar.specs.declared.side.Side.{Side}
-use Rattle.pg_grammar.specs.declared.trail.TrailItem.{TrailItem}
+use Rattle.pg_form.specs.declared.form.Around.{Around}
+use Rattle.pg_form.specs.declared.side.Side.{Side}
+use Rattle.pg_value.specs.declared.trail.TrailItem.{TrailItem}
 use Rattle.pg_language.specs.Derives.{Spot}
 use Rattle.pg_language.specs.Errors.{Error, merge}
 use Rattle.pg_language.specs.Outcomes.{Outcome, ok, failed, empty_round}

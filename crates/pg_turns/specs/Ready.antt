@@ -1,9 +1,9 @@
 -- What a turn needs of the frames: room in their counts, and the builders that they name.
 use Rattle.std.specs.Prelude.{◌<◌, ℕ, List, [], ◌∷◌}
 use Rattle.pg_pred.specs.Offer.{Offer}
-use Rattle.pg_grammar.specs.Fits.{BuilderFits}
-use Rattle.pg_grammar.specs.declared.form.Around.{Around}
-use Rattle.pg_grammar.specs.declared.form.Around.TheVariants as kind
+use Rattle.pg_value.specs.Fits.{BuilderFits}
+use Rattle.pg_form.specs.declared.form.Around.{Around}
+use Rattle.pg_form.specs.declared.form.Around.TheVariants as kind
 use Rattle.pg_turns.specs.Tape.{OnFrame, on_parts, on_choice, on_rounds, on_first, on_separator, on_operand, on_rule, on_around, Tape, tape_at, tape_with, tape_endless}
 
 -- the builder that stands around a part is offered, if one does

@@ -3,11 +3,11 @@
 -- the machine stands: the first operators of it, as many as a frame kept, are those of the frame's spot.
 use Rattle.std.specs.Prelude.{◌≡◌, ℕ, Bool, List, [], ◌∷◌, ◌++◌, true, length, Option, Some, None}
 use Rattle.pg_tree.specs.Trees.{Tree}
-use Rattle.pg_grammar.specs.Operators.{Operator}
-use Rattle.pg_grammar.specs.declared.form.Around.{Around}
-use Rattle.pg_grammar.specs.declared.side.Side.TheVariants.{Left, Right}
-use Rattle.pg_grammar.specs.declared.trail.TrailItem.{TrailItem}
-use Rattle.pg_grammar.specs.declared.trail.TrailItem.TheVariants.{Alt}
+use Rattle.pg_form.specs.Operators.{Operator}
+use Rattle.pg_form.specs.declared.form.Around.{Around}
+use Rattle.pg_form.specs.declared.side.Side.TheVariants.{Left, Right}
+use Rattle.pg_value.specs.declared.trail.TrailItem.{TrailItem}
+use Rattle.pg_value.specs.declared.trail.TrailItem.TheVariants.{Alt}
 use Rattle.pg_table.specs.Tables.{Table}
 use Rattle.pg_language.specs.Errors.{Error}
 use Rattle.pg_language.specs.Outcomes.{ok, failed, empty_round}

@@ -13,10 +13,10 @@ use crate::frame::{Mode, Reply};
 use crate::leaves::text_leaf;
 use crate::machine::Machine;
 use crate::message_tape::MessageTape;
-use pg_grammar::Around;
+use pg_form::Around;
 use pg_pred::Registry;
 use pg_text::{Characters, Text};
-use pg_tree::Forest;
+use pg_tree::ForestTape;
 use std::alloc::{AllocError, Global};
 
 impl<'a> Machine<'a> {
@@ -47,6 +47,14 @@ impl<'a> Machine<'a> {
         )?;
         say(&mut self.messages, around, reply)?;
         Ok(Mode::With(answer(around, reply)))
+    }
+}
+
+/// Whether the form takes the trees of its part together: then a stretch of them is opened before the part runs.
+pub(crate) fn takes_trees(around: &Around) -> bool {
+    match around {
+        Around::Build(_, _) => true,
+        Around::Try | Around::Text | Around::Skip | Around::Label(_) => false,
     }
 }
 
@@ -134,7 +142,7 @@ fn make(
     start: usize,
     count: usize,
     reply: Reply,
-    forest: &mut Forest,
+    forest: &mut ForestTape,
 ) -> Result<(), AllocError>
     requires { AroundFits (offer_of registry.now) around.now }
     ensures { OnOk result (forest.new ≡ forest_around around.now text.now start count reply forest.old) }
@@ -145,9 +153,19 @@ fn make(
             end,
             error: _,
         } => remake(alloc, registry, text, around, start, end, count, forest),
-        Reply::Failed { .. } => Ok(()),
+        Reply::Failed { .. } => give_up(around, count, forest),
         Reply::EmptyRound => Ok(()),
     }
+}
+
+/// The stretch that was opened for the part is none of its own any more.
+fn give_up(around: &Around, count: usize, forest: &mut ForestTape) -> Result<(), AllocError>
+    ensures { OnOk result (forest.new ≡ forest.old) }
+{
+    if takes_trees(around) {
+        forest.close(count)?;
+    }
+    Ok(())
 }
 
 /// The same of a part that took the text from the one place to the other.
@@ -159,7 +177,7 @@ fn remake(
     start: usize,
     end: usize,
     count: usize,
-    forest: &mut Forest,
+    forest: &mut ForestTape,
 ) -> Result<(), AllocError>
     requires { AroundFits (offer_of registry.now) around.now }
     ensures { OnOk result (forest.new ≡ take count forest.old ++ made_by around.now text.now start end (drop count forest.old)) }
@@ -185,7 +203,7 @@ fn as_text(
     start: usize,
     end: usize,
     count: usize,
-    forest: &mut Forest,
+    forest: &mut ForestTape,
 ) -> Result<(), AllocError>
     ensures { OnOk result (forest.new ≡ take count forest.old ++ leaf_of (span text.now start end) ∷ []) }
 {
@@ -204,7 +222,7 @@ fn between(characters: &[char], from: usize, upto: usize) -> &[char]
 }
 
 /// The first trees stay.
-fn cut(forest: &mut Forest, count: usize)
+fn cut(forest: &mut ForestTape, count: usize)
     ensures { forest.new ≡ take count forest.old }
 {
     if count < forest.len() {

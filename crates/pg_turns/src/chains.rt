@@ -14,9 +14,10 @@ ghost use Rattle.pg_turns.specs.TapeErrors.{tape_error, kept_at, merged_tape_err
 use crate::frame::{Before, ChainFrame, Frame, LinksFrame, Marks, Mode, Reply};
 use crate::machine::Machine;
 use crate::message_tape::{KeptError, TapeError};
-use pg_grammar::{BuilderUse, Side, TrailItem};
+use pg_form::{BuilderUse, Side};
 use pg_pred::Registry;
-use pg_tree::{Forest, Tree};
+use pg_tree::{Forest, ForestTape, Tree};
+use pg_value::TrailItem;
 use std::alloc::{AllocError, Global};
 
 impl<'a> Machine<'a> {
@@ -66,7 +67,10 @@ impl<'a> Machine<'a> {
                 self.push(Frame::Separator(Box::new(alloc, links)?))?;
                 Ok(Mode::At(separator, end))
             }
-            Reply::Failed { consumed, error } => Ok(Mode::With(Reply::Failed { consumed, error })),
+            Reply::Failed { consumed, error } => {
+                self.forest.close(chain.forest)?;
+                Ok(Mode::With(Reply::Failed { consumed, error }))
+            }
             Reply::EmptyRound => Ok(Mode::With(Reply::EmptyRound)),
         }
     }
@@ -91,6 +95,7 @@ impl<'a> Machine<'a> {
             } => {
                 let kept = self.messages.kept(error);
                 let trees = self.forest.len();
+                self.open_operand(alloc, links.chain.side)?;
                 let operand = links.chain.operand;
                 self.push(Frame::Operand(links, Before { consumed, kept }, trees))?;
                 Ok(Mode::At(operand, end))
@@ -140,6 +145,20 @@ impl<'a> Machine<'a> {
         }
     }
 
+    /// From the right the trees of an operand are taken with what comes before them, but only after all that comes after.
+    fn open_operand(&mut self, alloc: Global, side: Side) -> Result<(), AllocError>
+        ensures frames { OnOk result (self.new.frames ≡ self.old.frames) }
+        ensures forest { OnOk result (self.new.forest ≡ self.old.forest) }
+        ensures trail { OnOk result (self.new.trail ≡ self.old.trail) }
+        ensures messages { OnOk result (self.new.messages ≡ self.old.messages) }
+        ensures table { OnOk result (self.new.table ≡ self.old.table) }
+    {
+        match side {
+            Side::Left => Ok(()),
+            Side::Right => self.forest.open(alloc),
+        }
+    }
+
     /// A link more, whose operand's trees begin after so many: the next separator runs.
     fn add_link(
         &mut self,
@@ -180,6 +199,7 @@ impl<'a> Machine<'a> {
             on_lists (tape_ended (links_of links.old) consumed error) self.old) }
     {
         if consumed {
+            self.forest.close(links.chain.forest)?;
             return Ok(Mode::With(Reply::Failed { consumed, error }));
         }
         let failed = self.messages.kept(error);
@@ -189,6 +209,7 @@ impl<'a> Machine<'a> {
         self.cut(links.marks);
         let used = links.chain.used;
         build_waiting(alloc, registry, used, &mut links.waiting, &mut self.forest)?;
+        self.forest.close(links.chain.forest)?;
         self.note(links.chain.slot, TrailItem::Rounds(links.count));
         Ok(Mode::With(Reply::Succeeded {
             consumed: links.consumed,
@@ -204,7 +225,7 @@ fn fold(
     registry: &Registry,
     links: &mut LinksFrame<'_>,
     trees: usize,
-    forest: &mut Forest,
+    forest: &mut ForestTape,
 ) -> Result<(), AllocError>
     requires { builder_shape (offer_of registry.now) links.old.chain.used.now.name ≡ Some links.old.chain.used.now.shape }
     ensures links { OnOk result (links_of links.new ≡ record (links_of links.old) {
@@ -214,7 +235,7 @@ fn fold(
     ensures forest { OnOk result (forest.new ≡ link_forest links.old.chain.side links.old.chain.used.now.shape links.old.left forest.old) }
 {
     match links.chain.side {
-        Side::Left => build_after(alloc, registry, links.chain.used, "", links.left, forest),
+        Side::Left => build_link(alloc, registry, links.chain.used, links.left, forest),
         Side::Right => {
             let left = links.left;
             links.waiting.push(left)?;
@@ -244,6 +265,22 @@ fn count_link(links: &mut LinksFrame<'_>, kept: KeptError, end: usize, marks: Ma
     links.marks = marks;
 }
 
+/// Makes the trees after the first into one, which begins a stretch: it is taken again where a link comes before or after it.
+fn build_link(
+    alloc: Global,
+    registry: &Registry,
+    used: &BuilderUse,
+    count: usize,
+    forest: &mut ForestTape,
+) -> Result<(), AllocError>
+    requires { builder_shape (offer_of registry.now) used.now.name ≡ Some used.now.shape }
+    ensures { OnOk result (forest.new ≡ built_after used.now.shape [] count forest.old) }
+{
+    let kids = forest.split_off(alloc, count.min(forest.len()))?;
+    forest.open(alloc)?;
+    forest.push(made(alloc, registry, used, "", kids)?)
+}
+
 /// Makes the trees after the first into one, by the builder with the symbol.
 pub(crate) fn build_after(
     alloc: Global,
@@ -251,12 +288,12 @@ pub(crate) fn build_after(
     used: &BuilderUse,
     symbol: &str,
     count: usize,
-    forest: &mut Forest,
+    forest: &mut ForestTape,
 ) -> Result<(), AllocError>
     requires { builder_shape (offer_of registry.now) used.now.name ≡ Some used.now.shape }
     ensures { OnOk result (forest.new ≡ built_after used.now.shape symbol.now count forest.old) }
 {
-    let kids = forest.split_off(count.min(forest.len()))?;
+    let kids = forest.split_off(alloc, count.min(forest.len()))?;
     forest.push(made(alloc, registry, used, symbol, kids)?)
 }
 
@@ -266,13 +303,13 @@ fn build_waiting(
     registry: &Registry,
     used: &BuilderUse,
     places: &mut Vec<usize>,
-    forest: &mut Forest,
+    forest: &mut ForestTape,
 ) -> Result<(), AllocError>
     requires { builder_shape (offer_of registry.now) used.now.name ≡ Some used.now.shape }
     ensures { OnOk result (forest.new ≡ all_built used.now.shape (reverse places.old.items) forest.old) }
 {
     while let Some(place) = places.pop() {
-        build_after(alloc, registry, used, "", place, forest)?;
+        build_link(alloc, registry, used, place, forest)?;
     }
     Ok(())
 }

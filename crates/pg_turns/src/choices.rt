@@ -10,8 +10,9 @@ ghost use Rattle.pg_turns.specs.declared.frame.Reply.TheVariants.{Succeeded};
 use crate::frame::{ChoiceFrame, EmptyOk, Frame, Marks, Mode, Reply, Tried};
 use crate::machine::Machine;
 use crate::message_tape::{KeptError, TapeError};
-use pg_grammar::{NodeId, TrailItem};
+use pg_form::NodeId;
 use pg_language::Reading;
+use pg_value::TrailItem;
 use std::alloc::{AllocError, Global};
 
 impl<'a> Machine<'a> {
@@ -234,7 +235,7 @@ impl<'a> Machine<'a> {
     {
         match tried {
             Tried::Nothing | Tried::Failure(_) => {
-                let ok = self.taken_off(marks, end)?;
+                let ok = self.taken_off(alloc, marks, end)?;
                 Ok(Tried::EmptyOk(Box::new(alloc, ok)?, kept))
             }
             Tried::EmptyOk(ok, _) => {
@@ -246,7 +247,7 @@ impl<'a> Machine<'a> {
 
     /// The trees and items after the marks leave the lists; operators after them, which an answer that consumed nothing
     /// has none of, are dropped.
-    fn taken_off(&mut self, marks: Marks, end: usize) -> Result<EmptyOk, AllocError>
+    fn taken_off(&mut self, alloc: Global, marks: Marks, end: usize) -> Result<EmptyOk, AllocError>
         ensures end { IfOk result (λ ok. ok.end ≡ end) }
         ensures tried_forest { IfOk result (λ ok. ok.forest ≡ drop marks.forest self.old.forest) }
         ensures tried_trail { IfOk result (λ ok. ok.trail.items ≡ drop marks.trail self.old.trail.items) }
@@ -256,7 +257,7 @@ impl<'a> Machine<'a> {
         ensures messages { OnOk result (self.new.messages ≡ self.old.messages) }
         ensures table { OnOk result (self.new.table ≡ first_operators marks.operators self.old.table) }
     {
-        let forest = self.forest_after(marks.forest)?;
+        let forest = self.forest_after(alloc, marks.forest)?;
         let from = marks.trail.min(self.trail.len());
         let trail = self.trail.split_off(from)?;
         self.table.cut(marks.operators);

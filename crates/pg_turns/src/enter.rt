@@ -2,23 +2,22 @@
 
 ghost use Rattle.std.specs.Prelude.{◌≡◌, ◌∷◌, [], length, slice_get, option_copied, unwrap_or, IfOk};
 ghost use Rattle.pg_pred.specs.Offer.{offer_of};
-ghost use Rattle.pg_grammar.specs.Contents.{class_of, class_parts};
-ghost use Rattle.pg_grammar.specs.Fits.{Fits, IsClassIn};
-ghost use Rattle.pg_grammar.specs.declared.form.Leaf.TheVariants as leaf;
+ghost use Rattle.pg_form.specs.Contents.{class_of, class_parts};
+ghost use Rattle.pg_value.specs.Fits.{Fits, IsClassIn};
+ghost use Rattle.pg_form.specs.declared.form.Leaf.TheVariants as leaf;
 ghost use Rattle.pg_language.specs.Answers.{given};
 ghost use Rattle.pg_language.specs.Leaves.{leaf_outcome};
 ghost use Rattle.pg_turns.specs.Tape.{tape_at, tape_enter_at, tape_enter, tape_seq, tape_many, tape_chain, tape_rule, tape_told, spot_at, on_around};
 ghost use Rattle.pg_turns.specs.View.{frame_of, on_lists, stack_of, tape_of};
 ghost use Rattle.pg_language.specs.declared.reading.Reading.{Reading};
 
+use crate::around::takes_trees;
 use crate::frame::{ChainFrame, Frame, Mode, PartsFrame, Reply, RoundsFrame, Tried};
 use crate::machine::Machine;
-use pg_grammar::{
-    Around, BuilderUse, Form, Grammar, Leaf, Node, NodeId, RuleId, Side, TrailItem, WordId,
-    WordItem,
-};
+use pg_form::{Around, BuilderUse, Form, Leaf, Node, NodeId, RuleId, Side, WordId, WordItem};
 use pg_pred::Registry;
 use pg_text::Text;
+use pg_value::{Grammar, TrailItem};
 use std::alloc::{AllocError, Global};
 
 impl<'a> Machine<'a> {
@@ -68,12 +67,12 @@ impl<'a> Machine<'a> {
             ),
             Form::Many(part) => self.enter_rounds(*part, place),
             Form::Chain(side, used, operand, separator) => {
-                self.enter_chain(*side, used, *operand, *separator, place)
+                self.enter_chain(alloc, *side, used, *operand, *separator, place)
             }
             Form::Rule(rule) => self.enter_rule(grammar, *rule, place),
             // It has no case in the relation yet.
             Form::Expression(_, _) => Ok(Mode::Endless),
-            Form::Around(around, part) => self.enter_around(around, *part, place),
+            Form::Around(around, part) => self.enter_around(alloc, around, *part, place),
         }
     }
 
@@ -108,6 +107,7 @@ impl<'a> Machine<'a> {
     /// A form around a part runs it.
     fn enter_around(
         &mut self,
+        alloc: Global,
         around: &'a Around,
         part: NodeId,
         place: usize,
@@ -117,6 +117,9 @@ impl<'a> Machine<'a> {
             self.old.forest self.old.trail.items self.old.messages self.old.table) }
     {
         let (start, forest) = (place, self.forest.len());
+        if takes_trees(around) {
+            self.forest.open(alloc)?;
+        }
         let frame = Frame::Around {
             around,
             start,
@@ -186,6 +189,7 @@ impl<'a> Machine<'a> {
     /// A chain runs its first operand.
     fn enter_chain(
         &mut self,
+        alloc: Global,
         side: Side,
         used: &'a BuilderUse,
         operand: NodeId,
@@ -205,6 +209,7 @@ impl<'a> Machine<'a> {
             slot,
             forest: self.forest.len(),
         };
+        self.forest.open(alloc)?;
         self.enter_part(Frame::First(chain), operand, place)
     }
 

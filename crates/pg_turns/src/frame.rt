@@ -5,8 +5,9 @@
 //! long the lists were, and how many operators there were, where it may cut them back.
 
 use crate::message_tape::{KeptError, TapeError};
-use pg_grammar::{Around, BuilderUse, NodeId, Side, TrailItem};
+use pg_form::{Around, BuilderUse, NodeId, Side};
 use pg_tree::Forest;
+use pg_value::TrailItem;
 
 /// What a node answered. Its trees, its items and the messages of its error are the last ones on the lists; after an
 /// error others may lie there, which whoever goes on cuts off.

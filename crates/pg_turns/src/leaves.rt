@@ -4,8 +4,8 @@ ghost use Rattle.std.specs.Prelude.{◌≡◌, ◌<◌, ◌≤◌, ◌+◌, ◌^
 ghost use Rattle.std.specs.List.{list_any, prefix_len, common_prefix_len};
 ghost use Rattle.std.specs.Str.{bytes_eq};
 ghost use Rattle.pg_pred.specs.Offer.{offer_of};
-ghost use Rattle.pg_grammar.specs.Fits.{Fits, IsClassIn};
-ghost use Rattle.pg_grammar.specs.ClassItems.{has_character};
+ghost use Rattle.pg_value.specs.Fits.{Fits, IsClassIn};
+ghost use Rattle.pg_form.specs.ClassItems.{has_character};
 ghost use Rattle.pg_language.specs.Derives.{leaf_of};
 ghost use Rattle.pg_language.specs.Leaves.{taken, satisfy_outcome, string_outcome, word_outcome, word_read, not_followed_outcome, end_outcome};
 ghost use Rattle.pg_turns.specs.Messages.{tape_message_of};
@@ -17,10 +17,11 @@ ghost use Rattle.pg_turns.specs.declared.frame.Reply.TheVariants.{Succeeded, Fai
 use crate::frame::{Mode, Reply};
 use crate::machine::Machine;
 use crate::message::{Message, utf8};
-use pg_grammar::{ClassExpression, Grammar, WordItem};
+use pg_form::{ClassExpression, WordItem};
 use pg_pred::Registry;
 use pg_text::Text;
 use pg_tree::Tree;
+use pg_value::Grammar;
 use std::alloc::{AllocError, Global};
 
 impl<'a> Machine<'a> {

@@ -7,9 +7,9 @@ ghost use Rattle.pg_turns.specs.TapeErrors.{tape_error, tape_error_after, messag
 
 use crate::frame::{Frame, Marks};
 use crate::message_tape::{KeptError, MessageTape, TapeError};
-use pg_grammar::TrailItem;
 use pg_table::Table;
-use pg_tree::Forest;
+use pg_tree::{Forest, ForestTape};
+use pg_value::TrailItem;
 use std::alloc::{AllocError, Global};
 
 /// The frames, the trees, the items and the messages of all that runs, and the operator table in force. The topmost frame
@@ -17,7 +17,7 @@ use std::alloc::{AllocError, Global};
 #[derive(Drop)]
 pub struct Machine<'a> {
     pub frames: Vec<Frame<'a>>,
-    pub forest: Forest,
+    pub forest: ForestTape,
     pub trail: Vec<TrailItem>,
     pub messages: MessageTape<'a>,
     pub table: Table,
@@ -34,7 +34,7 @@ impl<'a> Machine<'a> {
     {
         Machine {
             frames: Vec::new(alloc),
-            forest: Forest::new(alloc),
+            forest: ForestTape::new(alloc),
             trail: Vec::new(alloc),
             messages: MessageTape::new(alloc),
             table,
@@ -94,7 +94,7 @@ impl<'a> Machine<'a> {
     }
 
     /// The trees after the first leave the forest.
-    pub(crate) fn forest_after(&mut self, count: usize) -> Result<Forest, AllocError>
+    pub(crate) fn forest_after(&mut self, alloc: Global, count: usize) -> Result<Forest, AllocError>
         ensures after { IfOk result (λ after. after ≡ drop count self.old.forest) }
         ensures frames { OnOk result (self.new.frames ≡ self.old.frames) }
         ensures forest { OnOk result (self.new.forest ≡ take count self.old.forest) }
@@ -102,7 +102,7 @@ impl<'a> Machine<'a> {
         ensures messages { OnOk result (self.new.messages ≡ self.old.messages) }
         ensures table { OnOk result (self.new.table ≡ self.old.table) }
     {
-        let after = self.forest.split_off(count.min(self.forest.len()))?;
+        let after = self.forest.split_off(alloc, count.min(self.forest.len()))?;
         Ok(after)
     }
 

@@ -6,7 +6,7 @@ ghost use Rattle.pg_turns.specs.View.{on_lists, stack_of, tape_of};
 
 use crate::frame::{Frame, Mode, Reply, RoundsFrame};
 use crate::machine::Machine;
-use pg_grammar::TrailItem;
+use pg_value::TrailItem;
 use std::alloc::AllocError;
 
 impl<'a> Machine<'a> {

@@ -2,8 +2,8 @@
 
 ghost use Rattle.std.specs.Prelude.{◌≡◌, ◌-◌, ◌^◌, IfOk};
 ghost use Rattle.pg_pred.specs.Offer.{offer_of};
-ghost use Rattle.pg_grammar.specs.Fits.{Fits};
-ghost use Rattle.pg_grammar.specs.Grammar.{Grammar as Parts};
+ghost use Rattle.pg_value.specs.Fits.{Fits};
+ghost use Rattle.pg_value.specs.Grammar.{Grammar as Parts};
 ghost use Rattle.pg_language.specs.Answers.{given};
 ghost use Rattle.pg_turns.specs.Tape.{tape_turn, tape_hand, tape_is_last};
 ghost use Rattle.pg_turns.specs.Ready.{IsReady, IsTapeReady};
@@ -11,10 +11,10 @@ ghost use Rattle.pg_turns.specs.View.{frame_of, on_lists, stack_of, tape_of};
 
 use crate::frame::{Frame, Mode, Reply};
 use crate::machine::Machine;
-use pg_grammar::Grammar;
 use pg_language::Reading;
 use pg_pred::Registry;
 use pg_text::Text;
+use pg_value::Grammar;
 use std::alloc::{AllocError, Global};
 
 impl<'a> Machine<'a> {

@@ -1,7 +1,7 @@
 -- The grammar that a file spells is printed as a file that spells it.
 use Rattle.std.proofs.Common.{ℕ, List, refl, sym, subst}
 use Rattle.pg_pred.specs.Offer.{Offer}
-use Rattle.pg_grammar.specs.Grammar.{Grammar}
+use Rattle.pg_value.specs.Grammar.{Grammar}
 use Rattle.pg_print.specs.declared.layout.Edge.TheVariants.{Tight}
 use Rattle.pg_items.specs.Syntax.{file_written}
 use Rattle.pg_tokens.specs.Lexical.{Spelled}

@@ -5,16 +5,16 @@ use Rattle.std.proofs.lemmas.Fmt.{decimal_is_IsNumeral}
 use Rattle.std.specs.List.{AllByRecursion}
 use Rattle.std.specs.Fmt.{decimal}
 use Rattle.pg_pred.specs.Offer.{Offer}
-use Rattle.pg_grammar.specs.Names as names
-use Rattle.pg_grammar.specs.Names.{name_at}
-use Rattle.pg_grammar.specs.ClassItems.{item_name}
-use Rattle.pg_grammar.specs.Operators.{Operator, IsOperator}
+use Rattle.pg_form.specs.Names as names
+use Rattle.pg_form.specs.Names.{name_at}
+use Rattle.pg_form.specs.ClassItems.{item_name}
+use Rattle.pg_form.specs.Operators.{Operator, IsOperator}
 use Rattle.pg_grammar.specs.Made.{Made, nothing_made, with_class, with_rule, Says}
-use Rattle.pg_grammar.specs.Grammar.{Grammar, rule_name, rule_names, forms_of}
-use Rattle.pg_grammar.specs.declared.class.ClassPart.{ClassPart}
-use Rattle.pg_grammar.specs.declared.class_item.ClassItem.{ClassItem}
-use Rattle.pg_grammar.specs.declared.operators_item.OperatorsItem.{OperatorsItem}
-use Rattle.pg_grammar.specs.declared.word_item.WordItem.{WordItem}
+use Rattle.pg_value.specs.Grammar.{Grammar, rule_name, rule_names, forms_of}
+use Rattle.pg_form.specs.declared.class.ClassPart.{ClassPart}
+use Rattle.pg_form.specs.declared.class_item.ClassItem.{ClassItem}
+use Rattle.pg_form.specs.declared.operators_item.OperatorsItem.{OperatorsItem}
+use Rattle.pg_form.specs.declared.word_item.WordItem.{WordItem}
 use Rattle.pg_items.specs.Tree.{Value, Item, Start}
 use Rattle.pg_items.specs.Proper.{value_of}
 use Rattle.pg_meaning.specs.Meaning.{Body, joined, class_meant, meant}

@@ -4,16 +4,16 @@ use Rattle.std.proofs.lemmas.List.{map-append}
 use Rattle.std.specs.List.{AllByRecursion}
 use Rattle.std.specs.Str.{bytes_eq}
 use Rattle.pg_pred.specs.Offer.{Offer}
-use Rattle.pg_grammar.specs.Names as names
-use Rattle.pg_grammar.specs.Names.{has_name, name_at, AreDistinct}
-use Rattle.pg_grammar.specs.ClassItems.{item_name}
-use Rattle.pg_grammar.specs.WordItems.{word_name}
-use Rattle.pg_grammar.specs.Operators.{Operator}
-use Rattle.pg_grammar.specs.Grammar.{Grammar, rule_names, forms_of}
+use Rattle.pg_form.specs.Names as names
+use Rattle.pg_form.specs.Names.{has_name, name_at, AreDistinct}
+use Rattle.pg_form.specs.ClassItems.{item_name}
+use Rattle.pg_form.specs.WordItems.{word_name}
+use Rattle.pg_form.specs.Operators.{Operator}
+use Rattle.pg_value.specs.Grammar.{Grammar, rule_names, forms_of}
 use Rattle.pg_grammar.specs.Made.{Made, nothing_made, made_words}
-use Rattle.pg_grammar.specs.declared.class_item.ClassItem.{ClassItem}
-use Rattle.pg_grammar.specs.declared.operators_item.OperatorsItem.{OperatorsItem}
-use Rattle.pg_grammar.specs.declared.word_item.WordItem.{WordItem}
+use Rattle.pg_form.specs.declared.class_item.ClassItem.{ClassItem}
+use Rattle.pg_form.specs.declared.operators_item.OperatorsItem.{OperatorsItem}
+use Rattle.pg_form.specs.declared.word_item.WordItem.{WordItem}
 use Rattle.pg_items.specs.Tree.{Value, Item, Start, Rule_item}
 use Rattle.pg_items.specs.Heads.{class_parts, heads}
 use Rattle.pg_meaning.specs.Names.{ClassIsKnown, FormIsKnown}

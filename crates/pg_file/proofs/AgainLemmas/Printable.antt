@@ -2,7 +2,7 @@
 use Rattle.std.specs.Prelude.{◌≡◌, true, List, [], ◌∷◌}
 use Rattle.std.specs.List.{AllByRecursion}
 use Rattle.pg_pred.specs.Offer.{Offer}
-use Rattle.pg_grammar.specs.Grammar.{Grammar}
+use Rattle.pg_value.specs.Grammar.{Grammar}
 use Rattle.pg_grammar.specs.Made.{nothing_made}
 use Rattle.pg_tokens.specs.Tokens.{Token, name, number, literal, mark, wrong, bad}
 use Rattle.pg_tokens.specs.Lexical.{passes, is_name, is_number, is_scalar}

@@ -15,7 +15,7 @@ use Rattle.pg_tokens.specs.Tokens.{Token, name, number, literal, mark, wrong, ba
 use Rattle.pg_tokens.specs.Lexical.{passes, stops, goes_in_name, is_hex, is_scalar, is_code, is_plain, short_escape, short, unicode, Literal, closed, plain, escaped, Spelled, ends, blank, a_mark, a_name, a_number, a_literal}
 use Rattle.pg_print.specs.Printed as printed
 use Rattle.pg_print.specs.Printed.{all_escaped, quoted}
-use Rattle.pg_print.specs.Layout.{comes_before_class, printed_mark, token_text, edge_after, space, mark_space, space_before, laid_out}
+use Rattle.pg_print.specs.Layout.{comes_before_class, printed_mark, edge_after, space, mark_space, laid_out}
 use Rattle.pg_file.proofs.AgainLemmas.Printable.{ArePrintable}
 
 -- ---- hexadecimal digits

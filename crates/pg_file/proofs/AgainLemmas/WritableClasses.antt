@@ -3,12 +3,12 @@ use Rattle.std.proofs.Common.{◌≡◌, ◌≤◌, ℕ, true, List, [], ◌∷�
 use Rattle.std.specs.List.{AllByRecursion}
 use Rattle.std.specs.Str.{chars}
 use Rattle.pg_pred.specs.Offer.{Offer}
-use Rattle.pg_grammar.specs.Names as names
-use Rattle.pg_grammar.specs.Names.{name_at, place_of_name}
-use Rattle.pg_grammar.specs.Classes.{member_count, IsExpression}
-use Rattle.pg_grammar.proofs.Each.{all-take, all-drop}
-use Rattle.pg_grammar.specs.declared.class.ClassPart.{ClassPart}
-use Rattle.pg_grammar.specs.declared.class.ClassPart.TheVariants as part
+use Rattle.pg_form.specs.Names as names
+use Rattle.pg_form.specs.Names.{name_at, place_of_name}
+use Rattle.pg_form.specs.Classes.{member_count, IsExpression}
+use Rattle.pg_form.proofs.Each.{all-take, all-drop}
+use Rattle.pg_form.specs.declared.class.ClassPart.{ClassPart}
+use Rattle.pg_form.specs.declared.class.ClassPart.TheVariants as part
 use Rattle.pg_tokens.specs.declared.token.Mark.TheVariants.{Close}
 use Rattle.pg_tokens.specs.Tokens.{Token, mark}
 use Rattle.pg_tokens.specs.Lexical.{passes, is_name, is_scalar}

@@ -4,15 +4,15 @@ use Rattle.std.proofs.lemmas.List.{append-nil, map-append}
 use Rattle.std.specs.List.{AllByRecursion}
 use Rattle.std.specs.Str.{chars}
 use Rattle.pg_pred.specs.Offer.{Offer}
-use Rattle.pg_grammar.specs.Names as names
-use Rattle.pg_grammar.specs.Names.{name_at, has_name}
-use Rattle.pg_grammar.specs.ClassItems.{item_name}
-use Rattle.pg_grammar.specs.Operators.{Operator}
+use Rattle.pg_form.specs.Names as names
+use Rattle.pg_form.specs.Names.{name_at, has_name}
+use Rattle.pg_form.specs.ClassItems.{item_name}
+use Rattle.pg_form.specs.Operators.{Operator}
 use Rattle.pg_grammar.specs.Made.{Made, nothing_made}
-use Rattle.pg_grammar.specs.Grammar.{Grammar, rule_names, forms_of}
-use Rattle.pg_grammar.specs.declared.class_item.ClassItem.{ClassItem}
-use Rattle.pg_grammar.specs.declared.operators_item.OperatorsItem.{OperatorsItem}
-use Rattle.pg_grammar.specs.declared.word_item.WordItem.{WordItem}
+use Rattle.pg_value.specs.Grammar.{Grammar, rule_names, forms_of}
+use Rattle.pg_form.specs.declared.class_item.ClassItem.{ClassItem}
+use Rattle.pg_form.specs.declared.operators_item.OperatorsItem.{OperatorsItem}
+use Rattle.pg_form.specs.declared.word_item.WordItem.{WordItem}
 use Rattle.pg_tokens.specs.declared.token.Mark.TheVariants.{Semicolon}
 use Rattle.pg_tokens.specs.Tokens.{Token, name, mark}
 use Rattle.pg_tokens.specs.Lexical.{passes, is_scalar}

@@ -2,10 +2,10 @@
 use Rattle.std.proofs.Common.{◌≡◌, ◌≤◌, ℕ, ◌+◌, Bool, true, false, cond, leb, leb-false, List, [], ◌∷◌, length, map, refl, ap, arith, length-append}
 use Rattle.std.proofs.lemmas.List.{length-map}
 use Rattle.pg_pred.specs.Offer.{Offer}
-use Rattle.pg_grammar.specs.Grammar.{Grammar, rule_name, rule_names, word_names}
-use Rattle.pg_grammar.specs.Forms.{form_of}
-use Rattle.pg_grammar.specs.declared.class_item.ClassItem.{ClassItem}
-use Rattle.pg_grammar.specs.declared.word_item.WordItem.{WordItem}
+use Rattle.pg_value.specs.Grammar.{Grammar, rule_name, rule_names, word_names}
+use Rattle.pg_form.specs.Forms.{form_of}
+use Rattle.pg_form.specs.declared.class_item.ClassItem.{ClassItem}
+use Rattle.pg_form.specs.declared.word_item.WordItem.{WordItem}
 use Rattle.pg_grammar.specs.Made.{Made, nothing_made, Says}
 use Rattle.pg_items.specs.Tree.{Item, Class_item, Word_item, Operators, Table, Start, Rule_item}
 use Rattle.pg_items.specs.Heads.{heads, entry_of_item}

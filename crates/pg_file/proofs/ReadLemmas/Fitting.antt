@@ -4,18 +4,18 @@ use Rattle.std.specs.List.{AllByRecursion}
 use Rattle.std.specs.Option.{is_some}
 use Rattle.std.specs.Str.{encode_utf8_all}
 use Rattle.pg_pred.specs.Offer.{Offer, predicate_class, builder_shape}
-use Rattle.pg_grammar.specs.Contents.{class_parts, builders_in}
-use Rattle.pg_grammar.specs.Fits.{PartFits, ClassFits, BuilderFits, BuildersFit, NodeFits, ItemsFit, WordFits, WordsFit, OperatorsFit, NodesFit, Fits}
-use Rattle.pg_grammar.specs.Forms.{BaseForm, Node, form_of}
-use Rattle.pg_grammar.specs.Grammar.{Grammar, rule_names, word_names}
-use Rattle.pg_grammar.specs.ClassItems.{item_class}
+use Rattle.pg_form.specs.Contents.{class_parts, builders_in}
+use Rattle.pg_value.specs.Fits.{PartFits, ClassFits, BuilderFits, BuildersFit, NodeFits, ItemsFit, WordFits, WordsFit, OperatorsFit, NodesFit, Fits}
+use Rattle.pg_form.specs.Forms.{BaseForm, Node, form_of}
+use Rattle.pg_value.specs.Grammar.{Grammar, rule_names, word_names}
+use Rattle.pg_form.specs.ClassItems.{item_class}
 use Rattle.pg_grammar.specs.Made.{Made, nothing_made}
-use Rattle.pg_grammar.specs.Names as names
-use Rattle.pg_grammar.specs.Names.{place_of_name, has_name}
-use Rattle.pg_grammar.specs.declared.form.Form.TheVariants as form
-use Rattle.pg_grammar.specs.declared.form.Around.{Around}
-use Rattle.pg_grammar.specs.declared.form.Around.TheVariants as around
-use Rattle.pg_grammar.specs.declared.form.Leaf.TheVariants as leaf
+use Rattle.pg_form.specs.Names as names
+use Rattle.pg_form.specs.Names.{place_of_name, has_name}
+use Rattle.pg_form.specs.declared.form.Form.TheVariants as form
+use Rattle.pg_form.specs.declared.form.Around.{Around}
+use Rattle.pg_form.specs.declared.form.Around.TheVariants as around
+use Rattle.pg_form.specs.declared.form.Leaf.TheVariants as leaf
 use Rattle.pg_items.specs.declared.written.WrittenPart.{WrittenPart}
 use Rattle.pg_items.specs.declared.written.WrittenPart.TheVariants as part
 use Rattle.pg_items.specs.declared.written.WrittenForm.{WrittenForm}
@@ -24,7 +24,7 @@ use Rattle.pg_items.specs.declared.words.ClassForm.{ClassForm}
 use Rattle.pg_items.specs.declared.words.ClassForm.TheVariants.{Satisfy}
 use Rattle.pg_items.specs.declared.words.SomeForm.{SomeForm}
 use Rattle.pg_items.specs.declared.words.SomeForm.TheVariants.{Choice, Try}
-use Rattle.pg_grammar.specs.declared.side.Side.{Side}
+use Rattle.pg_form.specs.declared.side.Side.{Side}
 use Rattle.pg_meaning.specs.Names.{builder_named, item_or_predicate, PartIsKnown, ClassIsKnown, BuilderIsKnown, FormIsKnown}
 use Rattle.pg_meaning.specs.Meaning.{Body, joined, some_of, class_of, chain_of}
 use Rattle.pg_meaning.specs.Bodies.{part_meant, parts_meant, body_at, body_of_form, bodies, body_meant}

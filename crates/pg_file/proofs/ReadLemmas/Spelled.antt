@@ -2,7 +2,7 @@
 use Rattle.std.proofs.Common.{◌≡◌, ◌≤◌, ℕ, List, length, map, refl, sym, ap, subst, ◌∙◌}
 use Rattle.std.specs.Str.{chars, IsUtf8}
 use Rattle.pg_pred.specs.Offer.{Offer}
-use Rattle.pg_grammar.specs.Grammar.{Grammar}
+use Rattle.pg_value.specs.Grammar.{Grammar}
 use Rattle.pg_tokens.specs.Tokens.{Token, AreGood}
 use Rattle.pg_tokens.specs.Lexical.{SpelledIfGood, OnlySpelled}
 use Rattle.pg_items.specs.Heads.{entry_of_item}

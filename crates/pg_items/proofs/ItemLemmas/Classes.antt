@@ -1,7 +1,7 @@
 -- The parts of a class expression are one whole expression.
 use Rattle.std.proofs.Common.{suc, ◌++◌, map, refl, arith}
 use Rattle.std.specs.List.{AllByRecursion}
-use Rattle.pg_grammar.specs.Preorder.{SpellForms}
+use Rattle.pg_form.specs.Preorder.{SpellForms}
 use Rattle.pg_items.specs.Tree.{Atom, Set, Range, Name, Not, Group, Class, Of, Atoms, No_atom, Or}
 use Rattle.pg_items.specs.Written.{member_count, IsProperUnion}
 use Rattle.pg_items.specs.Heads.{atom_count, atom_parts, class_parts, atoms_parts}

@@ -1,7 +1,7 @@
 -- Whole forms, each with its parts after it, one form after another.
 use Rattle.std.proofs.Common.{◌≡◌, ℕ, zero, suc, ◌+◌, List, [], ◌∷◌, ◌++◌, map, subst, ap, refl, arith}
 use Rattle.std.specs.List.{AllByRecursion}
-use Rattle.pg_grammar.specs.Preorder.{SpellForms}
+use Rattle.pg_form.specs.Preorder.{SpellForms}
 
 -- whole forms, and others after them
 spell_append : (k j : ℕ) (counts others : List ℕ) → SpellForms k counts → SpellForms j others → SpellForms (k + j) (counts ++ others)

@@ -1,8 +1,8 @@
 -- Items as trees and as entries in preorder make the same grammars.
 use Rattle.std.proofs.Common.{◌≡◌, List, [], ◌∷◌, map, refl, sym, ap, subst}
 use Rattle.pg_pred.specs.Offer.{Offer}
-use Rattle.pg_grammar.specs.Names as names
-use Rattle.pg_grammar.specs.Grammar.{Grammar}
+use Rattle.pg_form.specs.Names as names
+use Rattle.pg_value.specs.Grammar.{Grammar}
 use Rattle.pg_grammar.specs.Made.{Made, nothing_made, with_class, with_rule, Says}
 use Rattle.pg_items.specs.Tree.{Item, Class_item, Word_item, Operators, Table, Start, Rule_item}
 use Rattle.pg_items.specs.Heads.{entry_of_item}

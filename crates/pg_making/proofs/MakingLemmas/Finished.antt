@@ -1,14 +1,14 @@
 -- What a grammar says can be finished.
-use Rattle.std.proofs.Common.{◌≡◌, ◌<◌, ℕ, zero, suc, Bool, true, false, ◌||◌, List, [], ◌∷◌, length, map, None, refl, sym, subst, arith}
+use Rattle.std.proofs.Common.{◌≡◌, ◌<◌, false, ◌||◌, List, [], ◌∷◌, length, map, None, refl, sym, subst, arith}
 use Rattle.std.proofs.lemmas.List.{length-map}
 use Rattle.std.specs.List.{AllByRecursion, list_any}
-use Rattle.pg_grammar.specs.Names.{Name, has_name, name_at}
-use Rattle.pg_grammar.specs.WordItems.{word_name}
-use Rattle.pg_grammar.specs.Forms.{Node, form_of, has_unknown_name, NamesRule, NamesWord}
-use Rattle.pg_grammar.specs.Grammar.{Grammar, rule_name, rule_names, word_names}
+use Rattle.pg_form.specs.Names.{Name}
+use Rattle.pg_form.specs.WordItems.{word_name}
+use Rattle.pg_form.specs.Forms.{Node, form_of, has_unknown_name, NamesRule, NamesWord}
+use Rattle.pg_value.specs.Grammar.{Grammar, rule_name, rule_names, word_names}
 use Rattle.pg_grammar.specs.Made.{Made, Says, finish_fault}
-use Rattle.pg_grammar.specs.declared.form.Form.TheVariants as form
-use Rattle.pg_grammar.specs.declared.form.Leaf.TheVariants as leaf
+use Rattle.pg_form.specs.declared.form.Form.TheVariants as form
+use Rattle.pg_form.specs.declared.form.Leaf.TheVariants as leaf
 use Rattle.pg_grammar.proofs.Unique.{has_name_at}
 
 -- a node whose numbers name something names nothing that isn't there

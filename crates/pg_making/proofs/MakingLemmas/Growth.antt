@@ -2,8 +2,8 @@
 use Rattle.std.proofs.Common.{◌≤◌, List, [], ◌∷◌, ◌++◌, length, ap, arith}
 use Rattle.std.proofs.lemmas.List.{length-append, length-map}
 use Rattle.pg_pred.specs.Offer.{Offer}
-use Rattle.pg_grammar.specs.Grammar.{Grammar, rule_name, rule_names, word_names}
-use Rattle.pg_grammar.specs.Forms.{form_of}
+use Rattle.pg_value.specs.Grammar.{Grammar, rule_name, rule_names, word_names}
+use Rattle.pg_form.specs.Forms.{form_of}
 use Rattle.pg_grammar.specs.Made.{Made, Says}
 use Rattle.pg_items.specs.Entries.{Entry, class, word, operators, table, start, rule}
 use Rattle.pg_making.specs.Making.{with_entry, with_entries}

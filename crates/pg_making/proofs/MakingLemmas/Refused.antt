@@ -7,20 +7,20 @@ use Rattle.std.specs.Option.{is_some}
 use Rattle.std.specs.Result.{IsOkUnless}
 use Rattle.std.specs.Str.{bytes_eq}
 use Rattle.pg_pred.specs.Offer.{Offer}
-use Rattle.pg_grammar.specs.Names.{Name, has_name}
-use Rattle.pg_grammar.specs.Literals.{is_empty_literal, is_long_literal}
-use Rattle.pg_grammar.specs.Classes.{descends, is_long, lacks_item}
-use Rattle.pg_grammar.specs.ClassItems.{item_name, has_item}
-use Rattle.pg_grammar.specs.WordItems.{word_name, has_word}
-use Rattle.pg_grammar.specs.Forms.{BaseForm, has_unknown_class}
-use Rattle.pg_grammar.specs.Grammar.{Grammar}
-use Rattle.pg_grammar.specs.Made.{Made, Says, IsBody, made_words, class_fault, word_fault, operators_fault, rule_fault}
-use Rattle.pg_grammar.specs.declared.class.ClassPart.{ClassPart}
-use Rattle.pg_grammar.specs.declared.operators_item.OperatorsItem.{OperatorsItem}
-use Rattle.pg_grammar.specs.declared.word_item.WordItem.{WordItem}
+use Rattle.pg_form.specs.Names.{Name, has_name}
+use Rattle.pg_form.specs.Literals.{is_empty_literal, is_long_literal}
+use Rattle.pg_form.specs.Classes.{descends, is_long, lacks_item}
+use Rattle.pg_form.specs.ClassItems.{item_name, has_item}
+use Rattle.pg_form.specs.WordItems.{word_name, has_word}
+use Rattle.pg_form.specs.Forms.{BaseForm, has_unknown_class, IsBody}
+use Rattle.pg_value.specs.Grammar.{Grammar}
+use Rattle.pg_grammar.specs.Made.{Made, Says, made_words, class_fault, word_fault, operators_fault, rule_fault}
+use Rattle.pg_form.specs.declared.class.ClassPart.{ClassPart}
+use Rattle.pg_form.specs.declared.operators_item.OperatorsItem.{OperatorsItem}
+use Rattle.pg_form.specs.declared.word_item.WordItem.{WordItem}
 use Rattle.pg_grammar.specs.declared.fault.MakerFault.{MakerFault}
 use Rattle.pg_grammar.specs.declared.fault.MakerFault.TheVariants.{Memory}
-use Rattle.pg_grammar.proofs.Each.{any-map}
+use Rattle.pg_form.proofs.Each.{any-map}
 use Rattle.pg_items.specs.declared.written.WrittenPart.{WrittenPart}
 use Rattle.pg_items.specs.declared.written.WrittenForm.{WrittenForm}
 use Rattle.pg_items.specs.Tree.{Class}

@@ -3,8 +3,8 @@ use Rattle.std.proofs.Common.{◌≡◌, ◌<◌, ◌≤◌, ◌+◌, ℕ, zero,
 use Rattle.std.proofs.lemmas.List.{length-map, map_push, take_all, take_more}
 use Rattle.std.specs.List.{AllByRecursion}
 use Rattle.pg_pred.specs.Offer.{Offer}
-use Rattle.pg_grammar.specs.Forms.{form_of}
-use Rattle.pg_grammar.specs.Grammar.{Grammar, rule_names, word_names}
+use Rattle.pg_form.specs.Forms.{form_of}
+use Rattle.pg_value.specs.Grammar.{Grammar, rule_names, word_names}
 use Rattle.pg_grammar.specs.Made.{Made, nothing_made, Says, finish_fault}
 use Rattle.pg_grammar.proofs.Unique.{same_grammar}
 use Rattle.pg_items.specs.declared.item.Item as declared

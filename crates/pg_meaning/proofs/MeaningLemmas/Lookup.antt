@@ -1,8 +1,8 @@
 -- A name is found among the class items exactly if it is there.
 use Rattle.std.proofs.Common.{◌≡◌, ℕ, Bool, true, false, ◌||◌, List, Some, None, Err, refl, sym, ap, ◌∙◌}
 use Rattle.std.specs.Result.{IsErrOf}
-use Rattle.pg_grammar.specs.Names.{Name, has_name, place_of_name, number_of}
-use Rattle.pg_grammar.proofs.Lookup.{place_is_none, place_is_number}
+use Rattle.pg_form.specs.Names.{Name, has_name, place_of_name, number_of}
+use Rattle.pg_form.proofs.Lookup.{place_is_none, place_is_number}
 
 pub found_is_there : (names : List Name) (name : Name) (k : ℕ) → place_of_name names name ≡ Some k → has_name names name ≡ true
 found_is_there names name k e = go (has_name names name) refl

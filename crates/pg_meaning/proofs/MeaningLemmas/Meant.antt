@@ -1,7 +1,7 @@
 -- The forms of a tree in preorder stand for what the tree stands for, and are as large.
 use Rattle.std.proofs.Common.{◌≡◌, ℕ, List, ◌∷◌, ◌++◌, length, map}
 use Rattle.pg_pred.specs.Offer.{Offer}
-use Rattle.pg_grammar.specs.Names as names
+use Rattle.pg_form.specs.Names as names
 use Rattle.pg_items.specs.declared.written.WrittenForm.{WrittenForm}
 use Rattle.pg_items.specs.Tree.{Class, Value, Values}
 use Rattle.pg_items.specs.Heads.{class_parts, heads, all_heads}

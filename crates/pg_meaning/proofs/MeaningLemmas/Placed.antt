@@ -4,8 +4,8 @@ use Rattle.std.proofs.lemmas.List.{append-nil, map-append, map_push, take-map, d
 use Rattle.std.specs.Global.{Vec}
 use Rattle.std.specs.List.{AllByRecursion}
 use Rattle.pg_pred.specs.Offer.{Offer}
-use Rattle.pg_grammar.proofs.Each.{all-drop}
-use Rattle.pg_grammar.specs.Names.{Name}
+use Rattle.pg_form.proofs.Each.{all-drop}
+use Rattle.pg_form.specs.Names.{Name}
 use Rattle.pg_meaning.specs.declared.body.PlacedBase.{PlacedBase}
 use Rattle.pg_items.specs.declared.item.PlacedForm.{PlacedForm}
 use Rattle.pg_items.specs.declared.written.WrittenForm.{WrittenForm}

@@ -2,10 +2,9 @@
 use Rattle.std.proofs.Common.{◌≡◌, false, List, length}
 use Rattle.std.specs.List.{list_any}
 use Rattle.pg_pred.specs.Offer.{Offer}
-use Rattle.pg_grammar.specs.Names as names
-use Rattle.pg_grammar.specs.Classes.{IsExpression, descends, is_long, lacks_item}
-use Rattle.pg_grammar.specs.Forms.{has_bad_literal, has_long_text, has_unknown_class}
-use Rattle.pg_grammar.specs.Made.{IsBody}
+use Rattle.pg_form.specs.Names as names
+use Rattle.pg_form.specs.Classes.{IsExpression, descends, is_long, lacks_item}
+use Rattle.pg_form.specs.Forms.{has_bad_literal, has_long_text, has_unknown_class, IsBody}
 use Rattle.pg_items.specs.declared.written.WrittenPart.{WrittenPart}
 use Rattle.pg_items.specs.Tree.{Class, Value}
 use Rattle.pg_items.specs.Written.{IsClass}

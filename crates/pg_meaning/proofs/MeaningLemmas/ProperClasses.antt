@@ -5,14 +5,14 @@ use Rattle.std.proofs.lemmas.List.Folds.{list_any-append}
 use Rattle.std.specs.List.{list_any, AllByRecursion}
 use Rattle.std.specs.Str.{chars, encode_utf8_all}
 use Rattle.pg_pred.specs.Offer.{Offer}
-use Rattle.pg_grammar.specs.Names as names
-use Rattle.pg_grammar.specs.Names.{has_name, place_of_name, number_of}
-use Rattle.pg_grammar.proofs.Lookup.{number_is_found, place_is_number, place_is_none}
-use Rattle.pg_grammar.specs.Preorder.{SpellForms}
-use Rattle.pg_grammar.specs.Classes as classes
-use Rattle.pg_grammar.specs.Classes.{IsExpression, descends, is_long, lacks_item}
-use Rattle.pg_grammar.specs.declared.class.ClassPart.{ClassPart}
-use Rattle.pg_grammar.specs.declared.class.ClassPart.TheVariants as class
+use Rattle.pg_form.specs.Names as names
+use Rattle.pg_form.specs.Names.{has_name, place_of_name, number_of}
+use Rattle.pg_form.proofs.Lookup.{number_is_found, place_is_number, place_is_none}
+use Rattle.pg_form.specs.Preorder.{SpellForms}
+use Rattle.pg_form.specs.Classes as classes
+use Rattle.pg_form.specs.Classes.{IsExpression, descends, is_long, lacks_item}
+use Rattle.pg_form.specs.declared.class.ClassPart.{ClassPart}
+use Rattle.pg_form.specs.declared.class.ClassPart.TheVariants as class
 use Rattle.pg_items.specs.declared.written.WrittenPart.{WrittenPart}
 use Rattle.pg_items.specs.declared.written.WrittenPart.TheVariants as part
 use Rattle.pg_items.specs.Tree.{Atom, Set, Range, Name, Not, Group, Class, Of, Atoms, No_atom, Or}

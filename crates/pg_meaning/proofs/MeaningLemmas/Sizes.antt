@@ -3,7 +3,7 @@ use Rattle.std.proofs.Common.{◌≡◌, ℕ, suc, ◌+◌, ◌==◌, false, Lis
 use Rattle.std.proofs.lemmas.Bool.Decides.{nat_tests}
 use Rattle.std.proofs.lemmas.List.{append-nil, length-append, length-map}
 use Rattle.pg_pred.specs.Offer.{Offer}
-use Rattle.pg_grammar.specs.Names as names
+use Rattle.pg_form.specs.Names as names
 use Rattle.pg_items.specs.declared.written.WrittenForm.{WrittenForm}
 use Rattle.pg_items.specs.declared.written.WrittenForm.TheVariants as written
 use Rattle.pg_items.specs.declared.words.SomeForm.{SomeForm}

@@ -11,7 +11,7 @@ use Rattle.pg_items.specs.declared.words.ClassForm.{ClassForm}
 use Rattle.pg_items.specs.declared.words.SomeForm.{SomeForm}
 use Rattle.pg_items.specs.declared.words.OneForm.{OneForm}
 use Rattle.pg_items.specs.declared.words.TwoForm.{TwoForm}
-use Rattle.pg_grammar.specs.declared.side.Side.{Side}
+use Rattle.pg_form.specs.declared.side.Side.{Side}
 use Rattle.pg_items.specs.declared.words.FormWord.{FormWord}
 use Rattle.pg_items.specs.declared.words.FormWord.TheVariants as word
 use Rattle.pg_tokens.specs.Tokens.{Token, name, number, literal, mark, wrong, bad}

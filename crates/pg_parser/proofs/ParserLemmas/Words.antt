@@ -2,8 +2,8 @@
 use Rattle.std.proofs.Common.{◌≡◌, ℕ, true, false, cond, List, Option, Some, None, refl, sym, ap, ◌∙◌, inl, inr}
 use Rattle.std.specs.Prelude.{codes}
 use Rattle.std.specs.Str.{bytes_eq}
-use Rattle.pg_grammar.specs.declared.decl.Role.{Role}
-use Rattle.pg_grammar.specs.declared.decl.Role.TheVariants as role
+use Rattle.pg_form.specs.declared.decl.Role.{Role}
+use Rattle.pg_form.specs.declared.decl.Role.TheVariants as role
 use Rattle.pg_items.specs.declared.words.ClassForm.{ClassForm}
 use Rattle.pg_items.specs.declared.words.ClassForm.TheVariants as of_class
 use Rattle.pg_items.specs.declared.words.SomeForm.{SomeForm}
@@ -12,8 +12,8 @@ use Rattle.pg_items.specs.declared.words.OneForm.{OneForm}
 use Rattle.pg_items.specs.declared.words.OneForm.TheVariants as of_one
 use Rattle.pg_items.specs.declared.words.TwoForm.{TwoForm}
 use Rattle.pg_items.specs.declared.words.TwoForm.TheVariants as of_two
-use Rattle.pg_grammar.specs.declared.side.Side.{Side}
-use Rattle.pg_grammar.specs.declared.side.Side.TheVariants as side
+use Rattle.pg_form.specs.declared.side.Side.{Side}
+use Rattle.pg_form.specs.declared.side.Side.TheVariants as side
 use Rattle.pg_items.specs.declared.words.FormWord.{FormWord}
 use Rattle.pg_items.specs.declared.words.FormWord.TheVariants as word
 use Rattle.pg_items.specs.Syntax.{class_word, some_word, one_word, two_word, chain_word, role_word}

@@ -1,11 +1,11 @@
 -- The parts of a class expression are printed as the tree says.
 use Rattle.std.proofs.Common.{◌≡◌, ◌≤◌, ◌<◌, ℕ, zero, suc, ◌+◌, List, [], ◌∷◌, ◌++◌, length, take, drop, map, refl, sym, ap, subst, ◌∙◌, arith}
 use Rattle.std.proofs.lemmas.List.{length-drop}
-use Rattle.pg_grammar.specs.Names as names
-use Rattle.pg_grammar.specs.Preorder.{SpellForms}
-use Rattle.pg_grammar.specs.Classes.{member_count, IsProperUnion}
-use Rattle.pg_grammar.specs.declared.class.ClassPart.{ClassPart}
-use Rattle.pg_grammar.specs.declared.class.ClassPart.TheVariants as part
+use Rattle.pg_form.specs.Names as names
+use Rattle.pg_form.specs.Preorder.{SpellForms}
+use Rattle.pg_form.specs.Classes.{member_count, IsProperUnion}
+use Rattle.pg_form.specs.declared.class.ClassPart.{ClassPart}
+use Rattle.pg_form.specs.declared.class.ClassPart.TheVariants as part
 use Rattle.pg_tokens.specs.declared.token.Mark.TheVariants.{Open, Close, Bar}
 use Rattle.pg_print.specs.declared.levels.Ending.TheVariants.{Nothing}
 use Rattle.pg_print.specs.declared.levels.Level.{Level}

@@ -1,11 +1,11 @@
 -- The nodes of a grammar are whole bodies, one for each rule.
 use Rattle.std.proofs.Common.{◌≡◌, ◌<◌, ℕ, suc, ◌+◌, List, [], ◌∷◌, length, take, drop, map, refl, sym, ap, subst, ◌∙◌, arith}
 use Rattle.std.proofs.lemmas.List.{length-drop, length-take, length-map}
-use Rattle.pg_grammar.specs.Names as names
-use Rattle.pg_grammar.specs.Preorder.{SpellForms, roots}
-use Rattle.pg_grammar.specs.Forms.{BaseForm, Node, part_count, node_part_count, form_of, InPreorder}
-use Rattle.pg_grammar.specs.Grammar.{Grammar, IsGrammar, rule_body, rule_names, word_names}
-use Rattle.pg_grammar.specs.declared.form.Form.TheVariants as form
+use Rattle.pg_form.specs.Names as names
+use Rattle.pg_form.specs.Preorder.{SpellForms, roots}
+use Rattle.pg_form.specs.Forms.{BaseForm, Node, part_count, node_part_count, form_of, InPreorder}
+use Rattle.pg_value.specs.Grammar.{Grammar, IsGrammar, rule_body, rule_names, word_names}
+use Rattle.pg_form.specs.declared.form.Form.TheVariants as form
 use Rattle.pg_items.specs.Tree.{Value}
 use Rattle.pg_print.specs.Canonical.{class_names, value_at, values_of}
 use Rattle.pg_print.specs.Levels.{node_forms, node_values, AreBodies}

@@ -1,6 +1,6 @@
 -- The name with a number, as it is looked up in a slice.
 use Rattle.std.proofs.Common.{◌≡◌, ◌<◌, ◌≤◌, ℕ, zero, suc, List, [], ◌∷◌, length, map, get_or, refl, ap, arith}
-use Rattle.pg_grammar.specs.Names.{Name, name_at}
+use Rattle.pg_form.specs.Names.{Name, name_at}
 
 pub name_known : {X : Type 0} (f : X → Name) (xs : List X) (k : ℕ) (x : X) → k < length xs → x ≡ get_or xs k x → f x ≡ name_at (map f xs) k
 name_known f [] k x h e = absurd (omega (arith, h))

@@ -1,7 +1,7 @@
 -- Parts that nest, written from left to right with levels, are written as the tree says.
 use Rattle.std.proofs.Common.{◌≡◌, ◌≤◌, ◌<◌, ℕ, zero, suc, ◌+◌, List, [], ◌∷◌, ◌++◌, length, take, drop, refl, sym, ap, subst, ◌∙◌, append_assoc, arith}
 use Rattle.std.proofs.lemmas.List.{append-nil, length-drop, drop-drop}
-use Rattle.pg_grammar.specs.Preorder.{SpellForms}
+use Rattle.pg_form.specs.Preorder.{SpellForms}
 use Rattle.pg_tokens.specs.declared.token.Mark.{Mark}
 use Rattle.pg_print.specs.declared.levels.Ending.{Ending}
 use Rattle.pg_print.specs.declared.levels.Level.{Level}

@@ -1,24 +1,22 @@
 -- The tokens of a construct, laid out, are its text.
-use Rattle.std.proofs.Common.{◌≡◌, ℕ, Bool, true, false, List, [], ◌∷◌, ◌++◌, Option, Some, None, codes, refl, ap, subst, ◌∙◌, append_assoc}
+use Rattle.std.proofs.Common.{◌≡◌, ℕ, Bool, true, false, List, [], ◌∷◌, ◌++◌, Option, Some, None, codes, refl, ap, ◌∙◌, append_assoc}
 use Rattle.std.specs.List.{flat_map}
-use Rattle.std.specs.Str.{bytes_eq}
-use Rattle.pg_tokens.specs.declared.token.Mark.TheVariants.{Open, Close, Comma, Semicolon, Equals, Bar}
+use Rattle.pg_tokens.specs.declared.token.Mark.TheVariants.{Close, Comma, Semicolon}
 use Rattle.pg_tokens.specs.Tokens.{Token, name, number, literal, mark}
-use Rattle.pg_grammar.specs.Grammar.{Grammar}
-use Rattle.pg_grammar.specs.declared.decl.Role.{Role}
-use Rattle.pg_grammar.specs.declared.decl.Role.TheVariants.{InfixLeft, InfixRight, InfixNone, Prefix, Postfix}
+use Rattle.pg_value.specs.Grammar.{Grammar}
+use Rattle.pg_form.specs.declared.decl.Role.TheVariants.{InfixLeft, InfixRight, InfixNone, Prefix, Postfix}
 use Rattle.pg_items.specs.declared.words.ClassForm.TheVariants.{Satisfy, NotFollowedBy, Declare}
 use Rattle.pg_items.specs.declared.words.SomeForm.TheVariants.{Choice, Try}
 use Rattle.pg_items.specs.declared.words.OneForm.TheVariants as one
 use Rattle.pg_items.specs.declared.words.TwoForm.TheVariants.{SepBy, SepBy1, EndBy}
-use Rattle.pg_grammar.specs.declared.side.Side.TheVariants.{Left, Right}
+use Rattle.pg_form.specs.declared.side.Side.TheVariants.{Left, Right}
 use Rattle.pg_items.specs.declared.words.ClassForm.{ClassForm}
 use Rattle.pg_items.specs.declared.words.SomeForm.{SomeForm}
 use Rattle.pg_items.specs.declared.words.OneForm.{OneForm}
 use Rattle.pg_items.specs.declared.words.TwoForm.{TwoForm}
-use Rattle.pg_grammar.specs.declared.side.Side.{Side}
+use Rattle.pg_form.specs.declared.side.Side.{Side}
 use Rattle.pg_items.specs.Tree.{Atom, Set, Range, Name, Not, Group, Class, Of, Atoms, No_atom, Or, Value, Of_class, String, Seq, Of_some, Of_one, Of_two, Between, Chain, Expression, Build, Build_symbol, Label, End_of_text, Word, Rule, Values, No_value, And, Item, Class_item, Word_item, Operators, Table, Start, Rule_item}
-use Rattle.pg_items.specs.Syntax.{class_word, some_word, one_word, two_word, chain_word, role_word, atom_written, class_written, atoms_written, opened, written, written_list, written_more, literals_written, reserved_written, most_written, item_written, file_written}
+use Rattle.pg_items.specs.Syntax.{class_word, some_word, one_word, two_word, chain_word, atom_written, class_written, atoms_written, opened, written, written_list, written_more, literals_written, reserved_written, most_written, item_written, file_written}
 use Rattle.pg_print.specs.declared.layout.Edge.{Edge}
 use Rattle.pg_print.specs.declared.layout.Edge.TheVariants as edge
 use Rattle.pg_print.specs.Canonical.{items_of}

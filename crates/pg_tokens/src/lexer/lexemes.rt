@@ -5,9 +5,9 @@
 //! parser relies on the places to say where a fault stands.
 ghost use Rattle.std.specs.Prelude.{◌≡◌, ◌<◌, ◌≤◌, length, All, AllPairs, IfOk};
 ghost use Rattle.pg_tokens.specs.Lexical.{SpelledIfGood, OnlySpelled};
-ghost use Rattle.pg_tokens.specs.Lexing.{lex_of, prefix_at, mark_at};
+ghost use Rattle.pg_tokens.specs.Lexing.{lex_of, placed_of, up_to, prefix_at, mark_at};
 ghost use Rattle.pg_tokens.specs.Lexing as lexing;
-ghost use Rattle.pg_tokens.specs.View.{prefix_of, tokens_of, StandsIn};
+ghost use Rattle.pg_tokens.specs.View.{prefix_of, tokens_of, placed_tokens_of, StandsIn};
 
 use super::blank::{is_blank, skip_line};
 use super::literal::literal;
@@ -49,8 +49,10 @@ fn prefix(alloc: Global, characters: &[char]) -> Result<Prefix<'_>, AllocError>
 /// The tokens of a grammar file, up to and with the first that is `Bad` (ours).
 ///
 /// It fails where memory runs out, and then only; a fault of the file is a token.
+#[tactic(auto, using(crate::proofs::LexerLemmas::Exact::up_to_all))]
 pub fn lex(alloc: Global, characters: &[char]) -> Result<Vec<Lexeme>, AllocError>
     ensures tokens { IfOk result (λ found. tokens_of found.items ≡ lex_of characters.now) }
+    ensures places { IfOk result (λ found. placed_tokens_of found.items ≡ placed_of characters.now) }
     ensures spelled { IfOk result (λ found. SpelledIfGood characters.now (tokens_of found.items)) }
     ensures only { IfOk result (λ found. OnlySpelled characters.now (tokens_of found.items)) }
     ensures placed { IfOk result (λ found. All (StandsIn characters.now) found.items) }
@@ -64,6 +66,7 @@ pub fn lex(alloc: Global, characters: &[char]) -> Result<Vec<Lexeme>, AllocError
 /// The same, but no further than the first token that starts after a place: what is wrong with a file up to there is
 /// seen from these tokens alone.
 pub fn lex_up_to(alloc: Global, characters: &[char], last: usize) -> Result<Vec<Lexeme>, AllocError>
+    ensures exact { IfOk result (λ found. placed_tokens_of found.items ≡ up_to last (placed_of characters.now)) }
     ensures tokens { length characters.now ≤ last → IfOk result (λ found. tokens_of found.items ≡ lex_of characters.now) }
     ensures spelled { length characters.now ≤ last → IfOk result (λ found. SpelledIfGood characters.now (tokens_of found.items)) }
     ensures only { length characters.now ≤ last → IfOk result (λ found. OnlySpelled characters.now (tokens_of found.items)) }

@@ -1,4 +1,5 @@
-use Rattle.std.proofs.Common.{List, Result, Err, ap, sym, subst}
+use Rattle.std.proofs.Common.{◌≡◌, true, List, Result, Err, length, ap, sym, subst, ◌∙◌}
+use Rattle.std.specs.List.{list_any}
 use Rattle.std.proofs.lemmas.Result.{err_from_is_err_and}
 use Rattle.pg_pred.specs.Offer.{offer_of}
 use Rattle.pg_grammar.proofs.Unique.{same_grammar}
@@ -6,7 +7,12 @@ use Rattle.pg_meaning.specs.declared.error.MakingError.{MakingError}
 use Rattle.pg_making.specs.declared.making.PlacedGrammar.{PlacedGrammar}
 use Rattle.pg_items.specs.declared.item.Item.{Item}
 use Rattle.pg_tokens.specs.declared.token.Lexeme.{Lexeme}
-use Rattle.pg_tokens.specs.View.{tokens_of}
+use Rattle.pg_tokens.specs.View.{tokens_of, placed_tokens_of, is_bad_at}
+use Rattle.pg_tokens.specs.Lexing.{placed_of, up_to}
+use Rattle.pg_tokens.proofs.LexerLemmas.Exact.{up_to_all}
+use Rattle.pg_file.specs.Answers.{IsFault}
+use Rattle.pg_file.specs.Refusals.{IsBadAt, IsErrorAt}
+use Rattle.pg_file.proofs.ReadLemmas.Refused.{found_bad, error_leads}
 use Rattle.pg_tokens.specs.Lexical.{SpelledIfGood, OnlySpelled}
 use Rattle.pg_items.specs.Entries.{entries_of}
 use Rattle.pg_parser.specs.Items.{AreItems, OnlyItems}
@@ -21,7 +27,17 @@ pub returns-in_err-items-clause-refused : goal.returns-in_err-items-clause-refus
 returns-in_err-items-clause-refused g c =
     let p = err_from_is_err_and c.from_residual-in_err-items.result c.from_residual-in_err-items.ensures.1 in
     let only = subst (λ (ls : List Lexeme). OnlySpelled c.args.characters.now (tokens_of ls)) (sym c.as_slice.ensures.value) c.in_ok-lexemes.ensures.only in
-    rw p.1 (λ fault g' h. c.in_err-items.ensures.refused (p.2 fault) _ (spelled_items (offer_of c.args.registry.now) _ _ g' only h))
+    rw p.1 (λ fault g' h. c.in_err-items.ensures.refused (subst IsFault p.2 fault) _ (spelled_items (offer_of c.args.registry.now) _ _ g' only h))
+
+pub returns-in_err-items-clause-err : goal.returns-in_err-items-clause-err
+returns-in_err-items-clause-err g c =
+    let p = err_from_is_err_and c.from_residual-in_err-items.result c.from_residual-in_err-items.ensures.1 in
+    let characters = c.args.characters.now in
+    let passed = c.as_slice.result.now in
+    let found : placed_tokens_of passed ≡ up_to (length characters) (placed_of characters) =
+    ap placed_tokens_of c.as_slice.ensures.value ∙ c.in_ok-lexemes.ensures.places ∙ sym (up_to_all characters) in
+    rw p.1 (error_leads (λ place. list_any (is_bad_at place) passed ≡ true) (IsBadAt characters) (λ place h. found_bad characters (length characters) passed found place h)
+    p.0 (subst (IsErrorAt (λ place. list_any (is_bad_at place) passed ≡ true)) (sym p.2) c.in_err-items.ensures.err))
 
 pub returns-in-Ok-clause-ok : goal.returns-in-Ok-clause-ok
 returns-in-Ok-clause-ok g c =

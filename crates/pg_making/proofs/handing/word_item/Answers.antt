@@ -2,7 +2,7 @@ use Rattle.std.proofs.Common.{◌≡◌, None, ◌∙◌}
 use Rattle.pg_pred.specs.Offer.{offer_of}
 use Rattle.pg_grammar.specs.declared.fault.MakerFault.TheVariants as fault
 use Rattle.pg_grammar.specs.Made.{word_fault}
-use Rattle.pg_grammar.specs.declared.word_item.WordItem.{WordItem}
+use Rattle.pg_form.specs.declared.word_item.WordItem.{WordItem}
 use Rattle.pg_meaning.specs.declared.error.MakingError.TheVariants.{Memory}
 use Rattle.pg_making.proofs.MakingLemmas.Refused.{word_no_fault, word_is_new, where_none, no_fault}
 use Rattle.pg_making.proofs.handing.word_item.Goals as goal

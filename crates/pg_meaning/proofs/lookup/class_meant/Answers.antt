@@ -1,6 +1,6 @@
 use Rattle.std.proofs.Common.{sym, subst}
 use Rattle.pg_pred.specs.Offer.{offer_of}
-use Rattle.pg_grammar.specs.Classes.{IsExpression}
+use Rattle.pg_form.specs.Classes.{IsExpression}
 use Rattle.pg_items.specs.Written.{IsClass}
 use Rattle.pg_meaning.proofs.MeaningLemmas.Proper.{parts_are_expression}
 use Rattle.pg_meaning.proofs.lookup.class_meant.Goals as goal

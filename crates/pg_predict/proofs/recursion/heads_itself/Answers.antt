@@ -1,8 +1,8 @@
 use Rattle.std.proofs.Common.{◌≡◌, ℕ, Option, Some, None, true, List, refl, sym, ap, subst, ◌∙◌}
 use Rattle.std.specs.Option.{is_some}
 use Rattle.std.proofs.lemmas.Bool.{true≢false}
-use Rattle.pg_sets.specs.Graphs.{has, numbers_at, IsReached}
-use Rattle.pg_sets.specs.Ranks.{rank_at}
+use Rattle.pg_graph.specs.Graphs.{has, numbers_at, IsReached}
+use Rattle.pg_heads.specs.Ranks.{rank_at}
 use Rattle.pg_predict.proofs.Chains.{reached_chain, chain_reached, ranked_no_chain}
 use Rattle.pg_predict.proofs.recursion.heads_itself.Goals as goal
 

@@ -1,5 +1,5 @@
 use Rattle.std.proofs.Common.{◌≡◌, drop}
-use Rattle.pg_sets.specs.Walk.{with_all_met}
+use Rattle.pg_graph.specs.Walk.{with_all_met}
 use Rattle.pg_predict.proofs.recursion.meet_all.Given as goal
 
 abbrev pub invariant-loop-rule : goal.invariant-loop-rule

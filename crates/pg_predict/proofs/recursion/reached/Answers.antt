@@ -1,8 +1,8 @@
 use Rattle.std.proofs.Common.{◌≡◌, ◌<◌, ◌+◌, not, count_by, length, refl, sym, ap, subst, ◌∙◌, arith, replicate, false}
 use Rattle.std.proofs.lemmas.Option.{slice_get_read}
-use Rattle.pg_sets.specs.Graphs.{numbers_at}
-use Rattle.pg_sets.specs.Walk.{Met, with_all_met}
-use Rattle.pg_sets.proofs.Walking.{HasWalked, meets_all, walk_starts, walk_goes_on, walk_ends}
+use Rattle.pg_graph.specs.Graphs.{numbers_at}
+use Rattle.pg_graph.specs.Walk.{Met, with_all_met}
+use Rattle.pg_graph.proofs.Walking.{HasWalked, meets_all, walk_starts, walk_goes_on, walk_ends}
 use Rattle.pg_predict.proofs.recursion.reached.Goals as goal
 
 pub loop-next-init : goal.loop-next-init

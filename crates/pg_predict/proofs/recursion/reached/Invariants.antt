@@ -1,5 +1,5 @@
 use Rattle.std.proofs.Common.{◌+◌, ◌-◌, not, length, count_by}
-use Rattle.pg_sets.proofs.Walking.{HasWalked}
+use Rattle.pg_graph.proofs.Walking.{HasWalked}
 use Rattle.pg_predict.proofs.recursion.reached.Given as goal
 
 abbrev pub invariant-loop-next : goal.invariant-loop-next

@@ -1,7 +1,7 @@
 use Rattle.std.proofs.Common.{◌<◌, ◌+◌, length, refl, sym, ap, subst, ◌∙◌, arith, true, slice_get, slice_set, ℕ}
 use Rattle.std.proofs.lemmas.Bool.{true≢false}
 use Rattle.std.proofs.lemmas.Option.{slice_get_read}
-use Rattle.pg_sets.proofs.Lists.{all_get}
+use Rattle.pg_graph.proofs.Lists.{all_get}
 use Rattle.pg_predict.proofs.Chains.{MarksBelow, marks_more, marks_same, marks_all}
 use Rattle.pg_predict.proofs.recursion.recursive_bodies.Goals.{then-branch, else-branch}
 use Rattle.pg_predict.proofs.recursion.recursive_bodies.Goals as goal

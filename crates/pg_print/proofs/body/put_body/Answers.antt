@@ -1,6 +1,6 @@
 use Rattle.std.proofs.Common.{arith, ◌≡◌, ◌≤◌, ◌<◌, ◌∷◌, ◌++◌, List, length, drop, ap, sym, subst, ◌∙◌}
 use Rattle.std.proofs.lemmas.Bool.Decides.{nat_tests}
-use Rattle.pg_grammar.specs.Forms.{Node}
+use Rattle.pg_form.specs.Forms.{Node}
 use Rattle.pg_print.specs.declared.levels.Level.{Level}
 use Rattle.pg_tokens.specs.Tokens.{Token}
 use Rattle.pg_items.specs.Syntax.{written}

@@ -1,6 +1,6 @@
 use Rattle.std.proofs.Common.{◌≡◌, [], ◌∷◌, map, List, ap, ◌∙◌}
-use Rattle.pg_grammar.specs.ClassItems.{item_name}
-use Rattle.pg_grammar.specs.declared.class_item.ClassItem.{ClassItem}
+use Rattle.pg_form.specs.ClassItems.{item_name}
+use Rattle.pg_form.specs.declared.class_item.ClassItem.{ClassItem}
 use Rattle.pg_tokens.specs.declared.token.Mark.TheVariants.{Close}
 use Rattle.pg_tokens.specs.Tokens.{Token, mark}
 use Rattle.pg_items.specs.Syntax.{class_written, opened}

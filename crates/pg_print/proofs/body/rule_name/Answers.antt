@@ -1,6 +1,6 @@
 use Rattle.std.proofs.Common.{arith}
 use Rattle.std.proofs.lemmas.Bool.Decides.{nat_tests}
-use Rattle.pg_grammar.specs.Grammar.{rule_name}
+use Rattle.pg_value.specs.Grammar.{rule_name}
 use Rattle.pg_print.proofs.PrinterLemmas.Names.{name_known, name_missing}
 use Rattle.pg_print.proofs.body.rule_name.Goals as goal
 

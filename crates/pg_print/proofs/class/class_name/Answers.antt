@@ -1,6 +1,6 @@
 use Rattle.std.proofs.Common.{arith}
 use Rattle.std.proofs.lemmas.Bool.Decides.{nat_tests}
-use Rattle.pg_grammar.specs.ClassItems.{item_name}
+use Rattle.pg_form.specs.ClassItems.{item_name}
 use Rattle.pg_print.proofs.PrinterLemmas.Names.{name_known, name_missing}
 use Rattle.pg_print.proofs.class.class_name.Goals as goal
 

@@ -1,8 +1,8 @@
 use Rattle.std.proofs.Common.{◌≡◌, [], ◌∷◌, ◌++◌, map, List, ap, sym, subst, ◌∙◌}
-use Rattle.pg_grammar.specs.Preorder.{SpellForms}
-use Rattle.pg_grammar.specs.Classes.{member_count, IsExpression}
-use Rattle.pg_grammar.specs.ClassItems.{item_name}
-use Rattle.pg_grammar.specs.declared.class.ClassPart.{ClassPart}
+use Rattle.pg_form.specs.Preorder.{SpellForms}
+use Rattle.pg_form.specs.Classes.{member_count, IsExpression}
+use Rattle.pg_form.specs.ClassItems.{item_name}
+use Rattle.pg_form.specs.declared.class.ClassPart.{ClassPart}
 use Rattle.pg_tokens.specs.declared.token.Mark.TheVariants.{Bar}
 use Rattle.pg_print.specs.declared.levels.Ending.TheVariants.{Nothing}
 use Rattle.pg_print.specs.declared.levels.Level.{Level}

@@ -1,10 +1,10 @@
 use Rattle.std.proofs.Common.{◌≡◌, ◌+◌, ◌∷◌, ◌++◌, drop, map, List, ap, sym, subst, ◌∙◌}
 use Rattle.std.proofs.lemmas.List.{drop_more}
 use Rattle.std.specs.List.{AllByRecursion}
-use Rattle.pg_grammar.specs.Preorder.{SpellForms}
-use Rattle.pg_grammar.specs.Classes.{member_count, IsProperUnion}
-use Rattle.pg_grammar.specs.ClassItems.{item_name}
-use Rattle.pg_grammar.specs.declared.class.ClassPart.{ClassPart}
+use Rattle.pg_form.specs.Preorder.{SpellForms}
+use Rattle.pg_form.specs.Classes.{member_count, IsProperUnion}
+use Rattle.pg_form.specs.ClassItems.{item_name}
+use Rattle.pg_form.specs.declared.class.ClassPart.{ClassPart}
 use Rattle.pg_print.specs.declared.levels.Level.{Level}
 use Rattle.pg_tokens.specs.Tokens.{Token}
 use Rattle.pg_items.specs.Syntax.{atom_written}

@@ -1,8 +1,8 @@
 use Rattle.std.proofs.Common.{◌≡◌, drop, map}
 use Rattle.std.specs.List.{AllByRecursion}
-use Rattle.pg_grammar.specs.Preorder.{SpellForms}
-use Rattle.pg_grammar.specs.Classes.{member_count, IsProperUnion}
-use Rattle.pg_grammar.specs.ClassItems.{item_name}
+use Rattle.pg_form.specs.Preorder.{SpellForms}
+use Rattle.pg_form.specs.Classes.{member_count, IsProperUnion}
+use Rattle.pg_form.specs.ClassItems.{item_name}
 use Rattle.pg_items.specs.Syntax.{atom_written}
 use Rattle.pg_print.specs.Canonical.{atoms_of}
 use Rattle.pg_print.specs.Layout.{with_tokens}

@@ -1,10 +1,10 @@
 use Rattle.std.proofs.Common.{◌≡◌, ◌∷◌, ◌++◌, List, map, ap, ◌∙◌}
-use Rattle.pg_grammar.specs.ClassItems.{item_name}
-use Rattle.pg_grammar.specs.Grammar.{rule_names}
-use Rattle.pg_grammar.specs.Names.{name_at}
-use Rattle.pg_grammar.specs.Operators.{Operator}
-use Rattle.pg_grammar.specs.declared.class_item.ClassItem.{ClassItem}
-use Rattle.pg_grammar.specs.declared.word_item.WordItem.{WordItem}
+use Rattle.pg_form.specs.ClassItems.{item_name}
+use Rattle.pg_value.specs.Grammar.{rule_names}
+use Rattle.pg_form.specs.Names.{name_at}
+use Rattle.pg_form.specs.Operators.{Operator}
+use Rattle.pg_form.specs.declared.class_item.ClassItem.{ClassItem}
+use Rattle.pg_form.specs.declared.word_item.WordItem.{WordItem}
 use Rattle.pg_items.specs.Tree.{Item, Start}
 use Rattle.pg_items.specs.Syntax.{file_written}
 use Rattle.pg_print.specs.Canonical.{class_names, class_item, word_item, operators_items, table_item, rule_items}

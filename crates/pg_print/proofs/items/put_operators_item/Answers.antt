@@ -1,6 +1,6 @@
 use Rattle.std.proofs.Common.{[], ◌∷◌, List, map, codes, ◌∙◌}
 use Rattle.std.specs.Fmt.{decimal}
-use Rattle.pg_grammar.specs.ClassItems.{item_name}
+use Rattle.pg_form.specs.ClassItems.{item_name}
 use Rattle.pg_tokens.specs.declared.token.Mark.TheVariants.{Semicolon}
 use Rattle.pg_tokens.specs.Tokens.{Token, name, number, mark}
 use Rattle.pg_items.specs.Tree.{Class}

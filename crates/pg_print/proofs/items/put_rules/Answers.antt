@@ -1,8 +1,8 @@
 use Rattle.std.proofs.Common.{ℕ, ◌≡◌, ◌+◌, ◌<◌, [], ◌∷◌, List, length, map, drop, ap, sym, subst, ◌∙◌, arith}
 use Rattle.std.proofs.lemmas.List.{drop_more, length-drop}
-use Rattle.pg_grammar.specs.Grammar.{rule_name}
-use Rattle.pg_grammar.specs.declared.grammar.Rule.{Rule}
-use Rattle.pg_grammar.specs.Forms.{Node}
+use Rattle.pg_value.specs.Grammar.{rule_name}
+use Rattle.pg_value.specs.declared.grammar.Rule.{Rule}
+use Rattle.pg_form.specs.Forms.{Node}
 use Rattle.pg_tokens.specs.declared.token.Mark.TheVariants.{Semicolon, Equals}
 use Rattle.pg_tokens.specs.Tokens.{Token, name, mark}
 use Rattle.pg_items.specs.Tree.{Value, Rule_item}

@@ -1,5 +1,5 @@
 use Rattle.std.proofs.Common.{◌≡◌, length, drop, map}
-use Rattle.pg_grammar.specs.Grammar.{rule_name, rule_names}
+use Rattle.pg_value.specs.Grammar.{rule_name, rule_names}
 use Rattle.pg_items.specs.Syntax.{file_written}
 use Rattle.pg_print.specs.Canonical.{rule_items}
 use Rattle.pg_print.specs.Layout.{with_tokens}

@@ -1,5 +1,5 @@
 use Rattle.std.proofs.Common.{ℕ, ap, [], ◌∷◌, List, map, codes, ◌∙◌}
-use Rattle.pg_grammar.specs.ClassItems.{item_name}
+use Rattle.pg_form.specs.ClassItems.{item_name}
 use Rattle.pg_tokens.specs.declared.token.Mark.TheVariants.{Semicolon}
 use Rattle.pg_tokens.specs.Tokens.{Token, name, mark}
 use Rattle.pg_items.specs.Tree.{Class}

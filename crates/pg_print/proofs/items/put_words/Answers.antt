@@ -1,6 +1,6 @@
 use Rattle.std.proofs.Common.{◌≡◌, ◌+◌, ◌∷◌, map, drop, ap, sym, ◌∙◌}
 use Rattle.std.proofs.lemmas.List.{drop_more}
-use Rattle.pg_grammar.specs.ClassItems.{item_name}
+use Rattle.pg_form.specs.ClassItems.{item_name}
 use Rattle.pg_print.specs.Canonical.{word_item}
 use Rattle.pg_items.specs.Syntax.{file_written}
 use Rattle.pg_print.specs.Layout.{with_tokens}

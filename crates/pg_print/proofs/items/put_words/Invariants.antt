@@ -1,7 +1,7 @@
 use Rattle.std.proofs.Common.{◌≡◌, drop, map}
 use Rattle.pg_items.specs.Syntax.{file_written}
 use Rattle.pg_print.specs.Layout.{with_tokens}
-use Rattle.pg_grammar.specs.ClassItems.{item_name}
+use Rattle.pg_form.specs.ClassItems.{item_name}
 use Rattle.pg_print.specs.Canonical.{word_item}
 use Rattle.pg_print.proofs.items.put_words.Given as goal
 

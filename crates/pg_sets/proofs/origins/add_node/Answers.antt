@@ -1,10 +1,10 @@
 use Rattle.std.proofs.Common.{◌≡◌, ◌⊎◌, inl, inr, length, sym, ap, subst, ◌∙◌}
 use Rattle.std.specs.Prelude.{◌↔◌}
-use Rattle.pg_grammar.specs.declared.form.Form.TheVariants as form
+use Rattle.pg_form.specs.declared.form.Form.TheVariants as form
 use Rattle.pg_sets.specs.Flows.{follow_of}
 use Rattle.pg_sets.specs.Origins.{HoldsIt, SourceAt}
-use Rattle.pg_sets.specs.Listed.{IsListed}
-use Rattle.pg_sets.specs.Own.{IsAmong, AreOwn}
+use Rattle.pg_own_starts.specs.Listed.{IsListed}
+use Rattle.pg_own_starts.specs.Own.{IsAmong, AreOwn}
 use Rattle.pg_sets.proofs.Origin.{IsPart, part_held, expression_held}
 use Rattle.pg_sets.proofs.origins.add_node.Goals as goal
 

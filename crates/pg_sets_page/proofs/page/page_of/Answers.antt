@@ -1,5 +1,5 @@
 use Rattle.std.proofs.Common.{◌∙◌, ◌<◌, ◌++◌, ℕ, List, ap, ap₂, length, map, string_bytes, subst, arith, append_assoc}
-use Rattle.pg_grammar.specs.declared.grammar.Rule.{Rule}
+use Rattle.pg_value.specs.declared.grammar.Rule.{Rule}
 use Rattle.pg_predict.specs.Findings.{body_of}
 use Rattle.pg_sets_page.specs.SetsPage.{end_of, node_lines, rule_line, rule_text}
 use Rattle.pg_sets_page.proofs.Ranges.{range_pushed}

@@ -1,21 +1,19 @@
-use Rattle.std.proofs.Common.{◌≡◌, ap, sym, ◌∙◌}
-use Rattle.std.proofs.lemmas.List.{map-id}
-use Rattle.std.proofs.lemmas.Iterator.Adapters.{YieldsList-from_vec}
-use Rattle.std.proofs.lemmas.Iterator.Consumers.{YieldsList-end}
+use Rattle.std.proofs.Common.{◌≡◌, ◌+◌, ◌-◌, ◌<◌, length, take, drop, arith, ap, sym, ◌∙◌}
+use Rattle.std.proofs.lemmas.List.{length-take-le}
 use Rattle.pg_tree.specs.Trees.{kids_of}
-use Rattle.pg_tree.specs.Built.{flattened}
-use Rattle.pg_tree.proofs.Flattening.{flattened-more}
+use Rattle.pg_tree.specs.Built.{with_kids, flattened}
+use Rattle.pg_tree.proofs.Labels.{flattened-parts}
 use Rattle.pg_tree.proofs.kids.flattened.Goals as goal
-
-pub loop-kid-preserved : goal.loop-kid-preserved
-loop-kid-preserved c =
-    flattened-more c.args.label.now c.loop-kid.yielded c.in-Some.kid _ _ c.loop-kid.invariant c.in_ok-push_flattened.ensures
 
 pub returns : goal.returns
 returns c =
-    let trees = c.kids.inside.trees in
-    let begin = c.into_iter-kid-iterator.ensures.into_iter_gives in
-    let road = YieldsList-from_vec {s = c.into_iter-kid-iterator.result} trees.items begin.0 (begin.1 ∙ trees.ok.0) in
-    let end = YieldsList-end road c.loop-kid.yielded _ c.loop-kid.yielded_by _ c.next.new.self c.in-None.is c.next.ensures.steps in
-    let all : c.loop-kid.yielded ≡ c.args.kids = sym (map-id c.loop-kid.yielded) ∙ end.0 ∙ c.kids.view_is in
-    c.loop-kid.invariant ∙ ap (λ ts. flattened c.args.label.now (kids_of ts)) all
+    let ts = c.args.kids in
+    let first = c.first_labelled-first.result in
+    let within : first < length ts = omega (arith, c.first_labelled-first.ensures.within, c.len.ensures) in
+    let count : length c.split_off.new.self - 1 ≡ first =
+    omega (arith, ap length c.in_ok-rest.ensures.ok, length-take-le (first + 1) ts (omega arith)) in
+    let opened = c.open_last.ensures
+    ∙ ap (λ n. with_kids (kids_of (take n c.split_off.new.self)) (flattened c.args.label.now (kids_of (drop n c.split_off.new.self)))) count
+    ∙ ap (λ us. with_kids (kids_of (take first us)) (flattened c.args.label.now (kids_of (drop first us)))) c.in_ok-rest.ensures.ok in
+    let flat = c.in_ok-flat.ensures ∙ ap (λ us. flattened c.args.label.now (kids_of us)) c.in_ok-rest.ensures.rest in
+    flattened-parts ts c.args.label.now first _ _ _ c.first_labelled-first.ensures.others opened flat c.in_ok-append.ensures.ok

@@ -1,7 +1,7 @@
 use Rattle.std.proofs.Common.{◌≡◌, ◌+◌, ◌<◌, length, sym, ap, refl, ◌∙◌}
 use Rattle.std.specs.Prelude.{Some, slice_get}
 use Rattle.std.proofs.lemmas.Option.{slice_get_read}
-use Rattle.pg_grammar.specs.ClassItems.{has_character}
+use Rattle.pg_form.specs.ClassItems.{has_character}
 use Rattle.pg_turns.proofs.Characters.{counted_more, counted_less}
 use Rattle.pg_turns.proofs.leaves.run_len.Goals as goal
 

@@ -1,6 +1,6 @@
 use Rattle.std.proofs.Common.{◌≡◌, ◌+◌, drop}
 use Rattle.std.specs.List.{prefix_len}
-use Rattle.pg_grammar.specs.ClassItems.{has_character}
+use Rattle.pg_form.specs.ClassItems.{has_character}
 use Rattle.pg_turns.proofs.leaves.run_len.Given as goal
 
 abbrev pub invariant-loop-c : goal.invariant-loop-c

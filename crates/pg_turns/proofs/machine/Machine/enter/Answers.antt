@@ -1,7 +1,7 @@
 use Rattle.std.proofs.Common.{◌≡◌, sym, ap, ◌∙◌}
 use Rattle.std.specs.Prelude.{Some, None, slice_get, option_copied}
 use Rattle.std.proofs.lemmas.Result.{IfOk-weaker}
-use Rattle.pg_grammar.specs.Fits.{in_node}
+use Rattle.pg_value.specs.Fits.{in_node}
 use Rattle.pg_language.specs.Answers.{given}
 use Rattle.pg_turns.specs.Tape.{tape_enter_at}
 use Rattle.pg_turns.specs.View.{stack_of}

@@ -2,7 +2,7 @@ use Rattle.std.proofs.Common.{◌≡◌, ◌+◌, ◌∷◌, sym, ap, ◌∙◌,
 use Rattle.std.specs.Prelude.{Some, slice_get}
 use Rattle.std.specs.List.{prefix_len}
 use Rattle.std.proofs.lemmas.Result.{IfOk-weaker}
-use Rattle.pg_grammar.specs.ClassItems.{has_character}
+use Rattle.pg_form.specs.ClassItems.{has_character}
 use Rattle.pg_language.specs.Runs.{run_at}
 use Rattle.pg_turns.specs.View.{stack_of, tape_of}
 use Rattle.pg_turns.proofs.Characters.{word_taken}

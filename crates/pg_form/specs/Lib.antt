@@ -1,0 +1,10 @@
+pub mod Preorder
+pub mod Names
+pub mod Literals
+pub mod Classes
+pub mod ClassItems
+pub mod Contents
+pub mod Forms
+pub mod Operators
+pub mod WordItems
+pub mod OperatorsItems

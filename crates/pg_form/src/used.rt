@@ -1,0 +1,76 @@
+//! What a grammar takes from a registry: predicates and builders by name, each with what it does.
+//!
+//! A grammar keeps the class of each predicate and the shape of each builder that it names, so that its meaning doesn't
+//! depend on a registry. Whether a registry has them, with these classes and shapes, is asked by `Grammar::fits`.
+
+ghost use Rattle.std.specs.Prelude.{◌≡◌, IfOk};
+
+use pg_class::Class;
+use pg_tree::{Label, Shape};
+use std::alloc::{AllocError, Global};
+
+/// A predicate that a class expression names.
+#[derive(Drop)]
+pub struct PredicateUse {
+    /// Its name.
+    pub name: Label,
+    /// The class of the characters that it holds for.
+    pub class: Class,
+}
+
+impl PredicateUse {
+    /// An equal one in memory of its own. The only error is that memory ran out.
+    pub fn copy(&self, alloc: Global) -> Result<PredicateUse, AllocError>
+        ensures { IfOk result (λ used. used ≡ self.now) }
+    {
+        Ok(PredicateUse {
+            name: self.name.copy(alloc)?,
+            class: self.class.copy(alloc)?,
+        })
+    }
+}
+
+/// A builder that a base form names.
+#[derive(Drop)]
+pub struct BuilderUse {
+    /// Its name.
+    pub name: Label,
+    /// The shape of the trees that it makes.
+    pub shape: Shape,
+}
+
+impl BuilderUse {
+    /// An equal one in memory of its own. The only error is that memory ran out.
+    pub fn copy(&self, alloc: Global) -> Result<BuilderUse, AllocError>
+        ensures { IfOk result (λ used. used ≡ self.now) }
+    {
+        Ok(BuilderUse {
+            name: self.name.copy(alloc)?,
+            shape: self.shape.copy(alloc)?,
+        })
+    }
+}
+
+/// The builders of an expression, by where the operator stands.
+#[derive(Drop)]
+pub struct OperatorBuilders {
+    /// What is made of an operator between two operands.
+    pub infix: BuilderUse,
+    /// What is made of an operator before its operand.
+    pub prefix: BuilderUse,
+    /// What is made of an operator after its operand.
+    pub postfix: BuilderUse,
+}
+
+impl OperatorBuilders {
+    /// Equal ones in memory of their own. The only error is that memory ran out.
+    pub fn copy(&self, alloc: Global) -> Result<OperatorBuilders, AllocError>
+        ensures { IfOk result (λ builders. builders ≡ self.now) }
+    {
+        Ok(OperatorBuilders {
+            infix: self.infix.copy(alloc)?,
+            prefix: self.prefix.copy(alloc)?,
+            postfix: self.postfix.copy(alloc)?,
+        })
+    }
+}

@@ -1,0 +1,50 @@
+//! A word item of a grammar: which characters begin a word, which go on with it, and which words it isn't.
+//!
+//! Forms name word items by their numbers. That word items have different names and that each class item which one of
+//! them names is there are invariants of the grammar that they stand in.
+
+ghost use Rattle.std.specs.Prelude.{◌≡◌};
+ghost use Rattle.pg_form.specs.WordItems.{word_lacks_item, word_has_bad_literal, word_has_long_text};
+
+use crate::class::ClassExpression;
+use crate::texts::Texts;
+use pg_text::Characters;
+
+/// A kind of words, with a name by which forms name it: a character of the head, then all characters of the rest that
+/// follow, unless the whole is reserved.
+#[derive(Drop)]
+pub struct WordItem {
+    /// Its name, which no other word item of its grammar has.
+    pub name: Characters,
+    /// The characters that a word begins with.
+    pub head: ClassExpression,
+    /// The characters that it goes on with.
+    pub rest: ClassExpression,
+    /// The words that are not of this kind, each of at least one character.
+    pub reserved: Texts,
+}
+
+impl WordItem {
+    /// Whether it names a class item that isn't among so many.
+    pub fn lacks_item(&self, count: usize) -> bool
+        ensures { result ≡ word_lacks_item count self.now }
+    {
+        self.head.lacks_item(count) || self.rest.lacks_item(count)
+    }
+
+    /// Whether a range descends, or a reserved text is empty.
+    pub fn has_bad_literal(&self) -> bool
+        ensures { result ≡ word_has_bad_literal self.now }
+    {
+        self.head.has_descending_range()
+            || self.rest.has_descending_range()
+            || self.reserved.has_empty()
+    }
+
+    /// Whether a literal has more than 1,024 characters, or the name of a predicate more than 64.
+    pub fn has_long_text(&self) -> bool
+        ensures { result ≡ word_has_long_text self.now }
+    {
+        self.head.has_long_text() || self.rest.has_long_text() || self.reserved.has_long()
+    }
+}

@@ -1,0 +1,24 @@
+//! Sets as walks: what each vertex of a graph is reached from.
+ghost use Rattle.std.specs.Prelude.{length, IfOk};
+ghost use Rattle.pg_graph.specs.Graphs.{IsGathered};
+
+use crate::numbers::{Numbers, empty_lists, join_each};
+use crate::walk::reached;
+use std::alloc::{AllocError, Global};
+
+/// For each vertex the numbers of those lists of roots from which it is reached, from the lowest up. There is a walk for
+/// each list of roots, so it takes as long as the answer is large. The only error is that memory ran out.
+pub fn gathered(
+    alloc: Global,
+    graph: &[Numbers],
+    roots: &[Numbers],
+) -> Result<Vec<Numbers>, AllocError>
+    ensures { IfOk result (λ sets. IsGathered graph.now roots.now (length roots.now) sets.items) }
+{
+    let mut sets = empty_lists(alloc, graph.len())?;
+    for (number, from) in roots.iter().enumerate() {
+        let met = reached(alloc, graph, from.as_slice())?;
+        join_each(&mut sets, met.as_slice(), number)?;
+    }
+    Ok(sets)
+}

@@ -1,0 +1,5 @@
+pub mod Naming
+pub mod NullableMarks
+pub mod Heading
+pub mod RankLaws
+pub mod RankRounds

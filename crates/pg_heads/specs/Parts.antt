@@ -1,0 +1,38 @@
+-- What the marks of nullable nodes show of the parts that are reached, and which rules are used where.
+use Rattle.std.specs.Prelude.{ℕ, suc, Bool, if◌then◌else◌, List, [], ◌∷◌}
+use Rattle.pg_form.specs.Forms.{Node}
+use Rattle.pg_form.specs.declared.form.Form.TheVariants as form
+use Rattle.pg_graph.specs.Graphs.{joined_each}
+use Rattle.pg_graph.specs.Marks.{is_marked}
+
+-- these numbers, up to the first that isn't marked
+abbrev pub up_to_unmarked : List Bool → List ℕ → List ℕ
+up_to_unmarked marks [] = []
+up_to_unmarked marks (n ∷ ns) = n ∷ (if is_marked marks n then up_to_unmarked marks ns else [])
+
+-- the parts that are reached, the nullable nodes being marked
+abbrev pub reached_parts : List Bool → Node → List ℕ
+reached_parts marks (form.Leaf leaf) = []
+reached_parts marks (form.Seq parts) = up_to_unmarked marks parts
+reached_parts marks (form.Choice parts) = parts
+reached_parts marks (form.Many part) = part ∷ []
+reached_parts marks (form.Chain side used operand separator) = up_to_unmarked marks (operand ∷ separator ∷ [])
+reached_parts marks (form.Around around part) = part ∷ []
+reached_parts marks (form.Rule rule) = []
+reached_parts marks (form.Expression builders term) = term ∷ []
+
+-- the rule that a node uses, or none
+abbrev pub used_rules : Node → List ℕ
+used_rules (form.Leaf leaf) = []
+used_rules (form.Seq parts) = []
+used_rules (form.Choice parts) = []
+used_rules (form.Many part) = []
+used_rules (form.Chain side used operand separator) = []
+used_rules (form.Around around part) = []
+used_rules (form.Rule rule) = rule ∷ []
+used_rules (form.Expression builders term) = []
+
+-- the lists, with the number of each node at the end of those lists that it names, the first node having the number p
+abbrev pub all_joined : (Node → List ℕ) → ℕ → List Node → List (List ℕ) → List (List ℕ)
+all_joined names p [] lists = lists
+all_joined names p (n ∷ ns) lists = all_joined names (suc p) ns (joined_each lists (names n) p)

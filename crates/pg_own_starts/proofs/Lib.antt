@@ -1,0 +1,4 @@
+pub mod ClassStack
+pub mod Reading
+pub mod Ordered
+pub mod Owned

@@ -1,0 +1,6 @@
+pub mod OwnStarts
+pub mod Classes
+pub mod Listed
+pub mod Words
+pub mod Own
+pub mod PrintedStarts

@@ -1,0 +1,44 @@
+-- The own starts of a node, as sets list them.
+use Rattle.std.specs.Prelude.{◌≡◌, ◌↔◌, ◌⊎◌, ℕ, List, [], ◌∷◌, Some, map, slice_get}
+use Rattle.pg_value.specs.Grammar.{Grammar}
+use Rattle.pg_form.specs.declared.class.ClassPart.{ClassPart}
+use Rattle.pg_form.specs.Forms.{Node}
+use Rattle.pg_form.specs.declared.form.Form.TheVariants as form
+use Rattle.pg_form.specs.declared.form.Leaf.TheVariants as leaf
+use Rattle.pg_form.specs.declared.word_item.WordItem.{WordItem}
+use Rattle.pg_class.specs.Ranges.{Range}
+use Rattle.pg_form.specs.declared.decl.Role.{Role}
+use Rattle.pg_form.specs.declared.decl.Role.TheVariants.{InfixLeft, InfixRight, InfixNone, Prefix, Postfix}
+use Rattle.pg_start.specs.declared.kind.StartKind.{StartKind}
+use Rattle.pg_start.specs.declared.kind.StartKind.TheVariants.{Key}
+use Rattle.pg_own_starts.specs.Listed.{IsListed}
+use Rattle.pg_own_starts.specs.OwnStarts.{OwnStart, IsKeyTry, role_keyword}
+use Rattle.pg_own_starts.specs.declared.listed.ListedStart.{ListedStart}
+
+-- the start is one that this gives by itself, under its name
+pub record OwnListed (g : Grammar) (n : Node) (listed : ListedStart) : Type 0 where
+  pub own : OwnStart g n listed.start
+  pub named : IsListed g listed
+
+-- a character of a class, a word of an item that is there, and a try that gives a key
+pub data IsPlain (g : Grammar) : Node → Type 0 where
+  satisfy : {class : List ClassPart} → IsPlain g (form.Leaf (leaf.Satisfy class))
+  word : {w : ℕ} {item : WordItem} → slice_get g.words w ≡ Some item → IsPlain g (form.Leaf (leaf.Word w))
+  key : {n : Node} → IsKeyTry g n → IsPlain g n
+
+-- the start is one of these
+abbrev pub IsAmong : List ListedStart → ListedStart → Type 0
+IsAmong [] listed = ⊥
+IsAmong (one ∷ others) listed = (one ≡ listed) ⊎ IsAmong others listed
+
+-- these are the own starts; what is plain has one
+pub record AreOwn (g : Grammar) (n : Node) (own : List ListedStart) : Type 0 where
+  pub members : (listed : ListedStart) → IsAmong own listed ↔ OwnListed g n listed
+  pub there : IsPlain g n → (start : StartKind) × OwnStart g n start
+
+-- the key of a declaration in a role, and in each role
+abbrev pub keyword_key : List Range → Role → ListedStart
+keyword_key excluded role = record { start = Key (role_keyword role) excluded; word = 0 }
+
+abbrev pub keyword_keys : List Range → List ListedStart
+keyword_keys excluded = map (keyword_key excluded) (InfixLeft ∷ InfixRight ∷ InfixNone ∷ Prefix ∷ Postfix ∷ [])

@@ -1,0 +1,151 @@
+//! Word starts: the classes of word items, and the first word item that reads just the same words.
+//!
+//! Word items that read the same words, and the operators where they are read as a word item says, are one start.
+ghost use Rattle.std.specs.Prelude.{◌≡◌, ◌↔◌, ℕ, List, true, IfOk};
+ghost use Rattle.std.specs.List.{list_all};
+ghost use Rattle.pg_start.specs.Prefixes.{is_reserved};
+ghost use Rattle.pg_own_starts.specs.OwnStarts.{IsClassOf, SameTexts};
+ghost use Rattle.pg_own_starts.specs.Listed.{IsFirstReader};
+ghost use Rattle.pg_own_starts.specs.Words.{AreClassesOf, AreWordClasses, ListsWords};
+
+use crate::classes::class_in_grammar;
+use crate::listed::{ListedStart, texts_order};
+use pg_class::Class;
+use pg_form::{Texts, WordItem};
+use pg_start::{Start, StartKind};
+use pg_text::Characters;
+use pg_value::Grammar;
+use std::alloc::{AllocError, Global};
+
+/// The two classes of a word item.
+#[derive(Drop)]
+pub struct WordClasses {
+    /// The characters that a word begins with.
+    pub head: Class,
+    /// The characters that it goes on with.
+    pub rest: Class,
+}
+
+/// The classes of the word items, in file order. The only error is that memory ran out.
+pub fn classes_of_words(
+    alloc: Global,
+    grammar: &Grammar,
+    classes: &[Class],
+) -> Result<Vec<WordClasses>, AllocError>
+    requires { AreClassesOf grammar.now classes.now }
+    ensures { IfOk result (λ words. AreWordClasses grammar.now words.items) }
+{
+    let mut words = Vec::new(alloc);
+    for item in grammar.word_items() {
+        let word = classes_of_word(alloc, grammar, classes, item)?;
+        words.push(word)?;
+    }
+    Ok(words)
+}
+
+/// The classes of a word item. The only error is that memory ran out.
+fn classes_of_word(
+    alloc: Global,
+    grammar: &Grammar,
+    classes: &[Class],
+    item: &WordItem,
+) -> Result<WordClasses, AllocError>
+    requires { AreClassesOf grammar.now classes.now }
+    ensures { IfOk result (λ word. IsClassOf grammar.now item.now.head word.head × IsClassOf grammar.now item.now.rest word.rest) }
+{
+    let head = class_in_grammar(alloc, grammar, classes, &item.head)?;
+    let rest = class_in_grammar(alloc, grammar, classes, &item.rest)?;
+    Ok(WordClasses { head, rest })
+}
+
+/// The start of words of these classes, these texts reserved. The only error is that memory ran out.
+pub(crate) fn listed_words(
+    alloc: Global,
+    grammar: &Grammar,
+    words: &[WordClasses],
+    head: &Class,
+    rest: &Class,
+    reserved: &Texts,
+) -> Result<ListedStart, AllocError>
+    requires { AreWordClasses grammar.now words.now }
+    ensures { IfOk result (λ listed. ListsWords grammar.now head.now rest.now reserved.now listed) }
+{
+    let word = first_reader(grammar, words, head, rest, reserved);
+    match grammar.word_items().get(word) {
+        Some(item) => word_start(alloc, head, rest, &item.reserved, word),
+        None => word_start(alloc, head, rest, reserved, word),
+    }
+}
+
+/// The start of words of these classes, these texts reserved, under the word item with this number. The only error is
+/// that memory ran out.
+fn word_start(
+    alloc: Global,
+    head: &Class,
+    rest: &Class,
+    reserved: &Texts,
+    word: usize,
+) -> Result<ListedStart, AllocError>
+    ensures { IfOk result (λ listed. listed ≡ record { start = StartKind.Word head.now rest.now reserved.now; word = word }) }
+{
+    let start = Start::word(alloc, head, rest, reserved.as_slice())?;
+    Ok(ListedStart { start, word })
+}
+
+/// The number of the first word item that reads just these words; if none does, how many there are.
+fn first_reader(
+    grammar: &Grammar,
+    words: &[WordClasses],
+    head: &Class,
+    rest: &Class,
+    reserved: &Texts,
+) -> usize
+    requires { AreWordClasses grammar.now words.now }
+    ensures { IsFirstReader grammar.now head.now rest.now reserved.now result }
+{
+    let items = grammar.word_items();
+    let mut word = 0;
+    while word < items.len() {
+        if reads_same(&items[word], &words[word], head, rest, reserved) {
+            return word;
+        }
+        word += 1;
+    }
+    word
+}
+
+/// Whether a word item with these classes reads words of other classes with other texts reserved.
+fn reads_same(
+    item: &WordItem,
+    word: &WordClasses,
+    head: &Class,
+    rest: &Class,
+    reserved: &Texts,
+) -> bool
+    ensures { (result ≡ true) ↔ ((word.now.head ≡ head.now) × (word.now.rest ≡ rest.now) × SameTexts item.now.reserved reserved.now) }
+{
+    word.head.equals(head)
+        && word.rest.equals(rest)
+        && are_same(item.reserved.as_slice(), reserved.as_slice())
+}
+
+/// Whether the texts are the same, in whatever order.
+fn are_same(texts: &[Characters], others: &[Characters]) -> bool
+    ensures { (result ≡ true) ↔ SameTexts texts.now others.now }
+{
+    texts_order(texts, others).is_eq() || (all_among(texts, others) && all_among(others, texts))
+}
+
+/// Whether each text is one of the others.
+fn all_among(texts: &[Characters], others: &[Characters]) -> bool
+    ensures { result ≡ list_all (is_reserved others.now) texts.now }
+{
+    texts.iter().all(|text| is_among(others, text.as_slice()))
+}
+
+/// Whether this is one of the texts.
+fn is_among(texts: &[Characters], text: &[char]) -> bool
+    ensures { result ≡ is_reserved texts.now text.now }
+{
+    texts.iter().any(|other| other.as_slice() == text)
+}

@@ -1,0 +1,227 @@
+//! The command line: which words the program takes, and what they ask.
+//!
+//! Words that are no request are refused by `clap`, with its text and the status 2. The names of
+//! files are kept as they were given, since reports begin with them.
+#![tactic(auto)]
+
+use clap::{Arg, ArgAction, ArgMatches, Command, value_parser};
+use std::alloc::{AllocError, Global};
+
+/// The most steps that a probe may be given (ours).
+const MOST_STEPS: i64 = 1_000_000_000;
+
+// What the help of each command ends with: its statuses, and an example that can be run at the top of the repository.
+
+const HELP_OF_PROGRAM: &str =
+    "Exit status: 0 yes (accepted, parsed, an ok answer), 1 no (findings, no tree, any other answer),
+2 trouble (words or files that can't be used), 3 out of memory
+
+Example: pgw parse examples/digit.g examples/digit.txt";
+
+const HELP_OF_CHECK: &str =
+    "Exit status: 0 accepted, 1 findings, 2 trouble (words or files that can't be used), 3 out of memory
+
+Example: pgw check examples/color.g";
+
+const HELP_OF_PARSE: &str =
+    "Exit status: 0 parsed, 1 findings or a parse error, 2 trouble (words or files that can't be used), 3 out of memory
+
+Example: pgw parse examples/time.g examples/time.txt";
+
+const HELP_OF_PROBE: &str =
+    "Exit status: 0 an ok answer, 1 any other answer, 2 trouble (words or files that can't be used), 3 out of memory
+
+Example: pgw probe --steps 1000 examples/lost-alternative.g examples/lost-alternative.txt";
+
+const HELP_OF_PRINT: &str =
+    "Exit status: 0 printed, 2 trouble (words or files that can't be used), 3 out of memory
+
+Example: pgw print examples/color.g";
+
+const HELP_OF_SETS: &str =
+    "Exit status: 0 printed, 2 trouble (words or files that can't be used), 3 out of memory
+
+Example: pgw sets examples/color.g";
+
+/// What is asked. The names of files are relative to the caller's folder.
+#[derive(Clone, Copy, Debug, PartialEq, Eq)]
+pub enum Request<'a> {
+    /// Say whether the grammar is accepted, or what is wrong with it.
+    Check {
+        grammar: &'a str,
+    },
+    /// Parse the text by the grammar, and print the forest.
+    Parse {
+        grammar: &'a str,
+        text: &'a str,
+    },
+    /// Run the start rule on the text in so many steps at most, in the report's reading of choice or in the library's, and
+    /// print what it answers.
+    Probe {
+        grammar: &'a str,
+        text: &'a str,
+        max_steps: u64,
+        report: bool,
+    },
+    /// Print the grammar in canonical form.
+    Print {
+        grammar: &'a str,
+    },
+    /// Print the sets of the grammar.
+    Sets {
+        grammar: &'a str,
+    },
+}
+
+/// The program's command line. Its texts call the program `pgw`, whatever its file is called.
+pub fn command<'a>(alloc: Global) -> Result<Command<'a>, AllocError> {
+    with_printing_commands(alloc, with_reading_commands(alloc, program(alloc)?)?)
+}
+
+/// The command line but for its commands.
+fn program<'a>(alloc: Global) -> Result<Command<'a>, AllocError> {
+    let command = Command::new(alloc, "pgw")
+        .bin_name("pgw")?
+        .version("0.1.0")
+        .about("Runs grammars of parser combinators on texts")
+        .subcommand_required(true)
+        .arg_required_else_help(true)
+        .after_help(HELP_OF_PROGRAM);
+    Ok(command)
+}
+
+/// Adds what says yes or no of a grammar or a text.
+fn with_reading_commands<'a>(
+    alloc: Global,
+    program: Command<'a>,
+) -> Result<Command<'a>, AllocError> {
+    let program = with_command(program, check_command(alloc))?;
+    let program = with_command(program, parse_command(alloc))?;
+    with_command(program, probe_command(alloc))
+}
+
+/// Adds what shows a grammar.
+fn with_printing_commands<'a>(
+    alloc: Global,
+    program: Command<'a>,
+) -> Result<Command<'a>, AllocError> {
+    let program = with_command(program, print_command(alloc))?;
+    with_command(program, sets_command(alloc))
+}
+
+/// Adds a command. One way out for each where they are added keeps the proofs there short.
+fn with_command<'a>(
+    program: Command<'a>,
+    command: Result<Command<'a>, AllocError>,
+) -> Result<Command<'a>, AllocError> {
+    program.subcommand(command?)
+}
+
+fn check_command<'a>(alloc: Global) -> Result<Command<'a>, AllocError> {
+    Command::new(alloc, "check")
+        .about("Says whether a grammar is accepted, or what is wrong with it, a line each")
+        .after_help(HELP_OF_CHECK)
+        .arg(file(alloc, "grammar", "The grammar file"))
+}
+
+fn parse_command<'a>(alloc: Global) -> Result<Command<'a>, AllocError> {
+    let command = Command::new(alloc, "parse")
+        .about("Parses a text by a grammar and prints the trees as JSON")
+        .after_help(HELP_OF_PARSE);
+    with_grammar_and_text(alloc, command)
+}
+
+fn probe_command<'a>(alloc: Global) -> Result<Command<'a>, AllocError> {
+    let command = Command::new(alloc, "probe")
+        .about("Runs a grammar's start rule on a text as Parsec would, and prints its answer")
+        .after_help(HELP_OF_PROBE)
+        .arg(steps(alloc))?
+        .arg(report(alloc))?;
+    with_grammar_and_text(alloc, command)
+}
+
+/// Adds the words that name the grammar file and the file with the text.
+fn with_grammar_and_text<'a>(
+    alloc: Global,
+    command: Command<'a>,
+) -> Result<Command<'a>, AllocError> {
+    command
+        .arg(file(alloc, "grammar", "The grammar file"))?
+        .arg(file(alloc, "text", "The file with the text, in UTF-8"))
+}
+
+/// The word that bounds the steps.
+fn steps<'a>(alloc: Global) -> Arg<'a> {
+    Arg::new(alloc, "steps")
+        .long("steps")
+        .value_name("N")
+        .value_parser(value_parser!(u64).range(1..=MOST_STEPS))
+        .required(true)
+        .action(ArgAction::Set)
+        .help("The most steps, from 1 to 1000000000")
+}
+
+/// The word that picks the report's reading.
+fn report<'a>(alloc: Global) -> Arg<'a> {
+    Arg::new(alloc, "report")
+        .long("report")
+        .action(ArgAction::SetTrue)
+        .help("Reads choice as the report of 2001 does, not as the library")
+}
+
+fn print_command<'a>(alloc: Global) -> Result<Command<'a>, AllocError> {
+    Command::new(alloc, "print")
+        .about("Prints a grammar file in canonical form")
+        .after_help(HELP_OF_PRINT)
+        .arg(file(alloc, "grammar", "The grammar file"))
+}
+
+fn sets_command<'a>(alloc: Global) -> Result<Command<'a>, AllocError> {
+    Command::new(alloc, "sets")
+        .about("Prints what can begin and what can follow each form of a grammar")
+        .after_help(HELP_OF_SETS)
+        .arg(file(alloc, "grammar", "The grammar file"))
+}
+
+/// A word that names a file, and that can't be left out.
+fn file<'a>(alloc: Global, id: &'a str, help: &'a str) -> Arg<'a> {
+    Arg::new(alloc, id)
+        .required(true)
+        .action(ArgAction::Set)
+        .help(help)
+}
+
+/// What a command line asks that `command` has taken.
+pub fn request_of<'a>(matches: &ArgMatches<'a>) -> Option<Request<'a>> {
+    let (name, found) = matches.subcommand()?;
+    match name {
+        "check" => Some(Request::Check {
+            grammar: found.get_str("grammar")?,
+        }),
+        "parse" => parse_request(found),
+        "probe" => probe_request(found),
+        "print" => Some(Request::Print {
+            grammar: found.get_str("grammar")?,
+        }),
+        "sets" => Some(Request::Sets {
+            grammar: found.get_str("grammar")?,
+        }),
+        _ => None,
+    }
+}
+
+fn parse_request<'a>(found: &ArgMatches<'a>) -> Option<Request<'a>> {
+    Some(Request::Parse {
+        grammar: found.get_str("grammar")?,
+        text: found.get_str("text")?,
+    })
+}
+
+fn probe_request<'a>(found: &ArgMatches<'a>) -> Option<Request<'a>> {
+    Some(Request::Probe {
+        grammar: found.get_str("grammar")?,
+        text: found.get_str("text")?,
+        max_steps: found.get_one("steps")?,
+        report: found.get_flag("report"),
+    })
+}

@@ -1,5 +1,0 @@
-use Rattle.pg_sets.specs.Graphs.{IsGathered}
-use Rattle.pg_sets.proofs.gather.gathered.Given as goal
-
-abbrev pub invariant-loop-number : goal.invariant-loop-number
-invariant-loop-number l = IsGathered l.graph l.roots l.number l.sets.items

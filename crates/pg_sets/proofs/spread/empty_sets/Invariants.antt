@@ -1,5 +1,0 @@
-use Rattle.std.proofs.Common.{◌≡◌, false, replicate}
-use Rattle.pg_sets.proofs.spread.empty_sets.Given as goal
-
-abbrev pub invariant-loop : goal.invariant-loop
-invariant-loop l = l.sets.items ≡ replicate l.counter (replicate l.limit false)

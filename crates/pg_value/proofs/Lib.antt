@@ -1,0 +1,5 @@
+pub mod Members
+mod OneByOne
+pub mod Negated
+pub mod Items
+pub mod Numbers

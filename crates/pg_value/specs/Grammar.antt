@@ -1,0 +1,66 @@
+-- A grammar as the definitions see it.
+use Rattle.std.specs.Prelude.{◌≡◌, ◌<◌, ◌≤◌, ℕ, false, List, length, map, Option}
+use Rattle.std.specs.List.{AllByRecursion, list_any}
+use Rattle.pg_form.specs.Preorder.{roots}
+use Rattle.pg_form.specs.Names.{Name, AreDistinct}
+use Rattle.pg_form.specs.Forms.{BaseForm, Node, node_part_count, form_of, has_bad_literal, has_unknown_class, lacks_alternative, InPreorder, NamesRule, NamesWord}
+use Rattle.pg_form.specs.ClassItems.{AreClasses}
+use Rattle.pg_form.specs.WordItems.{word_name, AreWords}
+use Rattle.pg_form.specs.Operators.{Operator, IsOperator}
+use Rattle.pg_form.specs.OperatorsItems.{lacks_operators, AreOperators}
+use Rattle.pg_form.specs.declared.class_item.ClassItem.{ClassItem}
+use Rattle.pg_value.specs.declared.grammar.Rule.{Rule}
+use Rattle.pg_form.specs.declared.operators_item.OperatorsItem.{OperatorsItem}
+use Rattle.pg_form.specs.declared.word_item.WordItem.{WordItem}
+
+-- class items, word items, initial declarations, nodes and rules, each in file order, the operators item, if there is
+-- one, and the number of the rule to start with
+pub record Grammar : Type 0 where
+  pub classes : List ClassItem
+  pub words : List WordItem
+  pub operators : Option OperatorsItem
+  pub initials : List Operator
+  pub nodes : List Node
+  pub rules : List Rule
+  pub start : ℕ
+
+-- the name of a rule
+abbrev pub rule_name : Rule → Name
+rule_name rule = rule.name
+
+-- the number of the node that is its body
+abbrev pub rule_body : Rule → ℕ
+rule_body rule = rule.body
+
+-- the names of the rules, in file order
+abbrev pub rule_names : Grammar → List Name
+rule_names g = map rule_name g.rules
+
+-- the names of the word items, in file order
+abbrev pub word_names : Grammar → List Name
+word_names g = map word_name g.words
+
+-- the base forms of the nodes, with names in place of numbers
+abbrev pub forms_of : Grammar → List BaseForm
+forms_of g = map (form_of (rule_names g) (word_names g)) g.nodes
+
+-- every number names something, and what stands there is what a file may say
+pub record IsGrammar (g : Grammar) : Type 0 where
+  -- the parts of a node are the whole forms after it, and the forms that are no part are the rules' bodies
+  pub preorder : InPreorder 0 g.nodes
+  pub bodies : map rule_body g.rules ≡ roots 0 (map node_part_count g.nodes)
+  pub named : AllByRecursion (NamesRule (length g.rules)) g.nodes
+  pub words_named : AllByRecursion (NamesWord (length g.words)) g.nodes
+  pub start : g.start < length g.rules
+  pub distinct : AreDistinct (rule_names g)
+  pub classes : AreClasses g.classes
+  pub words : AreWords (length g.classes) g.words
+  pub operators : AreOperators (length g.classes) g.operators
+  pub initials : AllByRecursion IsOperator g.initials
+  -- whoever reads or declares operators has an operators item
+  pub operators_there : lacks_operators g.operators g.initials (forms_of g) ≡ false
+  pub classes_named : list_any (has_unknown_class (length g.classes)) (forms_of g) ≡ false
+  pub literals : list_any has_bad_literal (forms_of g) ≡ false
+  pub alternatives : list_any lacks_alternative (forms_of g) ≡ false
+  pub few_rules : length g.rules ≤ 512
+  pub few_nodes : length g.nodes ≤ 8192

@@ -1,0 +1,4 @@
+pub mod Grammar
+pub mod Follows
+pub mod Fits
+pub mod Membership

@@ -1,0 +1,165 @@
+//! The grammar value: items, rules in file order over one list of nodes in preorder, and the rule to start with.
+//!
+//! The invariant says that every number names something: a node's parts are the whole forms next after it, the nodes
+//! that are no part of another are the rules' bodies, what is named is there, and so is the operators item where operators
+//! are used; rules have different names, and so have class items and word items; a class item names only those before it;
+//! no string and no reserved text is empty, a choice has an alternative, no range descends. A
+//! maker (`pg_grammar`) establishes it.
+
+ghost use Rattle.std.specs.Prelude.{◌≡◌, ◌<◌, length, position, slice_get, Some, false, option_copied};
+ghost use Rattle.pg_form.specs.Forms.{parts_of, form_of, has_bad_literal, has_unknown_class, lacks_alternative, NamesRule, NamesWord};
+ghost use Rattle.pg_form.specs.ClassItems.{AreClasses};
+ghost use Rattle.pg_form.specs.WordItems.{AreWords};
+ghost use Rattle.pg_form.specs.OperatorsItems.{AreOperators};
+ghost use Rattle.pg_value.specs.Follows.{PartsFollow, BodiesAreNodes};
+ghost use Rattle.std.specs.Str.{bytes_eq};
+
+use pg_form::{ClassItem, Decl, Node, NodeId, OperatorsItem, RuleId, WordItem};
+use pg_text::Characters;
+use std::marker::Model;
+
+/// A rule: its name, and the node that is its body.
+#[derive(Drop)]
+pub struct Rule {
+    /// Its name, which no other rule of its grammar has.
+    pub name: Characters,
+    /// The node that is its body, which is no part of another node.
+    pub body: NodeId,
+}
+
+/// A grammar, seen as its items, its initial declarations, its nodes, its rules and its start.
+#[derive(Drop)]
+pub struct Grammar {
+    classes: Vec<ClassItem>,
+    words: Vec<WordItem>,
+    operators: Option<OperatorsItem>,
+    initials: Vec<Decl>,
+    nodes: Vec<Node>,
+    rules: Vec<Rule>,
+    start: RuleId,
+}
+
+impl Model for Grammar {
+    ghost use Rattle.pg_value.specs.Grammar.{Grammar as Parts, IsGrammar};
+
+    ghost Value = { Parts };
+
+    ghost view = { λ g. record { classes = g.classes.items; words = g.words.items; operators = g.operators; initials = g.initials.items; nodes = g.nodes.items; rules = g.rules.items; start = g.start } };
+
+    ghost invariant = { λ g. IsGrammar (record { classes = g.classes.items; words = g.words.items; operators = g.operators; initials = g.initials.items; nodes = g.nodes.items; rules = g.rules.items; start = g.start }) };
+}
+
+impl Grammar {
+    ghost use Rattle.pg_value.specs.Grammar.{IsGrammar, rule_names, word_names};
+
+    /// The grammar of these parts, which the caller owes to be one. It takes no memory.
+    pub fn new(
+        classes: Vec<ClassItem>,
+        words: Vec<WordItem>,
+        operators: Option<OperatorsItem>,
+        initials: Vec<Decl>,
+        nodes: Vec<Node>,
+        rules: Vec<Rule>,
+        start: RuleId,
+    ) -> Grammar
+        requires { IsGrammar (record { classes = classes.items; words = words.items; operators = operators; initials = initials.items; nodes = nodes.items; rules = rules.items; start = start }) }
+        ensures { result ≡ record { classes = classes.items; words = words.items; operators = operators; initials = initials.items; nodes = nodes.items; rules = rules.items; start = start } }
+    {
+        Grammar {
+            classes,
+            words,
+            operators,
+            initials,
+            nodes,
+            rules,
+            start,
+        }
+    }
+
+    /// All nodes, in file order: those of the first rule in preorder, then those of the second, and so on.
+    pub fn nodes(&self) -> &[Node]
+        ensures all { result.now ≡ self.now.nodes }
+        ensures grammar { IsGrammar self.now }
+    {
+        self.nodes.as_slice()
+    }
+
+    /// The class items, in file order. The number of a class item is its place here, counted from 0.
+    pub fn class_items(&self) -> &[ClassItem]
+        ensures all { result.now ≡ self.now.classes }
+        ensures classes { AreClasses result.now }
+        ensures grammar { IsGrammar self.now }
+    {
+        self.classes.as_slice()
+    }
+
+    /// The word items, in file order. The number of a word item is its place here, counted from 0.
+    pub fn word_items(&self) -> &[WordItem]
+        ensures all { result.now ≡ self.now.words }
+        ensures words { AreWords (length self.now.classes) result.now }
+    {
+        self.words.as_slice()
+    }
+
+    /// The operators item, if there is one; there is where operators are used.
+    pub fn operators_item(&self) -> Option<&OperatorsItem>
+        ensures all { option_copied result ≡ self.now.operators }
+        ensures operators { AreOperators (length self.now.classes) self.now.operators }
+        ensures grammar { IsGrammar self.now }
+    {
+        self.operators.as_ref()
+    }
+
+    /// The initial declarations, in file order. That a table takes them isn't known of them.
+    pub fn initials(&self) -> &[Decl]
+        ensures all { result.now ≡ self.now.initials }
+        ensures grammar { IsGrammar self.now }
+    {
+        self.initials.as_slice()
+    }
+
+    /// The rules, in file order. The number of a rule is its place here, counted from 0.
+    pub fn rules(&self) -> &[Rule]
+        ensures all { result.now ≡ self.now.rules }
+        ensures bodies { BodiesAreNodes (length self.now.nodes) result.now }
+    {
+        self.rules.as_slice()
+    }
+
+    /// The rule that a text is derived from.
+    pub fn start_rule(&self) -> RuleId
+        ensures start { result ≡ self.now.start }
+        ensures rule { result < length self.now.rules }
+    {
+        self.start
+    }
+
+    /// The node with this number. Its parts stand after it, so whoever goes from nodes to parts ends, unless
+    /// rules lead back. A string has a character, a choice an alternative, and no range descends.
+    pub fn node(&self, id: NodeId) -> &Node
+        requires { id < length self.now.nodes }
+        ensures node { slice_get self.now.nodes id ≡ Some result.now }
+        ensures parts { PartsFollow id (length self.now.nodes) (parts_of result.now) }
+        ensures rule { NamesRule (length self.now.rules) result.now }
+        ensures word { NamesWord (length self.now.words) result.now }
+        ensures proper { has_bad_literal (form_of (rule_names self.now) (word_names self.now) result.now) ≡ false }
+        ensures class { has_unknown_class (length self.now.classes) (form_of (rule_names self.now) (word_names self.now) result.now) ≡ false }
+        ensures alternative { lacks_alternative (form_of (rule_names self.now) (word_names self.now) result.now) ≡ false }
+    {
+        &self.nodes[id.index()]
+    }
+
+    /// The number of the rule with this name, if there is one.
+    pub fn rule(&self, name: &[char]) -> Option<RuleId>
+        ensures { result ≡ position (λ rule. bytes_eq rule.name name.now) self.now.rules }
+    {
+        place_of_rule(self.rules.as_slice(), name).map(RuleId::new)
+    }
+}
+
+/// How many rules stand before the one with this name, if there is one.
+fn place_of_rule(rules: &[Rule], name: &[char]) -> Option<usize>
+    ensures { result ≡ position (λ rule. bytes_eq rule.name name.now) rules.now }
+{
+    rules.iter().position(|rule| rule.name.as_slice() == name)
+}

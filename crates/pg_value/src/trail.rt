@@ -1,0 +1,118 @@
+//! Trails: what a derivation chose, from left to right, so that it can be followed again without a search.
+
+ghost use Rattle.std.specs.Prelude.{◌≡◌, [], ◌∷◌, ◌++◌, OnErr, OnOk};
+
+use pg_text::Characters;
+use std::alloc::{AllocError, Global};
+use std::marker::Model;
+
+/// On which side of its operands an operator stands.
+#[derive(Clone, Copy, Debug, PartialEq, Eq)]
+pub enum Fixity {
+    /// Before its one operand.
+    Prefix,
+    /// Between its two operands.
+    Infix,
+    /// After its one operand.
+    Postfix,
+}
+
+/// An operator of an expression, as it was read.
+#[derive(Drop)]
+pub struct AppliedOperator {
+    /// On which side of its operands it stands.
+    pub fixity: Fixity,
+    /// Its characters.
+    pub symbol: Characters,
+}
+
+/// The operators of an expression in reading order, seen as their list.
+#[derive(Drop)]
+pub struct AppliedOperators {
+    operators: Vec<AppliedOperator>,
+}
+
+impl Model for AppliedOperators {
+    ghost use Rattle.std.specs.Prelude.{List};
+    ghost use Rattle.pg_value.specs.declared.trail.AppliedOperator.{AppliedOperator};
+
+    ghost Value = { List AppliedOperator };
+
+    ghost view = { λ o. o.operators.items };
+}
+
+impl AppliedOperators {
+    /// These operators. It takes no memory.
+    pub fn new(operators: Vec<AppliedOperator>) -> AppliedOperators
+        ensures { result ≡ operators.items }
+    {
+        AppliedOperators { operators }
+    }
+
+    /// The operators, in reading order.
+    pub fn as_slice(&self) -> &[AppliedOperator]
+        ensures { result.now ≡ self.now }
+    {
+        self.operators.as_slice()
+    }
+}
+
+/// What one node of a derivation chose.
+#[derive(Drop)]
+pub enum TrailItem {
+    /// The alternative of a choice, counted from 1.
+    Alt(usize),
+    /// How many rounds a repetition had, or how many separators a chain.
+    Rounds(usize),
+    /// The operators of an expression.
+    Ops(AppliedOperators),
+}
+
+/// The items of a derivation in preorder, seen as their list (ours; Parsec keeps no such list).
+#[derive(Drop)]
+pub struct Trail {
+    items: Vec<TrailItem>,
+}
+
+impl Model for Trail {
+    ghost use Rattle.std.specs.Prelude.{List};
+    ghost use Rattle.pg_value.specs.declared.trail.TrailItem.{TrailItem};
+
+    ghost Value = { List TrailItem };
+
+    ghost view = { λ t. t.items.items };
+}
+
+impl Trail {
+    /// The trail without items. It takes no memory.
+    pub fn new(alloc: Global) -> Trail
+        ensures { result ≡ [] }
+    {
+        Trail {
+            items: Vec::new(alloc),
+        }
+    }
+
+    /// The trail of these items. It takes no memory.
+    pub fn from_items(items: Vec<TrailItem>) -> Trail
+        ensures { result ≡ items.items }
+    {
+        Trail { items }
+    }
+
+    /// Puts an item at the end. The only error is that memory ran out: the trail is then as it was, and the item is gone.
+    pub fn push(&mut self, item: TrailItem) -> Result<(), AllocError>
+        ensures ok { OnOk result (self.new ≡ self.old ++ item ∷ []) }
+        ensures err { OnErr result (self.new ≡ self.old) }
+    {
+        self.items.push(item)?;
+        Ok(())
+    }
+
+    /// The items, in preorder of the derivation. It takes no memory.
+    pub fn items(&self) -> &[TrailItem]
+        ensures { result.now ≡ self.now }
+    {
+        self.items.as_slice()
+    }
+}

@@ -1,0 +1,1 @@
+start a; a = seq(try(many1(satisfy(digit))), string("."));
