@@ -66,7 +66,9 @@ def in_order(crates, work):
             idle = limit - sum(jobs for _, jobs in running.values())
             for at, crate in enumerate(ready):
                 if idle > 0:
-                    jobs = max(1, min(most_jobs(crate), idle // (len(ready) - at)))
+                    # Where nothing else runs or could, idle processors cost nothing.
+                    most = MOST_JOBS if len(ready) == 1 and not running else most_jobs(crate)
+                    jobs = max(1, min(most, idle // (len(ready) - at)))
                     running[pool.submit(work, crate, jobs)] = crate, jobs
                     waiting.remove(crate)
                     idle -= jobs

@@ -1,9 +1,17 @@
--- What the program answers to its caller when a run is at fault.
-use Rattle.std.specs.Prelude.{ℕ}
+-- What the program answers to its caller: the exit status, and what that says of the files.
+use Rattle.std.specs.Prelude.{ℕ, List, Bool, true, false, Option, ◌⊎◌}
+use Rattle.pg_message.specs.declared.error.ParseError as message
+use Rattle.pg_tree.specs.Trees.{Tree}
+use Rattle.pg_pred.specs.Offer.{Offer}
+use Rattle.pg_language.specs.declared.reading.Reading.{Reading}
+use Rattle.pg_predict.specs.declared.finding.Finding.{Finding}
+use Rattle.pg_bench.specs.Checking.{IsJudgedFile}
+use Rattle.pg_bench.specs.Parsed.{IsForestOf, IsErrorOf, AreFindingsOf, SpellsSome}
+use Rattle.pg_bench.specs.Probing.{IsShown}
 use Rattle.pg_bench.specs.declared.fault.BenchFault.{BenchFault}
 use Rattle.pg_bench.specs.declared.fault.BenchFault.TheVariants.{File, NotRun, Refused, Reader, NotUtf8, TooLong, ParseError, Writer, Memory}
 
--- the exit status: 1 if the grammar isn't accepted or the text isn't the grammar's, 2 if something can't be used, 3 if memory ran out
+-- the exit status of a fault: 1 if the grammar isn't accepted or the text isn't the grammar's, 2 if something can't be used, 3 if memory ran out
 abbrev pub status_of : BenchFault → ℕ
 status_of (File fault) = 2
 status_of NotRun = 2
@@ -14,3 +22,46 @@ status_of TooLong = 2
 status_of (ParseError error) = 1
 status_of Writer = 2
 status_of Memory = 3
+
+-- the exit status of a command: yes, no, something can't be used, or memory ran out
+pub data IsStatus (Yes No : Type 0) : ℕ → Type 0 where
+  yes : Yes → IsStatus Yes No 0
+  no : No → IsStatus Yes No 1
+  unusable : IsStatus Yes No 2
+  out_of_memory : IsStatus Yes No 3
+
+-- the check of a grammar file says this
+abbrev pub Judges : Offer → List ℕ → Bool → Type 0
+Judges offer file accepted = (said : List ℕ) × IsJudgedFile offer file accepted said
+
+-- of a check: whether the grammar is accepted
+abbrev pub IsCheckStatus : Offer → List ℕ → ℕ → Type 0
+IsCheckStatus offer file = IsStatus (Judges offer file true) (Judges offer file false)
+
+-- the grammar is accepted, and derives the reader's text
+abbrev pub DerivesReader : Offer → List ℕ → Option (List ℕ) → Type 0
+DerivesReader offer file reader = (left : Option (List ℕ)) × (forest : List Tree) × IsForestOf offer file reader left forest
+
+-- it isn't accepted, or doesn't derive the reader's text
+abbrev pub Refuses : Offer → List ℕ → Option (List ℕ) → Type 0
+Refuses offer file reader =
+    ((findings : List Finding) × AreFindingsOf offer file findings)
+    ⊎ ((left : Option (List ℕ)) × (error : message.ParseError) × IsErrorOf offer file reader left error)
+
+-- of a parse
+abbrev pub IsParseStatus : Offer → List ℕ → Option (List ℕ) → ℕ → Type 0
+IsParseStatus offer file reader = IsStatus (DerivesReader offer file reader) (Refuses offer file reader)
+
+-- the grammar's start rule gives an answer, or none, to the reader's text: whether that is ok
+abbrev pub AnswersReader : Offer → List ℕ → Option (List ℕ) → List ℕ → ℕ → Reading → Bool → Type 0
+AnswersReader offer file reader name most reading accepted =
+    (left : Option (List ℕ)) × (said : List ℕ) × IsShown offer file reader left name most reading accepted said
+
+-- of a probe: whether the answer is ok
+abbrev pub IsProbeStatus : Offer → List ℕ → Option (List ℕ) → List ℕ → ℕ → Reading → ℕ → Type 0
+IsProbeStatus offer file reader name most reading =
+    IsStatus (AnswersReader offer file reader name most reading true) (AnswersReader offer file reader name most reading false)
+
+-- of what prints a grammar or its sets: that the file spells one
+abbrev pub IsPrintStatus : Offer → List ℕ → ℕ → Type 0
+IsPrintStatus offer file = IsStatus (SpellsSome (λ g. Unit {0}) offer file) ⊥

@@ -27,8 +27,8 @@ line_of fault grammar text = front_of fault grammar text ++ fault_text fault ++ 
 abbrev pub finding_line : Finding → List ℕ
 finding_line finding = string_bytes finding.line ++ codes "\n"
 
--- what is printed of a fault: a line for each finding of a refused grammar, an error as Text.Parsec prints it in a text of
--- this name, and else the fault's line
+-- what is printed of a fault: a line for each finding of a refused grammar, an error as it is printed in a text of this name,
+-- and else the fault's line
 abbrev pub lines_of : BenchFault → List ℕ → List ℕ → List (List ℕ)
 lines_of (File fault) grammar text = line_of (File fault) grammar text ∷ []
 lines_of NotRun grammar text = line_of NotRun grammar text ∷ []

@@ -1,10 +1,13 @@
 //! What each command does with its files.
 //!
 //! Each reads the grammar, and opens the text before that, and then hands both to the crate that goes from bytes to bytes.
-//! Functions that hold files and functions that hold what is written to are apart: that keeps their proofs short.
+//! Functions that hold files and functions that hold what is written to are apart: that keeps their proofs short. The latter
+//! have the bytes at hand, and so their contracts say what the exit status tells of them.
 
+ghost use Rattle.std.specs.Prelude.{IfOk};
 ghost use Rattle.pg_pred.specs.Offer.{offer_of};
 ghost use Rattle.pg_registry.specs.ProgramOffer.{IsProgramOffer};
+ghost use Rattle.pg.specs.Status.{IsCheckStatus, IsParseStatus, IsProbeStatus, IsPrintStatus};
 
 use crate::files::{grammar_alone, inputs};
 use crate::printing::{UNUSABLE, print_report};
@@ -81,12 +84,15 @@ fn check_file<R: AllocGlobal + Files + Print + Eprint>(
     }
 }
 
+#[tactic(auto, using(crate::proofs::Statuses::accepted_status, crate::proofs::Statuses::refused_status, crate::proofs::Statuses::check_fault_status))]
 fn check_grammar<R: AllocGlobal + Files + Print + Eprint>(
     rt: &R,
     bytes: &[u8],
     grammar: &str,
     registry: &Registry,
-) -> Result<u8, AllocError> {
+) -> Result<u8, AllocError>
+    ensures { IfOk result (IsCheckStatus (offer_of registry.now) bytes.now) }
+{
     let mut writer = Meter::new(io::writer(rt));
     match check_bytes(rt.alloc(), bytes, registry, &mut writer) {
         Ok(true) => Ok(0),
@@ -108,6 +114,7 @@ fn parse_files<R: AllocGlobal + Files + Print + Eprint>(
     }
 }
 
+#[tactic(auto, using(crate::proofs::Statuses::parsed_status, crate::proofs::Statuses::parse_fault_status))]
 fn parse_text<F: Read + Drop, R: AllocGlobal + Files + Print + Eprint>(
     rt: &R,
     bytes: &[u8],
@@ -115,7 +122,9 @@ fn parse_text<F: Read + Drop, R: AllocGlobal + Files + Print + Eprint>(
     grammar: &str,
     text: &str,
     registry: &Registry,
-) -> Result<u8, AllocError> {
+) -> Result<u8, AllocError>
+    ensures { IfOk result (IsParseStatus (offer_of registry.now) bytes.now (F.remaining file)) }
+{
     let mut reader = Meter::new(file);
     let mut writer = Meter::new(io::writer(rt));
     match parse_bytes(rt.alloc(), bytes, registry, &mut reader, &mut writer) {
@@ -148,6 +157,7 @@ fn probe_files<R: AllocGlobal + Files + Print + Eprint>(
     }
 }
 
+#[tactic(auto, using(crate::proofs::Statuses::ok_status, crate::proofs::Statuses::other_status, crate::proofs::Statuses::probe_fault_status))]
 fn probe_text<F: Read + Drop, R: AllocGlobal + Files + Print + Eprint>(
     rt: &R,
     bytes: &[u8],
@@ -157,7 +167,9 @@ fn probe_text<F: Read + Drop, R: AllocGlobal + Files + Print + Eprint>(
     registry: &Registry,
     max_steps: u64,
     reading: Reading,
-) -> Result<u8, AllocError> {
+) -> Result<u8, AllocError>
+    ensures { IfOk result (IsProbeStatus (offer_of registry.now) bytes.now (F.remaining file) text.now max_steps reading) }
+{
     let mut reader = Meter::new(file);
     let mut writer = Meter::new(io::writer(rt));
     match probe_bytes(
@@ -188,12 +200,15 @@ fn print_file<R: AllocGlobal + Files + Print + Eprint>(
     }
 }
 
+#[tactic(auto, using(crate::proofs::Statuses::printed_status, crate::proofs::Statuses::print_fault_status))]
 fn print_grammar<R: AllocGlobal + Files + Print + Eprint>(
     rt: &R,
     bytes: &[u8],
     grammar: &str,
     registry: &Registry,
-) -> Result<u8, AllocError> {
+) -> Result<u8, AllocError>
+    ensures { IfOk result (IsPrintStatus (offer_of registry.now) bytes.now) }
+{
     let mut writer = Meter::new(io::writer(rt));
     match print_bytes(rt.alloc(), bytes, registry, &mut writer) {
         Ok(()) => Ok(0),
@@ -213,12 +228,15 @@ fn show_file<R: AllocGlobal + Files + Print + Eprint>(
     }
 }
 
+#[tactic(auto, using(crate::proofs::Statuses::shown_status, crate::proofs::Statuses::print_fault_status))]
 fn show_grammar<R: AllocGlobal + Files + Print + Eprint>(
     rt: &R,
     bytes: &[u8],
     grammar: &str,
     registry: &Registry,
-) -> Result<u8, AllocError> {
+) -> Result<u8, AllocError>
+    ensures { IfOk result (IsPrintStatus (offer_of registry.now) bytes.now) }
+{
     let mut writer = Meter::new(io::writer(rt));
     match sets_bytes(rt.alloc(), bytes, registry, &mut writer) {
         Ok(()) => Ok(0),

@@ -1,9 +1,10 @@
 //! The program `pgw`.
 //!
 //! The files are opened in the order of the words, and only then read. Results go to standard output, and everything else
-//! to standard error: a line for a fault or a finding, and a parse error as Text.Parsec prints it. The exit status is 0 for a
-//! result, 1 for a grammar that isn't accepted, a text that doesn't parse or a probe that isn't ok, 2 for words or files that
-//! can't be used, and 3 for memory; if standard error takes nothing, it stays what it was.
+//! to standard error: a line for a fault or a finding, and a parse error as Text.Parsec prints it, but for the four differences
+//! in docs/DECISIONS.md (*Errors of parsers*). The exit status is 0 for a result, 1 for a grammar that isn't accepted, a text
+//! that doesn't parse or a probe that isn't ok, 2 for words or files that can't be used, and 3 for memory; if standard error
+//! takes nothing, it stays what it was.
 #![tactic(auto)]
 
 mod commands;

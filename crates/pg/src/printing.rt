@@ -1,5 +1,8 @@
 //! What goes to standard error, and the exit status that goes with it.
 
+ghost use Rattle.std.specs.Prelude.{◌≡◌, IfOk};
+ghost use Rattle.pg.specs.Status.{status_of};
+
 use crate::reporting::report;
 use pg_bench::BenchFault;
 use std::alloc::AllocError;
@@ -14,7 +17,9 @@ pub fn print_report<R: AllocGlobal + Eprint>(
     fault: BenchFault,
     grammar: &str,
     text: &str,
-) -> Result<u8, AllocError> {
+) -> Result<u8, AllocError>
+    ensures { IfOk result (λ status. status ≡ status_of fault) }
+{
     print_lines(rt, &fault, grammar, text)
 }
 
@@ -23,7 +28,9 @@ fn print_lines<R: AllocGlobal + Eprint>(
     fault: &BenchFault,
     grammar: &str,
     text: &str,
-) -> Result<u8, AllocError> {
+) -> Result<u8, AllocError>
+    ensures { IfOk result (λ status. status ≡ status_of fault.now) }
+{
     let told = report(rt.alloc(), fault, grammar, text)?;
     for line in &told.lines {
         let _ = rt.eprint(line);
@@ -32,12 +39,16 @@ fn print_lines<R: AllocGlobal + Eprint>(
 }
 
 /// Says that a file can't be read, and gives the status.
-pub fn cannot_read<R: Eprint>(rt: &R, name: &str) -> u8 {
+pub fn cannot_read<R: Eprint>(rt: &R, name: &str) -> u8
+    ensures { result ≡ UNUSABLE }
+{
     refuse(rt, format_args!("{name}: cannot read"))
 }
 
 /// Says why nothing can be done, and gives the status.
-pub fn refuse<R: Eprint, M: Display + Drop>(rt: &R, message: M) -> u8 {
+pub fn refuse<R: Eprint, M: Display + Drop>(rt: &R, message: M) -> u8
+    ensures { result ≡ UNUSABLE }
+{
     say(rt, message);
     UNUSABLE
 }

@@ -16,7 +16,7 @@ use pg_predict::Finding;
 use std::alloc::{AllocError, Global};
 
 /// The report of a fault in a run over files of these names: a line for each finding of a grammar that is refused, a parse
-/// error as Text.Parsec prints it, and one line for each other fault.
+/// error as Text.Parsec prints it but for the four differences in docs/DECISIONS.md, and one line for each other fault.
 pub fn report(
     alloc: Global,
     fault: &BenchFault,

@@ -18,8 +18,8 @@ use Rattle.pg_machine.specs.declared.answer.Success.{Success}
 use Rattle.pg_predict.specs.Checked.{GrammarWithSets, IsChecked}
 use Rattle.pg_predict.specs.Operators.{HasNoOperators}
 use Rattle.pg_predict.specs.declared.checking.Refused as declared
-use Rattle.pg_bench.specs.Parsed.{IsSpelledBy, IsForestOf, IsErrorOf, IsForestOfBytes, ReadsText, SpellsNone, SpellsSome, SpellsOther, AreFindingsOf}
-use Rattle.pg_bench.specs.Faults.{IsFileFault, IsAfterFile, IsReadRefusal, IsTextRefusal, IsParseRefusal, IsRunRefusal, IsFindingRefusal, IsGrammarRefusal, IsReadingRefusal, IsProbeRefusal, IsForestRefusal, IfRefused, IfParseError}
+use Rattle.pg_bench.specs.Parsed.{IsSpelledBy, IsForestOf, IsErrorOf, IsForestOfBytes, ReadsText, IsFaultOfFile, SpellsSome, SpellsOther, AreFindingsOf}
+use Rattle.pg_bench.specs.Faults.{IsAfterFile, IsReadRefusal, IsTextRefusal, IsParseRefusal, IsRunRefusal, IsFindingRefusal, IsGrammarRefusal, IsReadingRefusal, IsProbeRefusal, IsForestRefusal, IfFile, IfRefused, IfParseError}
 use Rattle.pg_derive.specs.LeastSets.{node_sets}
 use Rattle.pg_derive.specs.PredictiveLaws.{LosesNoAlternative, EachRoundConsumes, EachLinkConsumes}
 use Rattle.pg_bench.specs.Promise.{IsAccepted, CommitsRightly, IsForestOfText, IsErrorOfText}
@@ -35,6 +35,11 @@ pub refused_file : (offer : Offer) (file : List ℕ) (g : Grammar) (fault : Benc
 refused_file offer file g (Refused findings) spelled plain h =
     record { grammar = g; spelled = spelled; plain = plain; all = h.0; some = h.1 }
 refused_file offer file g _ spelled plain h = tt
+
+-- and no finding is a fault of the file
+pub refused_later : (offer : Offer) (file : List ℕ) (g : Grammar) (fault : BenchFault) → IsFindingRefusal g fault → IfFile (IsFaultOfFile offer file) fault
+refused_later offer file g (File fault) h = absurd h
+refused_later offer file g _ h = tt
 
 commits_rightly : (checked : GrammarWithSets) (text : List ℕ) → IsChecked checked
     → LosesNoAlternative (given Library checked.grammar text) (node_sets checked.grammar checked.sets) → EachRoundConsumes (given Library checked.grammar text)
@@ -114,13 +119,13 @@ forest_of_file offer file reader left g forest spelled accepted h =
 
 -- what refuses the grammar of a file
 pub grammar_refused : (offer : Offer) (file : List ℕ) (reader left : Option (List ℕ)) (fault : BenchFault) → IsGrammarRefusal fault
-    → (IsFileFault fault → SpellsNone offer file) → (fault ≡ NotRun → SpellsOther HasNoOperators offer file) → IfRefused (AreFindingsOf offer file) fault
+    → IfFile (IsFaultOfFile offer file) fault → (fault ≡ NotRun → SpellsOther HasNoOperators offer file) → IfRefused (AreFindingsOf offer file) fault
     → IsForestRefusal offer file reader left fault
-grammar_refused offer file reader left (File fault) h none other findings = none tt
-grammar_refused offer file reader left NotRun h none other findings = other refl
-grammar_refused offer file reader left (Refused findings) h none other are = are
-grammar_refused offer file reader left Memory h none other findings = tt
-grammar_refused offer file reader left _ h none other findings = absurd h
+grammar_refused offer file reader left (File fault) h is other findings = is
+grammar_refused offer file reader left NotRun h is other findings = other refl
+grammar_refused offer file reader left (Refused findings) h is other are = are
+grammar_refused offer file reader left Memory h is other findings = tt
+grammar_refused offer file reader left _ h is other findings = absurd h
 
 -- what refuses a text by it
 pub reading_refused_file : (offer : Offer) (file : List ℕ) (reader left : Option (List ℕ)) (g : Grammar) (fault : BenchFault) → SpellsWithinLimits offer file g
@@ -135,9 +140,9 @@ reading_refused_file offer file reader left g _ spelled accepted h = absurd h
 -- ---- what a refusal claims
 
 pub file_claims : (offer : Offer) (file : List ℕ) (reader left : Option (List ℕ)) (fault : BenchFault) → IsForestRefusal offer file reader left fault
-    → IsFileFault fault → SpellsNone offer file
-file_claims offer file reader left (File fault) h is = h
-file_claims offer file reader left _ h is = absurd is
+    → IfFile (IsFaultOfFile offer file) fault
+file_claims offer file reader left (File fault) h = h
+file_claims offer file reader left _ h = tt
 
 pub not_run_claims : (offer : Offer) (file : List ℕ) (reader left : Option (List ℕ)) (fault : BenchFault) → IsForestRefusal offer file reader left fault
     → fault ≡ NotRun → SpellsOther HasNoOperators offer file

@@ -4,11 +4,12 @@ use Rattle.std.specs.Str.{chars, IsUtf8}
 use Rattle.pg_text.specs.declared.text.TheConstants.{LIMIT}
 use Rattle.pg_message.specs.declared.error.ParseError as message
 use Rattle.pg_pred.specs.Offer.{Offer}
+use Rattle.pg_file.specs.declared.fault.FileFault.{FileFault}
 use Rattle.pg_value.specs.Grammar.{Grammar}
 use Rattle.pg_predict.specs.Findings.{AreFindings}
 use Rattle.pg_predict.specs.Operators.{HasNoOperators}
 use Rattle.pg_predict.specs.declared.finding.Finding.{Finding}
-use Rattle.pg_bench.specs.Parsed.{IsErrorOf, IsErrorOfBytes, AreFindingsOf, SpellsNone, SpellsSome, SpellsOther, ReadsText}
+use Rattle.pg_bench.specs.Parsed.{IsErrorOf, IsErrorOfBytes, AreFindingsOf, IsFaultOfFile, SpellsSome, SpellsOther, ReadsText}
 use Rattle.pg_bench.specs.Promise.{IsAccepted, IsErrorOfText}
 use Rattle.pg_bench.specs.declared.fault.BenchFault.{BenchFault}
 use Rattle.pg_bench.specs.declared.fault.BenchFault.TheVariants.{File, NotRun, Refused, Reader, NotUtf8, TooLong, ParseError, Writer, Memory}
@@ -59,7 +60,7 @@ IsBeforeWriting = IsOfSteps 0 7
 
 -- a claim for each fault
 pub record Claims : Type 1 where
-  pub file : Type 0
+  pub file : FileFault → Type 0
   pub not_run : Type 0
   pub refused : List Finding → Type 0
   pub reader : Type 0
@@ -71,7 +72,7 @@ pub record Claims : Type 1 where
 
 -- the claim that is made of this one
 abbrev pub Claimed : Claims → BenchFault → Type 0
-Claimed of (File fault) = of.file
+Claimed of (File fault) = of.file fault
 Claimed of NotRun = of.not_run
 Claimed of (Refused findings) = of.refused findings.items
 Claimed of Reader = of.reader
@@ -85,7 +86,7 @@ Claimed of Memory = of.memory
 abbrev pub memory_alone : Claims
 memory_alone =
     record {
-      file = ⊥;
+      file = λ fault. ⊥;
       not_run = ⊥;
       refused = λ findings. ⊥;
       reader = ⊥;
@@ -100,7 +101,7 @@ memory_alone =
 abbrev pub any_fault : Claims
 any_fault =
     record {
-      file = Unit {0};
+      file = λ fault. Unit {0};
       not_run = Unit {0};
       refused = λ findings. Unit {0};
       reader = Unit {0};
@@ -110,6 +111,10 @@ any_fault =
       writer = Unit {0};
       memory = Unit {0};
     }
+
+-- what is claimed of the file's fault, where there is one
+abbrev pub IfFile : (FileFault → Type 0) → BenchFault → Type 0
+IfFile Claim = Claimed (record any_fault { file = Claim })
 
 -- what is claimed of the findings, where the grammar is refused
 abbrev pub IfRefused : (List Finding → Type 0) → BenchFault → Type 0
@@ -127,11 +132,11 @@ IsMemory = Claimed memory_alone
 
 -- what reading the grammar file refuses with
 abbrev pub IsFileRefusal : BenchFault → Type 0
-IsFileRefusal = Claimed (record memory_alone { file = Unit {0} })
+IsFileRefusal = Claimed (record memory_alone { file = λ fault. Unit {0} })
 
 -- what reading the file of a grammar without operators refuses with
 abbrev pub IsPlainRefusal : BenchFault → Type 0
-IsPlainRefusal = Claimed (record memory_alone { file = Unit {0}; not_run = Unit {0} })
+IsPlainRefusal = Claimed (record memory_alone { file = λ fault. Unit {0}; not_run = Unit {0} })
 
 -- what checking a grammar refuses with, and why
 abbrev pub IsFindingRefusal : Grammar → BenchFault → Type 0
@@ -139,7 +144,7 @@ IsFindingRefusal g = Claimed (record memory_alone { refused = λ findings. AreFi
 
 -- what reading the file of an accepted grammar refuses with
 abbrev pub IsGrammarRefusal : BenchFault → Type 0
-IsGrammarRefusal = Claimed (record memory_alone { file = Unit {0}; not_run = Unit {0}; refused = λ findings. Unit {0} })
+IsGrammarRefusal = Claimed (record memory_alone { file = λ fault. Unit {0}; not_run = Unit {0}; refused = λ findings. Unit {0} })
 
 -- what reading the text refuses with
 abbrev pub IsReadRefusal : BenchFault → Type 0
@@ -185,7 +190,7 @@ IsReadingRefusal g reader left =
 abbrev pub IsForestRefusal : Offer → List ℕ → Option (List ℕ) → Option (List ℕ) → BenchFault → Type 0
 IsForestRefusal offer file reader left =
     Claimed (record memory_alone {
-      file = SpellsNone offer file;
+      file = IsFaultOfFile offer file;
       not_run = SpellsOther HasNoOperators offer file;
       refused = AreFindingsOf offer file;
       reader = SpellsSome IsAccepted offer file;
@@ -196,11 +201,11 @@ IsForestRefusal offer file reader left =
 
 -- what printing a grammar or its sets refuses with
 abbrev pub IsPrintRefusal : BenchFault → Type 0
-IsPrintRefusal = Claimed (record memory_alone { file = Unit {0}; writer = Unit {0} })
+IsPrintRefusal = Claimed (record memory_alone { file = λ fault. Unit {0}; writer = Unit {0} })
 
 -- what checking the grammar of a file refuses with
 abbrev pub IsCheckRefusal : BenchFault → Type 0
-IsCheckRefusal = Claimed (record memory_alone { file = Unit {0}; not_run = Unit {0}; writer = Unit {0} })
+IsCheckRefusal = Claimed (record memory_alone { file = λ fault. Unit {0}; not_run = Unit {0}; writer = Unit {0} })
 
 -- what writing refuses with
 abbrev pub IsWriteRefusal : BenchFault → Type 0

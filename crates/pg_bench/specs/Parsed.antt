@@ -13,6 +13,9 @@ use Rattle.pg_making.specs.Spells.{SpellsWithinLimits}
 use Rattle.pg_predict.specs.Findings.{AreFindings}
 use Rattle.pg_predict.specs.Operators.{HasNoOperators}
 use Rattle.pg_predict.specs.declared.finding.Finding.{Finding}
+use Rattle.pg_file.specs.Refusals.{IsRefusalOf}
+use Rattle.pg_file.specs.declared.fault.FileFault.{FileFault}
+use Rattle.pg_file.specs.declared.fault.FileError.TheVariants.{Fault}
 use Rattle.pg_bench.specs.Promise.{IsAccepted, IsForestOfText, IsErrorOfText}
 
 -- the bytes spell the text, which isn't too long
@@ -75,6 +78,11 @@ pub record IsPartlyWritten (offer : Offer) (file : List ℕ) (reader left writer
 -- the file spells no grammar, or not within the limits
 pub record SpellsNone (offer : Offer) (file : List ℕ) : Type 0 where
   pub none : (g : Grammar) → SpellsWithinLimits offer file g → ⊥
+
+-- and this fault is what reading it answers
+pub record IsFaultOfFile (offer : Offer) (file : List ℕ) (fault : FileFault) : Type 0 where
+  pub spells : SpellsNone offer file
+  pub answered : IsRefusalOf file (Fault fault)
 
 -- the file spells some grammar of this kind
 abbrev pub SpellsSome : (Grammar → Type 0) → Offer → List ℕ → Type 0

@@ -4,8 +4,8 @@ ghost use Rattle.std.specs.Prelude.{◌≡◌, ◌++◌, false, true, codes, IfO
 ghost use Rattle.pg_pred.specs.Offer.{offer_of};
 ghost use Rattle.pg_predict.specs.Operators.{HasNoOperators};
 ghost use Rattle.pg_bench.specs.Checking.{IsChecked, IsPartlyChecked, IsJudged, line_of, lines_of};
-ghost use Rattle.pg_bench.specs.Parsed.{SpellsNone, SpellsSome, SpellsOther};
-ghost use Rattle.pg_bench.specs.Faults.{IsCheckRefusal, IsFileFault, IsMemory, IsAfterFile, IsBeforeWriting};
+ghost use Rattle.pg_bench.specs.Parsed.{IsFaultOfFile, SpellsSome, SpellsOther};
+ghost use Rattle.pg_bench.specs.Faults.{IsCheckRefusal, IfFile, IsMemory, IsAfterFile, IsBeforeWriting};
 
 use crate::fault::BenchFault;
 use crate::grammar_file::plain_grammar_of;
@@ -38,7 +38,7 @@ pub fn check_bytes<W: Write>(
     // The file spells no grammar, or one that reads or declares operators; or the writer failed after a prefix of what it was
     // to be given; or memory ran out.
     ensures err { IfErr result IsCheckRefusal }
-    ensures file { IfErr result (λ fault. IsFileFault fault → SpellsNone (offer_of registry.now) grammar.now) }
+    ensures file { IfErr result (IfFile (IsFaultOfFile (offer_of registry.now) grammar.now)) }
     ensures not_run { IsErrOf result BenchFault.NotRun → SpellsOther HasNoOperators (offer_of registry.now) grammar.now }
     ensures runnable { IfErr result (λ fault. IsAfterFile fault → SpellsSome HasNoOperators (offer_of registry.now) grammar.now) }
     ensures unwritten { IfErr result (λ fault. IsBeforeWriting fault → writer.new ≡ writer.old) }

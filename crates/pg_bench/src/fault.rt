@@ -26,11 +26,11 @@ pub enum BenchFault {
     NotRun,
     /// The grammar isn't accepted. These are all its findings, at least one. The text's reader has not been asked yet.
     Refused(Vec<Finding>),
-    /// The text's reader answered an error, or gave over 16,384 bytes, more than the longest text can have.
+    /// The text's reader answered an error, or gave over 4,194,304 bytes, more than the longest text can have.
     Reader,
     /// The text's bytes are not UTF-8. It comes before `TooLong` where both hold.
     NotUtf8,
-    /// The text has over 4,096 characters.
+    /// The text has over 1,048,576 characters.
     TooLong,
     /// The grammar doesn't derive the text; this is the error of its start rule, or of the end that was to come after it.
     ParseError(ParseError),

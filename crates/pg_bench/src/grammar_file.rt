@@ -5,8 +5,8 @@ ghost use Rattle.pg_pred.specs.Offer.{offer_of};
 ghost use Rattle.pg_value.specs.Fits.{Fits};
 ghost use Rattle.pg_making.specs.Spells.{SpellsWithinLimits};
 ghost use Rattle.pg_predict.specs.Operators.{HasNoOperators};
-ghost use Rattle.pg_bench.specs.Parsed.{SpellsNone, SpellsOther, AreFindingsOf};
-ghost use Rattle.pg_bench.specs.Faults.{IsFileFault, IsFileRefusal, IsFindingRefusal, IsGrammarRefusal, IsPlainRefusal, IfRefused};
+ghost use Rattle.pg_bench.specs.Parsed.{IsFaultOfFile, SpellsOther, AreFindingsOf};
+ghost use Rattle.pg_bench.specs.Faults.{IfFile, IsFileRefusal, IsFindingRefusal, IsGrammarRefusal, IsPlainRefusal, IfRefused};
 ghost use Rattle.pg_bench.specs.Promise.{IsAccepted};
 
 use crate::fault::BenchFault;
@@ -21,7 +21,7 @@ pub fn grammar_of(alloc: Global, bytes: &[u8], registry: &Registry) -> Result<Gr
     ensures ok { IfOk result (SpellsWithinLimits (offer_of registry.now) bytes.now) }
     ensures fits { IfOk result (Fits (offer_of registry.now)) }
     ensures err { IfErr result IsFileRefusal }
-    ensures none { IfErr result (λ fault. IsFileFault fault → SpellsNone (offer_of registry.now) bytes.now) }
+    ensures file { IfErr result (IfFile (IsFaultOfFile (offer_of registry.now) bytes.now)) }
 {
     match pg_file::read(alloc, bytes, registry) {
         Ok(grammar) => Ok(grammar),
@@ -40,7 +40,7 @@ pub fn plain_grammar_of(
     ensures fits { IfOk result (Fits (offer_of registry.now)) }
     ensures plain { IfOk result HasNoOperators }
     ensures err { IfErr result IsPlainRefusal }
-    ensures none { IfErr result (λ fault. IsFileFault fault → SpellsNone (offer_of registry.now) bytes.now) }
+    ensures file { IfErr result (IfFile (IsFaultOfFile (offer_of registry.now) bytes.now)) }
     ensures not_run { IsErrOf result BenchFault.NotRun → SpellsOther HasNoOperators (offer_of registry.now) bytes.now }
 {
     let grammar = grammar_of(alloc, bytes, registry)?;
@@ -52,13 +52,13 @@ pub fn plain_grammar_of(
 }
 
 /// The same of a grammar that is accepted: `Refused` with its findings where it isn't.
-#[tactic(auto, using(crate::proofs::Parses::refused_file))]
+#[tactic(auto, using(crate::proofs::Parses::refused_file, crate::proofs::Parses::refused_later))]
 pub fn checked_of(alloc: Global, bytes: &[u8], registry: &Registry) -> Result<Checked, BenchFault>
     ensures ok { IfOk result (λ checked. SpellsWithinLimits (offer_of registry.now) bytes.now checked.grammar) }
     ensures fits { IfOk result (λ checked. Fits (offer_of registry.now) checked.grammar) }
     ensures accepted { IfOk result (λ checked. IsAccepted checked.grammar) }
     ensures err { IfErr result IsGrammarRefusal }
-    ensures none { IfErr result (λ fault. IsFileFault fault → SpellsNone (offer_of registry.now) bytes.now) }
+    ensures file { IfErr result (IfFile (IsFaultOfFile (offer_of registry.now) bytes.now)) }
     ensures not_run { IsErrOf result BenchFault.NotRun → SpellsOther HasNoOperators (offer_of registry.now) bytes.now }
     ensures refused { IfErr result (IfRefused (AreFindingsOf (offer_of registry.now) bytes.now)) }
 {

@@ -15,8 +15,8 @@ ghost use Rattle.pg_tree.specs.Bytes.{AppendsPrefix};
 ghost use Rattle.pg_making.specs.Spells.{HasInitialTable};
 ghost use Rattle.pg_predict.specs.Operators.{HasNoOperators};
 ghost use Rattle.pg_bench.specs.Promise.{IsAccepted, IsForestOfText};
-ghost use Rattle.pg_bench.specs.Parsed.{IsParsed, IsForestOf, IsForestOfBytes, IsErrorOf, AreFindingsOf, SpellsNone, SpellsSome, SpellsOther, ReadsText, IsPartlyWritten};
-ghost use Rattle.pg_bench.specs.Faults.{IsForestRefusal, IsReadingRefusal, IfRefused, IfParseError, IsBeforeReading, IsParseRefusal, IsRunRefusal, IsWriteRefusal, IsAfterFile, IsAfterReading, IsFileFault, IsBeforeWriting};
+ghost use Rattle.pg_bench.specs.Parsed.{IsParsed, IsForestOf, IsForestOfBytes, IsErrorOf, AreFindingsOf, IsFaultOfFile, SpellsSome, SpellsOther, ReadsText, IsPartlyWritten};
+ghost use Rattle.pg_bench.specs.Faults.{IsForestRefusal, IsReadingRefusal, IfRefused, IfParseError, IsBeforeReading, IsParseRefusal, IsRunRefusal, IsWriteRefusal, IsAfterFile, IsAfterReading, IfFile, IsBeforeWriting};
 
 use crate::fault::BenchFault;
 use crate::grammar_file::checked_of;
@@ -38,7 +38,7 @@ use std::io::{Read, Write};
 /// Both meters have to be fresh of failures. The faults come in the order of [`BenchFault`]: a fault of the file, `NotRun`
 /// where its grammar reads or declares operators, and `Refused` with all that is wrong with it, before the reader is asked at
 /// all; then the reader's, then those of its bytes, `ParseError` where the grammar doesn't derive the text, and the writer's.
-/// Up to `ParseError`, and where memory runs out, nothing is written. A text of over 16,384 bytes can't be one of 4,096
+/// Up to `ParseError`, and where memory runs out, nothing is written. A text of over 4,194,304 bytes can't be one of 1,048,576
 /// characters, so no more is read of it.
 #[tactic(auto, using(crate::proofs::Parses::file_claims, crate::proofs::Parses::not_run_claims, crate::proofs::Parses::refused_claims, crate::proofs::Parses::accepted_claims, crate::proofs::Parses::error_claims))]
 pub fn parse_bytes<R: Read, W: Write>(
@@ -57,7 +57,7 @@ pub fn parse_bytes<R: Read, W: Write>(
 
     // A fault of the file comes first, and every other one only where the file spells a grammar: one that reads or declares
     // operators, one that is refused with all its findings, or else an accepted one.
-    ensures file { IfErr result (λ fault. IsFileFault fault → SpellsNone (offer_of registry.now) grammar.now) }
+    ensures file { IfErr result (IfFile (IsFaultOfFile (offer_of registry.now) grammar.now)) }
     ensures not_run { IsErrOf result BenchFault.NotRun → SpellsOther HasNoOperators (offer_of registry.now) grammar.now }
     ensures refused { IfErr result (IfRefused (AreFindingsOf (offer_of registry.now) grammar.now)) }
     ensures unread { IfErr result (λ fault. IsBeforeReading fault → reader.new ≡ reader.old) }

@@ -2,8 +2,8 @@
 
 ghost use Rattle.std.specs.Prelude.{◌≡◌, false, true, IfErr, OnOk, IsErrOf};
 ghost use Rattle.pg_pred.specs.Offer.{offer_of};
-ghost use Rattle.pg_bench.specs.Parsed.{SpellsNone};
-ghost use Rattle.pg_bench.specs.Faults.{IsFileFault, IsBeforeWriting, IsPrintRefusal};
+ghost use Rattle.pg_bench.specs.Parsed.{IsFaultOfFile};
+ghost use Rattle.pg_bench.specs.Faults.{IfFile, IsBeforeWriting, IsPrintRefusal};
 ghost use Rattle.pg_bench.specs.Printing.{IsPrinted, IsPartlyPrinted};
 
 use crate::fault::BenchFault;
@@ -34,7 +34,7 @@ pub fn print_bytes<W: Write>(
 
     // The file spells no grammar; or the writer failed after a prefix of what it was to be given; or memory ran out.
     ensures err { IfErr result IsPrintRefusal }
-    ensures file { IfErr result (λ fault. IsFileFault fault → SpellsNone (offer_of registry.now) grammar.now) }
+    ensures file { IfErr result (IfFile (IsFaultOfFile (offer_of registry.now) grammar.now)) }
     ensures unwritten { IfErr result (λ fault. IsBeforeWriting fault → writer.new ≡ writer.old) }
     ensures writer { IsErrOf result BenchFault.Writer → writer.new.failed ≡ true }
     ensures prefix { IsErrOf result BenchFault.Writer →

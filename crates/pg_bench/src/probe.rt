@@ -8,8 +8,8 @@ ghost use Rattle.pg_making.specs.Spells.{HasInitialTable};
 ghost use Rattle.pg_table.specs.Tables.{initial, whole};
 ghost use Rattle.pg_tree.specs.Meter.{saturating_sum};
 ghost use Rattle.pg_predict.specs.Operators.{HasNoOperators};
-ghost use Rattle.pg_bench.specs.Parsed.{SpellsNone, SpellsSome, SpellsOther, ReadsText};
-ghost use Rattle.pg_bench.specs.Faults.{IsAfterFile, IsAfterReading, IsFileFault, IfParseError, IfRefused, IsTextRefusal, IsProbeRefusal, IsMemory, IsBeforeWriting};
+ghost use Rattle.pg_bench.specs.Parsed.{IsFaultOfFile, SpellsSome, SpellsOther, ReadsText};
+ghost use Rattle.pg_bench.specs.Faults.{IsAfterFile, IsAfterReading, IsFileFault, IfFile, IfParseError, IfRefused, IsTextRefusal, IsProbeRefusal, IsMemory, IsBeforeWriting};
 ghost use Rattle.pg_bench.specs.Probing.{IsProbed, IsPartlyProbed, IsShownOf, IsShownOfText, is_ok_outcome, outcome_text};
 
 use crate::fault::BenchFault;
@@ -30,9 +30,10 @@ use std::io::{Read, Write};
 
 /// Runs the start rule of the grammar that a file spells at the beginning of the text that a reader gives, and writes what
 /// it answers; the answer is whether that was ok. What is written is `consumed ok` or `empty ok`, the place in characters
-/// and the forest's JSON; or `consumed error` or `empty error` and the error as Text.Parsec prints it, with the text's
-/// `name` in it; or `P5 steps used up`, where no answer comes within `max_steps` turns, or `P6 empty repetition`, each on
-/// lines of its own. The registry has the predicates and builders that the file may name.
+/// and the forest's JSON; or `consumed error` or `empty error` and the error as Text.Parsec prints it, but for the four
+/// differences in docs/DECISIONS.md (*Errors of parsers*), with the text's `name` in it; or `P5 steps used up`, where no answer
+/// comes within `max_steps` turns, or `P6 empty repetition`, each on lines of its own. The registry has the predicates and
+/// builders that the file may name.
 ///
 /// Both meters have to be fresh of failures. The faults come in the order of [`BenchFault`], without `Refused` and `ParseError`: a fault of the
 /// file, and `NotRun` where its grammar reads or declares operators, before the reader is asked at all; then the reader's,
@@ -55,7 +56,7 @@ pub fn probe_bytes<R: Read, W: Write>(
         name.now max_steps reading (W.contents writer.old.inner) (W.contents writer.new.inner)) }
 
     // A fault of the file comes first, and every other one only where the file spells a grammar that is run.
-    ensures file { IfErr result (λ fault. IsFileFault fault → SpellsNone (offer_of registry.now) grammar.now) }
+    ensures file { IfErr result (IfFile (IsFaultOfFile (offer_of registry.now) grammar.now)) }
     ensures unread { IfErr result (λ fault. IsFileFault fault → reader.new ≡ reader.old) }
     ensures runnable { IfErr result (λ fault. IsAfterFile fault → SpellsSome HasNoOperators (offer_of registry.now) grammar.now) }
 

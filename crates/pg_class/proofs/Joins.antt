@@ -1,7 +1,9 @@
 -- What a list of ranges has once one more is joined to it.
-use Rattle.std.proofs.Common.{◌≡◌, ℕ, ◌+◌, ◌<◌, ◌≤◌, Bool, true, false, ◌&&◌, ◌||◌, nat_lt, nat_le, cond, min, max, List, [], ◌∷◌, arith, refl, ap, ◌∙◌}
+use Rattle.std.proofs.Common.{◌≡◌, ℕ, ◌+◌, ◌<◌, ◌≤◌, Bool, true, false, ◌&&◌, ◌||◌, nat_lt, nat_le, cond, min, max, List, [], ◌∷◌, ◌++◌, ◌-◌, length, take, Some, slice_get, arith, refl, ap, sym, subst, ◌∙◌}
 use Rattle.std.proofs.Math.Bool.{or_assoc}
 use Rattle.std.proofs.lemmas.Bool.Decides.{leb_tells}
+use Rattle.std.proofs.lemmas.List.{take_all, take_more}
+use Rattle.std.proofs.lemmas.Option.{get_or_from_slice_get}
 use Rattle.std.specs.Char.{IsScalar, scalar_index}
 use Rattle.pg_class.specs.Ranges.{Range, IsRange, AllApart, in_range, has, apart, IsClass, with_range}
 
@@ -99,3 +101,47 @@ class_step r s rs h k ih false false e f = ih (merged r s) (IsRange-merged r s h
 pub IsClass-with_range : (rs : List Range) (r : Range) → IsRange r → IsClass rs → IsClass (with_range r rs)
 IsClass-with_range [] r h k = (h, tt, tt)
 IsClass-with_range (s ∷ rs) r h k = class_step r s rs h k (λ u m. IsClass-with_range rs u m k.2) (apart s r) (apart r s) refl refl
+
+-- ---- a range behind all others
+
+below_step : (s r : Range) (rs : List Range) → apart s r ≡ true → with_range r (s ∷ rs) ≡ s ∷ with_range r rs
+below_step s r rs e = ap (λ b. cond b (s ∷ with_range r rs) (cond (apart r s) (r ∷ s ∷ rs) (with_range (merged r s) rs))) e
+
+-- what stands below some ranges stands below the last of them
+AllApart-last : (rs : List Range) (r l : Range) → AllApart r (rs ++ l ∷ []) → apart r l ≡ true
+AllApart-last [] r l h = h.0
+AllApart-last (s ∷ rs) r l h = AllApart-last rs r l h.1
+
+IsClass-last : (rs : List Range) (l : Range) → IsClass (rs ++ l ∷ []) → IsRange l
+IsClass-last [] l h = h.0
+IsClass-last (s ∷ rs) l h = IsClass-last rs l h.2
+
+-- a range that stands apart from the last of a class is put behind it
+with_range-above : (rs : List Range) (l r : Range) → IsClass (rs ++ l ∷ []) → apart l r ≡ true
+    → with_range r (rs ++ l ∷ []) ≡ (rs ++ l ∷ []) ++ r ∷ []
+with_range-above [] l r h e = below_step l r [] e
+with_range-above (s ∷ rs) l r h e =
+    below_step s r (rs ++ l ∷ []) (apart-trans s l r (IsClass-last rs l h.2) (AllApart-last rs s l h.1) e)
+    ∙ ap (λ xs. s ∷ xs) (with_range-above rs l r h.2 e)
+
+-- the same of the last one as it is looked up
+pub with_range-last : (rs : List Range) (l r : Range) → IsClass rs → slice_get rs (length rs - 1) ≡ Some l → apart l r ≡ true
+    → with_range r rs ≡ rs ++ r ∷ []
+with_range-last [] l r h got e = refl
+with_range-last (s ∷ rs) l r h got e =
+    let all = s ∷ rs in
+    let i = length all - 1 in
+    let within : i < length all = omega arith in
+    let split : all ≡ take i all ++ l ∷ [] =
+    sym (take_all (i + 1) all (omega arith)) ∙ take_more all i s within
+    ∙ ap (λ x. take i all ++ x ∷ []) (get_or_from_slice_get all i l s got) in
+    ap (with_range r) split ∙ with_range-above (take i all) l r (subst IsClass split h) e ∙ ap (λ xs. xs ++ r ∷ []) (sym split)
+
+-- ---- a class with a range more
+
+pub class-more : (rs xs ys : List Range) (r : Range) → IsRange r → IsClass rs → xs ≡ rs → ys ≡ with_range r xs → IsClass ys
+class-more rs xs ys r h k same is = subst IsClass (sym (is ∙ ap (with_range r) same)) (IsClass-with_range rs r h k)
+
+pub has-more : (rs xs ys : List Range) (r : Range) → IsRange r → IsClass rs → xs ≡ rs → ys ≡ with_range r xs → (c : ℕ) → IsScalar c
+    → has ys c ≡ (in_range c r || has rs c)
+has-more rs xs ys r h k same is c sc = ap (λ all. has all c) (is ∙ ap (with_range r) same) ∙ has-with_range rs r c h k sc

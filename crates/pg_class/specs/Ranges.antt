@@ -1,6 +1,6 @@
 -- Ranges of characters. A class is a list of them that ascends, with a character left out between each two.
-use Rattle.std.specs.Prelude.{◌≡◌, ℕ, ◌+◌, ◌≤◌, Bool, true, ◌&&◌, nat_lt, nat_le, if◌then◌else◌, min, max, List, [], ◌∷◌}
-use Rattle.std.specs.List.{list_any}
+use Rattle.std.specs.Prelude.{◌≡◌, ℕ, ◌+◌, ◌≤◌, Bool, true, ◌&&◌, nat_lt, nat_le, if◌then◌else◌, min, max, List, [], ◌∷◌, length}
+use Rattle.std.specs.List.{list_any, slice_index_or}
 use Rattle.std.specs.Char.{IsScalar, scalar_index}
 
 -- a first and a last character
@@ -14,6 +14,10 @@ in_range c r = nat_le r.0 c && nat_le c r.1
 -- whether one of the ranges has a character
 abbrev pub has : List Range → ℕ → Bool
 has ranges c = list_any (in_range c) ranges
+
+-- whether there is a range with this number, and it begins at the character or below
+abbrev pub begins_by : List Range → ℕ → ℕ → Bool
+begins_by ranges k c = nat_lt k (length ranges) && nat_le (slice_index_or ranges k (0, 0)).0 c
 
 -- two lists of ranges have the same characters; surrogates, which are none, may be within one alone
 abbrev pub SameCharacters : List Range → List Range → Type 0

@@ -5,7 +5,7 @@
 //! grammar and the comparison of classes rely on it.
 ghost use Rattle.std.specs.Prelude.{◌≡◌, ◌<◌, ◌↔◌, ◌||◌, ℕ, not, List, Any, IfOk, IsErrOf, IsTrue};
 ghost use Rattle.std.specs.Char.{IsScalar};
-ghost use Rattle.pg_class.specs.Ranges.{Range, AreDisjoint, IsClass, IsWithin, SameCharacters, has};
+ghost use Rattle.pg_class.specs.Ranges.{Range, AreDisjoint, IsClass, IsWithin, SameCharacters, begins_by, has};
 
 use crate::compare::{are_disjoint, is_within};
 use crate::complement::complemented;
@@ -91,11 +91,13 @@ impl Class {
         self.ranges() == other.ranges()
     }
 
-    /// Whether the character is in the class.
+    /// Whether the character is in the class. The one range that may have it is found by halving.
     pub fn has(&self, c: char) -> bool
         ensures { result ≡ has self.now c }
     {
-        self.ranges.iter().any(|range| range.0 <= c && c <= range.1)
+        let ranges = self.ranges();
+        let place = place_of(ranges, c);
+        place < ranges.len() && ranges[place].0 <= c
     }
 
     /// Whether no character is in both classes. The ranges of each are gone through once, and no
@@ -121,6 +123,14 @@ impl Class {
     {
         self.ranges.as_slice()
     }
+}
+
+/// The place of the first range that doesn't end below the character: no other range may have it, as they ascend.
+fn place_of(ranges: &[(char, char)], c: char) -> usize
+    requires { IsClass ranges.now }
+    ensures { has ranges.now c ≡ begins_by ranges.now result c }
+{
+    ranges.partition_point(|range| range.1 < c)
 }
 
 /// The law that a class has one list of ranges: two lists that are classes are equal if they

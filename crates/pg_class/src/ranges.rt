@@ -2,8 +2,9 @@
 //!
 //! Each range is joined into a class that is made so far: those that it overlaps or touches become one
 //! range with it, and the others stay. What is made is a class after every range; only `class.rt` calls
-//! this, once the ranges are known not to descend.
-ghost use Rattle.std.specs.Prelude.{◌≡◌, ◌<◌, ◌≤◌, ◌||◌, ℕ, All, IfOk};
+//! this, once the ranges are known not to descend. Ranges that ascend are put behind one another, so that they
+//! cost no more than their number.
+ghost use Rattle.std.specs.Prelude.{◌≡◌, ◌<◌, ◌≤◌, ◌||◌, ◌++◌, ◌∷◌, [], true, ℕ, All, IfOk};
 ghost use Rattle.std.specs.Char.{IsScalar, scalar_index};
 ghost use Rattle.pg_class.specs.Ranges.{IsClass, apart, has, in_range, with_range};
 
@@ -18,7 +19,7 @@ pub fn joined(alloc: Global, ranges: &[(char, char)]) -> Result<Vec<(char, char)
     let mut class = Vec::new(alloc);
     for range in ranges {
         let (first, last) = *range;
-        class = class_with(alloc, class.as_slice(), first, last)?;
+        class = class_with(alloc, class, first, last)?;
     }
     Ok(class)
 }
@@ -38,25 +39,42 @@ pub fn united(
     let mut united = Vec::from_slice(alloc, class)?;
     for range in other {
         let (first, last) = *range;
-        united = class_with(alloc, united.as_slice(), first, last)?;
+        united = class_with(alloc, united, first, last)?;
     }
     Ok(united)
 }
 
+/// The class with the characters of a range more.
 fn class_with(
     alloc: Global,
-    class: &[(char, char)],
+    class: Vec<(char, char)>,
     first: char,
     last: char,
 ) -> Result<Vec<(char, char)>, AllocError>
-    requires class { IsClass class.now }
+    requires class { IsClass class.items }
     requires ascends { first ≤ last }
     ensures class { IfOk result (λ v. IsClass v.items) }
     ensures members { IfOk result (λ v.
-        (c : ℕ) → IsScalar c → has v.items c ≡ (in_range c (first, last) || has class.now c)) }
+        (c : ℕ) → IsScalar c → has v.items c ≡ (in_range c (first, last) || has class.items c)) }
 {
-    let ranges = with_range(alloc, class, (first, last))?;
+    let mut class = class;
+    if stands_below(class.as_slice(), (first, last)) {
+        class.push((first, last))?;
+        return Ok(class);
+    }
+    let ranges = with_range(alloc, class.as_slice(), (first, last))?;
     Ok(ranges)
+}
+
+/// Whether a range stands behind all those of a class, and a character before it.
+fn stands_below(class: &[(char, char)], range: (char, char)) -> bool
+    requires { IsClass class.now }
+    ensures { result ≡ true → with_range range class.now ≡ class.now ++ range ∷ [] }
+{
+    match class.last() {
+        Some(highest) => is_apart(*highest, range),
+        None => true,
+    }
 }
 
 fn with_range(

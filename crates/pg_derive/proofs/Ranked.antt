@@ -8,9 +8,7 @@ use Rattle.std.proofs.lemmas.Option.{same_Some}
 use Rattle.pg_own_starts.specs.Listed.{start_order, start_order_total}
 use Rattle.pg_own_starts.specs.declared.listed.ListedStart.{ListedStart}
 use Rattle.pg_graph.proofs.Lists.{all_get}
-
-less-equal : Less ≡ Equal → ⊥
-less-equal e = grind (arith, e)
+use Rattle.pg_own_starts.proofs.Ordered.{less-equal}
 
 -- of two places the earlier has the lesser start
 ordered_at : (starts : List ListedStart) → IsStrictlySortedBy start_order starts → (i j : ℕ) (x y : ListedStart) → slice_get starts i ≡ Some x → slice_get starts j ≡ Some y →

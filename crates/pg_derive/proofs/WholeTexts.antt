@@ -1,5 +1,6 @@
 -- What runs of the start rule with the end of the text after it say of a whole text.
 use Rattle.std.proofs.Common.{◌≡◌, ◌<◌, ◌⊎◌, inl, inr, ℕ, suc, List, [], ◌++◌, Bool, true, false, ◌||◌, refl, sym, ap, subst, length, Some, slice_get, arith, append-nil}
+use Rattle.std.proofs.Math.Bool.{or-false}
 use Rattle.pg_tree.specs.Trees.{Tree}
 use Rattle.pg_form.specs.declared.form.Form.TheVariants as form
 use Rattle.pg_form.specs.declared.form.Leaf.TheVariants as leaf
@@ -77,17 +78,13 @@ all_answered G sets h table from = go (exist G sets h start.0.body start.2 (begi
     go (is_ok c b v t e m d) = ends G table c b v t e (suc m) (from_start start.1 d) (end_decided G.text b)
     go (has_failed c e m d) = answered_failed c e m (from_start start.1 d)
 
-or_false : (b : Bool) → (b || false) ≡ b
-or_false true = refl
-or_false false = refl
-
 -- the end of the text adds nothing to what was answered before it
 ended : (G : Given) (table : Table) (c : Bool) (b : Spot) (v : List Tree) (t : List TrailItem) (e : Error) (m : ℕ) → StaysOk b (end_outcome G.text b) →
     AnswersText G table (then_rest c v t e (end_outcome G.text b)) m → (f : Error) × AnswersText G table (ok c b v t f) m
 ended G table c b v t e m s d =
     let f : Error = merge e s.error in
     let first = subst (λ o. AnswersText G table (then_rest c v t e o) m) s.is d in
-    let flag = subst (λ x. AnswersText G table (ok x b (v ++ []) (t ++ []) f) m) (or_false c) first in
+    let flag = subst (λ x. AnswersText G table (ok x b (v ++ []) (t ++ []) f) m) (or-false c) first in
     let forest = subst (λ x. AnswersText G table (ok c b x (t ++ []) f) m) (append-nil v) flag in
     (f, subst (λ x. AnswersText G table (ok c b v x f) m) (append-nil t) forest)
 

@@ -3,11 +3,9 @@
 ghost use Rattle.std.specs.Prelude.{◌<◌, ◌≤◌, length, IfOk};
 
 use super::*;
-use pg_form::{ClassExpression, ClassPart, Decl, Form, Leaf, NodeId, Role, Texts};
-use pg_grammar::Maker;
+use pg_form::{Decl, NodeId, Role, Texts};
 use pg_table::Table;
 use pg_text::Characters;
-use pg_value::Grammar;
 use std::alloc::{AllocError, Global};
 use std::test::Fail;
 
@@ -20,32 +18,18 @@ fn spelled(alloc: Global, c: char) -> Result<Characters, AllocError>
     Ok(Characters::new(characters))
 }
 
-/// The class of one character.
-fn class_of(alloc: Global, c: char) -> Result<ClassExpression, AllocError> {
-    let part = ClassPart::Literal(spelled(alloc, c)?);
-    ClassExpression::new(alloc, vec![in alloc; part]?)
-}
-
 /// A declaration of an operator: its role, its precedence and its one character.
 type Declared = (Role, u8, char);
 
-/// The initial table of a grammar with these declarations.
+/// The table with these declarations.
 fn table_of(alloc: Global, declared: &[Declared]) -> Result<Table, Fail> {
-    let mut maker = Maker::new(alloc);
-    let class = class_of(alloc, '+')?;
-    let gap = class_of(alloc, ' ')?;
-    maker.operators(class, gap, Texts::new(Vec::new(alloc)), 64)?;
+    let mut decls = Vec::new(alloc);
     for (role, precedence, c) in declared {
         let precedence = if *precedence < 10 { *precedence } else { 0 };
-        maker.initial(Decl::new(*role, precedence, spelled(alloc, *c)?))?;
+        decls.push(Decl::new(*role, precedence, spelled(alloc, *c)?))?;
     }
-    maker.rule(
-        spelled(alloc, 's')?,
-        vec![in alloc; Form::Leaf(Leaf::EndOfText)]?,
-    )?;
-    maker.start(spelled(alloc, 's')?)?;
-    let grammar: Grammar = maker.finish().map_err(|unfinished| unfinished.fault)?;
-    Ok(Table::of(alloc, &grammar)?)
+    let reserved = Texts::new(Vec::new(alloc));
+    Ok(Table::of_declarations(alloc, reserved, 64, decls.as_slice())?)
 }
 
 /// The symbols of some operators after a text.

@@ -23,7 +23,7 @@ use Rattle.pg_language.proofs.Unique.{same}
 use Rattle.pg_derive.proofs.Whole.{start_found}
 use Rattle.pg_machine.specs.CheckedRuns.{HasAcceptedGrammar, IsStartAnswer}
 use Rattle.pg_machine.specs.Halting.{tape_before, IsLastAfter, Halts, turns_left}
-use Rattle.pg_turns.specs.Messages.{TapeMessage}
+use Rattle.pg_message_tape.specs.Messages.{TapeMessage}
 use Rattle.pg_machine.specs.Outcomes.{outcome_of, Ends}
 use Rattle.pg_turns.specs.Ready.{IsTapeReady}
 use Rattle.pg_turns.specs.Shows.{Shows, shows_at, no_frames}
@@ -170,7 +170,7 @@ halting_turn offer G T most n m x y fits few r going e next =
       last = subst (IsLastAfter G less.0) (sym e) less.2;
     }
 
-pub halting_ready : (offer : Offer) (G : Given) (T : Table) (most n : ℕ) (x : Tape) → length G.text ≤ 4096 → IsHalting offer G T most n x → IsTapeReady offer (2 ^ 64 - 1) x
+pub halting_ready : (offer : Offer) (G : Given) (T : Table) (most n : ℕ) (x : Tape) → length G.text ≤ 1048576 → IsHalting offer G T most n x → IsTapeReady offer (2 ^ 64 - 1) x
 halting_ready offer G T most n x short r = tape_roomy (length G.text) 8192 offer (suc r.turns) (2 ^ 64 - 1) (omega arith) (omega arith) x r.placed r.running.ready
 
 left_is : (G : Given) (most k : ℕ) (x : Tape) → k ≤ most → IsLastAfter G k x → turns_left G most x ≡ k

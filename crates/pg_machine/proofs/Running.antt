@@ -15,17 +15,17 @@ use Rattle.pg_language.specs.Outcomes as outcome
 use Rattle.pg_language.specs.Outcomes.{Outcome}
 use Rattle.pg_language.proofs.Sound.{sound}
 use Rattle.pg_turns.specs.Frames.{Frame}
-use Rattle.pg_turns.specs.Messages.{TapeMessage, error_of}
+use Rattle.pg_message_tape.specs.Messages.{TapeMessage, error_of}
 use Rattle.pg_machine.specs.Outcomes.{outcome_of, IsDerived, IsOutcome, outcome_on, Ends}
 use Rattle.pg_turns.specs.Shows.{no_frames, stands_parts, Shows, shows_at, shows_succeeded, shows_failed, shows_stuck, shows_endless}
 use Rattle.pg_turns.specs.Tape.{spot_at, OnFrame, Tape, tape_at, tape_turn, tape_is_last}
 use Rattle.pg_turns.specs.Ready.{IsTapeReady}
 use Rattle.pg_turns.specs.Turns.{State, at_node, with_outcome, endless, turn, is_last}
-use Rattle.pg_turns.specs.TapeErrors.{Says, says}
+use Rattle.pg_message_tape.specs.TapeErrors.{Says, says}
 use Rattle.pg_machine.specs.declared.answer.Outcome as ended
 use Rattle.pg_machine.specs.declared.answer.Outcome.TheVariants.{Answered, StepsUsed, EmptyRound}
-use Rattle.pg_turns.specs.declared.message_tape.TapeError.{TapeError}
-use Rattle.pg_turns.proofs.Merged.{drop_seam}
+use Rattle.pg_message_tape.specs.declared.message_tape.TapeError.{TapeError}
+use Rattle.pg_message_tape.proofs.Merged.{drop_seam}
 use Rattle.pg_turns.proofs.Ready.{turn_ready, tape_more}
 use Rattle.pg_turns.proofs.Runs.{Run, run_start, run_turn, run_answer, run_shorter, run_endless}
 use Rattle.pg_turns.proofs.Turned.{turn_shown, last_shown}

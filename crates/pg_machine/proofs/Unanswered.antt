@@ -4,7 +4,7 @@ use Rattle.std.specs.Prelude.{◌==◌, None}
 use Rattle.pg_tree.specs.Trees.{Tree}
 use Rattle.pg_value.specs.declared.trail.TrailItem.{TrailItem}
 use Rattle.pg_table.specs.Tables.{Table}
-use Rattle.pg_turns.specs.Messages.{TapeMessage}
+use Rattle.pg_message_tape.specs.Messages.{TapeMessage}
 use Rattle.pg_turns.specs.Tape.{OnFrame, tape_with}
 use Rattle.pg_turns.specs.View.{stack_of}
 use Rattle.pg_turns.specs.declared.frame.Frame.{Frame}

@@ -14,13 +14,14 @@ ghost use Rattle.pg_derive.specs.PredictiveLaws.{LosesNoAlternative, EachRoundCo
 ghost use Rattle.pg_language.specs.Answers.{given};
 ghost use Rattle.pg_language.specs.WholeTexts.{at_end};
 ghost use Rattle.pg_language.specs.declared.reading.Reading.TheVariants.{Library};
-ghost use Rattle.pg_turns.specs.Messages.{end_error};
+ghost use Rattle.pg_message_tape.specs.Messages.{end_error};
 ghost use Rattle.pg_machine.specs.CheckedRuns.{HasAcceptedGrammar, IsTextAnswer, IsStartAnswer, IsOnlyDerivation, IsUnderivable, steps_to_end};
 ghost use Rattle.pg_machine.specs.Halting.{Halts, Halts-prop};
 ghost use Rattle.pg_machine.specs.Outcomes.{outcome_of};
 
 use crate::answer::{Answer, Outcome};
 use crate::probing::{ended, start_of};
+use pg_class_tables::ClassTables;
 use pg_language::Reading;
 use pg_pred::Registry;
 use pg_predict::Checked;
@@ -65,7 +66,7 @@ pub fn run(
 fn accepted<'a>(checked: &'a Checked, text: &Text) -> &'a Grammar
     ensures grammar { result.now ≡ checked.now.grammar }
     ensures accepts { Accepts (given Library checked.now.grammar text.now) checked.now.sets }
-    ensures short { length text.now ≤ 4096 }
+    ensures short { length text.now ≤ 1048576 }
 {
     let grammar = checked.grammar();
     // These are called for what they say of their grammar and their text.
@@ -87,18 +88,27 @@ impl HaltingRun<'_> {
     /// The answer of the start rule.
     fn answer(&self, alloc: Global, registry: &Registry) -> Result<Answer, AllocError>
         requires fits { Fits (offer_of registry.now) self.now.grammar.now }
-        requires short { length self.now.text.now ≤ 4096 }
+        requires short { length self.now.text.now ≤ 1048576 }
         requires accepted { HasAcceptedGrammar (given Library self.now.grammar.now self.now.text.now) }
         requires table { ComesFrom self.now.grammar.now self.now.table.now }
         ensures { IfOk result (IsStartAnswer (given Library self.now.grammar.now self.now.text.now) self.now.table.now) }
     {
         let text = self.text;
         let own = self.table.copy(alloc)?;
+        let tables = ClassTables::of(alloc, self.grammar)?;
         let mut machine = Machine::new(alloc, own);
         let mut mode = Mode::At(start_of(self.grammar), 0);
         let mut steps: u64 = 0;
         'turns: while !machine.is_over(&mode) {
-            mode = machine.step(alloc, self.grammar, registry, text, Reading::Library, mode)?;
+            mode = machine.step(
+                alloc,
+                self.grammar,
+                &tables,
+                registry,
+                text,
+                Reading::Library,
+                mode,
+            )?;
             steps = steps.saturating_add(1);
         }
         match ended(alloc, text, machine, mode, steps)? {

@@ -9,6 +9,7 @@ ghost use Rattle.pg_language.specs.Answers.{given};
 ghost use Rattle.pg_turns.specs.View.{tape_of};
 
 use crate::answer::{Answer, Outcome, Success};
+use pg_class_tables::ClassTables;
 use pg_form::NodeId;
 use pg_language::Reading;
 use pg_pred::Registry;
@@ -36,11 +37,12 @@ pub fn probe<'a>(
     ensures { IfOk result (IsOutcome (given reading grammar.now text.now) table.now max_steps) }
 {
     let own = table.copy(alloc)?;
+    let tables = ClassTables::of(alloc, grammar)?;
     let mut machine = Machine::new(alloc, own);
     let mut mode = Mode::At(start_of(grammar), 0);
     let mut steps: u64 = 0;
     while steps < max_steps && !machine.is_over(&mode) {
-        mode = machine.step(alloc, grammar, registry, text, reading, mode)?;
+        mode = machine.step(alloc, grammar, &tables, registry, text, reading, mode)?;
         steps += 1;
     }
     ended(alloc, text, machine, mode, steps)

@@ -12,7 +12,8 @@ use Rattle.pg_start.specs.declared.kind.StartKind.TheVariants.{Class, Key, Word,
 use Rattle.pg_own_starts.specs.Listed.{start_order, kind_number, key_text, ranges_of, heads_of, rest_of, reserved_of, range_order, ranges_order, text_order}
 use Rattle.pg_own_starts.specs.declared.listed.ListedStart.{ListedStart}
 
-less-equal : Less ≡ Equal → ⊥
+-- two answers of a comparison differ
+pub less-equal : Less ≡ Equal → ⊥
 less-equal e = grind (arith, e)
 
 greater-equal : Greater ≡ Equal → ⊥

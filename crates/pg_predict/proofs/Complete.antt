@@ -1,9 +1,9 @@
 -- What is wrong is noted.
 use Rattle.std.proofs.Common.{◌≡◌, ℕ, suc, ◌+◌, ◌-◌, ◌<◌, Bool, true, List, [], ◌++◌, Option, Some, slice_get, length, refl, sym, ap, subst, ◌∙◌, arith}
-use Rattle.std.specs.Prelude.{◌&&◌, nat_lt, if◌then◌else◌}
+use Rattle.std.specs.Prelude.{◌&&◌, if◌then◌else◌}
 use Rattle.std.specs.Option.{option_map_or}
 use Rattle.std.proofs.Math.Numerals.{add-one}
-use Rattle.std.proofs.lemmas.Bool.{and_from}
+use Rattle.std.proofs.lemmas.Bool.{and_from, lt-ltb}
 use Rattle.std.proofs.lemmas.Option.{slice_get_within, get_or_from_slice_get}
 use Rattle.pg_value.specs.Grammar.{Grammar, IsGrammar}
 use Rattle.pg_form.specs.Forms.{Node}
@@ -43,9 +43,6 @@ pub record IsFound (starts : List ListedStart) (o : Option Meeting) (s t : Liste
   pub found : o ≡ Some meeting
   pub one : start_at starts meeting.one ≡ s
   pub other : start_at starts meeting.other ≡ t
-
-test_below : (j k : ℕ) → j < k → nat_lt j k ≡ true
-test_below j k e = grind (arith, e)
 
 part_is : (parts : List ℕ) (k q : ℕ) → slice_get parts k ≡ Some q → part_at parts k ≡ q
 part_is parts k q e = get_or_from_slice_get parts k q 0 e
@@ -93,10 +90,10 @@ module _ (g : Grammar) (facts : Facts) (are : AreFacts g facts) (grammar : IsGra
   -- ---- nodes
 
   -- what is noted of what stands at a node is noted of the node
-  at_form : (p : ℕ) (n : Node) (b : Violation ℕ) → slice_get g.nodes p ≡ Some n → In (noted_form g facts p n) b → In (noted_node g facts p) b
+  at_form : (p : ℕ) (n : Node) (b : Violation ℕ) → slice_get g.nodes p ≡ Some n → In (noted_form facts p n) b → In (noted_node g facts p) b
   at_form p n b at is =
-      in_right (noted (is_marked facts.recursive p) p LeftRecursion) (option_map_or (noted_form g facts p) (slice_get g.nodes p) []) b
-      (subst (λ (o : Option Node). In (option_map_or (noted_form g facts p) o []) b) (sym at) is)
+      in_right (noted (is_marked facts.recursive p) p LeftRecursion) (option_map_or (noted_form facts p) (slice_get g.nodes p) []) b
+      (subst (λ (o : Option Node). In (option_map_or (noted_form facts p) o []) b) (sym at) is)
 
   -- the form of a chain
   at_chain : (p operand separator : ℕ) (n : Node) (b : Violation ℕ) → slice_get g.nodes p ≡ Some n → IsChain operand separator n → In (noted_chain facts p operand separator) b
@@ -131,7 +128,7 @@ module _ (g : Grammar) (facts : Facts) (are : AreFacts g facts) (grammar : IsGra
       → In (meeting_alternatives facts p parts j k) (record { node = p; kind = AlternativesMeet (j + 1) (k + 1) m.one m.other })
   pair_has p parts j k m before found =
       subst (λ (t : Bool). In (if t then noted_meeting (node_meeting facts (part_at parts j) (part_at parts k)) p (AlternativesMeet (j + 1) (k + 1)) else [])
-      (record { node = p; kind = AlternativesMeet (j + 1) (k + 1) m.one m.other })) (sym (test_below j k before))
+      (record { node = p; kind = AlternativesMeet (j + 1) (k + 1) m.one m.other })) (sym (lt-ltb j k before))
       (noted_meeting_has (node_meeting facts (part_at parts j) (part_at parts k)) p (AlternativesMeet (j + 1) (k + 1)) m found)
 
   pair_noted : (p j k q r : ℕ) (parts : List ℕ) (s t : ListedStart) → slice_get g.nodes p ≡ Some (form.Choice parts) → j < k → slice_get parts j ≡ Some q → slice_get parts k ≡ Some r
@@ -204,7 +201,7 @@ module _ (g : Grammar) (facts : Facts) (are : AreFacts g facts) (grammar : IsGra
       record {
         kind = LeftRecursion;
         same = refl;
-        noted_there = in_left (noted (is_marked facts.recursive rule.body) rule.body LeftRecursion) (option_map_or (noted_form g facts rule.body) (slice_get g.nodes rule.body) [])
+        noted_there = in_left (noted (is_marked facts.recursive rule.body) rule.body LeftRecursion) (option_map_or (noted_form facts rule.body) (slice_get g.nodes rule.body) [])
             (record { node = rule.body; kind = LeftRecursion }) (noted_has (is_marked facts.recursive rule.body) rule.body LeftRecursion test);
         below = all_get (λ one. one.body < length g.nodes) g.rules r rule (bodies_are_nodes g.rules g.nodes grammar.bodies) there;
       }

@@ -1,5 +1,6 @@
 -- First pairs of numbers in a relation.
 use Rattle.std.proofs.Common.{◌≡◌, ℕ, ◌<◌, ◌≤◌, Bool, true, false, List, Option, Some, None, refl, sym, ap, subst, ◌∙◌, ◌⊎◌, inl, inr, arith}
+use Rattle.std.proofs.lemmas.Bool.{leb-false}
 use Rattle.std.specs.Prelude.{nat_le, if◌then◌else◌}
 use Rattle.std.proofs.lemmas.Bool.{cases_eq, cases_lt, true≢false}
 use Rattle.pg_predict.specs.Meetings.{first_meeting, earlier}
@@ -36,9 +37,6 @@ pair_of_sets meetings one other = go (first_meeting meetings one other) (meeting
 not_after : (a b : ℕ) → nat_le a b ≡ true → a ≤ b
 not_after a b e = grind (arith, e)
 
-after : (a b : ℕ) → nat_le a b ≡ false → b < a
-after a b e = grind (arith, e)
-
 -- of one relation or another, where a number of both is paired alike
 pub pair_either : (R S : ℕ → ℕ → Type 0) (a b : Option Meeting) → ((s t u : ℕ) → R s u → S s t → R s t) → PairFound R a → PairFound S b
     → PairFound (λ s t. R s t ⊎ S s t) (earlier a b)
@@ -66,7 +64,7 @@ pair_either R S (Some m) (Some k) alike (some is) (some other) = go (nat_le m.on
           first_other = λ t below either. elim either [ inl r ↦ is.first_other t below r | inr q ↦ is.first_other t below (alike m.one t m.other is.met q) ];
         })
     go false e =
-        let following = after m.one k.one e in
+        let following = leb-false m.one k.one e in
         some (record {
           met = inr other.met;
           first_one = λ s t below either. elim either [ inl r ↦ is.first_one s t (omega arith) r | inr q ↦ other.first_one s t below q ];

@@ -203,7 +203,7 @@ module _ (g : Grammar) (facts : Facts) (are : AreFacts g facts) (grammar : IsGra
   either_above low p m n b a c (inl is) = record { number = m; above = a; wrong = is }
   either_above low p m n b a c (inr is) = record { number = n; above = c; wrong = is }
 
-  pub form_wrong : (p : ℕ) (n : Node) (b : Violation ℕ) → slice_get g.nodes p ≡ Some n → In (noted_form g facts p n) b → WrongAbove 1 p b
+  pub form_wrong : (p : ℕ) (n : Node) (b : Violation ℕ) → slice_get g.nodes p ≡ Some n → In (noted_form facts p n) b → WrongAbove 1 p b
   form_wrong p (form.Choice parts) b at is =
       elim (in_cases (empty_alternatives facts p parts) (alternatives_that_meet facts p parts ++ alternatives_and_follow facts p parts) b is) [
         | inl empty ↦ record { number = 3; above = omega arith; wrong = empty_wrong p parts b at empty }
@@ -227,16 +227,16 @@ module _ (g : Grammar) (facts : Facts) (are : AreFacts g facts) (grammar : IsGra
       let violates : Violates g recursive.rule.body LeftRecursion = violates.left_recursion recursive.there recursive.chain in
       wrong_where p 1 LeftRecursion b test.1 refl (subst (λ (q : ℕ). Violates g q LeftRecursion) recursive.body violates)
 
-  pub standing_wrong : (p : ℕ) (b : Violation ℕ) → In (option_map_or (noted_form g facts p) (slice_get g.nodes p) []) b → WrongAbove 1 p b
+  pub standing_wrong : (p : ℕ) (b : Violation ℕ) → In (option_map_or (noted_form facts p) (slice_get g.nodes p) []) b → WrongAbove 1 p b
   standing_wrong p b is = go (slice_get g.nodes p) refl is
     where
-      go : (o : Option Node) → slice_get g.nodes p ≡ o → In (option_map_or (noted_form g facts p) o []) b → WrongAbove 1 p b
+      go : (o : Option Node) → slice_get g.nodes p ≡ o → In (option_map_or (noted_form facts p) o []) b → WrongAbove 1 p b
       go (Some n) e is = form_wrong p n b e is
       go None e is = absurd is
 
   pub node_wrong : (p : ℕ) (b : Violation ℕ) → In (noted_node g facts p) b → WrongAbove 0 p b
   node_wrong p b is =
-      elim (in_cases (noted (is_marked facts.recursive p) p LeftRecursion) (option_map_or (noted_form g facts p) (slice_get g.nodes p) []) b is) [
+      elim (in_cases (noted (is_marked facts.recursive p) p LeftRecursion) (option_map_or (noted_form facts p) (slice_get g.nodes p) []) b is) [
         | inl recursion ↦ record { number = 1; above = omega arith; wrong = recursion_wrong p b recursion }
         | inr standing ↦ let wrong = standing_wrong p b standing in let above = wrong.above in record { number = wrong.number; above = omega arith; wrong = wrong.wrong }
       ]

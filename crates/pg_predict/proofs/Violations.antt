@@ -122,23 +122,23 @@ module _ (g : Grammar) (facts : Facts) (are : AreFacts g facts) (grammar : IsGra
       both_are (record { node = p; kind = EmptyRound }) (record { node = p; kind = RoundMeetsFollow other.meeting.one other.meeting.other }) b c
       (in_noted t p EmptyRound b is_b).1 other.same (key_same p (2 ∷ []) (6 ∷ []) (key_less 2 6 [] [] (omega arith))))
 
-  form_ascends : (p : ℕ) (n : Node) → slice_get g.nodes p ≡ Some n → Ascends (noted_form g facts p n)
+  form_ascends : (p : ℕ) (n : Node) → slice_get g.nodes p ≡ Some n → Ascends (noted_form facts p n)
   form_ascends p (form.Choice parts) at = choice_ascends p parts at
   form_ascends p (form.Many part) at = round_ascends p (is_marked facts.sets.nullable part) (follow_meeting facts part p)
   form_ascends p (form.Chain side used operand separator) at =
       round_ascends p (is_marked facts.sets.nullable separator && is_marked facts.sets.nullable operand) (link_meeting facts operand separator p)
   form_ascends p n at = tt
 
-  standing_ascends : (p : ℕ) → Ascends (option_map_or (noted_form g facts p) (slice_get g.nodes p) [])
+  standing_ascends : (p : ℕ) → Ascends (option_map_or (noted_form facts p) (slice_get g.nodes p) [])
   standing_ascends p = go (slice_get g.nodes p) refl
     where
-      go : (o : Option Node) → slice_get g.nodes p ≡ o → Ascends (option_map_or (noted_form g facts p) o [])
+      go : (o : Option Node) → slice_get g.nodes p ≡ o → Ascends (option_map_or (noted_form facts p) o [])
       go (Some n) e = form_ascends p n e
       go None e = tt
 
   node_ascends : (p : ℕ) → Ascends (noted_node g facts p)
   node_ascends p =
-      ascends_append (noted (is_marked facts.recursive p) p LeftRecursion) (option_map_or (noted_form g facts p) (slice_get g.nodes p) [])
+      ascends_append (noted (is_marked facts.recursive p) p LeftRecursion) (option_map_or (noted_form facts p) (slice_get g.nodes p) [])
       (ascends_noted (is_marked facts.recursive p) p LeftRecursion) (standing_ascends p)
       (λ b c is_b is_c.
       let other = standing_wrong g facts are grammar p c is_c in

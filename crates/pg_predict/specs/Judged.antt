@@ -99,19 +99,19 @@ noted_chain facts p operand separator =
 
 -- ---- all forms
 
-abbrev pub noted_form : Grammar → Facts → ℕ → Node → List (Violation ℕ)
-noted_form g facts p (form.Leaf leaf) = []
-noted_form g facts p (form.Seq parts) = []
-noted_form g facts p (form.Choice parts) = noted_choice facts p parts
-noted_form g facts p (form.Many part) = noted_many facts p part
-noted_form g facts p (form.Chain side used operand separator) = noted_chain facts p operand separator
-noted_form g facts p (form.Rule rule) = []
-noted_form g facts p (form.Expression builders term) = []
-noted_form g facts p (form.Around around part) = []
+abbrev pub noted_form : Facts → ℕ → Node → List (Violation ℕ)
+noted_form facts p (form.Leaf leaf) = []
+noted_form facts p (form.Seq parts) = []
+noted_form facts p (form.Choice parts) = noted_choice facts p parts
+noted_form facts p (form.Many part) = noted_many facts p part
+noted_form facts p (form.Chain side used operand separator) = noted_chain facts p operand separator
+noted_form facts p (form.Rule rule) = []
+noted_form facts p (form.Expression builders term) = []
+noted_form facts p (form.Around around part) = []
 
 -- what is noted at a node: first whether it is the body of a rule that heads itself
 abbrev pub noted_node : Grammar → Facts → ℕ → List (Violation ℕ)
-noted_node g facts p = noted (is_marked facts.recursive p) p LeftRecursion ++ option_map_or (noted_form g facts p) (slice_get g.nodes p) []
+noted_node g facts p = noted (is_marked facts.recursive p) p LeftRecursion ++ option_map_or (noted_form facts p) (slice_get g.nodes p) []
 
 -- at all nodes
 abbrev pub noted_grammar : Grammar → Facts → List (Violation ℕ)

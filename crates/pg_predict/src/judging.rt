@@ -63,7 +63,7 @@ fn judge_form(
     requires facts { AreFacts grammar.now judge.now }
     requires grammar { IsGrammar grammar.now }
     requires form { slice_get grammar.now.nodes node ≡ Some form.now }
-    ensures { OnOk result (violations.new.items ≡ violations.old.items ++ noted_form grammar.now judge.now node form.now) }
+    ensures { OnOk result (violations.new.items ≡ violations.old.items ++ noted_form judge.now node form.now) }
 {
     match form {
         Form::Choice(parts) => judge_choice(alloc, judge, node, parts.as_slice(), violations),

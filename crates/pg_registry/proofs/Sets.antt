@@ -1,5 +1,6 @@
 -- The ranges of a set of code points have its characters.
-use Rattle.std.proofs.Common.{◌≡◌, ◌≤◌, ℕ, Bool, true, false, ◌||◌, List, [], ◌∷◌, refl, ap, ◌∙◌, arith}
+use Rattle.std.proofs.Common.{◌≡◌, ◌≤◌, ℕ, ◌||◌, List, [], ◌∷◌, refl, ap, ◌∙◌, arith}
+use Rattle.std.proofs.Math.Bool.{or-false}
 use Rattle.std.proofs.lemmas.Bool.Decides.{leb_tells}
 use Rattle.std.specs.Char.{IsScalar}
 use Rattle.pg_class.specs.Ranges.{Range, in_range, has}
@@ -35,9 +36,5 @@ unfolding in_set
 in_set-category category c = refl
 
 -- one range has its characters
-or_false : (b : Bool) → (b || false) ≡ b
-or_false true = refl
-or_false false = refl
-
 pub has-one : (r : Range) (c : ℕ) → has (r ∷ []) c ≡ in_range c r
-has-one r c = or_false (in_range c r)
+has-one r c = or-false (in_range c r)

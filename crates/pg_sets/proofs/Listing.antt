@@ -1,5 +1,5 @@
 -- The starts of a map, as a list in their order.
-use Rattle.std.proofs.Common.{◌≡◌, ℕ, zero, suc, Bool, true, false, cond, inl, inr, List, [], ◌∷◌, Option, Some, None, slice_get, length, unwrap_or, is_some, refl, sym, ap, ◌∙◌, arith, Less, Equal}
+use Rattle.std.proofs.Common.{◌≡◌, ℕ, zero, suc, Bool, true, false, cond, inl, inr, List, [], ◌∷◌, Option, Some, None, slice_get, length, unwrap_or, is_some, refl, sym, ap, ◌∙◌, arith, Less}
 use Rattle.std.specs.BTreeMap.{get, keys, values}
 use Rattle.std.specs.Map.{lookup, keys_of, values_of}
 use Rattle.std.specs.List.Sorted.{IsStrictlySortedBy}
@@ -16,7 +16,7 @@ use Rattle.pg_start.specs.declared.kind.StartKind.{StartKind}
 use Rattle.pg_graph.specs.Graphs.{has, numbers_at}
 use Rattle.pg_own_starts.specs.Listed.{IsListed, IsNumbered, IsFirstReader, start_order, start_order_total}
 use Rattle.pg_sets.specs.Origins.{Origins, sets_of, AreOrigins, AreListed}
-use Rattle.pg_own_starts.specs.OwnStarts.{OwnStart, IsOperatorStart, ReservedAs, ReadsWords, SameTexts}
+use Rattle.pg_own_starts.specs.OwnStarts.{OwnStart, IsOperatorStart, ReservedAs, SameTexts}
 use Rattle.pg_own_starts.specs.OwnStarts as own
 use Rattle.pg_sets.specs.Sources.{IsSource}
 use Rattle.pg_sets.specs.Sources as source
@@ -24,6 +24,7 @@ use Rattle.pg_own_starts.specs.declared.listed.ListedStart.{ListedStart}
 use Rattle.pg_sets.proofs.Adding.{same_if_tied, tied_if_same}
 use Rattle.pg_graph.proofs.Lists.{all_get}
 use Rattle.pg_own_starts.proofs.Owned.{reads_like}
+use Rattle.pg_own_starts.proofs.Ordered.{less-equal}
 
 abbrev pub Entries : Type 0
 Entries = List (ListedStart × List ℕ)
@@ -37,9 +38,6 @@ place_of (e ∷ es) q is = go (is_eq (start_order q e.0)) refl is (λ later. pla
         → (is_some (lookup (λ x. is_eq (start_order q x)) es) ≡ true → (k : ℕ) × (slice_get (keys_of es) k ≡ Some q)) → (k : ℕ) × (slice_get (keys_of (e ∷ es)) k ≡ Some q)
     go true tied is ih = (zero, ap Some (sym (same_if_tied q e.0 tied)))
     go false apart is ih = let rest = ih is in (suc rest.0, rest.1)
-
-less-equal : Less ≡ Equal → ⊥
-less-equal e = grind (arith, e)
 
 -- what a start has that stands there
 value_at : (es : Entries) (k : ℕ) (q : ListedStart) → IsStrictlySortedBy start_order (keys_of es) → slice_get (keys_of es) k ≡ Some q

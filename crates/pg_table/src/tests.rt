@@ -4,10 +4,8 @@
 ghost use Rattle.std.specs.Prelude.{◌<◌, length, IfOk};
 
 use super::*;
-use pg_form::{ClassExpression, ClassPart, Decl, Form, Leaf, Role, Texts};
-use pg_grammar::Maker;
+use pg_form::{Decl, Role, Texts};
 use pg_text::Characters;
-use pg_value::Grammar;
 use std::alloc::{AllocError, Global};
 use std::test::Fail;
 
@@ -31,44 +29,30 @@ fn declared(alloc: Global, role: Role, symbol: Symbol) -> Result<Decl, AllocErro
     Ok(Decl::new(role, 6, spelled(alloc, symbol)?))
 }
 
-/// The class of one character.
-fn class_of(alloc: Global, c: char) -> Result<ClassExpression, AllocError> {
-    let part = ClassPart::Literal(spelled(alloc, (0, c))?);
-    ClassExpression::new(alloc, vec![in alloc; part]?)
-}
-
-/// A grammar with these initial declarations. Its tables may hold so many operators; `=`, and `=` after 16 times `x`, are
+/// The table with these declarations, if each is admitted. It may hold so many operators; `=`, and `=` after 16 times `x`, are
 /// reserved.
-fn grammar_of(alloc: Global, most: usize, initials: &[(Role, Symbol)]) -> Result<Grammar, Fail> {
-    let mut maker = Maker::new(alloc);
+fn initial_table(
+    alloc: Global,
+    most: usize,
+    initials: &[(Role, Symbol)],
+) -> Result<Result<Table, InitialFault>, Fail> {
     let reserved = vec![in alloc; spelled(alloc, (0, '='))?, spelled(alloc, (16, '='))?]?;
-    maker.operators(
-        class_of(alloc, 'x')?,
-        class_of(alloc, ' ')?,
-        Texts::new(reserved),
-        most,
-    )?;
+    let mut decls = Vec::new(alloc);
     for (role, symbol) in initials {
-        maker.initial(declared(alloc, *role, *symbol)?)?;
+        decls.push(declared(alloc, *role, *symbol)?)?;
     }
-    maker.rule(
-        spelled(alloc, (0, 's'))?,
-        vec![in alloc; Form::Leaf(Leaf::EndOfText)]?,
-    )?;
-    maker.start(spelled(alloc, (0, 's'))?)?;
-    Ok(maker.finish().map_err(|unfinished| unfinished.fault)?)
+    let most = most.min(64);
+    Ok(Table::of_declarations(alloc, Texts::new(reserved), most, decls.as_slice()))
 }
 
-/// The initial table of such a grammar.
+/// The table with these declarations.
 fn table_of(alloc: Global, most: usize, initials: &[(Role, Symbol)]) -> Result<Table, Fail> {
-    let grammar = grammar_of(alloc, most, initials)?;
-    Ok(Table::of(alloc, &grammar)?)
+    Ok(initial_table(alloc, most, initials)??)
 }
 
-/// Why such a grammar has no initial table, with the index of the declaration.
+/// Why there is no such table, with the index of the declaration.
 fn refusal(alloc: Global, most: usize, initials: &[(Role, Symbol)]) -> Result<String, Fail> {
-    let grammar = grammar_of(alloc, most, initials)?;
-    match Table::of(alloc, &grammar) {
+    match initial_table(alloc, most, initials)? {
         Ok(_) => Ok(String::from_str(alloc, "none")?),
         Err(InitialFault::NotAdmitted { index, fault }) => {
             let fault = InitialFault::NotAdmitted { index, fault };
@@ -236,15 +220,10 @@ fn counts_each_precedence_once(rt: HostRuntime) -> Result<(), Fail> {
 }
 
 #[test]
-fn holds_no_operator_without_an_operators_item(rt: HostRuntime) -> Result<(), Fail> {
+fn may_hold_no_operator(rt: HostRuntime) -> Result<(), Fail> {
     let alloc = rt.alloc();
-    let mut maker = Maker::new(alloc);
-    let body = vec![in alloc; Form::Leaf(Leaf::EndOfText)]?;
-    maker.rule(spelled(alloc, (0, 's'))?, body)?;
-    maker.start(spelled(alloc, (0, 's'))?)?;
-    let grammar = maker.finish().map_err(|unfinished| unfinished.fault)?;
-    let table = Table::of(alloc, &grammar)?;
-    let found = admission(alloc, &table, Role::Prefix, (0, '='))?;
+    let table = table_of(alloc, 0, &[])?;
+    let found = admission(alloc, &table, Role::Prefix, (0, '-'))?;
     assert_eq!(rt; found.as_str(), "A5");
     Ok(())
 }

@@ -19,10 +19,12 @@ fn decodes(rt: HostRuntime) -> Result<(), Fail> {
 fn refuses(rt: HostRuntime) -> Result<(), Fail> {
     let cut = Text::from_bytes(rt.alloc(), b"1\xe2\x82");
     assert!(rt; matches!(cut, Err(TextFault::NotUtf8)));
-    let long = Text::from_bytes(rt.alloc(), &[b'7'; 4097]);
-    assert!(rt; matches!(long, Err(TextFault::TooLong)));
-    let full = Text::from_bytes(rt.alloc(), &[b'7'; 4096])?;
+    let mut bytes = vec![in rt.alloc(); b'7'; LIMIT]?;
+    let full = Text::from_bytes(rt.alloc(), bytes.as_slice())?;
     assert_eq!(rt; full.len(), LIMIT);
+    bytes.push(b'7')?;
+    let long = Text::from_bytes(rt.alloc(), bytes.as_slice());
+    assert!(rt; matches!(long, Err(TextFault::TooLong)));
     Ok(())
 }
 

@@ -12,7 +12,7 @@ use std::marker::Model;
 use thiserror::Error;
 
 /// The most characters that a text has.
-pub const LIMIT: usize = 4096;
+pub const LIMIT: usize = 1_048_576;
 
 /// Why bytes are no text.
 #[derive(Debug, Drop, Error)]

@@ -1,12 +1,12 @@
 -- How many nodes begin at each entry of stored trees.
-use Rattle.std.proofs.Common.{◌≡◌, ◌+◌, ◌-◌, ◌≤◌, ◌<◌, ℕ, zero, suc, List, [], ◌∷◌, ◌++◌, length, take, drop, get_or, set, refl, ap, sym, ◌∙◌, arith, append_assoc}
+use Rattle.std.proofs.Common.{◌≡◌, ◌+◌, ◌-◌, ◌≤◌, ◌<◌, ℕ, List, [], ◌∷◌, ◌++◌, length, get_or, refl, ap, sym, ◌∙◌, arith, append_assoc}
 use Rattle.std.specs.Prelude.{sum}
-use Rattle.std.proofs.lemmas.List.{append-nil, length-append, length_push, length-set, drop_more}
-use Rattle.std.proofs.lemmas.List.Sums.{sum_by-set, get_or-le-sum_by, sum_by_push}
+use Rattle.std.proofs.lemmas.List.{append-nil, length-append, length_push, length-set}
+use Rattle.std.proofs.lemmas.List.Sums.{sum_by-set, sum_by_push}
 use Rattle.pg_tree.specs.declared.entry.Entry.{Entry}
 use Rattle.pg_tree.specs.declared.entry.Entry.TheVariants.{Leaf, Node}
 use Rattle.pg_tree.specs.Trees.{Tree, Trees, leaf, node, no_trees, tree, kids_of}
-use Rattle.pg_tree.specs.Stored.{kid_count, tree_bytes, kids_bytes, tree_entries, kids_entries, entries_of, extent_of}
+use Rattle.pg_tree.specs.Stored.{kid_count, kids_bytes, tree_entries, kids_entries, entries_of}
 use Rattle.pg_tree.specs.Written.{openings_with, node_openings, kids_openings, raised, with_opening, openings_on, IsWithin, AreWithin}
 
 -- as many openings as entries
@@ -119,17 +119,3 @@ sum-with_opening counts (Node l k size b) h =
     let all = counts ++ 0 ∷ [] in
     let within : i < length all = omega (arith, length_push counts 0, h.0) in
     omega (arith, sum_by-set (λ (x : ℕ). x) all i (get_or all i 0 + 1) 0 within, sum_by_push (λ (x : ℕ). x) counts 0)
-
--- one step of the loop over the entries
-pub openings-more : (counts more : List ℕ) (es : List Entry) (i : ℕ) (e : Entry) (all : List ℕ) → i < length es → e ≡ get_or es i e
-    → AreWithin i (drop i es) → openings_on counts (drop i es) ≡ all → more ≡ with_opening counts e
-    → AreWithin (i + 1) (drop (i + 1) es) × (openings_on more (drop (i + 1) es) ≡ all)
-openings-more counts more es i e all h is within noted f =
-    let split : drop i es ≡ e ∷ drop (i + 1) es = drop_more es i e h ∙ ap (λ x. x ∷ drop (i + 1) es) (sym is) in
-    let parts = rw split at within in
-    (parts.1, ap (λ ns. openings_on ns (drop (i + 1) es)) f ∙ sym (ap (λ xs. openings_on counts xs) split) ∙ noted)
-
-pub within-next : (es : List Entry) (i : ℕ) (e : Entry) → i < length es → e ≡ get_or es i e → AreWithin i (drop i es) → IsWithin i e
-within-next es i e h is within =
-    let split : drop i es ≡ e ∷ drop (i + 1) es = drop_more es i e h ∙ ap (λ x. x ∷ drop (i + 1) es) (sym is) in
-    let parts = rw split at within in parts.0

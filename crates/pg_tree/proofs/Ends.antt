@@ -1,11 +1,11 @@
 -- Where stored trees end, and what stands there.
-use Rattle.std.proofs.Common.{◌≡◌, ◌+◌, ◌-◌, ◌≤◌, ◌<◌, ℕ, zero, suc, List, [], ◌∷◌, ◌++◌, length, take, drop, get_or, refl, ap, sym, ◌∙◌, arith, append_assoc}
-use Rattle.std.proofs.lemmas.List.{append-nil, get_or_at, length-append, take-append-drop, take_more, length_push, take_all, take_at, drop_at, length-take-le, length-drop}
+use Rattle.std.proofs.Common.{◌≡◌, ◌+◌, ◌-◌, ◌≤◌, ◌<◌, ℕ, List, [], ◌∷◌, ◌++◌, length, take, drop, get_or, refl, ap, sym, ◌∙◌, arith, append_assoc}
+use Rattle.std.proofs.lemmas.List.{append-nil, get_or_at, length-append, take-append-drop, take_more, length_push, take_at, drop_at, length-take-le, length-drop}
 use Rattle.pg_tree.specs.declared.entry.Entry.{Entry}
 use Rattle.pg_tree.specs.declared.entry.Entry.TheVariants.{Leaf, Node}
 use Rattle.pg_tree.specs.declared.entry.Extent.{Extent}
-use Rattle.pg_tree.specs.Trees.{Tree, Trees, leaf, node, kids_of}
-use Rattle.pg_tree.specs.Stored.{IsStored, has_label, kid_count, tree_bytes, kids_bytes, tree_entries, kids_entries, entries_of, bytes_of, extent_of, IsEndOf}
+use Rattle.pg_tree.specs.Trees.{Tree, leaf, node}
+use Rattle.pg_tree.specs.Stored.{IsStored, kid_count, tree_bytes, kids_bytes, tree_entries, kids_entries, entries_of, bytes_of, extent_of, IsEndOf}
 use Rattle.pg_tree.proofs.Stored.{entries_of-append, bytes_of-append}
 
 -- the last entry of a tree, and those before it

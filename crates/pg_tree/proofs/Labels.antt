@@ -1,8 +1,8 @@
 -- Nodes with a label among stored trees, and what is left of a list where the last tree is put away for its kids.
-use Rattle.std.proofs.Common.{◌≡◌, ◌≢◌, ◌+◌, ◌-◌, ◌≤◌, ◌<◌, ℕ, zero, suc, Bool, true, false, cond, List, [], ◌∷◌, ◌++◌, length, take, drop, get_or, refl, ap, sym, ◌∙◌, arith, append_assoc}
+use Rattle.std.proofs.Common.{◌≡◌, ◌+◌, ◌-◌, ◌≤◌, ◌<◌, ℕ, suc, true, false, cond, List, [], ◌∷◌, ◌++◌, length, take, drop, get_or, refl, ap, sym, ◌∙◌, arith, append_assoc}
 use Rattle.std.specs.Str.{bytes_eq}
 use Rattle.std.proofs.lemmas.Slice.Eq.{bytes_eq-Decides}
-use Rattle.std.proofs.lemmas.List.{append-nil, length-append, take_all, take_at, drop_at, drop_all, drop_more, take-append-drop, get_or-take, length-take, length-take-le, length_push, take-take}
+use Rattle.std.proofs.lemmas.List.{length-append, take_all, take_at, drop_at, drop_all, drop_more, take-append-drop, get_or-take, length-take, length-take-le, length_push, take-take}
 use Rattle.pg_tree.specs.declared.entry.Entry.{Entry}
 use Rattle.pg_tree.specs.declared.entry.Entry.TheVariants.{Leaf, Node}
 use Rattle.pg_tree.specs.declared.entry.Extent.{Extent}

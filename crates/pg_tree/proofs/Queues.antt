@@ -1,8 +1,10 @@
 -- Bytes that are compared one by one, and moved one by one.
-use Rattle.std.proofs.Common.{◌≡◌, ◌≢◌, ◌+◌, ◌-◌, ◌≤◌, ◌<◌, ℕ, zero, suc, Bool, true, false, List, [], ◌∷◌, ◌++◌, length, take, drop, get_or, refl, ap, sym, ◌∙◌, arith, append_assoc, subst}
+use Rattle.std.proofs.Common.{◌≡◌, ◌+◌, ◌≤◌, ◌<◌, ℕ, zero, suc, Bool, true, false, List, [], ◌∷◌, ◌++◌, length, take, drop, get_or, refl, ap, sym, ◌∙◌, arith, append_assoc, encode_utf8_all}
 use Rattle.std.specs.Str.{bytes_eq}
+use Rattle.std.specs.Char.{encode_utf8}
+use Rattle.std.proofs.lemmas.Str.{encodes-append}
 use Rattle.std.proofs.lemmas.Slice.Eq.{bytes_eq-Decides}
-use Rattle.std.proofs.lemmas.List.{get_or-take, get_or-drop, get_or_default, take_all, nil_from_length}
+use Rattle.std.proofs.lemmas.List.{get_or-take, get_or-drop, get_or_default, take_all, take_more, append-nil, nil_from_length}
 
 take_nil : (n : ℕ) → let none : List ℕ = [] in take n none ≡ none
 take_nil zero = refl
@@ -32,6 +34,15 @@ bytes_differ xs bytes from i x h room is differs =
     let there : from + i < length xs = omega arith in
     differs (is ∙ get_or_default xs (from + i) x 0 there ∙ sym (get_or-drop from xs i 0) ∙ sym (get_or-take (length bytes) (drop from xs) i 0 h)
     ∙ ap (λ ys. get_or ys i 0) all))
+
+-- the bytes of one more character
+pub encoded-more : (old queue new bytes cs : List ℕ) (i : ℕ) → i < length cs → queue ≡ old ++ encode_utf8_all (take i cs) → new ≡ queue ++ bytes
+    → bytes ≡ encode_utf8 (get_or cs i 0) → new ≡ old ++ encode_utf8_all (take (i + 1) cs)
+encoded-more old queue new bytes cs i h so_far e is =
+    let own : bytes ≡ encode_utf8_all (get_or cs i 0 ∷ []) = is ∙ sym (append-nil (encode_utf8 (get_or cs i 0))) in
+    e ∙ ap (λ xs. xs ++ bytes) so_far ∙ append_assoc old (encode_utf8_all (take i cs)) bytes
+    ∙ ap (λ xs. old ++ (encode_utf8_all (take i cs) ++ xs)) own
+    ∙ ap (λ xs. old ++ xs) (sym (ap encode_utf8_all (take_more cs i 0 h) ∙ encodes-append (take i cs) (get_or cs i 0 ∷ [])))
 
 -- one byte moved from the front of some to the end of others
 pub moved-some : (to more from less : List ℕ) (n left x : ℕ) → left + 1 ≡ n → from ≡ x ∷ less → more ≡ to ++ x ∷ []

@@ -1,12 +1,13 @@
 -- Stored trees show themselves, also where they are joined.
-use Rattle.std.proofs.Common.{◌≡◌, ◌+◌, ◌-◌, ◌≤◌, ◌<◌, ℕ, zero, suc, List, [], ◌∷◌, ◌++◌, length, take, drop, reverse, get_or, refl, ap, sym, ◌∙◌, arith, append_assoc, zero-add, Bool, true, false, Result, Ok, Err, if◌then◌else◌}
+use Rattle.std.proofs.Common.{◌≡◌, ◌+◌, ◌-◌, ◌≤◌, ◌<◌, ℕ, zero, suc, List, [], ◌∷◌, ◌++◌, length, take, drop, reverse, get_or, refl, ap, sym, ◌∙◌, arith, append_assoc, zero-add, ◌||◌, Bool, true, false, Result, Ok, Err, if◌then◌else◌}
 use Rattle.std.proofs.lemmas.List.{append-nil, take_at, drop_at, reverse-append, reverse-reverse, length-append}
+use Rattle.std.specs.List.{list_any}
 use Rattle.std.specs.Result.{OnOk, is_ok, is_err}
 use Rattle.pg_tree.specs.declared.entry.Entry.{Entry}
 use Rattle.pg_tree.specs.declared.entry.Entry.TheVariants.{Leaf, Node}
 use Rattle.pg_tree.specs.Trees.{Tree, Trees, leaf, node, no_trees, tree, kids_of}
 use Rattle.pg_tree.specs.Built.{with_kids, tree_text, kids_text}
-use Rattle.pg_tree.specs.Stored.{kid_count, tree_bytes, kids_bytes, tree_entries, kids_entries, entries_of, bytes_of, kids_before, shown_on, shown, leaf_bytes, IsStored}
+use Rattle.pg_tree.specs.Stored.{kid_count, tree_bytes, kids_bytes, tree_entries, kids_entries, entries_of, bytes_of, kids_before, shown_on, shown, leaf_bytes, is_node, IsStored}
 use Rattle.pg_tree.proofs.Flattening.{with_kids-no_trees, kids_of-append}
 
 -- the entries, and the bytes, of kids after other kids
@@ -187,6 +188,23 @@ leaf_bytes-stored es bs n ts h =
     ap (λ all. leaf_bytes all bs) (h.entries_are ∙ sym (append-nil (entries_of ts)))
     ∙ ap (λ all. leaf_bytes (entries_of ts ++ []) all) (h.bytes_are ∙ sym (append-nil (bytes_of ts)))
     ∙ leaf_bytes-kids (kids_of ts) [] [] ∙ append-nil (kids_text (kids_of ts))
+
+-- a node stands among entries
+node_among : (es : List Entry) (n : Entry) (fs : List Entry) → is_node n ≡ true → list_any is_node ((es ++ n ∷ []) ++ fs) ≡ false → ⊥
+node_among [] n fs is none = let wrong : true ≡ false = sym (ap (λ b. b || list_any is_node fs) is) ∙ none in cc
+node_among (Leaf k ∷ es) n fs is none = node_among es n fs is none
+node_among (Node _ _ _ _ ∷ es) n fs is none = let wrong : true ≡ false = none in cc
+
+-- among trees without a node the bytes are the texts
+leaves_alone : (ts : Trees) → list_any is_node (kids_entries ts) ≡ false → kids_bytes ts ≡ kids_text ts
+leaves_alone no_trees h = refl
+leaves_alone (tree (leaf text) ts) h = ap (λ rest. text ++ rest) (leaves_alone ts h)
+leaves_alone (tree (node label kids) ts) h =
+    let n = Node (length label) (kid_count kids) (length (kids_entries kids) + 1) (length (kids_bytes kids ++ label)) in
+    absurd (node_among (kids_entries kids) n (kids_entries ts) refl h)
+
+pub leaves-stored : (es : List Entry) (bs : List ℕ) (n : ℕ) (ts : List Tree) → IsStored es bs n ts → list_any is_node es ≡ false → bytes_of ts ≡ kids_text (kids_of ts)
+leaves-stored es bs n ts h none = leaves_alone (kids_of ts) (sym (ap (λ all. list_any is_node all) h.entries_are) ∙ none)
 
 -- a leaf behind trees, whose text was put behind their bytes
 pub stored-push_leaf : (es fs : List Entry) (bs cs text : List ℕ) (n m : ℕ) (ts : List Tree) → IsStored es bs n ts → cs ≡ bs ++ text

@@ -1,5 +1,5 @@
 -- Stretches of trees: what a stretch more adds, and what is taken from the end of all of them.
-use Rattle.std.proofs.Common.{◌≡◌, ◌≤◌, ◌+◌, ◌-◌, ℕ, List, [], ◌∷◌, ◌++◌, take, drop, length, refl, sym, ap, ◌∙◌, append_assoc, append-nil, length-append, arith}
+use Rattle.std.proofs.Common.{◌≡◌, ◌≤◌, ◌+◌, ◌-◌, ℕ, List, [], ◌∷◌, ◌++◌, take, drop, length, sym, ap, ◌∙◌, append_assoc, append-nil, length-append, arith}
 use Rattle.std.proofs.Math.Seq.{drop-append-add, take-append-add}
 use Rattle.std.proofs.lemmas.List.{take-append-le}
 use Rattle.pg_tree.specs.Trees.{Tree}
@@ -35,6 +35,9 @@ take_below below lower top count h =
     ap (λ us. take count (us ++ top)) (joined_push below lower) ∙ take-append-le count (joined below ++ lower) top (let e = length-append (joined below) lower in omega (arith, h, e))
 
 -- an empty stretch on top adds nothing
+pub joined_none : (below : List (List Tree)) → joined below ++ [] ≡ joined below
+joined_none below = append-nil (joined below)
+
 pub joined_open : (below : List (List Tree)) (top : List Tree) → joined (below ++ top ∷ []) ++ [] ≡ joined below ++ top
 joined_open below top = append-nil (joined (below ++ top ∷ [])) ∙ joined_push below top
 

@@ -1,12 +1,12 @@
 -- The text in JSON of entries is that of the trees that they store.
-use Rattle.std.proofs.Common.{◌≡◌, ◌+◌, ◌<◌, ℕ, zero, suc, Bool, true, false, List, [], ◌∷◌, ◌++◌, length, take, drop, get_or, codes, refl, ap, sym, ◌∙◌, arith, append_assoc, add-one, if◌then◌else◌}
+use Rattle.std.proofs.Common.{◌≡◌, ◌+◌, ◌<◌, ℕ, Bool, true, false, List, [], ◌∷◌, ◌++◌, length, take, drop, get_or, codes, refl, ap, sym, ◌∙◌, append_assoc, add-one, if◌then◌else◌}
 use Rattle.std.proofs.lemmas.List.{append-nil, take_at, drop_at, drop_more, get_or_read}
 use Rattle.pg_tree.specs.declared.entry.Entry.{Entry}
 use Rattle.pg_tree.specs.declared.entry.Entry.TheVariants.{Leaf, Node}
 use Rattle.pg_tree.specs.Trees.{Tree, Trees, leaf, node, no_trees, tree, kids_of}
 use Rattle.pg_tree.specs.Json.{quoted, json_tree, json_kids, json_rest}
 use Rattle.pg_tree.specs.Stored.{kid_count, tree_bytes, kids_bytes, tree_entries, kids_entries, entries_of, bytes_of, own_bytes, kids_below}
-use Rattle.pg_tree.specs.Written.{openings_with, node_openings, kids_openings, braces, separator, has_none, own_json, entries_json}
+use Rattle.pg_tree.specs.Written.{openings_with, kids_openings, braces, separator, has_none, own_json, entries_json}
 
 -- one more opening
 pub braces-more : (n : ℕ) → braces (n + 1) ≡ braces n ++ codes "{\"kids\":["

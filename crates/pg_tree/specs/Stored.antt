@@ -1,5 +1,5 @@
 -- How trees are stored: their leaves and nodes in postorder, and the bytes of their texts and labels in the same order.
-use Rattle.std.specs.Prelude.{◌≡◌, ◌+◌, ◌≤◌, ℕ, zero, suc, Bool, false, List, [], ◌∷◌, ◌++◌, length, take, drop, reverse}
+use Rattle.std.specs.Prelude.{◌≡◌, ◌+◌, ◌≤◌, ℕ, zero, suc, Bool, true, false, List, [], ◌∷◌, ◌++◌, length, take, drop, reverse}
 use Rattle.std.specs.Str.{bytes_eq}
 use Rattle.pg_tree.specs.Trees.{Tree, Trees, leaf, node, no_trees, tree, kids_of}
 use Rattle.pg_tree.specs.declared.entry.Entry.{Entry}
@@ -43,6 +43,11 @@ bytes_of ts = kids_bytes (kids_of ts)
 abbrev pub extent_of : Entry → Extent
 extent_of (Leaf bytes) = record { entries = 1; bytes = bytes }
 extent_of (Node label kids entries bytes) = record { entries = entries; bytes = bytes }
+
+-- whether an entry is a node
+abbrev pub is_node : Entry → Bool
+is_node (Leaf bytes) = false
+is_node (Node label kids entries bytes) = true
 
 -- how long an entry's own text or label is
 abbrev pub own_bytes : Entry → ℕ

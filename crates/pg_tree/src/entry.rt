@@ -5,7 +5,7 @@
 //! and bytes stand for.
 
 ghost use Rattle.std.specs.Prelude.{◌≡◌};
-ghost use Rattle.pg_tree.specs.Stored.{extent_of, own_bytes, kids_below};
+ghost use Rattle.pg_tree.specs.Stored.{extent_of, own_bytes, kids_below, is_node};
 ghost use Rattle.pg_tree.specs.Written.{has_none};
 
 /// A leaf or a node.
@@ -51,6 +51,16 @@ impl Entry {
         match self {
             Entry::Leaf(bytes) => bytes,
             Entry::Node { label, .. } => label,
+        }
+    }
+
+    /// Whether this is a node.
+    pub(crate) fn is_node(self) -> bool
+        ensures { result ≡ is_node self }
+    {
+        match self {
+            Entry::Leaf(_) => false,
+            Entry::Node { .. } => true,
         }
     }
 

@@ -4,10 +4,11 @@
 //! no call recurses over a tree, and each costs what it adds, moves or drops. A call that runs out of memory leaves the
 //! forest as it was, which the parsers that collect results rely on.
 
-ghost use Rattle.std.specs.Prelude.{◌≡◌, ◌≤◌, ◌<◌, ◌+◌, ◌-◌, [], ◌∷◌, ◌++◌, take, drop, length, get_or, encode_utf8_all, IfOk, OnErr, OnOk};
+ghost use Rattle.std.specs.Prelude.{◌≡◌, ◌≤◌, ◌<◌, ◌+◌, ◌-◌, [], ◌∷◌, ◌++◌, take, drop, length, get_or, encode_utf8_all, false, IfOk, OnErr, OnOk};
+ghost use Rattle.std.specs.List.{list_any};
 ghost use Rattle.pg_tree.specs.Trees.{leaf, kids_of};
-ghost use Rattle.pg_tree.specs.Built.{with_kids, flattened};
-ghost use Rattle.pg_tree.specs.Stored.{has_label, IsEndOf};
+ghost use Rattle.pg_tree.specs.Built.{with_kids, flattened, kids_text};
+ghost use Rattle.pg_tree.specs.Stored.{has_label, bytes_of, is_node, IsEndOf};
 
 use crate::entry::{Entry, Extent};
 use crate::queue::{copy_after, has_bytes, join, push_bytes};
@@ -87,19 +88,33 @@ impl Forest {
         ensures ok { OnOk result (self.new ≡ self.old ++ other) }
         ensures err { OnErr result (self.new ≡ self.old) }
     {
+        self.append_all(other)?;
+        Ok(())
+    }
+
+    /// The same, and hands back what those trees lay in, for other trees.
+    pub(crate) fn append_all(&mut self, other: Forest) -> Result<Forest, AllocError>
+        ensures ok { OnOk result (self.new ≡ self.old ++ other) }
+        ensures emptied { IfOk result (λ emptied. emptied ≡ []) }
+        ensures err { OnErr result (self.new ≡ self.old) }
+    {
         let Forest {
-            entries,
-            bytes,
+            mut entries,
+            mut bytes,
             roots,
         } = other;
         let before = self.entries.len();
-        join(&mut self.entries, entries)?;
-        if join(&mut self.bytes, bytes).is_err() {
+        join(&mut self.entries, &mut entries)?;
+        if join(&mut self.bytes, &mut bytes).is_err() {
             self.entries.truncate(before);
             return Err(AllocError);
         }
         self.roots += roots;
-        Ok(())
+        Ok(Forest {
+            entries,
+            bytes,
+            roots: 0,
+        })
     }
 
     /// How many trees there are. It takes no memory.
@@ -159,7 +174,7 @@ impl Forest {
     }
 
     /// Where the first `count` trees end.
-    pub(crate) fn end_of(&self, count: usize) -> Extent
+    fn end_of(&self, count: usize) -> Extent
         requires { count ≤ length self.now }
         ensures { IsEndOf self.now count result }
     {
@@ -173,7 +188,7 @@ impl Forest {
     }
 
     /// Where a tree begins that ends there: the tree with this index.
-    pub(crate) fn begin_of(&self, index: usize, end: Extent) -> Extent
+    fn begin_of(&self, index: usize, end: Extent) -> Extent
         requires { IsEndOf self.now (index + 1) end }
         ensures { IsEndOf self.now index result }
     {
@@ -182,6 +197,13 @@ impl Forest {
             entries: end.entries - size.entries,
             bytes: end.bytes - size.bytes,
         }
+    }
+
+    /// Whether there is a node among the trees.
+    pub(crate) fn has_nodes(&self) -> bool
+        ensures { result ≡ false → bytes_of self.now ≡ kids_text (kids_of self.now) }
+    {
+        has_nodes(&self.entries)
     }
 
     /// The index of the first tree that is a node with this label, or how many trees there are.
@@ -230,6 +252,13 @@ impl Forest {
         self.bytes.truncate(end.bytes - label.len());
         self.roots = self.roots - 1 + kids;
     }
+}
+
+/// Whether there is a node among the entries.
+fn has_nodes(entries: &VecDeque<Entry>) -> bool
+    ensures { result ≡ list_any is_node entries.now.items }
+{
+    entries.iter().any(|entry| entry.is_node())
 }
 
 /// Puts the UTF-8 text of these characters behind the bytes of a queue.

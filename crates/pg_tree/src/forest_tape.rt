@@ -1,10 +1,13 @@
 //! The trees of a run, which come at the end and are taken from there.
 //!
 //! Contracts see one list of trees. It is kept in stretches, each a forest of its own: where a stretch is opened before
-//! trees come that will be taken off together, taking them moves none of them. Where stretches are open, and how they are
-//! joined, is nothing that a contract sees. The machine of turns relies on it, whose trees may stand deep in one another.
+//! trees come that will be taken off together, taking them moves none of them. Several that would begin at one place are one
+//! stretch, of which is known how often it was opened; what a stretch that ended lay in serves the next one. Where stretches
+//! are open, and how they are joined, is nothing that a contract sees. The machine of turns relies on it, whose trees may
+//! stand deep in one another.
 
-ghost use Rattle.std.specs.Prelude.{◌≡◌, ◌≤◌, ◌<◌, [], ◌∷◌, ◌++◌, take, drop, length, IfOk, OnErr, OnOk};
+ghost use Rattle.std.specs.Prelude.{◌≡◌, ◌≤◌, ◌<◌, [], ◌∷◌, ◌++◌, take, drop, length, encode_utf8_all, IfOk, OnErr, OnOk};
+ghost use Rattle.pg_tree.specs.Trees.{leaf};
 ghost use Rattle.pg_tree.specs.Stretches.{joined, trees_in, AreCounted};
 
 use crate::forest::Forest;
@@ -45,6 +48,9 @@ impl ForestTape {
                 below: Vec::new(alloc),
                 count: 0,
                 top: Forest::new(alloc),
+                reopened: 0,
+                reopened_below: Vec::new(alloc),
+                spare: Forest::new(alloc),
             },
         }
     }
@@ -62,6 +68,14 @@ impl ForestTape {
         ensures err { OnErr result (self.new ≡ self.old) }
     {
         self.stretches.push(tree)
+    }
+
+    /// Puts a leaf with the UTF-8 text of these characters at the end. The only error is that memory ran out.
+    pub fn push_leaf(&mut self, characters: &[char]) -> Result<(), AllocError>
+        ensures ok { OnOk result (self.new ≡ self.old ++ leaf (encode_utf8_all characters.now) ∷ []) }
+        ensures err { OnErr result (self.new ≡ self.old) }
+    {
+        self.stretches.push_leaf(characters)
     }
 
     /// Puts the trees of a forest at the end, in their order. The only error is that memory ran out; those trees are then gone.
@@ -87,7 +101,7 @@ impl ForestTape {
     {
         self.stretches.join_to(count)?;
         if self.stretches.count == count {
-            self.stretches.join()?;
+            self.stretches.leave()?;
         }
         Ok(())
     }
@@ -130,6 +144,12 @@ pub(crate) struct Stretches {
     below: Vec<Forest>,
     count: usize,
     top: Forest,
+    /// How often the topmost stretch was opened again where it begins.
+    reopened: usize,
+    /// The same of those below it.
+    reopened_below: Vec<usize>,
+    /// What the last stretch that ended lay in.
+    spare: Forest,
 }
 
 impl Stretches {
@@ -149,7 +169,21 @@ impl Stretches {
         if self.len() == usize::MAX {
             return Err(AllocError);
         }
-        self.top.push(tree)
+        let Tree { forest } = tree;
+        self.spare = self.top.append_all(forest)?;
+        Ok(())
+    }
+
+    fn push_leaf(&mut self, characters: &[char]) -> Result<(), AllocError>
+        requires { AreCounted self.old }
+        ensures counted { AreCounted self.new }
+        ensures ok { OnOk result (trees_in self.new ≡ trees_in self.old ++ leaf (encode_utf8_all characters.now) ∷ []) }
+        ensures err { OnErr result (trees_in self.new ≡ trees_in self.old) }
+    {
+        if self.len() == usize::MAX {
+            return Err(AllocError);
+        }
+        self.top.push_leaf(characters)
     }
 
     fn append(&mut self, other: Forest) -> Result<(), AllocError>
@@ -170,11 +204,18 @@ impl Stretches {
         ensures counted { AreCounted self.new }
         ensures trees { trees_in self.new ≡ trees_in self.old }
     {
-        let top = mem::replace(&mut self.top, Forest::new(alloc));
+        if self.top.len() == 0 {
+            self.reopened = self.reopened.saturating_add(1);
+            return Ok(());
+        }
+        self.reopened_below.push(self.reopened)?;
+        let empty = emptied(alloc, &mut self.spare);
+        let top = mem::replace(&mut self.top, empty);
         let count = top.len();
         match self.below.push(top) {
             Ok(()) => {
                 self.count += count;
+                self.reopened = 0;
                 Ok(())
             }
             Err(failed) => {
@@ -182,6 +223,19 @@ impl Stretches {
                 Err(AllocError)
             }
         }
+    }
+
+    /// The topmost stretch is open once less: it is joined to the one below it where it was opened once.
+    fn leave(&mut self) -> Result<(), AllocError>
+        requires { AreCounted self.old }
+        ensures counted { AreCounted self.new }
+        ensures trees { OnOk result (trees_in self.new ≡ trees_in self.old) }
+    {
+        if self.reopened > 0 {
+            self.reopened -= 1;
+            return Ok(());
+        }
+        self.join()
     }
 
     /// Joins the topmost stretch to the one below it, if there is one.
@@ -194,8 +248,9 @@ impl Stretches {
     {
         if let Some(mut lower) = self.below.pop() {
             self.count -= lower.len();
+            self.reopened = self.reopened_below.pop().unwrap_or(0);
             mem::swap(&mut self.top, &mut lower);
-            self.top.append(lower)?;
+            self.spare = self.top.append_all(lower)?;
         }
         Ok(())
     }
@@ -226,6 +281,7 @@ impl Stretches {
         while count < self.count {
             if let Some(lower) = self.below.pop() {
                 self.count -= lower.len();
+                self.reopened = self.reopened_below.pop().unwrap_or(0);
                 self.top = lower;
             }
         }
@@ -247,19 +303,35 @@ impl Stretches {
         Ok(self.take_top(alloc))
     }
 
-    /// The trees of the topmost stretch. The one below it is then the topmost, or an empty one.
-    #[tactic(auto, using(crate::proofs::Stretching::joined_push, crate::proofs::Stretching::length_push))]
+    /// The trees of the topmost stretch. It stays, without trees, where it was opened more than once; else the one below it is
+    /// then the topmost, or an empty one.
+    #[tactic(auto, using(crate::proofs::Stretching::joined_push, crate::proofs::Stretching::joined_none, crate::proofs::Stretching::length_push))]
     fn take_top(&mut self, alloc: Global) -> Forest
         requires { AreCounted self.old }
         ensures counted { AreCounted self.new }
         ensures below { trees_in self.new ≡ joined self.old.below.items }
         ensures top { result ≡ self.old.top }
     {
+        if self.reopened > 0 {
+            self.reopened -= 1;
+            let empty = emptied(alloc, &mut self.spare);
+            return mem::replace(&mut self.top, empty);
+        }
         let lower = match self.below.pop() {
             Some(lower) => lower,
             None => Forest::new(alloc),
         };
         self.count -= lower.len();
+        self.reopened = self.reopened_below.pop().unwrap_or(0);
         mem::replace(&mut self.top, lower)
     }
+}
+
+/// A forest without trees in the memory of another one, which has none then.
+fn emptied(alloc: Global, spare: &mut Forest) -> Forest
+    ensures { result ≡ [] }
+{
+    let mut empty = mem::replace(spare, Forest::new(alloc));
+    empty.cut(0);
+    empty
 }

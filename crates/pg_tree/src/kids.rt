@@ -14,8 +14,20 @@ use crate::queue::{move_bytes, skip_bytes};
 use std::alloc::{AllocError, Global};
 use std::collections::VecDeque;
 
-/// The texts of all leaves among these trees and below them, joined in order.
+/// The texts of all leaves among these trees and below them, joined in order. Where there are only leaves, their bytes stay
+/// where they are: what is joined again and again isn't copied each time.
 pub(crate) fn joined(alloc: Global, kids: Forest) -> Result<VecDeque<u8>, AllocError>
+    ensures { IfOk result (λ text. text.items ≡ kids_text (kids_of kids)) }
+{
+    if kids.has_nodes() {
+        leaf_texts(alloc, kids)
+    } else {
+        Ok(kids.bytes)
+    }
+}
+
+/// The same, each text moved.
+fn leaf_texts(alloc: Global, kids: Forest) -> Result<VecDeque<u8>, AllocError>
     ensures { IfOk result (λ text. text.items ≡ kids_text (kids_of kids)) }
 {
     let Forest {

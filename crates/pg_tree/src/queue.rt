@@ -3,27 +3,29 @@
 //! Of two queues that are joined the shorter one is moved, so that what is joined again and again is moved a number of
 //! times that grows as the logarithm of the whole. Only `forest.rt`, `tree.rt` and `kids.rt` call this.
 
-ghost use Rattle.std.specs.Prelude.{◌≡◌, ◌++◌, ◌+◌, ◌≤◌, take, drop, length, IfOk, OnOk, OnErr};
+ghost use Rattle.std.specs.Prelude.{◌≡◌, [], ◌++◌, ◌+◌, ◌≤◌, take, drop, length, IfOk, OnOk, OnErr};
 ghost use Rattle.std.specs.Str.{bytes_eq};
 
 use std::alloc::{AllocError, Global};
 use std::collections::VecDeque;
+use std::mem;
 
-/// Puts the items of a queue behind those of another. The only error is that memory ran out; the first queue then has
+/// Moves the items of a queue behind those of another. The only error is that memory ran out; the first queue then has
 /// the items that it had.
 pub(crate) fn join<T: Copy + Drop>(
     first: &mut VecDeque<T>,
-    second: VecDeque<T>,
+    second: &mut VecDeque<T>,
 ) -> Result<(), AllocError>
-    ensures ok { OnOk result (first.new.items ≡ first.old.items ++ second.items) }
+    ensures ok { OnOk result (first.new.items ≡ first.old.items ++ second.old.items) }
+    ensures emptied { OnOk result (second.new.items ≡ []) }
     ensures err { OnErr result (first.new.items ≡ first.old.items) }
 {
-    let mut second = second;
     if second.len() <= first.len() {
-        return first.append(&mut second);
+        return first.append(second);
     }
-    put_before(first, &mut second)?;
-    *first = second;
+    put_before(first, second)?;
+    mem::swap(first, second);
+    second.clear();
     Ok(())
 }
 

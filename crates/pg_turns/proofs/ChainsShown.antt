@@ -16,17 +16,17 @@ use Rattle.pg_language.specs.Reactions.{error_after, noted, then_rest, unless_be
 use Rattle.pg_form.specs.declared.side.Side.{Side}
 use Rattle.pg_form.specs.declared.side.Side.TheVariants.{Left, Right}
 use Rattle.pg_turns.specs.Frames.{Chain, Linked, folded, Frame}
-use Rattle.pg_turns.specs.Messages.{TapeMessage}
+use Rattle.pg_message_tape.specs.Messages.{TapeMessage}
 use Rattle.pg_turns.specs.Shows.{Extends, plain, Waits, none_wait, from_left, from_right, ShowsLinks, links, Stands, stands_separator, stands_operand, Shows, shows_at, shows_succeeded, shows_failed, shows_endless}
 use Rattle.pg_turns.specs.Tape.{spot_at, OnChain, OnLinks, OnFrame, tape_at, tape_with, built_after, all_built, tape_to_first, tape_ended, tape_to_separator, link_forest, link_waiting, link_left, tape_linked, tape_to_operand}
 use Rattle.pg_turns.specs.Turns.{at_node, with_outcome, ended, with_link, hand_to_first, hand_to_separator, next_link, hand_to_operand}
-use Rattle.pg_turns.specs.TapeErrors.{kept_at, Says, Holds}
+use Rattle.pg_message_tape.specs.TapeErrors.{kept_at, Says, Holds}
 use Rattle.pg_turns.specs.declared.frame.Reply.TheVariants.{Succeeded, Failed}
-use Rattle.pg_turns.specs.declared.message_tape.TapeError.{TapeError}
-use Rattle.pg_turns.specs.declared.message_tape.KeptError.{KeptError}
+use Rattle.pg_message_tape.specs.declared.message_tape.TapeError.{TapeError}
+use Rattle.pg_message_tape.specs.declared.message_tape.KeptError.{KeptError}
 use Rattle.pg_turns.specs.Frames.{in_separator}
 use Rattle.pg_turns.specs.Tape.{on_separator}
-use Rattle.pg_turns.proofs.Merged.{drop_seam, take_seam, hold, nothing_says, alone, merge_says, after_says}
+use Rattle.pg_message_tape.proofs.Merged.{drop_seam, take_seam, hold, nothing_says, alone, merge_says, after_says}
 use Rattle.pg_turns.proofs.Shown.{moved, turned, three, extends_any, extends_both, given_back}
 
 -- ---- what waits to be folded

@@ -16,7 +16,7 @@ use Rattle.pg_table.specs.Tables.{Table}
 use Rattle.pg_language.specs.Errors.{quote, next_text, seen_at, stopped_before}
 use Rattle.pg_language.specs.Leaves.{taken, satisfy_outcome, string_outcome, word_outcome, word_read, matched}
 use Rattle.pg_language.specs.Outcomes.{failed}
-use Rattle.pg_turns.specs.Messages.{TapeMessage}
+use Rattle.pg_message_tape.specs.Messages.{TapeMessage}
 use Rattle.pg_turns.specs.Tape.{OnFrame, Tape, spot_at, tape_leaf}
 
 pub other_length : (n m : ℕ) → (n ≡ m → ⊥) → (n == m) ≡ false

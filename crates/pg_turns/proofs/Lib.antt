@@ -1,12 +1,10 @@
 pub mod Stack
 pub mod Characters
 pub mod LeavesRead
-pub mod MessageLists
 pub mod Joined
 pub mod SoundTurns
 pub mod CompleteTurns
 pub mod Runs
-pub mod Merged
 pub mod Shown
 pub mod ChainsShown
 pub mod Labels

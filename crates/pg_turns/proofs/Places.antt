@@ -23,15 +23,15 @@ use Rattle.pg_language.specs.Outcomes as outcome
 use Rattle.pg_language.specs.Outcomes.{Outcome}
 use Rattle.pg_language.specs.declared.reading.Reading.{Reading}
 use Rattle.pg_language.specs.declared.reading.Reading.TheVariants.{Library, Report}
-use Rattle.pg_turns.specs.Messages.{TapeMessage}
+use Rattle.pg_message_tape.specs.Messages.{TapeMessage}
 use Rattle.pg_turns.specs.Tape.{OnTried, no_tried, tried_failure, tried_empty_ok, OnChain, OnLinks, OnFrame, on_parts, on_choice, on_rounds, on_first, on_separator, on_operand, on_rule, on_around, Tape, tape_at, tape_with, tape_endless, spot_at, tape_leaf, joined_consumed, joined_tape_error, joined_messages, tape_next_part, tape_to_parts, tape_settled, tape_next_alternative, tried_with_failure, tried_with_empty_ok, tried_kept, tried_messages, tape_empty_ok, tape_to_choice, tape_to_rounds, tape_to_first, tape_ended, tape_to_separator, link_forest, tape_linked, tape_to_operand, reply_around, tape_hand, tape_seq, tape_rule, tape_told, tape_enter, tape_enter_at, tape_turn}
 use Rattle.pg_turns.specs.Ready.{IsReady, AreReady, IsTapeReady}
-use Rattle.pg_turns.specs.TapeErrors.{tape_error, kept_at, tape_error_after, messages_after}
+use Rattle.pg_message_tape.specs.TapeErrors.{tape_error, kept_at, tape_error_after, messages_after}
 use Rattle.pg_turns.specs.declared.frame.Before as before
 use Rattle.pg_turns.specs.declared.frame.Reply.{Reply}
 use Rattle.pg_turns.specs.declared.frame.Reply.TheVariants.{Succeeded, Failed, EmptyRound}
-use Rattle.pg_turns.specs.declared.message_tape.KeptError.{KeptError}
-use Rattle.pg_turns.specs.declared.message_tape.TapeError.{TapeError}
+use Rattle.pg_message_tape.specs.declared.message_tape.KeptError.{KeptError}
+use Rattle.pg_message_tape.specs.declared.message_tape.TapeError.{TapeError}
 
 -- from the first place to the second, consuming or not
 pub record Goes (c : Bool) (i j : ℕ) : Type 0 where

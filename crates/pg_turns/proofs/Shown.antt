@@ -12,15 +12,15 @@ use Rattle.pg_language.specs.Outcomes.{ok, failed}
 use Rattle.pg_language.specs.declared.reading.Reading.{Reading}
 use Rattle.pg_language.specs.declared.reading.Reading.TheVariants.{Library, Report}
 use Rattle.pg_turns.specs.Frames.{Before, Tried, after_tried, with_failure, with_empty_ok, Frame}
-use Rattle.pg_turns.specs.Messages.{TapeMessage}
+use Rattle.pg_message_tape.specs.Messages.{TapeMessage}
 use Rattle.pg_turns.specs.Shows.{with_operators, Extends, same_table, more_operators, ShowsBefore, no_parts, some_parts, ShowsTried, nothing_tried, a_failure, an_empty_ok, Stands, no_frames, stands_parts, stands_choice, stands_rounds, stands_first, stands_separator, stands_operand, stands_rule, stands_around, Shows, shows_at, shows_succeeded, shows_failed, shows_stuck}
 use Rattle.pg_turns.specs.Tape.{spot_at, OnTried, OnFrame, Tape, tape_to_parts, tape_settled, tape_next_alternative, tried_messages, tried_with_failure, tried_with_empty_ok, tried_kept, tape_empty_ok, tape_to_choice, tape_to_rounds}
 use Rattle.pg_turns.specs.Turns.{State, with_outcome, next_alternative, hand_empty_ok, hand_to_choice, hand_to_parts, hand_to_rounds}
-use Rattle.pg_turns.specs.TapeErrors.{Says}
+use Rattle.pg_message_tape.specs.TapeErrors.{Says}
 use Rattle.pg_turns.specs.declared.frame.Before as declared
 use Rattle.pg_turns.specs.declared.frame.Reply.TheVariants.{Succeeded, Failed}
-use Rattle.pg_turns.specs.declared.message_tape.TapeError.{TapeError}
-use Rattle.pg_turns.proofs.Merged.{drop_seam, take_seam, hold, nothing_says, alone, cut_messages, merge_says, after_says}
+use Rattle.pg_message_tape.specs.declared.message_tape.TapeError.{TapeError}
+use Rattle.pg_message_tape.proofs.Merged.{drop_seam, take_seam, hold, nothing_says, alone, cut_messages, merge_says, after_says}
 
 -- ---- the same lists in another form
 

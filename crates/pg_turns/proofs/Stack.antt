@@ -5,7 +5,7 @@ use Rattle.std.specs.Prelude.{◌==◌}
 use Rattle.pg_tree.specs.Trees.{Tree}
 use Rattle.pg_value.specs.declared.trail.TrailItem.{TrailItem}
 use Rattle.pg_table.specs.Tables.{Table}
-use Rattle.pg_turns.specs.Messages.{TapeMessage}
+use Rattle.pg_message_tape.specs.Messages.{TapeMessage}
 use Rattle.pg_turns.specs.Tape.{OnFrame, tape_with, tape_is_last}
 use Rattle.pg_turns.specs.declared.frame.Reply.{Reply}
 use Rattle.pg_turns.specs.View.{frame_of, stack_on, stack_of}

@@ -22,16 +22,16 @@ use Rattle.pg_language.specs.Errors.{Error, quote, seen_at, stopped_by, stopped_
 use Rattle.pg_language.specs.Leaves.{taken, satisfy_next, word_read, word_next, not_followed_next, matched, string_outcome, end_outcome, some_word_outcome, leaf_outcome}
 use Rattle.pg_language.specs.Outcomes.{Outcome, ok, failed, empty_round}
 use Rattle.pg_turns.specs.Frames.{Frame, in_parts, in_choice, in_rounds, in_first, in_separator, in_operand, in_rule, in_around}
-use Rattle.pg_turns.specs.Messages.{TapeMessage, error_of}
+use Rattle.pg_message_tape.specs.Messages.{TapeMessage, error_of}
 use Rattle.pg_turns.specs.Shows.{same_table, nothing_tried, Stands, no_frames, stands_parts, stands_choice, stands_rounds, stands_first, stands_separator, stands_operand, stands_rule, stands_around, no_parts, Shows, shows_at, shows_succeeded, shows_failed, shows_stuck, shows_endless}
 use Rattle.pg_turns.specs.Tape.{spot_at, OnFrame, on_parts, on_choice, on_rounds, on_first, on_separator, on_operand, on_rule, on_around, Tape, tape_with, tape_hand, tape_leaf, listed, tape_rule, tape_told, tape_enter, tape_enter_at, tape_turn, tape_is_last}
-use Rattle.pg_turns.specs.TapeErrors.{tape_error, Says}
+use Rattle.pg_message_tape.specs.TapeErrors.{tape_error, Says}
 use Rattle.pg_turns.specs.declared.frame.Reply.TheVariants.{EmptyRound}
 use Rattle.pg_turns.specs.Turns.{State, with_outcome, told, enter_rule, enter_form, enter_node, hand, turn, is_last}
 use Rattle.pg_turns.proofs.ChainsShown.{first_succeeded, first_failed, separator_succeeded, ended_shown, operand_succeeded, operand_failed}
 use Rattle.pg_turns.proofs.Joined.{stuck_parts}
 use Rattle.pg_turns.proofs.Labels.{around_succeeded_says, around_failed_says}
-use Rattle.pg_turns.proofs.Merged.{take_seam, drop_seam, nothing_says, just_says}
+use Rattle.pg_message_tape.proofs.Merged.{take_seam, drop_seam, nothing_says, just_says}
 use Rattle.pg_turns.proofs.Shown.{moved, turned, parts_succeeded, parts_failed, next_shown, choice_succeeded, choice_failed, rounds_succeeded, rounds_failed}
 
 -- ---- leaves

@@ -1,5 +1,3 @@
-pub mod Messages
-pub mod TapeErrors
 pub mod Frames
 pub mod Turns
 pub mod Finishes

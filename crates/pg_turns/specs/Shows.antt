@@ -12,14 +12,14 @@ use Rattle.pg_table.specs.Tables.{Table}
 use Rattle.pg_language.specs.Errors.{Error}
 use Rattle.pg_language.specs.Outcomes.{ok, failed, empty_round}
 use Rattle.pg_turns.specs.Frames.{Before, none_before, before, Tried, none_tried, failed_tried, ok_tried, Chain, Linked, Frame, in_parts, in_choice, in_rounds, in_first, in_separator, in_operand, in_rule, in_around}
-use Rattle.pg_turns.specs.Messages.{TapeMessage}
+use Rattle.pg_message_tape.specs.Messages.{TapeMessage}
 use Rattle.pg_turns.specs.Tape.{spot_at, OnTried, no_tried, tried_failure, tried_empty_ok, OnChain, OnLinks, OnFrame, on_parts, on_choice, on_rounds, on_first, on_separator, on_operand, on_rule, on_around, Tape, tape_at, tape_with, tape_endless}
 use Rattle.pg_turns.specs.Turns.{State, at_node, with_outcome, endless}
-use Rattle.pg_turns.specs.TapeErrors.{Says, Holds}
+use Rattle.pg_message_tape.specs.TapeErrors.{Says, Holds}
 use Rattle.pg_turns.specs.declared.frame.Before as declared
 use Rattle.pg_turns.specs.declared.frame.Reply.TheVariants.{Succeeded, Failed, EmptyRound}
-use Rattle.pg_turns.specs.declared.message_tape.KeptError.{KeptError}
-use Rattle.pg_turns.specs.declared.message_tape.TapeError.{TapeError}
+use Rattle.pg_message_tape.specs.declared.message_tape.KeptError.{KeptError}
+use Rattle.pg_message_tape.specs.declared.message_tape.TapeError.{TapeError}
 
 -- the table with these operators more, at the end
 abbrev pub with_operators : Table → List Operator → Table

@@ -26,13 +26,13 @@ use Rattle.pg_language.specs.Outcomes.{Outcome}
 use Rattle.pg_language.specs.Reactions.{counted_by}
 use Rattle.pg_language.specs.declared.reading.Reading.{Reading}
 use Rattle.pg_language.specs.declared.reading.Reading.TheVariants.{Library, Report}
-use Rattle.pg_turns.specs.Messages.{TapeMessage, relabelled}
-use Rattle.pg_turns.specs.TapeErrors.{tape_error, kept_at, merged_tape_error, merged_messages, tape_error_after, messages_after}
+use Rattle.pg_message_tape.specs.Messages.{TapeMessage, relabelled}
+use Rattle.pg_message_tape.specs.TapeErrors.{tape_error, kept_at, merged_tape_error, merged_messages, tape_error_after, messages_after}
 use Rattle.pg_turns.specs.declared.frame.Before.{Before}
 use Rattle.pg_turns.specs.declared.frame.Reply.{Reply}
 use Rattle.pg_turns.specs.declared.frame.Reply.TheVariants.{Succeeded, Failed, EmptyRound}
-use Rattle.pg_turns.specs.declared.message_tape.KeptError.{KeptError}
-use Rattle.pg_turns.specs.declared.message_tape.TapeError.{TapeError}
+use Rattle.pg_message_tape.specs.declared.message_tape.KeptError.{KeptError}
+use Rattle.pg_message_tape.specs.declared.message_tape.TapeError.{TapeError}
 
 -- the place, under a table
 abbrev pub spot_at : Table → ℕ → Spot

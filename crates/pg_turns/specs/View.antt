@@ -3,7 +3,7 @@ use Rattle.std.specs.Prelude.{List, [], ◌∷◌, reverse}
 use Rattle.pg_tree.specs.Trees.{Tree}
 use Rattle.pg_value.specs.declared.trail.TrailItem.{TrailItem}
 use Rattle.pg_table.specs.Tables.{Table}
-use Rattle.pg_turns.specs.Messages.{TapeMessage}
+use Rattle.pg_message_tape.specs.Messages.{TapeMessage}
 use Rattle.pg_turns.specs.Tape.{OnTried, no_tried, tried_failure, tried_empty_ok, OnChain, OnLinks, OnFrame, on_parts, on_choice, on_rounds, on_first, on_separator, on_operand, on_rule, on_around, Tape, tape_at, tape_with, tape_endless}
 use Rattle.pg_turns.specs.declared.frame.ChainFrame.{ChainFrame}
 use Rattle.pg_turns.specs.declared.frame.LinksFrame.{LinksFrame}

@@ -10,10 +10,9 @@ ghost use Rattle.pg_turns.specs.View.{on_lists, tape_of};
 
 use crate::chains::build_after;
 use crate::frame::{Mode, Reply};
-use crate::leaves::text_leaf;
 use crate::machine::Machine;
-use crate::message_tape::MessageTape;
 use pg_form::Around;
+use pg_message_tape::MessageTape;
 use pg_pred::Registry;
 use pg_text::{Characters, Text};
 use pg_tree::ForestTape;
@@ -184,7 +183,7 @@ fn remake(
 {
     match around {
         Around::Try => Ok(()),
-        Around::Text => as_text(alloc, text, start, end, count, forest),
+        Around::Text => as_text(text, start, end, count, forest),
         Around::Skip => {
             cut(forest, count);
             Ok(())
@@ -198,7 +197,6 @@ fn remake(
 
 /// One leaf with the text from the one place to the other stands for the trees after the first.
 fn as_text(
-    alloc: Global,
     text: &Text,
     start: usize,
     end: usize,
@@ -208,8 +206,7 @@ fn as_text(
     ensures { OnOk result (forest.new ≡ take count forest.old ++ leaf_of (span text.now start end) ∷ []) }
 {
     cut(forest, count);
-    let leaf = text_leaf(alloc, between(text.characters(), start, end))?;
-    forest.push(leaf)
+    forest.push_leaf(between(text.characters(), start, end))
 }
 
 /// The characters from the one place up to the other.

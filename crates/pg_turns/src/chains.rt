@@ -9,12 +9,12 @@ ghost use Rattle.pg_pred.specs.Offer.{offer_of, builder_shape};
 ghost use Rattle.pg_turns.specs.Tape.{tape_to_first, tape_to_separator, tape_to_operand, tape_ended, tape_linked, built_after, all_built, link_forest, link_waiting, link_left, end_tape_error, end_messages, more_links};
 ghost use Rattle.pg_tree.specs.Built.{built};
 ghost use Rattle.pg_turns.specs.View.{chain_of, links_of, on_lists, stack_of, tape_of};
-ghost use Rattle.pg_turns.specs.TapeErrors.{tape_error, kept_at, merged_tape_error};
+ghost use Rattle.pg_message_tape.specs.TapeErrors.{tape_error, kept_at, merged_tape_error};
 
 use crate::frame::{Before, ChainFrame, Frame, LinksFrame, Marks, Mode, Reply};
 use crate::machine::Machine;
-use crate::message_tape::{KeptError, TapeError};
 use pg_form::{BuilderUse, Side};
+use pg_message_tape::{KeptError, TapeError};
 use pg_pred::Registry;
 use pg_tree::{Forest, ForestTape, Tree};
 use pg_value::TrailItem;
@@ -64,7 +64,8 @@ impl<'a> Machine<'a> {
                     start: end,
                     marks,
                 };
-                self.push(Frame::Separator(Box::new(alloc, links)?))?;
+                let links = boxed(alloc, &mut self.spare_links, links)?;
+                self.push(Frame::Separator(links))?;
                 Ok(Mode::At(separator, end))
             }
             Reply::Failed { consumed, error } => {
@@ -80,7 +81,7 @@ impl<'a> Machine<'a> {
         &mut self,
         alloc: Global,
         registry: &Registry,
-        mut links: Box<LinksFrame<'a>>,
+        links: Box<LinksFrame<'a>>,
         reply: Reply,
     ) -> Result<Mode, AllocError>
         requires { builder_shape (offer_of registry.now) links.value.chain.used.now.name ≡ Some links.value.chain.used.now.shape }
@@ -101,7 +102,7 @@ impl<'a> Machine<'a> {
                 Ok(Mode::At(operand, end))
             }
             Reply::Failed { consumed, error } => {
-                self.end_chain(alloc, registry, &mut links, consumed, error)
+                self.end_links(alloc, registry, links, consumed, error)
             }
             Reply::EmptyRound => Ok(Mode::With(Reply::EmptyRound)),
         }
@@ -113,7 +114,7 @@ impl<'a> Machine<'a> {
         &mut self,
         alloc: Global,
         registry: &Registry,
-        mut links: Box<LinksFrame<'a>>,
+        links: Box<LinksFrame<'a>>,
         before: Before,
         trees: usize,
         reply: Reply,
@@ -139,7 +140,7 @@ impl<'a> Machine<'a> {
             Reply::Failed { consumed, error } => {
                 let error = self.error_after(before.kept, consumed, error)?;
                 let consumed = before.consumed || consumed;
-                self.end_chain(alloc, registry, &mut links, consumed, error)
+                self.end_links(alloc, registry, links, consumed, error)
             }
             Reply::EmptyRound => Ok(Mode::With(Reply::EmptyRound)),
         }
@@ -185,6 +186,24 @@ impl<'a> Machine<'a> {
         Ok(Mode::At(separator, end))
     }
 
+    /// A link failed, and the chain is over; what its links lay in serves the next chain.
+    fn end_links(
+        &mut self,
+        alloc: Global,
+        registry: &Registry,
+        mut links: Box<LinksFrame<'a>>,
+        consumed: bool,
+        error: TapeError,
+    ) -> Result<Mode, AllocError>
+        requires { builder_shape (offer_of registry.now) links.value.chain.used.now.name ≡ Some links.value.chain.used.now.shape }
+        ensures { IfOk result (λ mode. tape_of mode self.new ≡
+            on_lists (tape_ended (links_of links.entry.value) consumed error) self.old) }
+    {
+        let mode = self.end_chain(alloc, registry, &mut links, consumed, error)?;
+        self.spare_links = Some(links);
+        Ok(mode)
+    }
+
     /// A link failed: the chain fails where the link had consumed, and else ends before it.
     fn end_chain(
         &mut self,
@@ -216,6 +235,23 @@ impl<'a> Machine<'a> {
             end: links.start,
             error,
         }))
+    }
+}
+
+/// The links in a box: in what those of another chain lay in, if there is one.
+fn boxed<'a>(
+    alloc: Global,
+    spare: &mut Option<Box<LinksFrame<'a>>>,
+    links: LinksFrame<'a>,
+) -> Result<Box<LinksFrame<'a>>, AllocError>
+    ensures { IfOk result (λ boxed. links_of boxed.value ≡ links_of links.entry) }
+{
+    match spare.take() {
+        Some(mut boxed) => {
+            *boxed = links;
+            Ok(boxed)
+        }
+        None => Ok(Box::new(alloc, links)?),
     }
 }
 

@@ -4,14 +4,14 @@ ghost use Rattle.std.specs.Prelude.{◌≡◌, ◌<◌, ◌-◌, ◌^◌, ◌++�
 ghost use Rattle.pg_table.specs.Tables.{first_operators};
 ghost use Rattle.pg_turns.specs.Tape.{tape_with, tried_failure, tried_empty_ok, tape_to_choice, tape_next_alternative, tape_settled, tape_empty_ok, tried_kept, tried_messages, tried_with_failure, tried_with_empty_ok};
 ghost use Rattle.pg_turns.specs.View.{tried_of, on_lists, stack_of, tape_of};
-ghost use Rattle.pg_turns.specs.TapeErrors.{tape_error, merged_tape_error, merged_messages, tape_error_after, messages_after};
+ghost use Rattle.pg_message_tape.specs.TapeErrors.{tape_error, merged_tape_error, merged_messages, tape_error_after, messages_after};
 ghost use Rattle.pg_turns.specs.declared.frame.Reply.TheVariants.{Succeeded};
 
 use crate::frame::{ChoiceFrame, EmptyOk, Frame, Marks, Mode, Reply, Tried};
 use crate::machine::Machine;
-use crate::message_tape::{KeptError, TapeError};
 use pg_form::NodeId;
 use pg_language::Reading;
+use pg_message_tape::{KeptError, TapeError};
 use pg_value::TrailItem;
 use std::alloc::{AllocError, Global};
 

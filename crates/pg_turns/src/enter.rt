@@ -1,9 +1,8 @@
 //! Nodes are entered: a leaf answers at once, and any other form runs its first part.
 
-ghost use Rattle.std.specs.Prelude.{◌≡◌, ◌∷◌, [], length, slice_get, option_copied, unwrap_or, IfOk};
-ghost use Rattle.pg_pred.specs.Offer.{offer_of};
-ghost use Rattle.pg_form.specs.Contents.{class_of, class_parts};
-ghost use Rattle.pg_value.specs.Fits.{Fits, IsClassIn};
+ghost use Rattle.std.specs.Prelude.{◌≡◌, ◌∷◌, length, slice_get, option_copied, Some, IfOk};
+ghost use Rattle.pg_class_tables.specs.Tables.{AreTablesOf};
+ghost use Rattle.pg_form.specs.declared.form.Form.TheVariants as form;
 ghost use Rattle.pg_form.specs.declared.form.Leaf.TheVariants as leaf;
 ghost use Rattle.pg_language.specs.Answers.{given};
 ghost use Rattle.pg_language.specs.Leaves.{leaf_outcome};
@@ -14,8 +13,8 @@ ghost use Rattle.pg_language.specs.declared.reading.Reading.{Reading};
 use crate::around::takes_trees;
 use crate::frame::{ChainFrame, Frame, Mode, PartsFrame, Reply, RoundsFrame, Tried};
 use crate::machine::Machine;
+use pg_class_tables::ClassTables;
 use pg_form::{Around, BuilderUse, Form, Leaf, Node, NodeId, RuleId, Side, WordId, WordItem};
-use pg_pred::Registry;
 use pg_text::Text;
 use pg_value::{Grammar, TrailItem};
 use std::alloc::{AllocError, Global};
@@ -26,17 +25,17 @@ impl<'a> Machine<'a> {
         &mut self,
         alloc: Global,
         grammar: &'a Grammar,
-        registry: &Registry,
+        tables: &ClassTables,
         text: &'a Text,
         node: NodeId,
         place: usize,
     ) -> Result<Mode, AllocError>
-        requires { Fits (offer_of registry.now) grammar.now }
+        requires { AreTablesOf grammar.now tables.now }
         ensures { IfOk result (λ mode. (reading : Reading) → tape_of mode self.new ≡
             on_lists (tape_enter_at (given reading grammar.now text.now) (slice_get grammar.now.nodes node) place) self.old) }
     {
         match node_at(grammar.nodes(), node.index()) {
-            Some(form) => self.enter_form(alloc, grammar, registry, text, form, place),
+            Some(form) => self.enter_form(alloc, grammar, tables, text, node, form, place),
             None => Ok(Mode::Endless),
         }
     }
@@ -46,18 +45,19 @@ impl<'a> Machine<'a> {
         &mut self,
         alloc: Global,
         grammar: &'a Grammar,
-        registry: &Registry,
+        tables: &ClassTables,
         text: &'a Text,
+        node: NodeId,
         form: &'a Node,
         place: usize,
     ) -> Result<Mode, AllocError>
-        requires fits { Fits (offer_of registry.now) grammar.now }
-        requires class { IsClassIn grammar.now (class_parts form.now) }
+        requires tables { AreTablesOf grammar.now tables.now }
+        requires node { slice_get grammar.now.nodes node ≡ Some form.now }
         ensures { IfOk result (λ mode. (reading : Reading) → tape_of mode self.new ≡
             on_lists (tape_enter (given reading grammar.now text.now) form.now place) self.old) }
     {
         match form {
-            Form::Leaf(leaf) => self.enter_leaf(alloc, grammar, registry, text, leaf, place),
+            Form::Leaf(leaf) => self.enter_leaf(grammar, tables, text, node, leaf, place),
             Form::Seq(parts) => self.enter_parts(parts.as_slice(), place),
             Form::Choice(parts) => self.next_alternative(
                 1,
@@ -79,24 +79,24 @@ impl<'a> Machine<'a> {
     /// A leaf answers at once.
     fn enter_leaf(
         &mut self,
-        alloc: Global,
         grammar: &'a Grammar,
-        registry: &Registry,
+        tables: &ClassTables,
         text: &'a Text,
+        node: NodeId,
         leaf: &'a Leaf<WordId>,
         place: usize,
     ) -> Result<Mode, AllocError>
-        requires fits { Fits (offer_of registry.now) grammar.now }
-        requires class { IsClassIn grammar.now (unwrap_or (class_of leaf.now) []) }
+        requires tables { AreTablesOf grammar.now tables.now }
+        requires node { slice_get grammar.now.nodes node ≡ Some (form.Leaf leaf.now) }
         ensures { IfOk result (λ mode. tape_of mode self.new ≡
             on_lists (tape_told (leaf_outcome grammar.now text.now leaf.now (spot_at self.old.table place))) self.old) }
     {
         match leaf {
-            Leaf::Satisfy(class) => self.satisfy(alloc, grammar, registry, text, class, place),
-            Leaf::String(characters) => self.string(alloc, text, characters.as_slice(), place),
-            Leaf::Word(word) => self.enter_word(alloc, grammar, registry, text, *word, place),
+            Leaf::Satisfy(class) => self.satisfy(grammar, tables, text, node, class, place),
+            Leaf::String(characters) => self.string(text, characters.as_slice(), place),
+            Leaf::Word(word) => self.enter_word(grammar, tables, text, *word, place),
             Leaf::NotFollowedBy(class) => {
-                self.not_followed_by(grammar, registry, text, class, place)
+                self.not_followed_by(grammar, tables, text, node, class, place)
             }
             Leaf::EndOfText => self.end_of_text(text, place),
             // It has no answer in the relation yet.
@@ -232,19 +232,18 @@ impl<'a> Machine<'a> {
     /// A word of the item that the leaf names.
     fn enter_word(
         &mut self,
-        alloc: Global,
         grammar: &'a Grammar,
-        registry: &Registry,
+        tables: &ClassTables,
         text: &'a Text,
         word: WordId,
         place: usize,
     ) -> Result<Mode, AllocError>
-        requires { Fits (offer_of registry.now) grammar.now }
+        requires { AreTablesOf grammar.now tables.now }
         ensures { IfOk result (λ mode. tape_of mode self.new ≡
             on_lists (tape_told (leaf_outcome grammar.now text.now (leaf.Word word) (spot_at self.old.table place))) self.old) }
     {
         match item_at(grammar.word_items(), word.index()) {
-            Some(item) => self.word(alloc, grammar, registry, text, item, place),
+            Some(item) => self.word(grammar, tables, text, word, item, place),
             None => Ok(Mode::Endless),
         }
     }

@@ -3,12 +3,11 @@
 ghost use Rattle.std.specs.Prelude.{◌≡◌, drop, IfOk};
 ghost use Rattle.pg_text.specs.Position.{position_of};
 ghost use Rattle.pg_language.specs.Errors.{without_position};
-ghost use Rattle.pg_turns.specs.Messages.{error_of, end_error};
+ghost use Rattle.pg_message_tape.specs.Messages.{error_of, end_error};
 
 use crate::machine::Machine;
-use crate::message::Message;
-use crate::message_tape::{TapeError, told};
 use pg_message::ParseError;
+use pg_message_tape::{Message, TapeError, told};
 use pg_text::Text;
 use std::alloc::{AllocError, Global};
 

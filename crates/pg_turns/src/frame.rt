@@ -4,8 +4,8 @@
 //! those of the frames below; the operators in force are those of its table, the newest last. So a frame keeps only how
 //! long the lists were, and how many operators there were, where it may cut them back.
 
-use crate::message_tape::{KeptError, TapeError};
 use pg_form::{Around, BuilderUse, NodeId, Side};
+use pg_message_tape::{KeptError, TapeError};
 use pg_tree::Forest;
 use pg_value::TrailItem;
 

@@ -1,49 +1,46 @@
 //! The forms that read the text themselves.
 
-ghost use Rattle.std.specs.Prelude.{◌≡◌, ◌<◌, ◌≤◌, ◌+◌, ◌^◌, ◌++◌, ◌∷◌, [], false, nat_eq, length, drop, slice_get, IfOk, IfSome};
+ghost use Rattle.std.specs.Prelude.{◌≡◌, ◌<◌, ◌≤◌, ◌+◌, ◌^◌, ◌++◌, ◌∷◌, [], false, nat_eq, length, drop, slice_get, Some, IfOk, IfSome};
 ghost use Rattle.std.specs.List.{list_any, prefix_len, common_prefix_len};
 ghost use Rattle.std.specs.Str.{bytes_eq};
-ghost use Rattle.pg_pred.specs.Offer.{offer_of};
-ghost use Rattle.pg_value.specs.Fits.{Fits, IsClassIn};
+ghost use Rattle.pg_class_tables.specs.Tables.{AreTablesOf, IsClassOfNode};
 ghost use Rattle.pg_form.specs.ClassItems.{has_character};
-ghost use Rattle.pg_language.specs.Derives.{leaf_of};
 ghost use Rattle.pg_language.specs.Leaves.{taken, satisfy_outcome, string_outcome, word_outcome, word_read, not_followed_outcome, end_outcome};
-ghost use Rattle.pg_turns.specs.Messages.{tape_message_of};
+ghost use Rattle.pg_message_tape.specs.Messages.{tape_message_of};
 ghost use Rattle.pg_turns.specs.Tape.{spot_at, tape_with, tape_leaf};
 ghost use Rattle.pg_turns.specs.View.{on_lists, stack_of, tape_of};
-ghost use Rattle.pg_turns.specs.TapeErrors.{tape_error};
+ghost use Rattle.pg_message_tape.specs.TapeErrors.{tape_error};
 ghost use Rattle.pg_turns.specs.declared.frame.Reply.TheVariants.{Succeeded, Failed};
 
 use crate::frame::{Mode, Reply};
 use crate::machine::Machine;
-use crate::message::{Message, utf8};
-use pg_form::{ClassExpression, WordItem};
-use pg_pred::Registry;
+use pg_class_tables::ClassTables;
+use pg_form::{ClassExpression, NodeId, WordId, WordItem};
+use pg_message_tape::Message;
 use pg_text::Text;
-use pg_tree::Tree;
 use pg_value::Grammar;
-use std::alloc::{AllocError, Global};
+use std::alloc::AllocError;
 
 impl<'a> Machine<'a> {
-    /// One character of the class.
+    /// One character of the class of the node.
     pub(crate) fn satisfy(
         &mut self,
-        alloc: Global,
         grammar: &Grammar,
-        registry: &Registry,
+        tables: &ClassTables,
         text: &Text,
+        node: NodeId,
         class: &ClassExpression,
         place: usize,
     ) -> Result<Mode, AllocError>
-        requires fits { Fits (offer_of registry.now) grammar.now }
-        requires class { IsClassIn grammar.now class.now }
+        requires tables { AreTablesOf grammar.now tables.now }
+        requires class { IsClassOfNode grammar.now node class.now }
         ensures { IfOk result (λ mode. tape_of mode self.new ≡
             on_lists (tape_leaf (satisfy_outcome grammar.now text.now class.now (spot_at self.old.table place))) self.old) }
     {
         match next_in(text, place) {
             Some(c) => {
-                if grammar.test(registry, class, c) {
-                    return self.take(alloc, &[c], place, place + 1);
+                if tables.node_has(grammar, node, class, c) {
+                    return self.take(&[c], place, place + 1);
                 }
                 self.fail(false, place, Message::Stopped(Some(c)))
             }
@@ -54,7 +51,6 @@ impl<'a> Machine<'a> {
     /// The characters, all of them.
     pub(crate) fn string(
         &mut self,
-        alloc: Global,
         text: &'a Text,
         characters: &'a [char],
         place: usize,
@@ -65,7 +61,7 @@ impl<'a> Machine<'a> {
         let rest = after(text.characters(), place);
         let count = matched(characters, rest);
         if count == characters.len() {
-            return self.take(alloc, characters, place, place + count);
+            return self.take(characters, place, place + count);
         }
         let next = character_at(rest, count);
         self.fail_wanting(
@@ -79,28 +75,27 @@ impl<'a> Machine<'a> {
     /// A word of the item: it is read whole and then judged.
     pub(crate) fn word(
         &mut self,
-        alloc: Global,
         grammar: &Grammar,
-        registry: &Registry,
+        tables: &ClassTables,
         text: &'a Text,
+        word: WordId,
         item: &WordItem,
         place: usize,
     ) -> Result<Mode, AllocError>
-        requires fits { Fits (offer_of registry.now) grammar.now }
-        requires head { IsClassIn grammar.now item.now.head }
-        requires rest { IsClassIn grammar.now item.now.rest }
+        requires tables { AreTablesOf grammar.now tables.now }
+        requires item { slice_get grammar.now.words word ≡ Some item.now }
         ensures { IfOk result (λ mode. tape_of mode self.new ≡
             on_lists (tape_leaf (word_outcome grammar.now text.now item.now (spot_at self.old.table place))) self.old) }
     {
         match next_in(text, place) {
             Some(c) => {
-                if !grammar.test(registry, &item.head, c) {
+                if !tables.head_has(grammar, word, item, c) {
                     return self.fail(false, place, Message::Stopped(Some(c)));
                 }
                 let rest = after(text.characters(), place + 1);
-                let count = run_len(grammar, registry, &item.rest, rest);
-                let word = &after(text.characters(), place)[..count + 1];
-                self.read_word(alloc, item, word, place)
+                let count = run_len(grammar, tables, word, item, rest);
+                let characters = &after(text.characters(), place)[..count + 1];
+                self.read_word(item, characters, place)
             }
             None => self.fail(false, place, Message::Stopped(None)),
         }
@@ -109,7 +104,6 @@ impl<'a> Machine<'a> {
     /// The word that stands at the place, unless it is reserved.
     fn read_word(
         &mut self,
-        alloc: Global,
         item: &WordItem,
         word: &'a [char],
         place: usize,
@@ -121,26 +115,27 @@ impl<'a> Machine<'a> {
         if is_reserved(item, word) {
             return self.fail(false, place, Message::Reserved(word));
         }
-        self.take(alloc, word, place, place + word.len())
+        self.take(word, place, place + word.len())
     }
 
     /// No character of the class comes next.
     pub(crate) fn not_followed_by(
         &mut self,
         grammar: &Grammar,
-        registry: &Registry,
+        tables: &ClassTables,
         text: &Text,
+        node: NodeId,
         class: &ClassExpression,
         place: usize,
     ) -> Result<Mode, AllocError>
-        requires fits { Fits (offer_of registry.now) grammar.now }
-        requires class { IsClassIn grammar.now class.now }
+        requires tables { AreTablesOf grammar.now tables.now }
+        requires class { IsClassOfNode grammar.now node class.now }
         ensures { IfOk result (λ mode. tape_of mode self.new ≡
             on_lists (tape_leaf (not_followed_outcome grammar.now text.now class.now (spot_at self.old.table place))) self.old) }
     {
         match next_in(text, place) {
             Some(c) => {
-                if grammar.test(registry, class, c) {
+                if tables.node_has(grammar, node, class, c) {
                     return self.fail(false, place, Message::Refused(Some(c)));
                 }
                 self.stay(place, Message::Stopped(Some(c)))
@@ -162,18 +157,12 @@ impl<'a> Machine<'a> {
     }
 
     /// An ok answer that consumed these characters, as one leaf.
-    fn take(
-        &mut self,
-        alloc: Global,
-        characters: &[char],
-        place: usize,
-        end: usize,
-    ) -> Result<Mode, AllocError>
+    fn take(&mut self, characters: &[char], place: usize, end: usize) -> Result<Mode, AllocError>
         requires { end ≡ place + length characters.now }
         ensures { IfOk result (λ mode. tape_of mode self.new ≡
             on_lists (tape_leaf (taken (spot_at self.old.table place) characters.now)) self.old) }
     {
-        self.forest.push(text_leaf(alloc, characters)?)?;
+        self.forest.push_leaf(characters)?;
         let consumed = true;
         let error = self.no_messages_at(end);
         Ok(Mode::With(Reply::Succeeded {
@@ -260,19 +249,11 @@ impl<'a> Machine<'a> {
     }
 }
 
-/// The leaf with these characters.
-pub(crate) fn text_leaf(alloc: Global, characters: &[char]) -> Result<Tree, AllocError>
-    ensures { IfOk result (λ tree. tree ≡ leaf_of characters.now) }
-{
-    let content = utf8(alloc, characters)?;
-    Tree::leaf(alloc, content.as_str())
-}
-
 /// The character at the place of the text, if there is one.
 fn next_in(text: &Text, place: usize) -> Option<char>
     ensures value { result ≡ slice_get text.now place }
     ensures within { IfSome result (λ c. place < length text.now) }
-    ensures limit { length text.now ≤ 4096 }
+    ensures limit { length text.now ≤ 1048576 }
 {
     character_at(text.characters(), place)
 }
@@ -306,21 +287,22 @@ fn matched(characters: &[char], rest: &[char]) -> usize
     count
 }
 
-/// How many characters of the class these begin with.
+/// How many of these characters a word of the item goes on with.
 fn run_len(
     grammar: &Grammar,
-    registry: &Registry,
-    class: &ClassExpression,
+    tables: &ClassTables,
+    word: WordId,
+    item: &WordItem,
     characters: &[char],
 ) -> usize
-    requires fits { Fits (offer_of registry.now) grammar.now }
-    requires class { IsClassIn grammar.now class.now }
-    ensures value { result ≡ prefix_len (has_character grammar.now.classes class.now) characters.now }
+    requires tables { AreTablesOf grammar.now tables.now }
+    requires item { slice_get grammar.now.words word ≡ Some item.now }
+    ensures value { result ≡ prefix_len (has_character grammar.now.classes item.now.rest) characters.now }
     ensures within { result ≤ length characters.now }
 {
     let mut count = 0;
     for c in characters {
-        if !grammar.test(registry, class, *c) {
+        if !tables.rest_has(grammar, word, item, *c) {
             break;
         }
         count += 1;

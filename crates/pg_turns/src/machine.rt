@@ -3,10 +3,10 @@
 ghost use Rattle.std.specs.Prelude.{◌≡◌, ◌∷◌, [], length, take, drop, slice_set, IfOk, OnOk};
 ghost use Rattle.pg_table.specs.Tables.{first_operators};
 ghost use Rattle.pg_turns.specs.View.{frame_of, stack_of};
-ghost use Rattle.pg_turns.specs.TapeErrors.{tape_error, tape_error_after, messages_after};
+ghost use Rattle.pg_message_tape.specs.TapeErrors.{tape_error, tape_error_after, messages_after};
 
-use crate::frame::{Frame, Marks};
-use crate::message_tape::{KeptError, MessageTape, TapeError};
+use crate::frame::{Frame, LinksFrame, Marks};
+use pg_message_tape::{KeptError, MessageTape, TapeError};
 use pg_table::Table;
 use pg_tree::{Forest, ForestTape};
 use pg_value::TrailItem;
@@ -21,6 +21,8 @@ pub struct Machine<'a> {
     pub trail: Vec<TrailItem>,
     pub messages: MessageTape<'a>,
     pub table: Table,
+    /// What the links of a chain that ended lay in, for the next chain.
+    pub(crate) spare_links: Option<Box<LinksFrame<'a>>>,
 }
 
 impl<'a> Machine<'a> {
@@ -38,6 +40,7 @@ impl<'a> Machine<'a> {
             trail: Vec::new(alloc),
             messages: MessageTape::new(alloc),
             table,
+            spare_links: None,
         }
     }
 

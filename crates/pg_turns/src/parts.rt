@@ -6,8 +6,8 @@ ghost use Rattle.pg_turns.specs.View.{on_lists, stack_of, tape_of};
 
 use crate::frame::{Before, Frame, Mode, PartsFrame, Reply};
 use crate::machine::Machine;
-use crate::message_tape::TapeError;
 use pg_form::NodeId;
+use pg_message_tape::TapeError;
 use std::alloc::AllocError;
 
 impl<'a> Machine<'a> {

@@ -2,6 +2,7 @@
 
 ghost use Rattle.std.specs.Prelude.{◌≡◌, ◌-◌, ◌^◌, IfOk};
 ghost use Rattle.pg_pred.specs.Offer.{offer_of};
+ghost use Rattle.pg_class_tables.specs.Tables.{AreTablesOf};
 ghost use Rattle.pg_value.specs.Fits.{Fits};
 ghost use Rattle.pg_value.specs.Grammar.{Grammar as Parts};
 ghost use Rattle.pg_language.specs.Answers.{given};
@@ -11,6 +12,7 @@ ghost use Rattle.pg_turns.specs.View.{frame_of, on_lists, stack_of, tape_of};
 
 use crate::frame::{Frame, Mode, Reply};
 use crate::machine::Machine;
+use pg_class_tables::ClassTables;
 use pg_language::Reading;
 use pg_pred::Registry;
 use pg_text::Text;
@@ -19,24 +21,26 @@ use std::alloc::{AllocError, Global};
 
 impl<'a> Machine<'a> {
     /// One turn: the node at hand is entered, or the answer at hand is handed to the topmost frame. The caller owes that the
-    /// registry fits and that the frames are ready: their counts can grow, and the builders that they name are offered. The
+    /// registry fits, that the tables are the grammar's, and that the frames are ready: their counts can grow, and the builders that they name are offered. The
     /// only error is that memory ran out; what the machine holds then isn't said.
     pub fn step(
         &mut self,
         alloc: Global,
         grammar: &'a Grammar,
+        tables: &ClassTables,
         registry: &Registry,
         text: &'a Text,
         reading: Reading,
         mode: Mode,
     ) -> Result<Mode, AllocError>
         requires fits { Fits (offer_of registry.now) grammar.now }
+        requires tables { AreTablesOf grammar.now tables.now }
         requires ready { IsTapeReady (offer_of registry.now) (2 ^ 64 - 1) (tape_of mode self.now) }
         ensures { IfOk result (λ next. tape_of next self.new ≡
             tape_turn (given reading grammar.now text.now) (tape_of mode self.old)) }
     {
         match mode {
-            Mode::At(node, place) => self.enter(alloc, grammar, registry, text, node, place),
+            Mode::At(node, place) => self.enter(alloc, grammar, tables, text, node, place),
             Mode::With(reply) => match self.frames.pop() {
                 Some(frame) => self.hand_to(alloc, registry, text, reading, frame, reply),
                 None => Ok(Mode::With(reply)),

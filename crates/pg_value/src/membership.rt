@@ -1,10 +1,13 @@
 //! Whether a character belongs to the set that a class expression writes.
 //!
-//! The expression is gone through from left to right, with the functions that the registry stores for its predicates,
-//! and without taking memory. A class item that is named is gone through once for a character at most, its answer being
-//! noted: so items that name one another many times over cost no more than they are long. `not` before `not` is a loop.
+//! The expression is gone through from left to right, without taking memory. For a predicate a registry's function is
+//! called, or with no registry the class is asked that the grammar keeps for it: both give one answer, as the registry
+//! fits. A class item that is named is gone through once for a character at most, its answer being noted: so items that
+//! name one another many times over cost no more than they are long. `not` before `not` is a loop.
 
 ghost use Rattle.std.specs.Prelude.{◌≡◌, ◌≤◌, ◌-◌, ℕ, Bool, List, ◌∷◌, Some, false, length, take, drop};
+ghost use Rattle.std.specs.Bool.{OnTrue};
+ghost use Rattle.std.specs.Option.{ForSome};
 ghost use Rattle.std.specs.List.{list_any};
 ghost use Rattle.pg_class.specs.Ranges.{has};
 ghost use Rattle.pg_pred.specs.Offer.{Offer, offer_of, predicate_class};
@@ -28,17 +31,53 @@ impl Grammar {
         requires class { IsClassIn self.now class.now }
         ensures { result ≡ has_character self.now.classes class.now c }
     {
-        let mut answers = [None; CLASS_LIMIT];
-        let items = self.class_items();
-        first_membership(items, registry, items.len(), class.parts(), c, &mut answers).0
+        self.membership(Some(registry), class, c)
     }
+
+    /// The same, by the classes that the grammar keeps for the predicates it names. It takes no memory.
+    pub fn has(&self, class: &ClassExpression, c: char) -> bool
+        requires { IsClassIn self.now class.now }
+        ensures { result ≡ has_character self.now.classes class.now c }
+    {
+        self.membership(None, class, c)
+    }
+
+    /// One part that has its characters by itself, the commonest expression, names no class item: nothing is to be noted.
+    fn membership(&self, registry: Option<&Registry>, class: &ClassExpression, c: char) -> bool
+        requires fits { ForSome registry (λ r. Fits (offer_of r.now) self.now) }
+        requires class { IsClassIn self.now class.now }
+        ensures { result ≡ has_character self.now.classes class.now c }
+    {
+        let items = self.class_items();
+        match class.parts() {
+            [part] if is_atom(part) => atom_has(registry, part, c),
+            parts => whole_membership(items, registry, parts, c),
+        }
+    }
+}
+
+/// Whether an expression of any length has the character.
+fn whole_membership(
+    items: &[ClassItem],
+    registry: Option<&Registry>,
+    parts: &[ClassPart],
+    c: char,
+) -> bool
+    requires classes { AreClasses items.now }
+    requires fit { ForSome registry (λ r. ItemsFit (offer_of r.now) items.now) }
+    requires named { list_any (lacks_item (length items.now)) parts.now ≡ false }
+    requires parts { ForSome registry (λ r. ClassFits (offer_of r.now) parts.now) }
+    ensures { result ≡ has_character items.now parts.now c }
+{
+    let mut answers = [None; CLASS_LIMIT];
+    first_membership(items, registry, items.len(), parts, c, &mut answers).0
 }
 
 /// Whether the first whole expression of these has the character, and the parts after that expression. They name only
 /// the first `below` class items.
 fn first_membership<'a>(
     items: &[ClassItem],
-    registry: &Registry,
+    registry: Option<&Registry>,
     below: usize,
     parts: &'a [ClassPart],
     c: char,
@@ -46,15 +85,15 @@ fn first_membership<'a>(
 ) -> (bool, &'a [ClassPart])
     requires classes { AreClasses items.now }
     requires below { below ≤ length items.now }
-    requires fit { ItemsFit (offer_of registry.now) items.now }
+    requires fit { ForSome registry (λ r. ItemsFit (offer_of r.now) items.now) }
     requires named { list_any (lacks_item below) parts.now ≡ false }
-    requires parts { ClassFits (offer_of registry.now) parts.now }
+    requires parts { ForSome registry (λ r. ClassFits (offer_of r.now) parts.now) }
     requires answers { Knows items.now c answers.old }
     ensures first { result.0 ≡ one_holds (take 1 (memberships (item_answers items.now c) parts.now c)) }
     ensures rest { memberships (item_answers items.now c) result.1.now c ≡ drop 1 (memberships (item_answers items.now c) parts.now c) }
     ensures fewer { length result.1.now ≤ length parts.now - 1 }
     ensures named { list_any (lacks_item below) result.1.now ≡ false }
-    ensures parts { ClassFits (offer_of registry.now) result.1.now }
+    ensures parts { ForSome registry.entry (λ r. ClassFits (offer_of r.now) result.1.now) }
     ensures answers { Knows items.now c answers.new }
 {
     let (negated, rest) = after_complements(parts);
@@ -109,10 +148,20 @@ fn after_complements(parts: &[ClassPart]) -> (bool, &[ClassPart])
     (negated, rest)
 }
 
+/// Whether the part has its characters by itself.
+fn is_atom(part: &ClassPart) -> bool
+    ensures { OnTrue result (IsAtom part.now) }
+{
+    match part {
+        ClassPart::Literal(_) | ClassPart::Range(_, _) | ClassPart::Predicate(_) => true,
+        ClassPart::Union(_) | ClassPart::Complement | ClassPart::Class(_) => false,
+    }
+}
+
 /// Whether a literal, a range or a predicate has the character.
-fn atom_has(registry: &Registry, part: &ClassPart, c: char) -> bool
+fn atom_has(registry: Option<&Registry>, part: &ClassPart, c: char) -> bool
     requires atom { IsAtom part.now }
-    requires fits { PartFits (offer_of registry.now) part.now }
+    requires fits { ForSome registry (λ r. PartFits (offer_of r.now) part.now) }
     ensures { (items : List Bool) (parts : List ClassPart) → memberships items (part.now ∷ parts) c ≡ result ∷ memberships items parts c }
 {
     match part {
@@ -123,8 +172,19 @@ fn atom_has(registry: &Registry, part: &ClassPart, c: char) -> bool
     }
 }
 
-/// Whether the predicate holds for the character, as the registry's function answers.
-fn holds(registry: &Registry, used: &PredicateUse, c: char) -> bool
+/// Whether the predicate holds for the character: as the registry's function answers, if there is a registry.
+fn holds(registry: Option<&Registry>, used: &PredicateUse, c: char) -> bool
+    requires { ForSome registry (λ r. predicate_class (offer_of r.now) used.now.name ≡ Some used.now.class) }
+    ensures { result ≡ has used.now.class c }
+{
+    match registry {
+        Some(registry) => function_holds(registry, used, c),
+        None => used.class.has(c),
+    }
+}
+
+/// Whether the registry's function for the predicate holds for the character.
+fn function_holds(registry: &Registry, used: &PredicateUse, c: char) -> bool
     requires { predicate_class (offer_of registry.now) used.now.name ≡ Some used.now.class }
     ensures { result ≡ has used.now.class c }
 {

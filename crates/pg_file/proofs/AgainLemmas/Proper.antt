@@ -1,5 +1,6 @@
 -- The items that are printed of a grammar whose parts a file may have are proper, and so are their tokens.
 use Rattle.std.proofs.Common.{◌≡◌, ◌<◌, ◌≤◌, ℕ, ◌-◌, true, false, Bool, nat_lt, List, [], ◌∷◌, ◌++◌, length, map, Option, Some, None, refl, sym, subst, arith}
+use Rattle.pg_items.proofs.ItemLemmas.Whole.{all_append}
 use Rattle.std.proofs.lemmas.Bool.Decides.{nat_tests}
 use Rattle.std.proofs.lemmas.Fmt.{decimal_is_IsNumeral}
 use Rattle.std.specs.List.{AllByRecursion}
@@ -24,7 +25,7 @@ use Rattle.pg_items.specs.Syntax.{role_word, class_written, literals_written, re
 use Rattle.pg_items.specs.Proper.{IsFilled, is_decimal, IsNumber, IsProperItem}
 use Rattle.pg_print.specs.Canonical.{class_names, class_from, values_of, class_item, word_item, operators_items, table_item, rule_items, items_of}
 use Rattle.pg_file.proofs.AgainLemmas.Printable.{ArePrintable}
-use Rattle.pg_file.proofs.AgainLemmas.WritableClasses.{each_both, printed_class_writable}
+use Rattle.pg_file.proofs.AgainLemmas.WritableClasses.{printed_class_writable}
 use Rattle.pg_file.proofs.AgainLemmas.WritableBodies.{IsWritableName}
 use Rattle.pg_file.proofs.AgainLemmas.WritableValues.{IsWritableValue, printed_values_writable}
 use Rattle.pg_file.proofs.AgainLemmas.WritableItems.{IsWritableText, AreWritableClassItems, IsWritableWordItem, AreWritableOperators, IsWritableOperator, IsWritableGrammar}
@@ -172,10 +173,10 @@ all_writable offer g h =
     let table = table_writable g.initials h.table in
     let start = start_writable (name_at (rule_names g) g.start) h.first in
     let rules = rules_writable offer all (rule_names g) values h.names (printed_values_writable offer all (forms_of g) h.bodies) in
-    each_both IsWritableItem (map (class_item all) g.classes) _ classes
-    (each_both IsWritableItem (map (word_item all) g.words) _ words
-    (each_both IsWritableItem (operators_items all g.operators) _ operators
-    (each_both IsWritableItem (map table_item g.initials) _ table (start, rules))))
+    all_append IsWritableItem (map (class_item all) g.classes) _ classes
+    (all_append IsWritableItem (map (word_item all) g.words) _ words
+    (all_append IsWritableItem (operators_items all g.operators) _ operators
+    (all_append IsWritableItem (map table_item g.initials) _ table (start, rules))))
 
 each_proper : (items : List Item) → AllByRecursion IsWritableItem items → AllByRecursion IsProperItem items
 each_proper [] h = tt

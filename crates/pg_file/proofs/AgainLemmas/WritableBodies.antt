@@ -1,5 +1,6 @@
 -- Bodies that a file may have: what the file's values mean is such, and what the names in it stand for.
 use Rattle.std.proofs.Common.{◌≡◌, ℕ, true, List, [], ◌∷◌, ◌++◌, refl, sym, ap, subst, arith}
+use Rattle.pg_items.proofs.ItemLemmas.Whole.{all_append}
 use Rattle.std.specs.List.{AllByRecursion}
 use Rattle.std.specs.Str.{chars, encode_utf8_all}
 use Rattle.pg_pred.specs.Offer.{Offer}
@@ -28,7 +29,7 @@ use Rattle.pg_file.proofs.AgainLemmas.PrintedNames.{IsNamedBuilder, IsNamedForm}
 use Rattle.pg_tokens.proofs.Encoded.{chars_encoded}
 use Rattle.pg_meaning.proofs.MeaningLemmas.Kept.{IsBare, IsKept, kept_some, kept_one, kept_two, kept_between}
 use Rattle.pg_file.proofs.AgainLemmas.Found.{AreFoundAgain}
-use Rattle.pg_file.proofs.AgainLemmas.WritableClasses.{each_both, each_first, each_second, IsWritableExpression, class_writable, class_is_named}
+use Rattle.pg_file.proofs.AgainLemmas.WritableClasses.{each_first, each_second, IsWritableExpression, class_writable, class_is_named}
 
 -- ---- names
 
@@ -93,7 +94,7 @@ IsWritableBody offer items body = AllByRecursion (IsWritableForm offer items) bo
 
 joined_writable : (offer : Offer) (items : List names.Name) (bodies : List Body) → AllByRecursion (IsWritableBody offer items) bodies → IsWritableBody offer items (joined bodies)
 joined_writable offer items [] h = tt
-joined_writable offer items (body ∷ bodies) h = each_both (IsWritableForm offer items) body (joined bodies) h.0 (joined_writable offer items bodies h.1)
+joined_writable offer items (body ∷ bodies) h = all_append (IsWritableForm offer items) body (joined bodies) h.0 (joined_writable offer items bodies h.1)
 
 bare_writable : (offer : Offer) (items : List names.Name) (k : Around) → IsBare k → IsWritableForm offer items (form.Around k (record {}))
 bare_writable offer items (around.Build used symbol) bare = absurd bare
@@ -148,7 +149,7 @@ mutual
       let first = value_writable offer classes items found operand (mark Comma ∷ written separator (mark Close ∷ rest)) h.1 p.1.1.1.1 (each_first (FormIsKnown offer classes) (heads operand) (heads separator) k.1) in
       let second = value_writable offer classes items found separator (mark Close ∷ rest) h.2 first.1.1 (each_second (FormIsKnown offer classes) (heads operand) (heads separator) k.1) in
       let used = chain_writable offer items form _ (builder_writable offer builder p.1.1.0 h.0 k.0) in
-      ((used, each_both (IsWritableForm offer items) (meant offer classes operand) (meant offer classes separator) first.0 second.0), second.1.1)
+      ((used, all_append (IsWritableForm offer items) (meant offer classes operand) (meant offer classes separator) first.0 second.0), second.1.1)
   value_writable offer classes items found (Expression infixes prefixes postfixes term) rest h p k =
       let q = value_writable offer classes items found term (mark Close ∷ rest) h.3 p.1.1.1.1.1.1.1.1 k.1 in
       let one = builder_writable offer infixes p.1.1.0 h.0 k.0.0 in

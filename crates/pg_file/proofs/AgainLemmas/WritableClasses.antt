@@ -1,5 +1,6 @@
 -- Class expressions that a file may have: what the file's tree means is such, and is printed as such a tree again.
 use Rattle.std.proofs.Common.{◌≡◌, ◌≤◌, ℕ, true, List, [], ◌∷◌, ◌++◌, take, Option, Some, None, refl, sym, subst, arith}
+use Rattle.pg_items.proofs.ItemLemmas.Whole.{all_append}
 use Rattle.std.specs.List.{AllByRecursion}
 use Rattle.std.specs.Str.{chars}
 use Rattle.pg_pred.specs.Offer.{Offer}
@@ -26,10 +27,6 @@ use Rattle.pg_meaning.proofs.MeaningLemmas.ProperClasses.{expression_of_class}
 use Rattle.pg_file.proofs.AgainLemmas.Found.{AreFoundAgain}
 
 -- ---- facts of the elements of lists
-
-pub each_both : {A : Type 0} (P : A → Type 0) (xs ys : List A) → AllByRecursion P xs → AllByRecursion P ys → AllByRecursion P (xs ++ ys)
-each_both P [] ys h e = e
-each_both P (x ∷ xs) ys h e = (h.0, each_both P xs ys h.1 e)
 
 pub each_first : {A : Type 0} (P : A → Type 0) (xs ys : List A) → AllByRecursion P (xs ++ ys) → AllByRecursion P xs
 each_first P [] ys h = tt
@@ -96,8 +93,8 @@ mutual
       let first = atom_writable offer classes above items found a (atoms_written (Or b others) rest) h.0 p one in
       let second = atom_writable offer classes above items found b (atoms_written others rest) h.1.0 first.1.1 (each_first (PartIsKnown offer classes) (atom_parts b) (atoms_parts others) more) in
       let third = atoms_writable offer classes above items found others rest h.1.1 second.1 (each_second (PartIsKnown offer classes) (atom_parts b) (atoms_parts others) more) in
-      let both = each_both P (atom_meant offer classes b) (joined (atoms_meant offer classes others)) second.0 third.0 in
-      ((tt, each_both P (atom_meant offer classes a) (atom_meant offer classes b ++ joined (atoms_meant offer classes others)) first.0 both), third.1)
+      let both = all_append P (atom_meant offer classes b) (joined (atoms_meant offer classes others)) second.0 third.0 in
+      ((tt, all_append P (atom_meant offer classes a) (atom_meant offer classes b ++ joined (atoms_meant offer classes others)) first.0 both), third.1)
 
   atoms_writable : (offer : Offer) (classes above items : List names.Name) → AreFoundAgain offer classes above items → (others : Atoms) (rest : List Token) → AreProperAtoms others → ArePrintable (atoms_written others rest)
       → ClassIsKnown offer classes (atoms_parts others) → (AreWritableParts offer items above (joined (atoms_meant offer classes others))) × ArePrintable rest
@@ -107,7 +104,7 @@ mutual
       let more = each_second (PartIsKnown offer classes) (atom_parts a) (atoms_parts others) k in
       let first = atom_writable offer classes above items found a (atoms_written others rest) h.0 p.1 one in
       let second = atoms_writable offer classes above items found others rest h.1 first.1 more in
-      (each_both (IsWritablePart offer items above) (atom_meant offer classes a) (joined (atoms_meant offer classes others)) first.0 second.0, second.1)
+      (all_append (IsWritablePart offer items above) (atom_meant offer classes a) (joined (atoms_meant offer classes others)) first.0 second.0, second.1)
 
 -- a class expression that a file has is such, and what is written after it is printable
 pub class_writable : (offer : Offer) (classes above items : List names.Name) → AreFoundAgain offer classes above items → (c : Class) (rest : List Token) → IsProperClass c → ArePrintable (class_written c rest)
@@ -169,7 +166,7 @@ others_writable offer above (a ∷ others) h =
     record {
       proper = (h.0.proper, more.proper);
       printable = λ rest p. (tt, h.0.printable (atoms_written (atoms_from others) rest) (more.printable rest p));
-      known = each_both (PartIsKnown offer above) (atom_parts a) (atoms_parts (atoms_from others)) h.0.known more.known;
+      known = all_append (PartIsKnown offer above) (atom_parts a) (atoms_parts (atoms_from others)) h.0.known more.known;
     }
 
 union_writable : (offer : Offer) (above : List names.Name) (atoms : List Atom) → AllByRecursion (IsWritableAtom offer above) atoms → IsWritableClass offer above (union_of atoms)
@@ -180,7 +177,7 @@ union_writable offer above (a ∷ b ∷ others) h =
     record {
       proper = (h.0.proper, more.proper);
       printable = λ rest p. h.0.printable (atoms_written (atoms_from (b ∷ others)) rest) (more.printable rest p);
-      known = (tt, each_both (PartIsKnown offer above) (atom_parts a) (atoms_parts (atoms_from (b ∷ others))) h.0.known more.known);
+      known = (tt, all_append (PartIsKnown offer above) (atom_parts a) (atoms_parts (atoms_from (b ∷ others))) h.0.known more.known);
     }
 
 complement_writable : (offer : Offer) (above : List names.Name) (atoms : List Atom) → AllByRecursion (IsWritableAtom offer above) atoms → IsWritableAtom offer above (Not (first_atom atoms))

@@ -1,5 +1,6 @@
 -- Grammars whose parts a file may have, as are those that a file spells.
 use Rattle.std.proofs.Common.{◌≡◌, ◌≤◌, ℕ, true, false, List, [], ◌∷◌, ◌++◌, map, Option, Some, None, sym, ap, subst, ◌∙◌, append_assoc, arith}
+use Rattle.pg_items.proofs.ItemLemmas.Whole.{all_append}
 use Rattle.std.proofs.lemmas.List.{append-nil, map-append}
 use Rattle.std.specs.List.{AllByRecursion}
 use Rattle.std.specs.Str.{chars}
@@ -27,7 +28,7 @@ use Rattle.pg_print.specs.Canonical.{class_names}
 use Rattle.pg_file.proofs.AgainLemmas.Printable.{ArePrintable}
 use Rattle.pg_file.proofs.AgainLemmas.Found.{AreNoPredicates, AreFoundAgain, found_here, found_among_more}
 use Rattle.pg_file.proofs.AgainLemmas.Scalars.{spelled_printable, utf8_scalars}
-use Rattle.pg_file.proofs.AgainLemmas.WritableClasses.{each_both, each_second, IsWritableExpression, class_writable}
+use Rattle.pg_file.proofs.AgainLemmas.WritableClasses.{each_second, IsWritableExpression, class_writable}
 use Rattle.pg_file.proofs.AgainLemmas.WritableBodies.{IsWritableName, IsWritableBody, IsWritableForm, value_writable}
 
 -- ---- what a file may have
@@ -147,7 +148,7 @@ item_writable offer items made found (Word_item s head after reserved) rest h p 
     let texts = reserved_writable reserved (mark Semicolon ∷ rest) h.3 second.1 in (
       record {
         classes = m.classes;
-        words = each_both (IsWritableWordItem offer items) made.words _ m.words (record { name = record { free = h.0; name = p.1.0 }; first = first.0; after = second.0; texts = texts.0 }, tt);
+        words = all_append (IsWritableWordItem offer items) made.words _ m.words (record { name = record { free = h.0; name = p.1.0 }; first = first.0; after = second.0; texts = texts.0 }, tt);
         operators = m.operators;
         initials = m.initials;
         start = m.start;
@@ -177,7 +178,7 @@ item_writable offer items made found (Table role precedence symbol) rest h p k n
     classes = m.classes;
     words = m.words;
     operators = m.operators;
-    initials = each_both IsWritableOperator made.initials _ m.initials (record { digit = h.0.below; text = (h.1, p.1.1.1.0) }, tt);
+    initials = all_append IsWritableOperator made.initials _ m.initials (record { digit = h.0.below; text = (h.1, p.1.1.1.0) }, tt);
     start = m.start;
     rules = m.rules;
     bodies = m.bodies;
@@ -204,8 +205,8 @@ item_writable offer items made found (Rule_item s v) rest h p k n m =
         operators = m.operators;
         initials = m.initials;
         start = m.start;
-        rules = each_both IsWritableName made.names (s ∷ []) m.rules (record { free = h.0; name = p.0 }, tt);
-        bodies = each_both (IsWritableForm offer items) made.forms (meant offer (made_classes made) v) m.bodies q.0;
+        rules = all_append IsWritableName made.names (s ∷ []) m.rules (record { free = h.0; name = p.0 }, tt);
+        bodies = all_append (IsWritableForm offer items) made.forms (meant offer (made_classes made) v) m.bodies q.0;
       },
       q.1.1,
     )
@@ -236,7 +237,7 @@ longer_items offer made (item ∷ items) =
 
 no_predicate : (offer : Offer) (made : Made) (item : Item) → IsNew offer made item → AreNoPredicates offer (made_classes made) → AreNoPredicates offer (made_classes (with_item offer made item))
 no_predicate offer made (Class_item s c) n h =
-    subst (λ (ns : List names.Name). AreNoPredicates offer ns) (sym (map-append item_name made.classes _)) (each_both (λ t. is_predicate_name offer t ≡ false) (made_classes made) (s ∷ []) h (n.1, tt))
+    subst (λ (ns : List names.Name). AreNoPredicates offer ns) (sym (map-append item_name made.classes _)) (all_append (λ t. is_predicate_name offer t ≡ false) (made_classes made) (s ∷ []) h (n.1, tt))
 no_predicate offer made (Word_item s head after reserved) n h = h
 no_predicate offer made (Operators c gap reserved most) n h = h
 no_predicate offer made (Table role precedence symbol) n h = h

@@ -1,5 +1,6 @@
 -- The values that are printed of a body that a file may have are such as a file may have.
 use Rattle.std.proofs.Common.{◌≡◌, ℕ, zero, suc, true, List, [], ◌∷◌, take, refl}
+use Rattle.pg_items.proofs.ItemLemmas.Whole.{all_append}
 use Rattle.std.specs.List.{AllByRecursion}
 use Rattle.std.specs.Str.{chars}
 use Rattle.pg_pred.specs.Offer.{Offer}
@@ -31,7 +32,7 @@ use Rattle.pg_items.specs.Heads.{heads, all_heads}
 use Rattle.pg_meaning.specs.Names.{FormIsKnown}
 use Rattle.pg_print.specs.Canonical.{class_from, values_from, value_at, choice_from, build_from, leaf_value, around_value, value_of_form, values_of}
 use Rattle.pg_file.proofs.AgainLemmas.Printable.{ArePrintable}
-use Rattle.pg_file.proofs.AgainLemmas.WritableClasses.{each_both, IsWritableExpression, printed_class_writable, IsWritableClass}
+use Rattle.pg_file.proofs.AgainLemmas.WritableClasses.{IsWritableExpression, printed_class_writable, IsWritableClass}
 use Rattle.pg_file.proofs.AgainLemmas.WritableBodies.{IsWritableBuilder, IsWritableForm, IsWritableBody}
 
 -- a value that a file may have
@@ -58,7 +59,7 @@ values_writable offer items (v ∷ values) h =
       proper = (h.0.proper, others.proper);
       list = λ rest p. h.0.printable (written_more (values_from values) rest) (others.more rest p);
       more = λ rest p. (tt, h.0.printable (written_more (values_from values) rest) (others.more rest p));
-      known = each_both (FormIsKnown offer items) (heads v) (all_heads (values_from values)) h.0.known others.known;
+      known = all_append (FormIsKnown offer items) (heads v) (all_heads (values_from values)) h.0.known others.known;
     }
 
 seq_writable : (offer : Offer) (items : List names.Name) (values : List Value) → AreWritable offer items values → IsWritableValue offer items (Seq (values_from values))
@@ -85,7 +86,7 @@ some_writable offer items form v values h e =
     record {
       proper = (h.proper, others.proper);
       printable = λ rest p. (some_word_is_name form, (tt, h.printable (written_more (values_from values) rest) (others.more rest p)));
-      known = (tt, each_both (FormIsKnown offer items) (heads v) (all_heads (values_from values)) h.known others.known);
+      known = (tt, all_append (FormIsKnown offer items) (heads v) (all_heads (values_from values)) h.known others.known);
     }
 
 choice_writable : (offer : Offer) (items : List names.Name) (values : List Value) → AreWritable offer items values → IsWritableValue offer items (choice_from values)
@@ -124,7 +125,7 @@ chain_value_writable offer items form used operand separator b h e = record {
   proper = (b.short, h.proper, e.proper);
   printable = λ rest p.
       (chain_word_is_name form, (tt, (b.name, (tt, h.printable (mark Comma ∷ written separator (mark Close ∷ rest)) (tt, e.printable (mark Close ∷ rest) (tt, p))))));
-  known = (b.known, each_both (FormIsKnown offer items) (heads operand) (heads separator) h.known e.known);
+  known = (b.known, all_append (FormIsKnown offer items) (heads operand) (heads separator) h.known e.known);
 }
 
 build_writable : (offer : Offer) (items : List names.Name) (used : BuilderUse) (symbol : List ℕ) (v : Value) → IsWritableBuilder offer used → IsLiteral symbol → passes is_scalar symbol ≡ true

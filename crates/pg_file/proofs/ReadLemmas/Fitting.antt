@@ -1,5 +1,7 @@
 -- A registry that offers what the names of a file stand for fits the grammar.
-use Rattle.std.proofs.Common.{◌≡◌, ℕ, zero, suc, Bool, true, false, ◌||◌, List, [], ◌∷◌, ◌++◌, map, take, drop, Option, Some, None, unwrap_or, refl, subst}
+use Rattle.std.proofs.Common.{◌≡◌, ℕ, zero, suc, Bool, true, false, ◌||◌, List, [], ◌∷◌, map, take, Option, Some, None, unwrap_or, refl, subst}
+use Rattle.pg_form.proofs.Each.{all-take, all-drop}
+use Rattle.pg_items.proofs.ItemLemmas.Whole.{all_append}
 use Rattle.std.specs.List.{AllByRecursion}
 use Rattle.std.specs.Option.{is_some}
 use Rattle.std.specs.Str.{encode_utf8_all}
@@ -75,23 +77,9 @@ BodyFits offer body = AllByRecursion (FormFits offer) body
 abbrev BodiesFit : Offer → List Body → Type 0
 BodiesFit offer bs = AllByRecursion (BodyFits offer) bs
 
-both : {A : Type 0} (P : A → Type 0) (xs others : List A) → AllByRecursion P xs → AllByRecursion P others → AllByRecursion P (xs ++ others)
-both P [] others h e = e
-both P (x ∷ xs) others h e = (h.0, both P xs others h.1 e)
-
-taken : {A : Type 0} (P : A → Type 0) (n : ℕ) (xs : List A) → AllByRecursion P xs → AllByRecursion P (take n xs)
-taken P zero xs h = tt
-taken P (suc n) [] h = tt
-taken P (suc n) (x ∷ xs) h = (h.0, taken P n xs h.1)
-
-dropped : {A : Type 0} (P : A → Type 0) (n : ℕ) (xs : List A) → AllByRecursion P xs → AllByRecursion P (drop n xs)
-dropped P zero xs h = h
-dropped P (suc n) [] h = tt
-dropped P (suc n) (x ∷ xs) h = dropped P n xs h.1
-
 joined_fit : (offer : Offer) (bs : List Body) → BodiesFit offer bs → BodyFits offer (joined bs)
 joined_fit offer [] h = tt
-joined_fit offer (b ∷ bs) h = both (FormFits offer) b (joined bs) h.0 (joined_fit offer bs h.1)
+joined_fit offer (b ∷ bs) h = all_append (FormFits offer) b (joined bs) h.0 (joined_fit offer bs h.1)
 
 body_fits : (offer : Offer) (k : ℕ) (bs : List Body) → BodiesFit offer bs → BodyFits offer (body_at k bs)
 body_fits offer k [] h = tt
@@ -136,7 +124,7 @@ form_fits offer classes (written.OfTwo form) bs h e = kept_two (BodyFits offer) 
 form_fits offer classes written.Between bs h e =
     kept_between (BodyFits offer) (fits_kept offer) (body_at 0 bs) (body_at 1 bs) (body_at 2 bs) (body_fits offer 0 bs e) (body_fits offer 1 bs e) (body_fits offer 2 bs e)
 form_fits offer classes (written.Chain form builder) bs h e =
-    (chain_fits offer form builder h, both (FormFits offer) (body_at 0 bs) (body_at 1 bs) (body_fits offer 0 bs e) (body_fits offer 1 bs e))
+    (chain_fits offer form builder h, all_append (FormFits offer) (body_at 0 bs) (body_at 1 bs) (body_fits offer 0 bs e) (body_fits offer 1 bs e))
 form_fits offer classes (written.Expression infixes prefixes postfixes) bs h e =
     ((tt, (builder_fits offer infixes h.0, (builder_fits offer prefixes h.1, (builder_fits offer postfixes h.2, tt)))), body_fits offer 0 bs e)
 form_fits offer classes (written.Build builder symbol) bs h e = ((tt, (builder_fits offer builder h, tt)), body_fits offer 0 bs e)
@@ -150,8 +138,8 @@ bodies_fit offer classes [] h = tt
 bodies_fit offer classes (form ∷ forms) h =
     let others = bodies_fit offer classes forms h.1 in
     let n = part_count form in (
-      form_fits offer classes form (take n (bodies offer classes forms)) h.0 (taken (BodyFits offer) n (bodies offer classes forms) others),
-      dropped (BodyFits offer) n (bodies offer classes forms) others,
+      form_fits offer classes form (take n (bodies offer classes forms)) h.0 (all-take (BodyFits offer) n (bodies offer classes forms) others),
+      all-drop (BodyFits offer) n (bodies offer classes forms) others,
     )
 
 -- ---- what is handed in
@@ -166,11 +154,11 @@ record MadeFits (offer : Offer) (made : Made) : Type 0 where
 entry_fits : (offer : Offer) (made : Made) (e : Entry) → MadeFits offer made → EntriesAreInOrder offer made (e ∷ []) → MadeFits offer (with_entry offer made e)
 entry_fits offer made (entry.class s parts) m h =
     let one = class_fits offer (made_classes made) parts h.0.known in
-    record { classes = both (λ item. ClassFits offer (item_class item)) made.classes _ m.classes (one, tt); words = m.words; operators = m.operators; forms = m.forms }
+    record { classes = all_append (λ item. ClassFits offer (item_class item)) made.classes _ m.classes (one, tt); words = m.words; operators = m.operators; forms = m.forms }
 entry_fits offer made (entry.word s head after reserved) m h =
     let one = class_fits offer (made_classes made) head h.0.known.0 in
     let other = class_fits offer (made_classes made) after h.0.known.1 in
-    record { classes = m.classes; words = both (WordFits offer) made.words _ m.words ((one, other), tt); operators = m.operators; forms = m.forms }
+    record { classes = m.classes; words = all_append (WordFits offer) made.words _ m.words ((one, other), tt); operators = m.operators; forms = m.forms }
 entry_fits offer made (entry.operators parts gap reserved most) m h =
     let one = class_fits offer (made_classes made) parts h.0.known.0 in
     let other = class_fits offer (made_classes made) gap h.0.known.1 in
@@ -179,7 +167,7 @@ entry_fits offer made (entry.table role precedence symbol) m h = record { classe
 entry_fits offer made (entry.start s) m h = record { classes = m.classes; words = m.words; operators = m.operators; forms = m.forms }
 entry_fits offer made (entry.rule s forms) m h =
     let body = body_fits offer 0 (bodies offer (made_classes made) forms) (bodies_fit offer (made_classes made) forms h.0.known) in
-    record { classes = m.classes; words = m.words; operators = m.operators; forms = both (FormFits offer) made.forms (body_meant offer (made_classes made) forms) m.forms body }
+    record { classes = m.classes; words = m.words; operators = m.operators; forms = all_append (FormFits offer) made.forms (body_meant offer (made_classes made) forms) m.forms body }
 
 entries_fit : (offer : Offer) (made : Made) (entries : List Entry) → MadeFits offer made → EntriesAreInOrder offer made entries → MadeFits offer (with_entries offer made entries)
 entries_fit offer made [] m h = m

@@ -1,5 +1,6 @@
 -- What a proper value stands for has no empty string and no range that descends, and no text in it is too long.
 use Rattle.std.proofs.Common.{◌≡◌, ◌<◌, ◌≤◌, ℕ, false, ◌==◌, List, [], ◌∷◌, ◌++◌, length, refl, arith}
+use Rattle.std.proofs.lemmas.Bool.{le-ltb}
 use Rattle.std.proofs.lemmas.Bool.Decides.{nat_tests}
 use Rattle.std.specs.List.{list_any, AllByRecursion}
 use Rattle.std.specs.Str.{encode_utf8_all}
@@ -21,7 +22,7 @@ use Rattle.pg_items.specs.Proper.{IsFilled, IsProper, AreProper}
 use Rattle.pg_meaning.specs.Names.{builder_named}
 use Rattle.pg_meaning.specs.Meaning.{Body, class_of, chain_of, builders_named, class_meant, meant, all_meant}
 use Rattle.pg_meaning.proofs.MeaningLemmas.Kept.{IsBare, IsKept, kept_some, kept_one, kept_two, kept_between, IsFree, free_front, free_none, free_append, free_kept}
-use Rattle.pg_meaning.proofs.MeaningLemmas.ProperClasses.{ascending, short, within, short_name}
+use Rattle.pg_meaning.proofs.MeaningLemmas.ProperClasses.{ascending, short, short_name}
 
 pub record IsFine (body : Body) : Type 0 where
   pub literals : IsFree has_bad_literal body
@@ -79,7 +80,7 @@ isnt_empty : (n : ℕ) → 0 < n → (n == 0) ≡ false
 isnt_empty n h = grind (arith, nat_tests)
 
 string_fine : (s : List ℕ) → IsFilled s → IsFineForm (form.Leaf (leaf.String s))
-string_fine s h = record { literals = isnt_empty (length s) h.0; short = rw (within 1024 (length s) h.1) refl }
+string_fine s h = record { literals = isnt_empty (length s) h.0; short = rw (le-ltb 1024 (length s) h.1) refl }
 
 -- a builder's name is short
 builder_short : (offer : Offer) (builder : List ℕ) → length builder ≤ 64 → has_long_name (builder_named offer builder) ≡ false
@@ -99,13 +100,13 @@ build_fine offer builder symbol h e =
     record { literals = refl; short = rw (builder_short offer builder h, short_name 1024 symbol e) refl }
 
 label_fine : (message : List ℕ) → length message ≤ 1024 → IsFineForm (form.Around (around.Label message) (record {}))
-label_fine message h = record { literals = refl; short = rw (within 1024 (length message) h) refl }
+label_fine message h = record { literals = refl; short = rw (le-ltb 1024 (length message) h) refl }
 
 word_fine : (s : List ℕ) → length s ≤ 64 → IsFineForm (form.Leaf (leaf.Word s))
-word_fine s h = record { literals = refl; short = within 64 (length s) h }
+word_fine s h = record { literals = refl; short = le-ltb 64 (length s) h }
 
 rule_fine : (s : List ℕ) → length s ≤ 64 → IsFineForm (form.Rule s)
-rule_fine s h = record { literals = refl; short = within 64 (length s) h }
+rule_fine s h = record { literals = refl; short = le-ltb 64 (length s) h }
 
 mutual
   pub fine_value : (offer : Offer) (items : List names.Name) (v : Value) → IsProper v → IsFine (meant offer items v)

@@ -1,5 +1,5 @@
 -- The forms of a tree in preorder stand for what the tree stands for, and are as large.
-use Rattle.std.proofs.Common.{◌≡◌, ℕ, List, ◌∷◌, ◌++◌, length, map}
+use Rattle.std.proofs.Common.{◌≡◌, List, ◌∷◌, ◌++◌, length}
 use Rattle.pg_pred.specs.Offer.{Offer}
 use Rattle.pg_form.specs.Names as names
 use Rattle.pg_items.specs.declared.written.WrittenForm.{WrittenForm}
@@ -7,11 +7,10 @@ use Rattle.pg_items.specs.Tree.{Class, Value, Values}
 use Rattle.pg_items.specs.Heads.{class_parts, heads, all_heads}
 use Rattle.pg_meaning.specs.Meaning.{class_meant, meant, all_meant}
 use Rattle.pg_meaning.specs.Bodies.{parts_meant, bodies, body_meant}
-use Rattle.pg_items.specs.Sizes.{body_size, size_of_form, counted}
+use Rattle.pg_items.specs.Sizes.{body_size}
 use Rattle.pg_meaning.proofs.MeaningLemmas.Classes.{class_is}
 use Rattle.pg_meaning.proofs.MeaningLemmas.Bodies.{value_in_front, values_in_front, value_alone}
 use Rattle.pg_meaning.proofs.MeaningLemmas.Sizes.{value_size}
-use Rattle.pg_items.proofs.ItemLemmas.Counted.{form_counted}
 
 pub class_parts_meant : (offer : Offer) (classes : List names.Name) (c : Class) → parts_meant offer classes (class_parts c) ≡ class_meant offer classes c
 class_parts_meant offer classes c = class_is offer classes c
@@ -29,6 +28,3 @@ heads_meant offer classes v = value_alone offer classes v
 
 pub heads_sized : (offer : Offer) (classes : List names.Name) (v : Value) → body_size (heads v) ≡ length (meant offer classes v)
 heads_sized offer classes v = value_size offer classes v
-
-pub sizes_counted : (form : WrittenForm) (ns : List ℕ) → counted (size_of_form form (map counted ns)) ≡ counted (size_of_form form ns)
-sizes_counted form ns = form_counted form ns

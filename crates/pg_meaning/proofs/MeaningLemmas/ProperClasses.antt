@@ -1,5 +1,6 @@
 -- What class expressions stand for is one whole expression, and what a maker refuses in one isn't in it.
 use Rattle.std.proofs.Common.{◌≡◌, ◌<◌, ◌≤◌, ℕ, Bool, true, false, nat_lt, List, [], ◌∷◌, length, map, Option, Some, None, refl, sym, subst, ◌∙◌, arith}
+use Rattle.std.proofs.lemmas.Bool.{le-ltb}
 use Rattle.std.proofs.lemmas.Bool.Decides.{nat_tests}
 use Rattle.std.proofs.lemmas.List.Folds.{list_any-append}
 use Rattle.std.specs.List.{list_any, AllByRecursion}
@@ -121,15 +122,12 @@ mutual
 ascends : (low high : ℕ) → low ≤ high → nat_lt high low ≡ false
 ascends low high h = grind (arith, nat_tests)
 
-pub within : (most n : ℕ) → n ≤ most → nat_lt most n ≡ false
-within most n h = grind (arith, nat_tests)
-
 named_ascends : (offer : Offer) (s : names.Name) (place : Option ℕ) → descends (item_or_predicate offer s place) ≡ false
 named_ascends offer s (Some k) = refl
 named_ascends offer s None = refl
 
 pub short_name : (most : ℕ) (s : List ℕ) → length s ≤ most → nat_lt most (length (chars (encode_utf8_all s))) ≡ false
-short_name most s h = rw (chars_encoded s) (within most (length s) h)
+short_name most s h = rw (chars_encoded s) (le-ltb most (length s) h)
 
 named_short : (offer : Offer) (s : names.Name) (place : Option ℕ) → length s ≤ 64 → is_long (item_or_predicate offer s place) ≡ false
 named_short offer s (Some k) h = refl
@@ -148,7 +146,7 @@ pub short : (offer : Offer) (items : List names.Name) (c : Class) → IsProperCl
 short offer items c h =
     (class_free offer items is_long (record {
       of_atoms = record { union = λ n. refl; complement = refl };
-      set = λ s e. within 1024 (length s) e;
+      set = λ s e. le-ltb 1024 (length s) e;
       range = λ low high e. refl;
       name = λ s e. named_short offer s (place_of_name items s) e;
     }) c h).free

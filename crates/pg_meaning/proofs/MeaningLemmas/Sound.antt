@@ -1,7 +1,7 @@
 -- What a value stands for is one whole form, each choice in it with an alternative, and each class item that is named
 -- is there.
-use Rattle.std.proofs.Common.{◌≡◌, ℕ, suc, ◌+◌, ◌==◌, false, List, [], ◌∷◌, ◌++◌, length, map, refl, sym, subst, arith}
-use Rattle.std.proofs.lemmas.Bool.Decides.{nat_tests}
+use Rattle.std.proofs.Common.{◌≡◌, ℕ, ◌+◌, false, List, [], ◌∷◌, ◌++◌, length, map, refl, sym, subst, arith}
+use Rattle.std.proofs.Math.Dec.{eqb-suc-zero}
 use Rattle.std.specs.List.{list_any, AllByRecursion}
 use Rattle.pg_pred.specs.Offer.{Offer}
 use Rattle.pg_form.proofs.Each.{all-weaker}
@@ -53,11 +53,8 @@ two count form one other h e f = record {
   known = free_front _ form _ h.known (free_append _ one other e.known f.known);
 }
 
-some_alternative : (n : ℕ) → (suc n == 0) ≡ false
-some_alternative n = grind (arith, nat_tests)
-
 choices_kept : IsKept (IsFree lacks_alternative)
-choices_kept = free_kept lacks_alternative (record { seq = λ n. refl; choice = some_alternative; many = refl; around = λ k bare. refl })
+choices_kept = free_kept lacks_alternative (record { seq = λ n. refl; choice = eqb-suc-zero; many = refl; around = λ k bare. refl })
 
 known_kept : (count : ℕ) → IsKept (IsFree (has_unknown_class count))
 known_kept count = free_kept (has_unknown_class count) (record { seq = λ n. refl; choice = λ n. refl; many = refl; around = λ k bare. refl })

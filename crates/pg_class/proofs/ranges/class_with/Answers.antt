@@ -1,8 +1,23 @@
-use Rattle.std.proofs.Common.{rules, ◌≡◌, ap, sym, subst, ◌∙◌}
+use Rattle.std.proofs.Common.{rules, ◌≡◌, ◌++◌, ◌∷◌, [], ap, sym, ◌∙◌}
 use Rattle.std.specs.Char.{IsScalar}
-use Rattle.pg_class.specs.Ranges.{IsRange, IsClass, with_range, has}
-use Rattle.pg_class.proofs.Joins.{has-with_range, IsClass-with_range}
+use Rattle.pg_class.specs.Ranges.{IsRange, with_range}
+use Rattle.pg_class.proofs.Joins.{class-more, has-more}
 use Rattle.pg_class.proofs.ranges.class_with.Goals as goal
+
+pub returns-then-stands_below : goal.returns-then-stands_below
+returns-then-stands_below c =
+    let first : IsScalar c.args.first = search rules in
+    let last : IsScalar c.args.last = search rules in
+    let range : IsRange (c.args.first, c.args.last) =
+    record { ascends = c.requires.ascends; first = first; last = last } in
+    let same = c.as_slice.ensures.value in
+    let is : c.push.new.self.items ≡ with_range (c.args.first, c.args.last) c.as_slice.result.now =
+    c.in_ok-push.ensures.items ∙ ap (λ xs. xs ++ (c.args.first, c.args.last) ∷ []) (sym same)
+    ∙ sym (c.stands_below.ensures c.if-stands_below.true) in
+    record {
+      class = class-more _ _ _ _ range c.requires.class same is;
+      members = has-more _ _ _ _ range c.requires.class same is;
+    }
 
 pub returns : goal.returns
 returns c =
@@ -10,8 +25,9 @@ returns c =
     let last : IsScalar c.args.last = search rules in
     let range : IsRange (c.args.first, c.args.last) =
     record { ascends = c.requires.ascends; first = first; last = last } in
-    let is : c.in_ok-ranges.ranges.items ≡ with_range (c.args.first, c.args.last) c.args.class.now = c.in_ok-ranges.ensures in
+    let same = c.as_slice-2.ensures.value in
+    let is : c.in_ok-ranges.ranges.items ≡ with_range (c.args.first, c.args.last) c.as_slice-2.result.now = c.in_ok-ranges.ensures in
     record {
-      class = subst IsClass (sym is) (IsClass-with_range c.args.class.now _ range c.requires.class);
-      members = λ d sc. ap (λ rs. has rs d) is ∙ has-with_range c.args.class.now _ d range c.requires.class sc;
+      class = class-more _ _ _ _ range c.requires.class same is;
+      members = has-more _ _ _ _ range c.requires.class same is;
     }

@@ -1,4 +1,4 @@
-use Rattle.std.proofs.Common.{◌≡◌, ◌+◌, ◌-◌, ◌++◌, ◌∷◌, [], length, take, drop, arith, ap, sym, ◌∙◌}
+use Rattle.std.proofs.Common.{◌≡◌, ◌+◌, ◌-◌, ◌++◌, take, arith, ap, sym, ◌∙◌}
 use Rattle.pg_tree.proofs.Queues.{moved-some, moved-none}
 use Rattle.pg_tree.proofs.queue.move_bytes.Goals as goal
 use Rattle.pg_tree.proofs.queue.move_bytes.Goals.{in-Some+in_ok-push_back, in_default}

@@ -6,22 +6,22 @@ use Rattle.pg_turns.proofs.Characters.{counted_more, counted_less}
 use Rattle.pg_turns.proofs.leaves.run_len.Goals as goal
 
 pub loop-c-preserved : goal.loop-c-preserved
-loop-c-preserved g c =
+loop-c-preserved c =
     let read = c.loop-c.invariant.read in
     let below : c.loop-c.c-index < length c.args.characters.now = c.loop-c-test.true in
     let there : slice_get c.args.characters.now c.loop-c.count ≡ Some c.c-item.result =
     rw read (slice_get_read c.args.characters.now (length c.args.characters.now) c.loop-c.c-index c.c-item.result refl below c.c-item.is) in
     record {
       read = ap (λ n. n + 1) read;
-      left = counted_more (has_character c.args.grammar.now.classes c.args.class.now) c.args.characters.now c.loop-c.count c.c-item.result _ there
-          (sym c.test.ensures ∙ c.if-not-test.false) c.loop-c.invariant.left;
+      left = counted_more (has_character c.args.grammar.now.classes c.args.item.now.rest) c.args.characters.now c.loop-c.count c.c-item.result _ there
+          (sym c.rest_has.ensures ∙ c.if-not-rest_has.false) c.loop-c.invariant.left;
     }
 
-pub returns-then-not-test-clause-value : goal.returns-then-not-test-clause-value
-returns-then-not-test-clause-value g c =
+pub returns-then-not-rest_has-clause-value : goal.returns-then-not-rest_has-clause-value
+returns-then-not-rest_has-clause-value c =
     let read = c.loop-c.invariant.read in
     let below : c.loop-c.c-index < length c.args.characters.now = c.loop-c-test.true in
     let there : slice_get c.args.characters.now c.loop-c.count ≡ Some c.c-item.result =
     rw read (slice_get_read c.args.characters.now (length c.args.characters.now) c.loop-c.c-index c.c-item.result refl below c.c-item.is) in
-    counted_less (has_character c.args.grammar.now.classes c.args.class.now) c.args.characters.now c.loop-c.count c.c-item.result _ there
-    (sym c.test.ensures ∙ c.if-not-test.true) c.loop-c.invariant.left
+    counted_less (has_character c.args.grammar.now.classes c.args.item.now.rest) c.args.characters.now c.loop-c.count c.c-item.result _ there
+    (sym c.rest_has.ensures ∙ c.if-not-rest_has.true) c.loop-c.invariant.left

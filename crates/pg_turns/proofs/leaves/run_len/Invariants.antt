@@ -4,7 +4,7 @@ use Rattle.pg_form.specs.ClassItems.{has_character}
 use Rattle.pg_turns.proofs.leaves.run_len.Given as goal
 
 abbrev pub invariant-loop-c : goal.invariant-loop-c
-invariant-loop-c g l = record {
+invariant-loop-c l = record {
   read : l.count ≡ l.c-index;
-  left : l.count + prefix_len (has_character l.grammar.classes l.class) (drop l.count l.characters) ≡ prefix_len (has_character l.grammar.classes l.class) l.characters;
+  left : l.count + prefix_len (has_character l.grammar.classes l.item.rest) (drop l.count l.characters) ≡ prefix_len (has_character l.grammar.classes l.item.rest) l.characters;
 }

@@ -43,7 +43,7 @@ returns-after-answers-number-clause-named g t c =
 
 pub returns-after-answers-number-clause-parts : goal.returns-after-answers-number-clause-parts
 returns-after-answers-number-clause-parts g t c =
-    (subst (ClassFits (offer_of c.args.registry.now)) c.in-Some.ensures.cases.0 (c.after_complements-negated.ensures.fit (offer_of c.args.registry.now) c.requires.parts)).1
+    λ r is. (subst (ClassFits (offer_of r.now)) c.in-Some.ensures.cases.0 (c.after_complements-negated.ensures.fit (offer_of r.now) (c.requires.parts r is))).1
 
 pub returns-in-Literal-clause-named : goal.returns-in-Literal-clause-named
 returns-in-Literal-clause-named g t c =
@@ -51,11 +51,11 @@ returns-in-Literal-clause-named g t c =
 
 pub returns-in-Literal-clause-parts : goal.returns-in-Literal-clause-parts
 returns-in-Literal-clause-parts g t c =
-    (subst (ClassFits (offer_of c.args.registry.now)) c.in-Some.ensures.cases.0 (c.after_complements-negated.ensures.fit (offer_of c.args.registry.now) c.requires.parts)).1
+    λ r is. (subst (ClassFits (offer_of r.now)) c.in-Some.ensures.cases.0 (c.after_complements-negated.ensures.fit (offer_of r.now) (c.requires.parts r is))).1
 
 pub atom_has-requires-clause-fits : goal.atom_has-requires-clause-fits
 atom_has-requires-clause-fits g t c =
-    (subst (ClassFits (offer_of c.args.registry.now)) c.in-Some.ensures.cases.0 (c.after_complements-negated.ensures.fit (offer_of c.args.registry.now) c.requires.parts)).0
+    λ r is. (subst (ClassFits (offer_of r.now)) c.in-Some.ensures.cases.0 (c.after_complements-negated.ensures.fit (offer_of r.now) (c.requires.parts r is))).0
 
 pub first_membership-requires : goal.first_membership-requires
 first_membership-requires g t c =
@@ -78,7 +78,7 @@ first_membership-requires g t c =
             (
               rw own (names_before items number item c.requires.classes.earlier at),
               (
-                rw own (all-get (λ i. ClassFits (offer_of c.args.registry.now) (item_class i)) items number item c.requires.fit at),
+                (λ r is. rw own (all-get (λ i. ClassFits (offer_of r.now) (item_class i)) items number item (c.requires.fit r is) at)),
                 c.requires.answers,
               ),
             ),
@@ -95,7 +95,7 @@ loop-init g t c =
       rest = rw whole;
       fewer = omega arith;
       named = none_after c.args.below c.args.parts.now c.after_complements-negated.result.1.now c.in-Some.after.now c.in-Some.first.now (c.after_complements-negated.ensures.named c.args.below) c.requires.named c.in-Some.ensures.cases.0;
-      parts = (subst (ClassFits (offer_of c.args.registry.now)) c.in-Some.ensures.cases.0 (c.after_complements-negated.ensures.fit (offer_of c.args.registry.now) c.requires.parts)).1;
+      parts = λ r is. (subst (ClassFits (offer_of r.now)) c.in-Some.ensures.cases.0 (c.after_complements-negated.ensures.fit (offer_of r.now) (c.requires.parts r is))).1;
       answers = c.requires.answers;
     }
 

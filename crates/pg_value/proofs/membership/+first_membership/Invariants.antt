@@ -1,5 +1,6 @@
 use Rattle.std.proofs.Common.{◌≡◌, ◌||◌, ◌+◌, ◌-◌, ◌≤◌, false, length, take, drop}
 use Rattle.std.specs.List.{list_any}
+use Rattle.std.specs.Option.{ForSome}
 use Rattle.pg_pred.specs.Offer.{offer_of}
 use Rattle.pg_form.specs.Classes.{memberships, one_holds, lacks_item}
 use Rattle.pg_form.specs.ClassItems.{item_answers}
@@ -19,6 +20,6 @@ invariant-loop g l = record {
       ≡ drop l.end (memberships (item_answers l.items l.c) l.initial.rest l.c);
   fewer : length l.rest ≤ length l.initial.rest;
   named : list_any (lacks_item l.below) l.rest ≡ false;
-  parts : ClassFits (offer_of l.registry) l.rest;
+  parts : ForSome l.registry (λ r. ClassFits (offer_of r.now) l.rest);
   answers : Knows l.items l.c l.answers;
 }

@@ -1,9 +1,9 @@
 use Rattle.std.proofs.Common.{◌≡◌, ◌+◌, ◌-◌, true, false, length, get_or, [], arith, ap, sym, ◌∙◌}
 use Rattle.pg_tree.specs.Trees.{leaf, kids_of}
-use Rattle.pg_tree.specs.Stored.{has_label, IsStored, IsEndOf}
+use Rattle.pg_tree.specs.Stored.{has_label}
 use Rattle.pg_tree.proofs.Stored.{stored_as, stored-shown, shown-stored, stored-roots}
 use Rattle.pg_tree.proofs.Ends.{end_as}
-use Rattle.pg_tree.proofs.Labels.{last_stays, label-le, stored-opened, opened, kids_of-opened}
+use Rattle.pg_tree.proofs.Labels.{last_stays, label-le, stored-opened, kids_of-opened}
 use Rattle.pg_tree.proofs.forest.Forest.open_last.Goals as goal
 
 pub returns-then-not-is_labelled : goal.returns-then-not-is_labelled

@@ -1,4 +1,4 @@
-use Rattle.std.proofs.Common.{◌≡◌, ◌-◌, ◌++◌, ◌∷◌, [], length, arith, ap, ap₂, sym, ◌∙◌}
+use Rattle.std.proofs.Common.{◌-◌, arith, ap₂, sym, ◌∙◌}
 use Rattle.pg_tree.proofs.Stored.{stored_as, stored-shown, shown-stored, stored-push_leaf, stored-roots, on_ok, ok_side}
 use Rattle.pg_tree.proofs.forest.Forest.push_leaf.Goals as goal
 

@@ -1,6 +1,6 @@
-use Rattle.std.proofs.Common.{◌≡◌, ◌+◌, ◌++◌, ◌∷◌, [], refl, ap, sym, ◌∙◌}
+use Rattle.std.proofs.Common.{◌+◌, ◌++◌, ◌∷◌, [], refl, ap, sym, ◌∙◌}
 use Rattle.pg_tree.specs.Trees.{node, kids_of, lone_tree}
-use Rattle.pg_tree.specs.Stored.{shown, IsStored}
+use Rattle.pg_tree.specs.Stored.{IsStored}
 use Rattle.pg_tree.proofs.Stored.{stored_as, stored-shown, shown-stored, stored-push_node}
 use Rattle.pg_tree.proofs.tree.Tree.node.Goals as goal
 

@@ -1,20 +1,19 @@
 use Rattle.std.proofs.Common.{◌≡◌, sym, ap, ◌∙◌}
 use Rattle.std.specs.Prelude.{Some, None, slice_get, option_copied}
 use Rattle.std.proofs.lemmas.Result.{IfOk-weaker}
-use Rattle.pg_value.specs.Fits.{in_node}
 use Rattle.pg_language.specs.Answers.{given}
 use Rattle.pg_turns.specs.Tape.{tape_enter_at}
 use Rattle.pg_turns.specs.View.{stack_of}
 use Rattle.pg_turns.proofs.machine.Machine.enter.Goals as goal
 
-pub enter_form-requires-clause-class : goal.enter_form-requires-clause-class
-enter_form-requires-clause-class g c =
+pub enter_form-requires-clause-node : goal.enter_form-requires-clause-node
+enter_form-requires-clause-node c =
     let there : slice_get c.args.grammar.now.nodes c.args.node ≡ Some c.in-Some.form.now =
     ap (λ ns. slice_get ns c.args.node) (sym c.nodes.ensures.all) ∙ ap (slice_get c.nodes.result.now) (sym c.index.ensures) ∙ sym c.node_at.ensures ∙ ap option_copied c.in-Some.is in
-    in_node c.args.node there
+    there
 
 pub returns-in-Some : goal.returns-in-Some
-returns-in-Some g c =
+returns-in-Some c =
     let m = c.args.self.now in
     let there : slice_get c.args.grammar.now.nodes c.args.node ≡ Some c.in-Some.form.now =
     ap (λ ns. slice_get ns c.args.node) (sym c.nodes.ensures.all) ∙ ap (slice_get c.nodes.result.now) (sym c.index.ensures) ∙ sym c.node_at.ensures ∙ ap option_copied c.in-Some.is in
@@ -22,7 +21,7 @@ returns-in-Some g c =
     (λ mode h reading. h reading ∙ ap (λ o. tape_enter_at (given reading c.args.grammar.now c.args.text.now) o c.args.place (stack_of m.frames.items) m.forest m.trail.items m.messages m.table) (sym there)) c.enter_form.ensures
 
 pub returns-in-None : goal.returns-in-None
-returns-in-None g c =
+returns-in-None c =
     let m = c.args.self.now in
     let none : slice_get c.args.grammar.now.nodes c.args.node ≡ None =
     ap (λ ns. slice_get ns c.args.node) (sym c.nodes.ensures.all) ∙ ap (slice_get c.nodes.result.now) (sym c.index.ensures) ∙ sym c.node_at.ensures ∙ ap option_copied c.in-None.is in

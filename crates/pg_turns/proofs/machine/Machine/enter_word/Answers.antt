@@ -1,26 +1,17 @@
 use Rattle.std.proofs.Common.{◌≡◌, sym, ap, ◌∙◌}
 use Rattle.std.specs.Prelude.{Some, None, slice_get, option_copied}
 use Rattle.std.proofs.lemmas.Result.{IfOk-weaker}
-use Rattle.pg_value.specs.Fits.{in_head, in_rest}
 use Rattle.pg_language.specs.Leaves.{some_word_outcome}
 use Rattle.pg_turns.specs.Tape.{spot_at, tape_told}
 use Rattle.pg_turns.specs.View.{stack_of}
 use Rattle.pg_turns.proofs.machine.Machine.enter_word.Goals as goal
 
-pub word-requires-clause-head : goal.word-requires-clause-head
-word-requires-clause-head g c =
-    let there : slice_get c.args.grammar.now.words c.args.word ≡ Some c.in-Some.item.now =
-    ap (λ ws. slice_get ws c.args.word) (sym c.word_items.ensures.all) ∙ ap (slice_get c.word_items.result.now) (sym c.index.ensures) ∙ sym c.item_at.ensures ∙ ap option_copied c.in-Some.is in
-    in_head c.args.word there
-
-pub word-requires-clause-rest : goal.word-requires-clause-rest
-word-requires-clause-rest g c =
-    let there : slice_get c.args.grammar.now.words c.args.word ≡ Some c.in-Some.item.now =
-    ap (λ ws. slice_get ws c.args.word) (sym c.word_items.ensures.all) ∙ ap (slice_get c.word_items.result.now) (sym c.index.ensures) ∙ sym c.item_at.ensures ∙ ap option_copied c.in-Some.is in
-    in_rest c.args.word there
+pub word-requires-clause-item : goal.word-requires-clause-item
+word-requires-clause-item c =
+    ap (λ ws. slice_get ws c.args.word) (sym c.word_items.ensures.all) ∙ ap (slice_get c.word_items.result.now) (sym c.index.ensures) ∙ sym c.item_at.ensures ∙ ap option_copied c.in-Some.is
 
 pub returns-in-Some : goal.returns-in-Some
-returns-in-Some g c =
+returns-in-Some c =
     let m = c.args.self.now in
     let there : slice_get c.args.grammar.now.words c.args.word ≡ Some c.in-Some.item.now =
     ap (λ ws. slice_get ws c.args.word) (sym c.word_items.ensures.all) ∙ ap (slice_get c.word_items.result.now) (sym c.index.ensures) ∙ sym c.item_at.ensures ∙ ap option_copied c.in-Some.is in
@@ -28,7 +19,7 @@ returns-in-Some g c =
     (λ mode h. h ∙ ap (λ o. tape_told (some_word_outcome c.args.grammar.now c.args.text.now (spot_at m.table c.args.place) o) (stack_of m.frames.items) m.forest m.trail.items m.messages m.table) (sym there)) c.word.ensures
 
 pub returns-in-None : goal.returns-in-None
-returns-in-None g c =
+returns-in-None c =
     let m = c.args.self.now in
     let none : slice_get c.args.grammar.now.words c.args.word ≡ None =
     ap (λ ws. slice_get ws c.args.word) (sym c.word_items.ensures.all) ∙ ap (slice_get c.word_items.result.now) (sym c.index.ensures) ∙ sym c.item_at.ensures ∙ ap option_copied c.in-None.is in

@@ -1,0 +1,107 @@
+//! The messages of errors while a grammar runs: what they say, and not yet their texts.
+//!
+//! Most errors are dropped, so a text is made only of those that stand in the end. What a message says lies in the
+//! grammar and in the text that is parsed.
+
+ghost use Rattle.std.specs.Prelude.{◌≡◌, ◌++◌, codes, string_bytes, IfOk};
+ghost use Rattle.std.specs.Str.{encode_utf8_all};
+ghost use Rattle.pg_language.specs.Errors.{quote, next_text};
+ghost use Rattle.pg_message_tape.specs.Messages.{message_kind, message_text, is_expected};
+
+use pg_message::MessageKind;
+use serde_json::Value;
+use std::alloc::{AllocError, Global};
+
+/// One message of an error.
+#[derive(Clone, Copy)]
+pub enum Message<'a> {
+    /// A leaf stopped at this character, or at the end of the text.
+    Stopped(Option<char>),
+    /// A parser doesn't take this character, or the end of the text.
+    Refused(Option<char>),
+    /// A parser doesn't take this word, which is reserved.
+    Reserved(&'a [char]),
+    /// These characters would have been taken.
+    Wanted(&'a [char]),
+    /// The end of the text would have been taken.
+    WantedEnd,
+    /// What has this name would have been taken.
+    Named(&'a [char]),
+}
+
+impl Message<'_> {
+    /// What it is about.
+    pub(crate) fn kind(&self) -> MessageKind
+        ensures { result ≡ message_kind self.now }
+    {
+        match self {
+            Message::Stopped(_) => MessageKind::SystemUnexpected,
+            Message::Refused(_) => MessageKind::Unexpected,
+            Message::Reserved(_) => MessageKind::Unexpected,
+            Message::Wanted(_) => MessageKind::Expected,
+            Message::WantedEnd => MessageKind::Expected,
+            Message::Named(_) => MessageKind::Expected,
+        }
+    }
+
+    /// Whether it is about what would have been taken.
+    pub(crate) fn is_expected(&self) -> bool
+        ensures { result ≡ is_expected (message_kind self.now) }
+    {
+        match self {
+            Message::Stopped(_) | Message::Refused(_) | Message::Reserved(_) => false,
+            Message::Wanted(_) | Message::WantedEnd | Message::Named(_) => true,
+        }
+    }
+
+    /// Its text. The only error is that memory ran out.
+    pub(crate) fn text(&self, alloc: Global) -> Result<String, AllocError>
+        ensures { IfOk result (λ text. string_bytes text ≡ message_text self.now) }
+    {
+        match self {
+            Message::Stopped(next) => next_text(alloc, *next),
+            Message::Refused(next) => next_text(alloc, *next),
+            Message::Reserved(word) => reserved_word(alloc, word),
+            Message::Wanted(characters) => quote(alloc, characters),
+            Message::WantedEnd => String::from_str(alloc, "end of input"),
+            Message::Named(name) => utf8(alloc, name),
+        }
+    }
+}
+
+/// The text with these characters.
+fn utf8(alloc: Global, characters: &[char]) -> Result<String, AllocError>
+    ensures { IfOk result (λ text. string_bytes text ≡ encode_utf8_all characters.now) }
+{
+    let mut text = String::new(alloc);
+    for c in characters {
+        text.push(*c)?;
+    }
+    Ok(text)
+}
+
+/// The characters in double quotes, with the escapes of JSON.
+fn quote(alloc: Global, characters: &[char]) -> Result<String, AllocError>
+    ensures { IfOk result (λ text. string_bytes text ≡ quote characters.now) }
+{
+    let text = utf8(alloc, characters)?;
+    Value::String(text).to_string(alloc)
+}
+
+/// The next character in quotes, or the empty text where there is none.
+fn next_text(alloc: Global, next: Option<char>) -> Result<String, AllocError>
+    ensures { IfOk result (λ text. string_bytes text ≡ next_text next) }
+{
+    match next {
+        None => Ok(String::new(alloc)),
+        Some(c) => quote(alloc, &[c]),
+    }
+}
+
+/// What is said of a reserved word.
+fn reserved_word(alloc: Global, word: &[char]) -> Result<String, AllocError>
+    ensures { IfOk result (λ said. string_bytes said ≡ codes "reserved word " ++ quote word.now) }
+{
+    let quoted = quote(alloc, word)?;
+    format!(in alloc; "reserved word {quoted}")
+}
