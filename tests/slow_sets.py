@@ -75,7 +75,7 @@ TOKEN = re.compile(
 )
 ESCAPE = re.compile(r"\\(?:u\{([0-9A-Fa-f]+)\}|(.))")
 ESCAPED = {"n": "\n", "t": "\t", "r": "\r", '"': '"', "\\": "\\"}
-BASE_FORMS = "satisfy string seq choice many chainl1 chainr1 try notFollowedBy eof word expr declare text skip build label"
+BASE_FORMS = "satisfy string seq choice many chainl1 chainr1 try notFollowedBy eof word expr declare text skip build label local"
 SHORT_FORMS = "many1 option between sepBy sepBy1 endBy"
 FORMS = (BASE_FORMS + " " + SHORT_FORMS).split()
 BUILDERS = {"chainl1": 1, "chainr1": 1, "build": 1, "expr": 3}
@@ -99,7 +99,7 @@ def characters_of(literal):
 
 
 class Grammar:
-    """Word items, operators and start as they are read; rules as pairs of a name and the number of a node.
+    """Word items, operators, gap and start as they are read; rules as pairs of a name and the number of a node.
 
     A node is a triple of a form's word, the numbers of its parts, and what else the form has.
     """
@@ -107,6 +107,7 @@ class Grammar:
     def __init__(self):
         self.words = {}
         self.operators = None
+        self.gap = None
         self.start = None
         self.rules = {}
         self.nodes = []
@@ -177,7 +178,7 @@ class Reader:
     def operators_item(self):
         operator = self.class_expression()
         self.take("name", "gap")
-        self.class_expression()
+        self.grammar.gap = (0, self.class_expression())
         self.grammar.operators = (2, operator, operator, self.reserved())
         if self.taken("name", "max"):
             self.take("number")
@@ -276,7 +277,7 @@ def base_form(word, values):
     if word == "endBy":
         value, separator = values
         return ("many", [seq(value, ("skip", [separator], None))], None)
-    if word == "try" and len(values) > 1:
+    if word in ("try", "local") and len(values) > 1:
         return (word, [seq(*values)], None)
     return (word, values, None)
 

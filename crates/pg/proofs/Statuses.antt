@@ -2,14 +2,15 @@
 use Rattle.std.proofs.Common.{◌≡◌, ℕ, List, true, false, Option, sym, subst, inl, inr}
 use Rattle.pg_pred.specs.Offer.{Offer}
 use Rattle.pg_language.specs.declared.reading.Reading.{Reading}
-use Rattle.pg_bench.specs.Checking.{IsChecked}
-use Rattle.pg_bench.specs.Faults.{IsCheckRefusal, IsPrintRefusal, IfRefused, IfParseError}
-use Rattle.pg_bench.specs.Parsed.{IsParsed, IsErrorOf, AreFindingsOf}
-use Rattle.pg_bench.specs.Printing.{IsPrinted}
+use Rattle.pg_grammar_bench.specs.Checking.{IsChecked}
+use Rattle.pg_grammar_bench.specs.Faults.{IsCheckRefusal, IsPrintRefusal, IfRefused, IfParseError}
+use Rattle.pg_grammar_bench.specs.Files.{AreFindingsOf}
+use Rattle.pg_bench.specs.Parsed.{IsParsed, IsErrorOf}
+use Rattle.pg_grammar_bench.specs.Printing.{IsPrinted}
 use Rattle.pg_bench.specs.Probing.{IsProbed}
-use Rattle.pg_bench.specs.Showing.{IsShownFile}
-use Rattle.pg_bench.specs.declared.fault.BenchFault.{BenchFault}
-use Rattle.pg_bench.specs.declared.fault.BenchFault.TheVariants.{File, NotRun, Refused, Reader, NotUtf8, TooLong, ParseError, Writer, Memory}
+use Rattle.pg_grammar_bench.specs.Showing.{IsShownFile}
+use Rattle.pg_grammar_bench.specs.declared.fault.BenchFault.{BenchFault}
+use Rattle.pg_grammar_bench.specs.declared.fault.BenchFault.TheVariants.{File, NotRun, Refused, Reader, NotUtf8, TooLong, ParseError, Writer, Memory}
 use Rattle.pg.specs.Status.{status_of, IsStatus, yes, no, unusable, out_of_memory, Refuses, IsCheckStatus, IsParseStatus, IsProbeStatus, IsPrintStatus}
 
 -- ---- a check

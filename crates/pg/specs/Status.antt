@@ -5,11 +5,12 @@ use Rattle.pg_tree.specs.Trees.{Tree}
 use Rattle.pg_pred.specs.Offer.{Offer}
 use Rattle.pg_language.specs.declared.reading.Reading.{Reading}
 use Rattle.pg_predict.specs.declared.finding.Finding.{Finding}
-use Rattle.pg_bench.specs.Checking.{IsJudgedFile}
-use Rattle.pg_bench.specs.Parsed.{IsForestOf, IsErrorOf, AreFindingsOf, SpellsSome}
+use Rattle.pg_grammar_bench.specs.Checking.{IsJudgedFile}
+use Rattle.pg_grammar_bench.specs.Files.{AreFindingsOf, SpellsSome}
+use Rattle.pg_bench.specs.Parsed.{IsForestOf, IsErrorOf}
 use Rattle.pg_bench.specs.Probing.{IsShown}
-use Rattle.pg_bench.specs.declared.fault.BenchFault.{BenchFault}
-use Rattle.pg_bench.specs.declared.fault.BenchFault.TheVariants.{File, NotRun, Refused, Reader, NotUtf8, TooLong, ParseError, Writer, Memory}
+use Rattle.pg_grammar_bench.specs.declared.fault.BenchFault.{BenchFault}
+use Rattle.pg_grammar_bench.specs.declared.fault.BenchFault.TheVariants.{File, NotRun, Refused, Reader, NotUtf8, TooLong, ParseError, Writer, Memory}
 
 -- the exit status of a fault: 1 if the grammar isn't accepted or the text isn't the grammar's, 2 if something can't be used, 3 if memory ran out
 abbrev pub status_of : BenchFault → ℕ

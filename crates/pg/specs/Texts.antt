@@ -3,9 +3,9 @@ use Rattle.std.specs.Prelude.{ℕ, List, [], ◌∷◌, ◌++◌, map, codes}
 use Rattle.std.specs.String.{string_bytes}
 use Rattle.pg_message.specs.Printed.{printed}
 use Rattle.pg_predict.specs.declared.finding.Finding.{Finding}
-use Rattle.pg_bench.specs.Texts.{fault_text}
-use Rattle.pg_bench.specs.declared.fault.BenchFault.{BenchFault}
-use Rattle.pg_bench.specs.declared.fault.BenchFault.TheVariants.{File, NotRun, Refused, Reader, NotUtf8, TooLong, ParseError, Writer, Memory}
+use Rattle.pg_grammar_bench.specs.Texts.{fault_text}
+use Rattle.pg_grammar_bench.specs.declared.fault.BenchFault.{BenchFault}
+use Rattle.pg_grammar_bench.specs.declared.fault.BenchFault.TheVariants.{File, NotRun, Refused, Reader, NotUtf8, TooLong, ParseError, Writer, Memory}
 
 -- what stands before a fault: the grammar file's name, the text's name, or nothing
 abbrev pub front_of : BenchFault → List ℕ → List ℕ → List ℕ

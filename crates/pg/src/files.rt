@@ -2,6 +2,9 @@
 //!
 //! All of them are opened before any is read, and a file that can't be is told at once.
 
+ghost use Rattle.std.specs.Prelude.{IfOk, IfSome};
+ghost use Rattle.pg.specs.Files.{IsAllOf};
+
 use crate::printing::cannot_read;
 use pg_tree::{Meter, ReadFault, read_bytes};
 use std::alloc::AllocError;
@@ -50,12 +53,15 @@ pub fn grammar_alone<R: AllocGlobal + Files + Eprint>(
     Ok(bytes)
 }
 
-/// The bytes of an open grammar file, if they can be read and are within the limit.
+/// The bytes of an open grammar file, if they can be read and are within the limit: all that it has.
 fn grammar_bytes<R: AllocGlobal + Files, F: Read + Drop>(
     rt: &R,
     file: F,
-) -> Result<Option<Vec<u8>>, AllocError> {
-    match read_bytes(rt.alloc(), &mut Meter::new(file), READ_LIMIT) {
+) -> Result<Option<Vec<u8>>, AllocError>
+    ensures { IfOk result (λ found. IfSome found (λ bytes. IsAllOf (F.remaining file) bytes.items)) }
+{
+    let mut reader = Meter::new(file);
+    match read_bytes(rt.alloc(), &mut reader, READ_LIMIT) {
         Ok(bytes) => Ok(Some(bytes)),
         Err(ReadFault::Reader | ReadFault::TooLong) => Ok(None),
         Err(ReadFault::Memory) => Err(AllocError),

@@ -1,5 +1,4 @@
 pub mod Prefixes
 pub mod Shown
 pub mod Parses
-pub mod Results
-pub mod Judged
+pub mod Probed

@@ -1,5 +1,5 @@
 -- What is told by a run from bytes to bytes, with a registry that offers predicates and builders.
-use Rattle.std.specs.Prelude.{◌≡◌, ◌≤◌, ◌<◌, ℕ, List, [], ◌∷◌, ◌++◌, length, Option}
+use Rattle.std.specs.Prelude.{◌≡◌, ◌≤◌, ℕ, List, [], ◌∷◌, ◌++◌, length, Option, Some}
 use Rattle.std.specs.Str.{chars, IsUtf8}
 use Rattle.std.specs.Io.KnownBytes.{Appends, Consumes, IsAtEnd}
 use Rattle.pg_text.specs.declared.text.TheConstants.{LIMIT}
@@ -9,13 +9,9 @@ use Rattle.pg_tree.specs.Json.{json}
 use Rattle.pg_tree.specs.Bytes.{AppendsPrefix}
 use Rattle.pg_pred.specs.Offer.{Offer}
 use Rattle.pg_value.specs.Grammar.{Grammar}
+use Rattle.pg_machine.specs.declared.answer.Answer.{Answer}
+use Rattle.pg_machine.specs.declared.answer.Success.{Success}
 use Rattle.pg_making.specs.Spells.{SpellsWithinLimits}
-use Rattle.pg_predict.specs.Findings.{AreFindings}
-use Rattle.pg_predict.specs.Operators.{HasNoOperators}
-use Rattle.pg_predict.specs.declared.finding.Finding.{Finding}
-use Rattle.pg_file.specs.Refusals.{IsRefusalOf}
-use Rattle.pg_file.specs.declared.fault.FileFault.{FileFault}
-use Rattle.pg_file.specs.declared.fault.FileError.TheVariants.{Fault}
 use Rattle.pg_bench.specs.Promise.{IsAccepted, IsForestOfText, IsErrorOfText}
 
 -- the bytes spell the text, which isn't too long
@@ -23,6 +19,10 @@ pub record IsSpelledBy (bytes text : List ℕ) : Type 0 where
   pub utf8 : IsUtf8 bytes
   pub within : length (chars bytes) ≤ LIMIT
   pub same : text ≡ chars bytes
+
+-- the answer is ok, with this forest
+abbrev pub IsForestOfAnswer : Answer → List Tree → Type 0
+IsForestOfAnswer a forest = (s : Success) × (a.success ≡ Some s) × (forest ≡ s.forest)
 
 -- the bytes are a text, not too long, and this is its forest by the grammar
 pub record IsForestOfBytes (g : Grammar) (bytes : List ℕ) (forest : List Tree) : Type 0 where
@@ -54,15 +54,6 @@ IsForestOf offer file reader left forest = ParsesReader offer file reader left (
 abbrev pub IsErrorOf : Offer → List ℕ → Option (List ℕ) → Option (List ℕ) → message.ParseError → Type 0
 IsErrorOf offer file reader left e = ParsesReader offer file reader left (λ g bytes. IsErrorOfBytes g bytes e)
 
--- the file spells a grammar without operators that are read or declared, and these findings, at least one, are all that is
--- wrong with it
-pub record AreFindingsOf (offer : Offer) (file : List ℕ) (findings : List Finding) : Type 0 where
-  pub grammar : Grammar
-  pub spelled : SpellsWithinLimits offer file grammar
-  pub plain : HasNoOperators grammar
-  pub all : AreFindings grammar findings
-  pub some : 0 < length findings
-
 -- and the forest's JSON and a line feed were written
 pub record IsParsed (offer : Offer) (file : List ℕ) (reader left writer held : Option (List ℕ)) : Type 0 where
   pub forest : List Tree
@@ -74,23 +65,6 @@ pub record IsPartlyWritten (offer : Offer) (file : List ℕ) (reader left writer
   pub forest : List Tree
   pub parsed : IsForestOf offer file reader left forest
   pub written : AppendsPrefix writer held (json forest ++ 10 ∷ [])
-
--- the file spells no grammar, or not within the limits
-pub record SpellsNone (offer : Offer) (file : List ℕ) : Type 0 where
-  pub none : (g : Grammar) → SpellsWithinLimits offer file g → ⊥
-
--- and this fault is what reading it answers
-pub record IsFaultOfFile (offer : Offer) (file : List ℕ) (fault : FileFault) : Type 0 where
-  pub spells : SpellsNone offer file
-  pub answered : IsRefusalOf file (Fault fault)
-
--- the file spells some grammar of this kind
-abbrev pub SpellsSome : (Grammar → Type 0) → Offer → List ℕ → Type 0
-SpellsSome Is offer file = (g : Grammar) × SpellsWithinLimits offer file g × Is g
-
--- the file spells some grammar that isn't of this kind
-abbrev pub SpellsOther : (Grammar → Type 0) → Offer → List ℕ → Type 0
-SpellsOther Is offer file = (g : Grammar) × SpellsWithinLimits offer file g × (Is g → ⊥)
 
 -- the reader's whole bytes have this property
 abbrev pub ReadsText : Option (List ℕ) → Option (List ℕ) → (List ℕ → Type 0) → Type 0

@@ -22,7 +22,7 @@ use Rattle.pg_making.specs.Spells.{SpellsWithinLimits}
 use Rattle.pg_machine.specs.declared.answer.Success.{Success}
 use Rattle.pg_machine.specs.declared.answer.Outcome as ended
 use Rattle.pg_machine.specs.declared.answer.Outcome.TheVariants.{Answered, StepsUsed, EmptyRound}
-use Rattle.pg_predict.specs.Operators.{HasNoOperators}
+use Rattle.pg_predict.specs.Expressions.{HasNoExpressions}
 
 abbrev pub consumption : Bool → List ℕ
 consumption true = codes "consumed"
@@ -72,7 +72,7 @@ pub record IsShown (offer : Offer) (file : List ℕ) (reader left : Option (List
     (said : List ℕ) : Type 0 where
   pub grammar : Grammar
   pub spelled : SpellsWithinLimits offer file grammar
-  pub plain : HasNoOperators grammar
+  pub plain : HasNoExpressions grammar
   pub bytes : List ℕ
   pub read : Consumes reader left bytes
   pub end : IsAtEnd left

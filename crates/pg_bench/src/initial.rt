@@ -3,9 +3,9 @@
 ghost use Rattle.std.specs.Prelude.{◌≡◌, IfOk, IfErr};
 ghost use Rattle.pg_table.specs.Tables.{initial, whole, ComesFrom};
 ghost use Rattle.pg_making.specs.Spells.{HasInitialTable};
-ghost use Rattle.pg_bench.specs.Faults.{IsMemory};
+ghost use Rattle.pg_grammar_bench.specs.Faults.{IsMemory};
 
-use crate::fault::BenchFault;
+use pg_grammar_bench::BenchFault;
 use pg_table::{InitialFault, Table};
 use pg_value::Grammar;
 use std::alloc::Global;

@@ -1,13 +1,12 @@
 //! The text that a reader gives.
 
-ghost use Rattle.std.specs.Prelude.{◌≡◌, ◌≤◌, ◌<◌, ◌+◌, ◌*◌, ◌⊎◌, false, true, length, IfOk, IfErr, OnOk, IsErrOf};
+ghost use Rattle.std.specs.Prelude.{◌≡◌, ◌≤◌, ◌+◌, ◌*◌, false, IfOk, IfErr, OnOk};
 ghost use Rattle.std.specs.Io.KnownBytes.{Consumes, IsAtEnd};
-ghost use Rattle.std.specs.Str.{chars, IsUtf8};
 ghost use Rattle.pg_tree.specs.Meter.{saturating_sum};
 ghost use Rattle.pg_bench.specs.Parsed.{IsSpelledBy};
-ghost use Rattle.pg_bench.specs.Faults.{IsReadRefusal, IsTextRefusal};
+ghost use Rattle.pg_bench.specs.Refusals.{IsReadRefusal, IsTextRefusal, IsWell};
 
-use crate::fault::BenchFault;
+use pg_grammar_bench::BenchFault;
 use pg_text::{LIMIT, Text, TextFault};
 use pg_tree::{Meter, ReadFault, read_bytes};
 use std::alloc::Global;
@@ -21,11 +20,8 @@ pub fn read_text<R: Read>(alloc: Global, reader: &mut Meter<R>) -> Result<Vec<u8
     requires { reader.old.failed ≡ false }
     ensures ok { IfOk result (λ read. Consumes (R.remaining reader.old.inner) (R.remaining reader.new.inner) read.items) }
     ensures end { OnOk result (IsAtEnd (R.remaining reader.new.inner)) }
-    ensures stays { OnOk result (reader.new.failed ≡ false) }
-    ensures short { OnOk result (reader.new.bytes ≤ saturating_sum reader.old.bytes (4 * LIMIT)) }
-    ensures err { IfErr result IsReadRefusal }
-    ensures reader { IsErrOf result BenchFault.Reader →
-        (reader.new.failed ≡ true) ⊎ (saturating_sum reader.old.bytes (4 * LIMIT + 1) ≤ reader.new.bytes) }
+    ensures well { OnOk result (IsWell reader.old reader.new) }
+    ensures err { IfErr result (IsReadRefusal reader.old reader.new) }
     ensures asked { reader.new.calls ≤ saturating_sum reader.old.calls (4 * LIMIT + 1) }
 {
     match read_bytes(alloc, reader, TEXT_BYTES) {

@@ -1,7 +1,6 @@
 //! What is printed of a run's outcome.
 
 ghost use Rattle.std.specs.Prelude.{◌≡◌, IfOk};
-ghost use Rattle.std.specs.String.{string_bytes};
 ghost use Rattle.pg_message.specs.Printed.{printed};
 ghost use Rattle.pg_bench.specs.Probing.{consumption, ok_text, error_text, answer_text, outcome_text, is_some, is_ok_outcome};
 

@@ -6,22 +6,23 @@
 
 ghost use Rattle.std.specs.Prelude.{◌≡◌, ◌≤◌, ◌<◌, ◌+◌, ◌*◌, ◌⊎◌, [], ◌∷◌, ◌++◌, false, true, length, IfOk, IfErr, OnOk, IsErrOf};
 ghost use Rattle.std.specs.Str.{chars, IsUtf8};
-ghost use Rattle.std.specs.Io.KnownBytes.{Appends, Consumes, IsAtEnd};
+ghost use Rattle.std.specs.Io.KnownBytes.{Appends};
 ghost use Rattle.pg_pred.specs.Offer.{offer_of};
 ghost use Rattle.pg_value.specs.Fits.{Fits};
 ghost use Rattle.pg_tree.specs.Json.{json};
 ghost use Rattle.pg_tree.specs.Meter.{saturating_sum};
 ghost use Rattle.pg_tree.specs.Bytes.{AppendsPrefix};
 ghost use Rattle.pg_making.specs.Spells.{HasInitialTable};
-ghost use Rattle.pg_predict.specs.Operators.{HasNoOperators};
+ghost use Rattle.pg_predict.specs.Expressions.{HasNoExpressions};
 ghost use Rattle.pg_bench.specs.Promise.{IsAccepted, IsForestOfText};
-ghost use Rattle.pg_bench.specs.Parsed.{IsParsed, IsForestOf, IsForestOfBytes, IsErrorOf, AreFindingsOf, IsFaultOfFile, SpellsSome, SpellsOther, ReadsText, IsPartlyWritten};
-ghost use Rattle.pg_bench.specs.Faults.{IsForestRefusal, IsReadingRefusal, IfRefused, IfParseError, IsBeforeReading, IsParseRefusal, IsRunRefusal, IsWriteRefusal, IsAfterFile, IsAfterReading, IfFile, IsBeforeWriting};
+ghost use Rattle.pg_grammar_bench.specs.Files.{AreFindingsOf, IsFaultOfFile, SpellsSome, SpellsOther};
+ghost use Rattle.pg_bench.specs.Parsed.{IsParsed, IsForestOf, IsForestOfAnswer, IsForestOfBytes, IsErrorOf, ReadsText, IsPartlyWritten};
+ghost use Rattle.pg_grammar_bench.specs.Faults.{IfRefused, IfParseError, IsBeforeReading, IsAfterFile, IsAfterReading, IfFile, IsBeforeWriting};
+ghost use Rattle.pg_bench.specs.Refusals.{IsForestRefusal, IsErrorOfAnswer, IsTextFault, IsParseRefusal, IsRunRefusal, IsWriteRefusal, IsWell};
 
-use crate::fault::BenchFault;
-use crate::grammar_file::checked_of;
 use crate::initial::initial_table;
 use crate::input::{read_text, text_of};
+use pg_grammar_bench::{BenchFault, checked_of};
 use pg_machine::{Answer, run};
 use pg_pred::Registry;
 use pg_predict::Checked;
@@ -36,11 +37,10 @@ use std::io::{Read, Write};
 /// and builders that the file may name.
 ///
 /// Both meters have to be fresh of failures. The faults come in the order of [`BenchFault`]: a fault of the file, `NotRun`
-/// where its grammar reads or declares operators, and `Refused` with all that is wrong with it, before the reader is asked at
+/// where its grammar reads expressions, and `Refused` with all that is wrong with it, before the reader is asked at
 /// all; then the reader's, then those of its bytes, `ParseError` where the grammar doesn't derive the text, and the writer's.
 /// Up to `ParseError`, and where memory runs out, nothing is written. A text of over 4,194,304 bytes can't be one of 1,048,576
 /// characters, so no more is read of it.
-#[tactic(auto, using(crate::proofs::Parses::file_claims, crate::proofs::Parses::not_run_claims, crate::proofs::Parses::refused_claims, crate::proofs::Parses::accepted_claims, crate::proofs::Parses::error_claims))]
 pub fn parse_bytes<R: Read, W: Write>(
     alloc: Global,
     grammar: &[u8],
@@ -58,7 +58,7 @@ pub fn parse_bytes<R: Read, W: Write>(
     // A fault of the file comes first, and every other one only where the file spells a grammar: one that reads or declares
     // operators, one that is refused with all its findings, or else an accepted one.
     ensures file { IfErr result (IfFile (IsFaultOfFile (offer_of registry.now) grammar.now)) }
-    ensures not_run { IsErrOf result BenchFault.NotRun → SpellsOther HasNoOperators (offer_of registry.now) grammar.now }
+    ensures not_run { IsErrOf result BenchFault.NotRun → SpellsOther HasNoExpressions (offer_of registry.now) grammar.now }
     ensures refused { IfErr result (IfRefused (AreFindingsOf (offer_of registry.now) grammar.now)) }
     ensures unread { IfErr result (λ fault. IsBeforeReading fault → reader.new ≡ reader.old) }
     ensures accepted { IfErr result (λ fault. IsAfterFile fault → SpellsSome IsAccepted (offer_of registry.now) grammar.now) }
@@ -92,12 +92,14 @@ pub fn parse_bytes<R: Read, W: Write>(
 
     ensures asked { reader.new.calls ≤ saturating_sum reader.old.calls (4 * LIMIT + 1) }
 {
-    let forest = forest_of_files(alloc, grammar, registry, reader)?;
-    write_line(alloc, &forest, writer)
+    match forest_of_files(alloc, grammar, registry, reader) {
+        Ok(forest) => write_line(alloc, &forest, writer),
+        Err(fault) => Err(fault),
+    }
 }
 
 /// The forest of the text that a reader gives, by the grammar that a file spells.
-#[tactic(auto, using(crate::proofs::Parses::forest_of_file, crate::proofs::Parses::grammar_refused, crate::proofs::Parses::reading_refused_file))]
+#[tactic(auto, using(crate::proofs::Parses::accepted_grammar, crate::proofs::Parses::forest_of_file, crate::proofs::Parses::grammar_refused, crate::proofs::Parses::reading_refused_file))]
 fn forest_of_files<R: Read>(
     alloc: Global,
     grammar: &[u8],
@@ -106,14 +108,9 @@ fn forest_of_files<R: Read>(
 ) -> Result<Forest, BenchFault>
     requires { reader.old.failed ≡ false }
     ensures ok { IfOk result (IsForestOf (offer_of registry.now) grammar.now (R.remaining reader.old.inner) (R.remaining reader.new.inner)) }
-    ensures err { IfErr result (IsForestRefusal (offer_of registry.now) grammar.now (R.remaining reader.old.inner) (R.remaining reader.new.inner)) }
-    ensures unread { IfErr result (λ fault. IsBeforeReading fault → reader.new ≡ reader.old) }
-    ensures reader { IsErrOf result BenchFault.Reader →
-        (reader.new.failed ≡ true) ⊎ (saturating_sum reader.old.bytes (4 * LIMIT + 1) ≤ reader.new.bytes) }
-    ensures stays { OnOk result (reader.new.failed ≡ false) }
-    ensures well { IfErr result (λ fault. IsAfterReading fault → reader.new.failed ≡ false) }
-    ensures short { OnOk result (reader.new.bytes ≤ saturating_sum reader.old.bytes (4 * LIMIT)) }
-    ensures short_too { IfErr result (λ fault. IsAfterReading fault → reader.new.bytes ≤ saturating_sum reader.old.bytes (4 * LIMIT)) }
+    ensures well { OnOk result (IsWell reader.old reader.new) }
+    ensures err { IfErr result (IsForestRefusal (offer_of registry.now) grammar.now reader.old reader.new
+        (R.remaining reader.old.inner) (R.remaining reader.new.inner)) }
     ensures asked { reader.new.calls ≤ saturating_sum reader.old.calls (4 * LIMIT + 1) }
 {
     let checked = checked_of(alloc, grammar, registry)?;
@@ -136,13 +133,8 @@ fn forest_of_reader<R: Read>(
     requires reader { reader.old.failed ≡ false }
     ensures ok { IfOk result (λ forest. ReadsText (R.remaining reader.old.inner) (R.remaining reader.new.inner)
         (λ bytes. IsForestOfBytes checked.now.grammar bytes forest)) }
-    ensures err { IfErr result (IsReadingRefusal checked.now.grammar (R.remaining reader.old.inner) (R.remaining reader.new.inner)) }
-    ensures reader { IsErrOf result BenchFault.Reader →
-        (reader.new.failed ≡ true) ⊎ (saturating_sum reader.old.bytes (4 * LIMIT + 1) ≤ reader.new.bytes) }
-    ensures stays { OnOk result (reader.new.failed ≡ false) }
-    ensures well { IfErr result (λ fault. IsAfterReading fault → reader.new.failed ≡ false) }
-    ensures short { OnOk result (reader.new.bytes ≤ saturating_sum reader.old.bytes (4 * LIMIT)) }
-    ensures short_too { IfErr result (λ fault. IsAfterReading fault → reader.new.bytes ≤ saturating_sum reader.old.bytes (4 * LIMIT)) }
+    ensures well { OnOk result (IsWell reader.old reader.new) }
+    ensures err { IfErr result (IsTextFault checked.now.grammar reader.old reader.new (R.remaining reader.old.inner) (R.remaining reader.new.inner)) }
     ensures asked { reader.new.calls ≤ saturating_sum reader.old.calls (4 * LIMIT + 1) }
 {
     let bytes = read_text(alloc, reader)?;
@@ -167,7 +159,7 @@ fn forest_of(
 }
 
 /// The forest of a text.
-#[tactic(auto, using(crate::proofs::Parses::found_forest, crate::proofs::Parses::found_error))]
+#[tactic(auto, using(crate::proofs::Parses::found_forest, crate::proofs::Parses::found_refused))]
 fn forest_of_text(
     alloc: Global,
     checked: &Checked,
@@ -180,9 +172,17 @@ fn forest_of_text(
     ensures err { IfErr result (IsRunRefusal checked.now.grammar text.now) }
 {
     let table = initial_table(alloc, checked.grammar())?;
-    let Ok(answer) = run(alloc, checked, text, &table, registry) else {
-        return Err(BenchFault::Memory);
-    };
+    match run(alloc, checked, text, &table, registry) {
+        Ok(answer) => forest_of_answer(answer),
+        Err(_) => Err(BenchFault::Memory),
+    }
+}
+
+/// The forest of an ok answer, or the error of another.
+fn forest_of_answer(answer: Answer) -> Result<Forest, BenchFault>
+    ensures ok { IfOk result (IsForestOfAnswer answer) }
+    ensures err { IfErr result (IsErrorOfAnswer answer) }
+{
     let Answer { error, success, .. } = answer;
     match success {
         Some(success) => Ok(success.forest),

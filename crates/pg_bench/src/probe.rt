@@ -1,23 +1,25 @@
 //! From the bytes of a grammar file and of a text to what the grammar's start rule answers, as Parsec would.
 
-ghost use Rattle.std.specs.Prelude.{◌≡◌, ◌≤◌, ◌<◌, ◌+◌, ◌*◌, ◌⊎◌, false, true, length, IfOk, IfErr, OnOk, IsErrOf};
+ghost use Rattle.std.specs.Prelude.{◌≡◌, ◌≤◌, ◌<◌, ◌+◌, ◌*◌, ◌⊎◌, false, true, length, IfOk, IfErr, OnOk, OnErr, IsErrOf};
 ghost use Rattle.std.specs.Str.{chars, IsUtf8};
+ghost use Rattle.std.specs.Io.KnownBytes.{Appends};
 ghost use Rattle.pg_pred.specs.Offer.{offer_of};
 ghost use Rattle.pg_value.specs.Fits.{Fits};
 ghost use Rattle.pg_making.specs.Spells.{HasInitialTable};
 ghost use Rattle.pg_table.specs.Tables.{initial, whole};
+ghost use Rattle.pg_tree.specs.Bytes.{AppendsPrefix};
 ghost use Rattle.pg_tree.specs.Meter.{saturating_sum};
-ghost use Rattle.pg_predict.specs.Operators.{HasNoOperators};
-ghost use Rattle.pg_bench.specs.Parsed.{IsFaultOfFile, SpellsSome, SpellsOther, ReadsText};
-ghost use Rattle.pg_bench.specs.Faults.{IsAfterFile, IsAfterReading, IsFileFault, IfFile, IfParseError, IfRefused, IsTextRefusal, IsProbeRefusal, IsMemory, IsBeforeWriting};
-ghost use Rattle.pg_bench.specs.Probing.{IsProbed, IsPartlyProbed, IsShownOf, IsShownOfText, is_ok_outcome, outcome_text};
+ghost use Rattle.pg_predict.specs.Expressions.{HasNoExpressions};
+ghost use Rattle.pg_grammar_bench.specs.Files.{IsFaultOfFile, SpellsSome, SpellsOther};
+ghost use Rattle.pg_bench.specs.Parsed.{ReadsText};
+ghost use Rattle.pg_grammar_bench.specs.Faults.{IsAfterFile, IsAfterReading, IsFileFault, IfFile, IfParseError, IfRefused, IsMemory, IsBeforeWriting};
+ghost use Rattle.pg_bench.specs.Refusals.{IsTextRefusal, IsProbeFault, IsProbeRefusal, IsWell};
+ghost use Rattle.pg_bench.specs.Probing.{IsProbed, IsPartlyProbed, IsShown, IsShownOf, IsShownOfText, is_ok_outcome, outcome_text};
 
-use crate::fault::BenchFault;
-use crate::grammar_file::plain_grammar_of;
 use crate::initial::initial_table;
 use crate::input::{read_text, text_of};
-use crate::output::write_page;
 use crate::page::{is_ok, page_of};
+use pg_grammar_bench::{BenchFault, plain_grammar_of, write_page};
 use pg_language::Reading;
 use pg_machine::{Outcome, probe};
 use pg_pred::Registry;
@@ -36,7 +38,7 @@ use std::io::{Read, Write};
 /// builders that the file may name.
 ///
 /// Both meters have to be fresh of failures. The faults come in the order of [`BenchFault`], without `Refused` and `ParseError`: a fault of the
-/// file, and `NotRun` where its grammar reads or declares operators, before the reader is asked at all; then the reader's,
+/// file, and `NotRun` where its grammar reads expressions, before the reader is asked at all; then the reader's,
 /// then those of its bytes, and the writer's. Before the last, and where memory runs out, nothing is written.
 pub fn probe_bytes<R: Read, W: Write>(
     alloc: Global,
@@ -58,10 +60,10 @@ pub fn probe_bytes<R: Read, W: Write>(
     // A fault of the file comes first, and every other one only where the file spells a grammar that is run.
     ensures file { IfErr result (IfFile (IsFaultOfFile (offer_of registry.now) grammar.now)) }
     ensures unread { IfErr result (λ fault. IsFileFault fault → reader.new ≡ reader.old) }
-    ensures runnable { IfErr result (λ fault. IsAfterFile fault → SpellsSome HasNoOperators (offer_of registry.now) grammar.now) }
+    ensures runnable { IfErr result (λ fault. IsAfterFile fault → SpellsSome HasNoExpressions (offer_of registry.now) grammar.now) }
 
-    // The file spells a grammar that reads or declares operators.
-    ensures not_run { IsErrOf result BenchFault.NotRun → SpellsOther HasNoOperators (offer_of registry.now) grammar.now }
+    // The file spells a grammar that reads expressions.
+    ensures not_run { IsErrOf result BenchFault.NotRun → SpellsOther HasNoExpressions (offer_of registry.now) grammar.now }
     ensures unasked { IsErrOf result BenchFault.NotRun → reader.new ≡ reader.old }
 
     // The reader failed, or gave more than the limit.
@@ -91,10 +93,10 @@ pub fn probe_bytes<R: Read, W: Write>(
 
     ensures asked { reader.new.calls ≤ saturating_sum reader.old.calls (4 * LIMIT + 1) }
 {
-    let grammar = plain_grammar_of(alloc, grammar, registry)?;
-    let shown = shown_of_reader(alloc, &grammar, registry, name, reader, max_steps, reading)?;
-    write_page(shown.page.as_slice(), writer)?;
-    Ok(shown.accepted)
+    match shown_of_files(alloc, grammar, registry, name, reader, max_steps, reading) {
+        Ok(shown) => write_shown(&shown, writer),
+        Err(fault) => Err(fault),
+    }
 }
 
 /// What is printed of a run, and whether its answer is ok.
@@ -104,8 +106,50 @@ struct Shown {
     page: Vec<u8>,
 }
 
+/// Writes what is printed of a run, and says whether its answer is ok.
+fn write_shown<W: Write>(shown: &Shown, writer: &mut Meter<W>) -> Result<bool, BenchFault>
+    requires { writer.old.failed ≡ false }
+    ensures accepted { IfOk result (λ accepted. accepted ≡ shown.now.accepted) }
+    ensures ok { OnOk result (Appends (W.contents writer.old.inner) (W.contents writer.new.inner) shown.now.page.items) }
+    ensures stays { OnOk result (writer.new.failed ≡ false) }
+    ensures only { OnErr result (IsErrOf result BenchFault.Writer) }
+    ensures failed { OnErr result (writer.new.failed ≡ true) }
+    ensures prefix { OnErr result (AppendsPrefix (W.contents writer.old.inner) (W.contents writer.new.inner) shown.now.page.items) }
+{
+    match write_page(shown.page.as_slice(), writer) {
+        Ok(()) => Ok(shown.accepted),
+        Err(fault) => Err(fault),
+    }
+}
+
+/// What is printed of the run of a file's start rule on the text that a reader gives.
+#[tactic(auto, using(crate::proofs::Probed::plain_refused, crate::proofs::Probed::probe_refused, crate::proofs::Probed::shown_file))]
+fn shown_of_files<R: Read>(
+    alloc: Global,
+    grammar: &[u8],
+    registry: &Registry,
+    name: &str,
+    reader: &mut Meter<R>,
+    max_steps: u64,
+    reading: Reading,
+) -> Result<Shown, BenchFault>
+    requires { reader.old.failed ≡ false }
+    ensures ok { IfOk result (λ shown. IsShown (offer_of registry.now) grammar.now (R.remaining reader.old.inner) (R.remaining reader.new.inner)
+        name.now max_steps reading shown.accepted shown.page.items) }
+    ensures well { OnOk result (IsWell reader.old reader.new) }
+    ensures err { IfErr result (IsProbeRefusal (offer_of registry.now) grammar.now reader.old reader.new
+        (R.remaining reader.old.inner) (R.remaining reader.new.inner)) }
+    ensures asked { reader.new.calls ≤ saturating_sum reader.old.calls (4 * LIMIT + 1) }
+{
+    let grammar = plain_grammar_of(alloc, grammar, registry)?;
+    match shown_of_reader(alloc, &grammar, registry, name, reader, max_steps, reading) {
+        Ok(shown) => Ok(shown),
+        Err(fault) => Err(fault),
+    }
+}
+
 /// What is printed of the run of a grammar's start rule on the text that a reader gives.
-#[tactic(auto, using(crate::proofs::Parses::read_unprobed, crate::proofs::Parses::text_unprobed))]
+#[tactic(auto, using(crate::proofs::Probed::read_unprobed, crate::proofs::Probed::text_unprobed))]
 fn shown_of_reader<R: Read>(
     alloc: Global,
     grammar: &Grammar,
@@ -120,17 +164,12 @@ fn shown_of_reader<R: Read>(
     requires reader { reader.old.failed ≡ false }
     ensures ok { IfOk result (λ shown. ReadsText (R.remaining reader.old.inner) (R.remaining reader.new.inner)
         (λ bytes. IsShownOf grammar.now name.now max_steps reading bytes shown.accepted shown.page.items)) }
-    ensures err { IfErr result (IsProbeRefusal (R.remaining reader.old.inner) (R.remaining reader.new.inner)) }
-    ensures reader { IsErrOf result BenchFault.Reader →
-        (reader.new.failed ≡ true) ⊎ (saturating_sum reader.old.bytes (4 * LIMIT + 1) ≤ reader.new.bytes) }
-    ensures stays { OnOk result (reader.new.failed ≡ false) }
-    ensures well { IfErr result (λ fault. IsAfterReading fault → reader.new.failed ≡ false) }
-    ensures short { OnOk result (reader.new.bytes ≤ saturating_sum reader.old.bytes (4 * LIMIT)) }
-    ensures short_too { IfErr result (λ fault. IsAfterReading fault → reader.new.bytes ≤ saturating_sum reader.old.bytes (4 * LIMIT)) }
+    ensures well { OnOk result (IsWell reader.old reader.new) }
+    ensures err { IfErr result (IsProbeFault reader.old reader.new (R.remaining reader.old.inner) (R.remaining reader.new.inner)) }
     ensures asked { reader.new.calls ≤ saturating_sum reader.old.calls (4 * LIMIT + 1) }
 {
     let bytes = read_text(alloc, reader)?;
-    let shown = shown_of(
+    shown_of(
         alloc,
         grammar,
         registry,
@@ -138,8 +177,7 @@ fn shown_of_reader<R: Read>(
         bytes.as_slice(),
         max_steps,
         reading,
-    )?;
-    Ok(shown)
+    )
 }
 
 /// What is printed of the run of a grammar's start rule on the text that bytes spell.
@@ -159,8 +197,7 @@ fn shown_of(
     ensures err { IfErr result (IsTextRefusal bytes.now) }
 {
     let text = text_of(alloc, bytes)?;
-    let shown = shown_of_text(alloc, grammar, registry, name, &text, max_steps, reading)?;
-    Ok(shown)
+    shown_of_text(alloc, grammar, registry, name, &text, max_steps, reading)
 }
 
 /// What is printed of the run of a grammar's start rule on a text.
@@ -201,11 +238,10 @@ fn shown_under(
     ensures ok { IfOk result (λ shown. IsShownOfText grammar.now name.now max_steps reading text.now shown.accepted shown.page.items) }
     ensures err { IfErr result IsMemory }
 {
-    let Ok(outcome) = probe(alloc, grammar, text, table, registry, max_steps, reading) else {
-        return Err(BenchFault::Memory);
-    };
-    let shown = shown_of_outcome(alloc, &outcome, name)?;
-    Ok(shown)
+    match probe(alloc, grammar, text, table, registry, max_steps, reading) {
+        Ok(outcome) => shown_of_outcome(alloc, &outcome, name),
+        Err(_) => Err(BenchFault::Memory),
+    }
 }
 
 /// What is printed of an outcome.

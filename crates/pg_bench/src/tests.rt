@@ -2,10 +2,9 @@
 
 ghost use Rattle.std.specs.Prelude.{◌≡◌, false};
 
-use crate::fault::BenchFault;
 use crate::parse::parse_bytes;
-use crate::print::print_bytes;
 use pg_class::Class;
+use pg_grammar_bench::{BenchFault, print_bytes};
 use pg_pred::{Builder, Predicate, Registry};
 use pg_tree::{Forest, Meter, Shape, Tree};
 use std::alloc::{AllocError, Global};

@@ -14,9 +14,11 @@ use Rattle.pg_start.specs.Starts.{MatchesAt}
 use Rattle.pg_start.specs.declared.kind.StartKind.{StartKind}
 use Rattle.pg_table.specs.Tables.{ComesFrom}
 use Rattle.pg_language.specs.Derives as derives
-use Rattle.pg_language.specs.Derives.{Spot, Link, Derives, at_node, DerivesForm, Reads, satisfy, string, word, not_followed_by, end_of_text, declare, seq, choice, many, rule, expression, DerivesParts, no_part, first_part, DerivesRounds, no_round, first_round, DerivesLinks, no_link, first_link}
+use Rattle.pg_language.specs.Derives.{Spot, left_by, Link, Derives, at_node, DerivesForm, Reads, satisfy, string, word, not_followed_by, end_of_text, declare, seq, choice, many, rule, expression, DerivesParts, no_part, first_part, DerivesRounds, no_round, first_round, DerivesLinks, no_link, first_link}
 use Rattle.pg_derive.specs.ClosedSets.{NodeSets, SomeMatches, Covers, AllNullable, BeginsParts}
 use Rattle.pg_derive.specs.Predictive.{PartIsPredictive, TryIsPredictive, of_part, of_string, of_key, AlternativesArePredictive, ManyIsPredictive, ChainIsPredictive, LeafIsPredictive, AroundIsPredictive, IsPredictiveAt}
+use Rattle.pg_language.proofs.DeclarationsDerived.{declaration_moves}
+use Rattle.pg_language.proofs.Onward.{left_still}
 use Rattle.pg_derive.proofs.Inverted.{form_at, spans_string, spans_key, first_stands, forward, forward_parts, forward_rounds, forward_links}
 
 -- a list covers what is in it
@@ -36,6 +38,11 @@ BegunUnder g text IsStart a = ComesFrom g a.table → Begun text IsStart a.place
 pub data Beginning (g : Grammar) (text : List ℕ) (Empty : Type 0) (IsStart : StartKind → Type 0) (a b : Spot) : Type 0 where
   still : a ≡ b → Empty → Beginning g text Empty IsStart a b
   moves : a.place < b.place → BegunUnder g text IsStart a → Beginning g text Empty IsStart a b
+
+-- whatever table a form around a part leaves
+left_begun : {g : Grammar} {text : List ℕ} {Empty : Type 0} {IsStart : StartKind → Type 0} (k : Around) {a b : Spot} → Beginning g text Empty IsStart a b → Beginning g text Empty IsStart a (left_by k a b)
+left_begun k {a = a} {b = b} (still e n) = still (sym (left_still k a b (sym e))) n
+left_begun k (moves l m) = moves l m
 
 -- of more starts
 more_begun : (g : Grammar) (text : List ℕ) (S T : StartKind → Type 0) (a : Spot) → ((s : StartKind) → S s → T s) → BegunUnder g text S a → BegunUnder g text T a
@@ -129,11 +136,12 @@ module _ (g : Grammar) (s : List ℕ) (scalars : all_scalars s ≡ true) (sets :
       by_matching g sets s p (omega arith) (f s scalars a.place (record { item = item; named = e; word = cs; there = is }))
   begins_leaf (not_followed_by h) p f = still refl f
   begins_leaf (end_of_text h) p f = still refl f
-  begins_leaf (declare e x d) p f = absurd f
+  begins_leaf (declare {class = class} {item = item} {d = d} {j = j} {a = a} there is admits) p f =
+      by_matching g sets s p (declaration_moves g s item class d a.place j is) (f.first s scalars a.place (record { role = d.role; there = record { begins = is.begins; ends = is.ends } }))
 
-  begins_around : (k : Around) {p q : ℕ} {a b : Spot} {v : List Tree} {t : List TrailItem} → Derives g s q a b v t → BeginsNode g sets s q a b → AroundIsPredictive g sets p k q → BeginsNode g sets s p a b
+  begins_around : (k : Around) {p q : ℕ} {a b : Spot} {v : List Tree} {t : List TrailItem} → Derives g s q a b v t → BeginsNode g sets s q a b → AroundIsPredictive g sets p k q → BeginsNode g sets s p a (left_by k a b)
   begins_around kind.Try d h f = in_try d h f
-  begins_around _ d h f = in_part f h
+  begins_around k d h f = left_begun k (in_part f h)
 
   mutual
     pub begins : {p : ℕ} {a b : Spot} {v : List Tree} {t : List TrailItem} → Derives g s p a b v t → BeginsNode g sets s p a b

@@ -16,7 +16,7 @@ use Rattle.pg_value.specs.declared.trail.TrailItem.{TrailItem}
 use Rattle.pg_value.specs.declared.trail.TrailItem.TheVariants.{Alt}
 use Rattle.pg_start.specs.declared.kind.StartKind.{StartKind}
 use Rattle.pg_start.proofs.Meeting.{never_meet}
-use Rattle.pg_language.specs.Derives.{Spot, after, leaf_of, Link, carried, finished, folded, made_by, Reads, Derives, DerivesForm, DerivesParts, DerivesRounds, DerivesLinks}
+use Rattle.pg_language.specs.Derives.{Spot, after, leaf_of, Link, carried, finished, folded, made_by, left_by, Reads, Derives, DerivesForm, DerivesParts, DerivesRounds, DerivesLinks}
 use Rattle.pg_language.specs.Derives as derives
 use Rattle.pg_table.specs.Tables.{ComesFrom}
 use Rattle.pg_language.specs.Runs.{HasAt, StandsAt}
@@ -25,16 +25,17 @@ use Rattle.pg_language.specs.Answers as answers
 use Rattle.pg_language.specs.Answers.{Given, Answers, entered, AnswersForm, nothing, seq, choice, many, rule, AnswersParts, part, part_last, part_ok, AnswersAlternatives, no_alternative, alternative, alternative_consumed, alternative_stands, alternative_waits, alternative_failed, AnswersRounds, round, round_ended, round_ok, AnswersChain, first_operand, first_ok, AnswersLinks, link, separator_failed, separator_ok, operand_failed, operand_ok}
 use Rattle.pg_language.specs.Errors.{Error}
 use Rattle.pg_language.specs.Outcomes.{Outcome, ok, failed}
-use Rattle.pg_language.specs.Leaves.{some_word_outcome}
+use Rattle.pg_language.specs.Leaves.{some_word_outcome, some_declare_outcome}
 use Rattle.pg_form.specs.declared.side.Side.{Side}
 use Rattle.pg_language.specs.declared.reading.Reading.{Reading}
 use Rattle.pg_language.specs.declared.reading.Reading.TheVariants.{Library, Report}
 use Rattle.pg_derive.specs.ClosedSets.{NodeSets, SomeMatches, Within, AllApart, PartsFollowed}
 use Rattle.pg_derive.specs.Predictive.{PartIsPredictive, LeafIsPredictive, AroundIsPredictive, TryIsPredictive, of_part, of_string, of_key, ComesBefore, AlternativesArePredictive, ManyIsPredictive, ChainIsPredictive, IsPredictiveAt}
 use Rattle.pg_derive.proofs.Begins.{Begun, still, moves, BeginsNode, BeginsList, alternative_fits, consumes, begins, begins_parts, begins_links}
+use Rattle.pg_language.proofs.DeclarationsDerived.{declaration_moves}
 use Rattle.pg_language.proofs.Flags.{moved, stayed, both_moved}
 use Rattle.pg_derive.proofs.Inverted.{form_at, spans_string, spans_key, forward, comes_on, forward_parts, forward_rounds, forward_links}
-use Rattle.pg_derive.proofs.LeavesAnswered.{StaysOk, satisfy_ok, word_ok, string_ok, not_followed_ok, end_ok}
+use Rattle.pg_derive.proofs.LeavesAnswered.{StaysOk, satisfy_ok, word_ok, string_ok, not_followed_ok, end_ok, declare_ok}
 use Rattle.pg_derive.proofs.Quiet.{IsWhole, refuses, skips, NoStart, QuietNode, quiet}
 
 -- the run is ok from one spot to the other, with this forest and this trail, for some error and some number of nodes
@@ -244,7 +245,7 @@ module _ (G : Given) (scalars : all_scalars G.text ≡ true) (whole : IsWhole G.
 
   -- a form that makes something of a part that fits
   around_part : (k : Around) (p q : ℕ) {a b : Spot} {v : List Tree} {t : List TrailItem} → PartIsPredictive sets p q → Derives G.grammar G.text q a b v t → (SomeMatches G.text (sets.follow q) b.place → IsOk (Answers G q a) a b v t) →
-      SomeMatches G.text (sets.follow p) b.place → IsOk (AnswersForm G (form.Around k q) a) a b (made_by k G.text a.place b.place v) t
+      SomeMatches G.text (sets.follow p) b.place → IsOk (AnswersForm G (form.Around k q) a) a (left_by k a b) (made_by k G.text a.place b.place v) t
   around_part k p q f d answered m = let r = answered (widen scalars f.follow m) in record { error = _; count = r.count; run = answers.around r.run }
 
   complete_try : {q : ℕ} {a b : Spot} {v : List Tree} {t : List TrailItem} → Derives G.grammar G.text q a b v t → (SomeMatches G.text (sets.follow q) b.place → IsOk (Answers G q a) a b v t) → (p : ℕ) → TryIsPredictive G.grammar sets p q →
@@ -256,7 +257,7 @@ module _ (G : Given) (scalars : all_scalars G.text ≡ true) (whole : IsWhole G.
       let h = spans_key (form_at d e) first second in renamed _ a h.end h.forest h.trail (key_tried q x y s class a e first second spelled h.stands h.bare)
 
   complete_around : (k : Around) (p q : ℕ) {a b : Spot} {v : List Tree} {t : List TrailItem} → AroundIsPredictive G.grammar sets p k q → Derives G.grammar G.text q a b v t →
-      (SomeMatches G.text (sets.follow q) b.place → IsOk (Answers G q a) a b v t) → SomeMatches G.text (sets.follow p) b.place → IsOk (AnswersForm G (form.Around k q) a) a b (made_by k G.text a.place b.place v) t
+      (SomeMatches G.text (sets.follow q) b.place → IsOk (Answers G q a) a b v t) → SomeMatches G.text (sets.follow p) b.place → IsOk (AnswersForm G (form.Around k q) a) a (left_by k a b) (made_by k G.text a.place b.place v) t
   complete_around kind.Try p q f d answered m = complete_try d answered p f m
   complete_around k p q f d answered m = around_part k p q f d answered m
 
@@ -269,7 +270,10 @@ module _ (G : Given) (scalars : all_scalars G.text ≡ true) (whole : IsWhole G.
       ok_moved _ a _ _ [] _ _ (omega arith) (answers.leaf (ap (some_word_outcome G.grammar G.text a) there ∙ ap Some (word_ok G.grammar G.text item a s is)))
   complete_leaf (derives.not_followed_by {class = class} {a = a} h) p f = stays _ a _ _ (answers.leaf refl) (not_followed_ok G.grammar G.text class a h)
   complete_leaf (derives.end_of_text {a = a} h) p f = stays _ a _ _ (answers.leaf refl) (end_ok G.text a h)
-  complete_leaf (derives.declare e x d) p f = absurd f
+  complete_leaf (derives.declare {class = class} {item = item} {d = d} {j = j} {a = a} there is admits) p f =
+      let far = declaration_moves G.grammar G.text item class d a.place j is in
+      ok_moved _ a _ _ [] _ _ far
+      (answers.leaf (ap (some_declare_outcome G.grammar G.text class a) there ∙ ap Some (declare_ok G.grammar G.text item class d a j is admits)))
 
   mutual
     pub complete : {p : ℕ} {a b : Spot} {v : List Tree} {t : List TrailItem} → Derives G.grammar G.text p a b v t → Comes a → SomeMatches G.text (sets.follow p) b.place → IsOk (Answers G p a) a b v t

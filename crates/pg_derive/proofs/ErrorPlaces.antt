@@ -1,5 +1,5 @@
 -- The error of an answer stands no earlier than where the node began, and neither does its end.
-use Rattle.std.proofs.Common.{◌≡◌, ◌==◌, ◌≤◌, ℕ, suc, subst, List, [], ◌∷◌, Bool, true, false, if◌then◌else◌, length, Option, Some, None, slice_get, arith, le_refl, le_trans}
+use Rattle.std.proofs.Common.{◌≡◌, ◌==◌, ◌≤◌, ◌+◌, ℕ, suc, subst, List, [], ◌∷◌, Bool, true, false, if◌then◌else◌, length, Option, Some, None, slice_get, arith, le_refl, le_trans}
 use Rattle.std.specs.Prelude.{nat_lt, ◌&&◌, not}
 use Rattle.std.specs.List.{list_any}
 use Rattle.std.specs.Str.{bytes_eq}
@@ -15,12 +15,18 @@ use Rattle.pg_form.specs.declared.form.Around.{Around}
 use Rattle.pg_form.specs.declared.form.Around.TheVariants as kind
 use Rattle.pg_value.specs.declared.trail.TrailItem.{TrailItem}
 use Rattle.pg_form.specs.declared.word_item.WordItem.{WordItem}
+use Rattle.pg_form.specs.Operators.{Operator}
+use Rattle.pg_form.specs.declared.decl.Role.{Role}
+use Rattle.pg_form.specs.declared.operators_item.OperatorsItem.{OperatorsItem}
+use Rattle.pg_table.specs.Tables.{admit_fault}
+use Rattle.pg_table.specs.declared.fault.AdmitFault.{AdmitFault}
+use Rattle.pg_language.specs.Declarations.{no_symbol, declared, role_at, symbol_read, digit_read, keyword_read, unless_refused, declaration_outcome, declare_outcome}
 use Rattle.pg_language.specs.Derives.{Spot}
-use Rattle.pg_language.specs.Runs.{run_at}
+use Rattle.pg_language.specs.Runs.{run_at, past_run, keyword}
 use Rattle.pg_language.specs.Answers as answers
 use Rattle.pg_language.specs.Answers.{Given, Answers, entered, AnswersForm, nothing, seq, choice, many, rule, AnswersParts, part, AfterPart, part_last, part_failed, part_stuck, part_ok, AnswersAlternatives, no_alternative, alternative, AfterAlternative, alternative_consumed, alternative_stands, alternative_waits, alternative_commits, alternative_failed, alternative_stuck, AnswersRounds, round, AfterRound, round_ended, round_failed, round_empty, round_stuck, round_ok, AnswersChain, first_operand, AfterFirst, first_failed, first_stuck, first_ok, AnswersLinks, link, AfterSeparator, separator_failed, separator_stuck, separator_ok, AfterOperand, operand_failed, operand_stuck, operand_ok}
 use Rattle.pg_language.specs.Errors.{Error, with_position, without_position, merge, relabel, no_messages_at}
-use Rattle.pg_language.specs.Leaves.{taken, satisfy_next, word_read, word_next, not_followed_next, string_outcome, matched, end_outcome, word_outcome, some_word_outcome, leaf_outcome}
+use Rattle.pg_language.specs.Leaves.{taken, satisfy_next, word_read, word_next, not_followed_next, string_outcome, matched, end_outcome, word_outcome, some_word_outcome, some_declare_outcome, leaf_outcome}
 use Rattle.pg_language.specs.Outcomes.{Outcome, ok, failed, empty_round}
 use Rattle.pg_language.specs.Reactions.{error_after, ok_kind, error_kind, then_rest, then_round, noted, after_failure, unless_consumed, labelled_by, surrounded, as_finished, unless_begun}
 use Rattle.pg_form.specs.declared.side.Side.{Side}
@@ -155,13 +161,40 @@ no_earlier_some_word : (g : Grammar) (text : List ℕ) (a : Spot) (item : Option
 no_earlier_some_word g text a None o e = absurd cc
 no_earlier_some_word g text a (Some item) o e = no_earlier_this a.place (word_outcome g text item a) o e (no_earlier_word g text item a (slice_get text a.place))
 
+no_earlier_refused : (d : Operator) (a : Spot) (i j : ℕ) (fault : Option AdmitFault) → a.place ≤ i → a.place ≤ j → NoEarlier a.place (unless_refused d a.table i j fault)
+no_earlier_refused d a i j (Some fault) l k = l
+no_earlier_refused d a i j None l k = (k, k)
+
+-- what is read of a declaration stands no earlier than it
+no_earlier_read : (g : Grammar) (text : List ℕ) (item : OperatorsItem) (a : Spot) (role : Option Role) → NoEarlier a.place (declaration_outcome text a (keyword_read g text item a.place role))
+no_earlier_read g text item a None = le_refl _
+no_earlier_read g text item a (Some role) = digit (past_run g text item.gap (a.place + length (keyword role))) _ (omega arith)
+  where
+    symbol : (precedence i : ℕ) → a.place ≤ i → NoEarlier a.place (declaration_outcome text a (symbol_read g text item role precedence i))
+    symbol precedence i l = either (length (run_at g text item.class i) == 0)
+      where
+        d : Operator
+        d = record { role = role; precedence = precedence; symbol = run_at g text item.class i }
+
+        either : (b : Bool) → NoEarlier a.place (declaration_outcome text a (if b then no_symbol i else declared d i (past_run g text item.gap (i + length (run_at g text item.class i)))))
+        either true = l
+        either false = no_earlier_refused d a i _ (admit_fault a.table d) l (omega arith)
+
+    digit : (i : ℕ) (said : Option ℕ) → a.place ≤ i → NoEarlier a.place (declaration_outcome text a (digit_read g text item role i said))
+    digit i None l = l
+    digit i (Some precedence) l = symbol precedence (past_run g text item.gap (i + 1)) (omega arith)
+
+no_earlier_some_declare : (g : Grammar) (text : List ℕ) (class : List ClassPart) (a : Spot) (item : Option OperatorsItem) (o : Outcome) → some_declare_outcome g text class a item ≡ Some o → NoEarlier a.place o
+no_earlier_some_declare g text class a None o e = absurd cc
+no_earlier_some_declare g text class a (Some item) o e = no_earlier_this a.place (declare_outcome g text item class a) o e (no_earlier_read g text item a (role_at g text class a.place))
+
 no_earlier_leaf : (g : Grammar) (text : List ℕ) (l : Leaf ℕ) (a : Spot) (o : Outcome) → leaf_outcome g text l a ≡ Some o → NoEarlier a.place o
 no_earlier_leaf g text (leaf.Satisfy class) a o e = no_earlier_this a.place _ o e (no_earlier_satisfy g class a (slice_get text a.place))
 no_earlier_leaf g text (leaf.String s) a o e = no_earlier_this a.place _ o e (no_earlier_string text s a)
 no_earlier_leaf g text (leaf.Word w) a o e = no_earlier_some_word g text a (slice_get g.words w) o e
 no_earlier_leaf g text (leaf.NotFollowedBy class) a o e = no_earlier_this a.place _ o e (no_earlier_not_followed g class a (slice_get text a.place))
 no_earlier_leaf g text leaf.EndOfText a o e = no_earlier_this a.place _ o e (no_earlier_end text a)
-no_earlier_leaf g text (leaf.Declare class) a o e = absurd cc
+no_earlier_leaf g text (leaf.Declare class) a o e = no_earlier_some_declare g text class a g.operators o e
 
 -- ---- the relation
 

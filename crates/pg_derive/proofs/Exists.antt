@@ -21,13 +21,15 @@ use Rattle.pg_form.specs.declared.form.Around.TheVariants as kind
 use Rattle.pg_value.specs.declared.grammar.Rule as declared
 use Rattle.pg_value.specs.declared.trail.TrailItem.{TrailItem}
 use Rattle.pg_language.specs.Derives.{Spot, Derives, carried}
-use Rattle.pg_table.specs.Tables.{ComesFrom}
+use Rattle.pg_table.specs.Tables.{ComesFrom, admit_fault}
+use Rattle.pg_table.specs.declared.fault.AdmitFault.{AdmitFault}
+use Rattle.pg_language.specs.Declarations.{Declaration, no_keyword, no_digit, no_symbol, declared, declaration_at, unless_refused, declaration_outcome}
 use Rattle.pg_language.proofs.Onward.{leads_on}
 use Rattle.pg_language.specs.Answers as answers
 use Rattle.pg_language.specs.Answers.{Given, Answers, entered, AnswersForm, nothing, seq, choice, many, rule, AnswersParts, part, part_last, part_failed, part_ok, AnswersAlternatives, no_alternative, alternative, alternative_consumed, alternative_stands, alternative_waits, alternative_commits, alternative_failed, AnswersRounds, round, round_ended, round_failed, round_ok, AnswersChain, first_operand, first_failed, first_ok, AnswersLinks, link, separator_failed, separator_ok, operand_failed, operand_ok}
 use Rattle.pg_language.specs.Errors.{Error}
 use Rattle.pg_language.specs.Outcomes.{Outcome, ok, failed, empty_round}
-use Rattle.pg_language.specs.Leaves.{satisfy_next, satisfy_outcome, matched, string_outcome, word_read, word_next, word_outcome, not_followed_next, not_followed_outcome, end_outcome, some_word_outcome}
+use Rattle.pg_language.specs.Leaves.{satisfy_next, satisfy_outcome, matched, string_outcome, word_read, word_next, word_outcome, not_followed_next, not_followed_outcome, end_outcome, some_word_outcome, some_declare_outcome}
 use Rattle.pg_language.specs.Reactions.{unless_begun}
 use Rattle.pg_form.specs.declared.side.Side.{Side}
 use Rattle.pg_language.specs.declared.reading.Reading.{Reading}
@@ -91,6 +93,16 @@ not_followed_answers g text class a = go (slice_get text a.place)
     go : (next : Option ℕ) → IsAnswer (not_followed_next g class a next)
     go None = tt
     go (Some c) = answers_if (has_character g.classes class c) _ _ tt tt
+
+declaration_answers : (text : List ℕ) (a : Spot) (x : Declaration) → IsAnswer (declaration_outcome text a x)
+declaration_answers text a no_keyword = tt
+declaration_answers text a (no_digit i) = tt
+declaration_answers text a (no_symbol i) = tt
+declaration_answers text a (declared d i j) = go (admit_fault a.table d)
+  where
+    go : (fault : Option AdmitFault) → IsAnswer (unless_refused d a.table i j fault)
+    go (Some fault) = tt
+    go None = tt
 
 end_answers : (text : List ℕ) (a : Spot) → IsAnswer (end_outcome text a)
 end_answers text a = answers_if (a.place == length text) _ _ tt tt
@@ -299,7 +311,8 @@ module _ (G : Given) (scalars : all_scalars G.text ≡ true) (whole : IsWhole G.
         let item = whole.words p w e in by_outcome _ a _ _ (answers.leaf (ap (some_word_outcome G.grammar G.text a) item.1)) (word_answers G.grammar G.text item.0 a)
     settle_leaf (leaf.NotFollowedBy class) e f = by_outcome _ a _ _ (answers.leaf refl) (not_followed_answers G.grammar G.text class a)
     settle_leaf leaf.EndOfText e f = by_outcome _ a _ _ (answers.leaf refl) (end_answers G.text a)
-    settle_leaf (leaf.Declare class) e f = absurd f
+    settle_leaf (leaf.Declare class) e f =
+        by_outcome _ a _ _ (answers.leaf (ap (some_declare_outcome G.grammar G.text class a) f.named)) (declaration_answers G.text a (declaration_at G.grammar G.text f.item class a.place))
 
     -- what stands around a part falls to it
     around_falls : (k : Around) (q : ℕ) → AroundIsPredictive G.grammar sets p k q → sets.level q < sets.level p
@@ -307,7 +320,7 @@ module _ (G : Given) (scalars : all_scalars G.text ≡ true) (whole : IsWhole G.
     around_falls _ q f = f.falls
 
     settle_around : (k : Around) (q : ℕ) → Settles (Answers G q a) → Settles (AnswersForm G (form.Around k q) a)
-    settle_around k q (settles_ok c b v t e m run) = settles_ok c b _ t _ _ (answers.around run)
+    settle_around k q (settles_ok c b v t e m run) = settles_ok c _ _ t _ _ (answers.around run)
     settle_around k q (settles_failed c e m run) = settles_failed _ _ _ (answers.around run)
 
     settle_form : (n : Node) → slice_get G.grammar.nodes p ≡ Some n → IsPredictiveAt G.grammar sets p n → Settles (AnswersForm G n a)

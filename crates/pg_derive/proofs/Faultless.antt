@@ -20,14 +20,14 @@ use Rattle.pg_heads.specs.Reached.{Heads}
 use Rattle.pg_heads.specs.Reached as reached
 use Rattle.pg_sets.specs.Sets.{Sets, AreSets}
 use Rattle.pg_predict.specs.Conditions.{IsFaultless, left_recursion}
-use Rattle.pg_predict.specs.Operators.{HasNoOperators}
+use Rattle.pg_predict.specs.Expressions.{HasNoExpressions}
 use Rattle.pg_derive.specs.Accepted.{AcceptedGrammarsArePredictive}
 use Rattle.pg_derive.specs.ClosedSets.{Covers}
 use Rattle.pg_derive.specs.LeastSets.{node_sets}
 use Rattle.pg_derive.specs.Predictive.{PartIsPredictive, TryIsPredictive, of_part, RuleIsPredictive, LeafIsPredictive, AroundIsPredictive, IsPredictiveAt}
 use Rattle.pg_derive.proofs.FormsFit.{choice_fits, many_fits, links_fit}
 use Rattle.pg_derive.proofs.LeastSets.{first_is, first_covers, follow_is, follow_covers}
-use Rattle.pg_derive.proofs.LeavesFit.{satisfy_meets, string_fits, word_meets, string_try, key_try}
+use Rattle.pg_derive.proofs.LeavesFit.{satisfy_meets, string_fits, word_meets, declare_meets, item_there, string_try, key_try}
 use Rattle.pg_derive.proofs.Levels.{rule_falls}
 use Rattle.pg_derive.proofs.KeyTriesDecided.{key_try_decided}
 use Rattle.pg_derive.proofs.PartsFit.{are_parts, in_falls, part_fits, seq_fits}
@@ -42,7 +42,7 @@ first_rule (heads {b = b} h rest) = (b, h)
 pub acyclic : (g : Grammar) → IsFaultless g → (r : ℕ) → Chain g r r → ⊥
 acyclic g faultless r chain = let first = (first_rule chain).1 in faultless first.rule.body _ (left_recursion first.is_rule chain)
 
-module _ (g : Grammar) (sets : Sets) (are : AreSets g sets) (grammar : IsGrammar g) (bare : HasNoOperators g) (faultless : IsFaultless g) where
+module _ (g : Grammar) (sets : Sets) (are : AreSets g sets) (grammar : IsGrammar g) (bare : HasNoExpressions g) (faultless : IsFaultless g) where
   none_on_cycle : (r : ℕ) → Chain g r r → ⊥
   none_on_cycle = acyclic g faultless
 
@@ -87,7 +87,8 @@ module _ (g : Grammar) (sets : Sets) (are : AreSets g sets) (grammar : IsGrammar
   leaf_fits p (leaf.Word w) e = word_meets g grammar sets are p w e
   leaf_fits p (leaf.NotFollowedBy class) e = (are.nullable p).1 (null.at_node e null.not_followed_by)
   leaf_fits p leaf.EndOfText e = (are.nullable p).1 (null.at_node e null.end_of_text)
-  leaf_fits p (leaf.Declare class) e = bare p (form.Leaf (leaf.Declare class)) e
+  leaf_fits p (leaf.Declare class) e =
+      let item = item_there g p class grammar e in record { item = item.0; named = item.1; first = declare_meets g grammar sets are p class e }
 
   around_part : (p q : ℕ) (k : Around) → slice_get g.nodes p ≡ Some (form.Around k q) → (IsKeyTry g (form.Around k q) → ⊥) → PartIsPredictive (node_sets g sets) p q
   around_part p q k e no_key =

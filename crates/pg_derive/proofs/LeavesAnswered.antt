@@ -9,11 +9,18 @@ use Rattle.pg_form.specs.ClassItems.{has_character}
 use Rattle.pg_value.specs.Grammar.{Grammar}
 use Rattle.pg_form.specs.declared.class.ClassPart.{ClassPart}
 use Rattle.pg_form.specs.declared.word_item.WordItem.{WordItem}
-use Rattle.pg_language.specs.Derives.{Spot}
-use Rattle.pg_language.specs.Runs.{HasAt, StandsAt, IsWordAt, run_at}
-use Rattle.pg_language.specs.Errors.{Error, quote, seen_at, stopped_before}
+use Rattle.pg_form.specs.Operators.{Operator}
+use Rattle.pg_form.specs.declared.decl.Role.{Role}
+use Rattle.pg_form.specs.declared.operators_item.OperatorsItem.{OperatorsItem}
+use Rattle.pg_table.specs.Tables.{Admits, with_operator}
+use Rattle.pg_language.specs.Derives.{Spot, declaration_tree}
+use Rattle.pg_language.specs.Runs.{HasAt, StandsAt, IsWordAt, IsKeywordAt, IsDeclarationAt, run_at}
+use Rattle.pg_language.specs.Errors.{Error, quote, seen_at, no_messages_at, stopped_before}
 use Rattle.pg_language.specs.Leaves.{taken, satisfy_next, satisfy_outcome, word_read, word_next, word_outcome, not_followed_next, not_followed_outcome, matched, string_outcome, end_outcome}
 use Rattle.pg_language.specs.Outcomes.{Outcome, ok, failed}
+use Rattle.pg_language.specs.Declarations.{has_keyword, roles, role_at, keyword_read, unless_refused, declaration_outcome, declare_outcome}
+use Rattle.pg_language.proofs.DeclarationsDerived.{found, keyword_there}
+use Rattle.pg_language.proofs.KeywordsRead.{declaration_read}
 use Rattle.pg_derive.specs.Predictive.{BeginsAt}
 
 -- an error, and nothing was consumed
@@ -167,3 +174,18 @@ end_decided text a = go (a.place == length text) refl
     go : (b : Bool) → (a.place == length text) ≡ b → FailsEmpty (end_outcome text a) ⊎ StaysOk a (end_outcome text a)
     go true h = inr (record { error = _; is = if_true (a.place == length text) _ _ h })
     go false h = inl (record { error = _; is = if_false (a.place == length text) _ _ h })
+
+-- ---- declarations
+
+pub declare_fails : (g : Grammar) (text : List ℕ) (item : OperatorsItem) (class : List ClassPart) (a : Spot) → ((role : Role) → IsKeywordAt g text class role a.place → ⊥) →
+    FailsEmpty (declare_outcome g text item class a)
+declare_fails g text item class a bare = go (role_at g text class a.place) refl
+  where
+    go : (word : Option Role) → role_at g text class a.place ≡ word → FailsEmpty (declaration_outcome text a (keyword_read g text item a.place word))
+    go None e = failed_empty _
+    go (Some role) e = absurd (bare role (keyword_there g text class a.place role (found (has_keyword g text class a.place) roles role e)))
+
+pub declare_ok : (g : Grammar) (text : List ℕ) (item : OperatorsItem) (class : List ClassPart) (d : Operator) (a : Spot) (j : ℕ) → IsDeclarationAt g text item class d a.place j → Admits a.table d →
+    declare_outcome g text item class a ≡ ok true (record { place = j; table = with_operator a.table d }) (declaration_tree d ∷ []) [] (no_messages_at j)
+declare_ok g text item class d a j is admits =
+    ap (declaration_outcome text a) (declaration_read g text item class d a.place j is) ∙ ap (unless_refused d a.table is.symbol_place j) admits

@@ -1,20 +1,26 @@
 -- Where a character, a string, a word or a key stands that a node reads, one of the node's first starts matches.
-use Rattle.std.proofs.Common.{◌≡◌, ◌<◌, ◌+◌, inl, inr, ℕ, zero, suc, List, [], ◌∷◌, Bool, true, false, cond, Some, slice_get, length, drop, refl, sym, ap, ◌∙◌, arith}
+use Rattle.std.proofs.Common.{◌≡◌, ◌<◌, ◌+◌, inl, inr, ℕ, zero, suc, List, [], ◌∷◌, Bool, true, false, cond, Option, Some, None, slice_get, length, drop, refl, sym, ap, subst, ◌∙◌, arith}
 use Rattle.std.specs.Char.{IsScalar}
 use Rattle.std.specs.List.{take_while}
 use Rattle.std.specs.Str.{all_scalars}
-use Rattle.std.proofs.lemmas.Bool.{cases_Bool, and_parts}
+use Rattle.std.proofs.lemmas.Bool.{cases_Bool, and_parts, true≢false}
 use Rattle.std.proofs.lemmas.List.Sums.{take_while-cons}
 use Rattle.std.proofs.lemmas.Option.{same_Some, slice_get_within}
 use Rattle.pg_class.proofs.Unique.{has-first}
 use Rattle.pg_class.specs.Ranges.{Range, has}
 use Rattle.pg_form.specs.ClassItems.{has_character}
-use Rattle.pg_value.specs.Grammar.{Grammar, IsGrammar}
+use Rattle.pg_value.specs.Grammar.{Grammar, IsGrammar, rule_names, word_names, forms_of}
 use Rattle.pg_form.specs.declared.class.ClassPart.{ClassPart}
-use Rattle.pg_form.specs.Forms.{Node}
 use Rattle.pg_form.specs.declared.form.Form.TheVariants as form
 use Rattle.pg_form.specs.declared.form.Leaf.TheVariants as leaf
 use Rattle.pg_form.specs.declared.form.Around.TheVariants as around
+use Rattle.pg_form.proofs.Each.{none-get}
+use Rattle.pg_form.specs.Forms.{Node, form_of, uses_operators}
+use Rattle.pg_form.specs.Operators.{Operator}
+use Rattle.pg_form.specs.OperatorsItems.{operators_are_used, lacks_operators}
+use Rattle.pg_form.specs.declared.decl.Role.{Role}
+use Rattle.pg_form.specs.declared.decl.Role.TheVariants.{InfixLeft, InfixRight, InfixNone, Prefix, Postfix}
+use Rattle.pg_form.specs.declared.operators_item.OperatorsItem.{OperatorsItem}
 use Rattle.pg_form.specs.declared.word_item.WordItem.{WordItem}
 use Rattle.pg_start.proofs.Meeting.{scalar_at}
 use Rattle.pg_start.specs.Prefixes.{run, is_reserved}
@@ -24,13 +30,13 @@ use Rattle.pg_start.specs.declared.kind.StartKind.TheVariants.{Class, Key, Word}
 use Rattle.pg_own_starts.proofs.Owned.{spelled}
 use Rattle.pg_sets.specs.First as of
 use Rattle.pg_own_starts.specs.Own as plain
-use Rattle.pg_own_starts.specs.OwnStarts.{IsClassOf, OwnStart, IsKeyed, ReservedAs}
+use Rattle.pg_own_starts.specs.OwnStarts.{IsClassOf, IsExcludedBy, OwnStart, IsKeyed, ReservedAs, role_keyword}
 use Rattle.pg_own_starts.specs.OwnStarts as own
 use Rattle.pg_sets.specs.Sets.{Sets, AreSets}
-use Rattle.pg_language.specs.Runs.{HasAt, StandsAt, run_at}
+use Rattle.pg_language.specs.Runs.{HasAt, StandsAt, keyword, run_at}
 use Rattle.pg_derive.specs.ClosedSets.{SomeMatches, Meets}
 use Rattle.pg_derive.specs.LeastSets.{node_sets}
-use Rattle.pg_derive.specs.Predictive.{BeginsAt, IsSomeWordAt, StringIsPredictive, TryIsPredictive, of_string, of_key}
+use Rattle.pg_derive.specs.Predictive.{BeginsAt, IsSomeKeywordAt, IsSomeWordAt, StringIsPredictive, TryIsPredictive, of_string, of_key}
 use Rattle.pg_derive.proofs.LeastSets.{first_in}
 
 -- ---- characters of a text
@@ -57,6 +63,33 @@ same_reserved (own.as_written none) text = refl
 
 no_string_is_seq : {text parts : List ℕ} → ◌≡◌ {A = Node} (form.Leaf (leaf.String text)) (form.Seq parts) → ⊥
 no_string_is_seq e = absurd cc
+
+-- the keyword is spelled alike in texts and in starts
+same_keyword : (role : Role) → keyword role ≡ role_keyword role
+same_keyword InfixLeft = refl
+same_keyword InfixRight = refl
+same_keyword InfixNone = refl
+same_keyword Prefix = refl
+same_keyword Postfix = refl
+
+keyword_spelled : (role : Role) → 0 < length (role_keyword role)
+keyword_spelled InfixLeft = omega arith
+keyword_spelled InfixRight = omega arith
+keyword_spelled InfixNone = omega arith
+keyword_spelled Prefix = omega arith
+keyword_spelled Postfix = omega arith
+
+-- whoever declares operators has an operators item
+pub item_there : (g : Grammar) (p : ℕ) (class : List ClassPart) → IsGrammar g → slice_get g.nodes p ≡ Some (form.Leaf (leaf.Declare class)) → (item : OperatorsItem) × (g.operators ≡ Some item)
+item_there g p class grammar e = go g.operators refl
+  where
+    none_used : (initials : List Operator) → operators_are_used initials (forms_of g) ≡ false → ⊥
+    none_used [] h = true≢false (none-get uses_operators (form_of (rule_names g) (word_names g)) g.nodes p (form.Leaf (leaf.Declare class)) h e)
+    none_used (initial ∷ initials) h = true≢false h
+
+    go : (item : Option OperatorsItem) → g.operators ≡ item → (item : OperatorsItem) × (g.operators ≡ Some item)
+    go (Some item) h = (item, h)
+    go None h = absurd (none_used g.initials (ap (λ o. lacks_operators o g.initials (forms_of g)) (sym h) ∙ grammar.operators_there))
 
 module _ (g : Grammar) (grammar : IsGrammar g) (sets : Sets) (are : AreSets g sets) where
   matched : (p : ℕ) (n : Node) → slice_get g.nodes p ≡ Some n → (s : StartKind) → OwnStart g n s → (text : List ℕ) (place : ℕ) → MatchesAt s text place →
@@ -104,6 +137,24 @@ module _ (g : Grammar) (grammar : IsGrammar g) (sets : Sets) (are : AreSets g se
             there = there.there;
             member = begins.members there.head scalar ∙ member;
             free = ap (is_reserved reserved) whole ∙ (same_reserved is h.word ∙ free);
+          })
+
+  -- the keyword of a declaration
+  pub declare_meets : (p : ℕ) (class : List ClassPart) → slice_get g.nodes p ≡ Some (form.Leaf (leaf.Declare class)) → Meets ((node_sets g sets).first p) (IsSomeKeywordAt g class)
+  declare_meets p class e text scalars place h = let own_start = are.start_sets.plain p (form.Leaf (leaf.Declare class)) e plain.declare in go own_start.0 own_start.1
+    where
+      ends : {ranges : List Range} → IsExcludedBy g class ranges → (c : ℕ) → slice_get text (place + length (role_keyword h.role)) ≡ Some c → has ranges c ≡ false
+      ends is c at =
+          let there = h.there in
+          is.members c (scalar_at text (place + length (role_keyword h.role)) c scalars at)
+          ∙ there.ends c (ap (λ (word : List ℕ). slice_get text (place + length word)) (same_keyword h.role) ∙ at)
+
+      go : (s : StartKind) → OwnStart g (form.Leaf (leaf.Declare class)) s → SomeMatches text ((node_sets g sets).first p) place
+      go s (own.declare {class = ranges} role is) =
+          matched p (form.Leaf (leaf.Declare class)) e (Key (role_keyword h.role) ranges) (own.declare h.role is) text place (record {
+            spelled = keyword_spelled h.role;
+            there = subst (StandsAt text place) (same_keyword h.role) (let there = h.there in there.begins);
+            ends = ends is;
           })
 
   -- ---- tries that give keys

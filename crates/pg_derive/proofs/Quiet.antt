@@ -17,13 +17,13 @@ use Rattle.pg_value.specs.declared.trail.TrailItem.TheVariants.{Alt, Rounds}
 use Rattle.pg_form.specs.declared.word_item.WordItem.{WordItem}
 use Rattle.pg_start.specs.Starts.{MatchesAt}
 use Rattle.pg_start.specs.declared.kind.StartKind.{StartKind}
-use Rattle.pg_language.specs.Derives.{Spot}
+use Rattle.pg_language.specs.Derives.{Spot, made_by}
 use Rattle.pg_table.specs.Tables.{ComesFrom}
 use Rattle.pg_language.specs.Answers as answers
 use Rattle.pg_language.specs.Answers.{Given, Answers, entered, AnswersForm, nothing, seq, choice, many, rule, AnswersParts, part, part_last, part_failed, part_ok, AnswersAlternatives, no_alternative, alternative, alternative_stands, alternative_waits, alternative_failed, round, round_ended, AnswersChain, first_operand, first_failed, first_ok, link, separator_failed, separator_ok, operand_failed}
 use Rattle.pg_language.specs.Errors.{Error}
-use Rattle.pg_language.specs.Leaves.{some_word_outcome}
-use Rattle.pg_language.specs.Reactions.{error_kind, counted_by, labelled_by}
+use Rattle.pg_language.specs.Leaves.{some_word_outcome, some_declare_outcome}
+use Rattle.pg_language.specs.Reactions.{ok_kind, error_kind, counted_by, labelled_by}
 use Rattle.pg_language.specs.Outcomes.{Outcome, ok, failed}
 use Rattle.pg_form.specs.declared.side.Side.{Side}
 use Rattle.pg_form.specs.declared.used.BuilderUse.{BuilderUse}
@@ -32,7 +32,8 @@ use Rattle.pg_language.specs.declared.reading.Reading.TheVariants.{Library, Repo
 use Rattle.pg_tree.specs.declared.shape.Shape.{Shape}
 use Rattle.pg_derive.specs.ClosedSets.{NodeSets, SomeMatches, Covers, AllNullable, BeginsParts, PartsFall}
 use Rattle.pg_derive.specs.Predictive.{PartIsPredictive, TryIsPredictive, of_part, of_string, of_key, AlternativesArePredictive, ChainIsPredictive, LeafIsPredictive, AroundIsPredictive, IsPredictiveAt}
-use Rattle.pg_derive.proofs.LeavesAnswered.{FailsEmpty, StaysOk, satisfy_fails, string_fails, word_fails, not_followed_decided, end_decided}
+use Rattle.pg_derive.proofs.LeavesAnswered.{FailsEmpty, StaysOk, satisfy_fails, string_fails, word_fails, not_followed_decided, end_decided, declare_fails}
+use Rattle.pg_language.proofs.Onward.{left_still}
 use Rattle.pg_derive.proofs.Lexemes.{NodeFails, string_node_fails, key_node_fails}
 
 -- every number at a node names something
@@ -180,7 +181,10 @@ module _ (G : Given) (scalars : all_scalars G.text ≡ true) (whole : IsWhole G.
     of_quiet : (k : Around) (q : ℕ) → PartIsPredictive sets p q → QuietNode q a → QuietForm (form.Around k q) p a
     of_quiet k q f (refuses e m run) =
         let said : Error = labelled_by k (error_kind false) e in refuses said m (subst (λ c. AnswersForm G (form.Around k q) a (failed c said) m) (not_counted k) (answers.around run))
-    of_quiet k q f (skips x v t e m run) = skips (f.empty x) _ t _ _ (answers.around run)
+    of_quiet k q f (skips x v t e m run) =
+        let made : List Tree = made_by k G.text a.place a.place v in
+        let said : Error = labelled_by k (ok_kind false) e in
+        skips (f.empty x) made t said m (subst (λ (b : Spot). AnswersForm G (form.Around k q) a (ok false b made t said) m) (left_still k a a refl) (answers.around run))
 
     quiet_try : (q : ℕ) → TryIsPredictive G.grammar sets p q → q < length G.grammar.nodes → QuietForm (form.Around kind.Try q) p a
     quiet_try q (of_part f) there = of_quiet kind.Try q f (quiet_part q f there)
@@ -207,7 +211,9 @@ module _ (G : Given) (scalars : all_scalars G.text ≡ true) (whole : IsWhole G.
     quiet_leaf (leaf.NotFollowedBy class) e f =
         decided (AnswersForm G (form.Leaf (leaf.NotFollowedBy class)) a) _ a _ _ (answers.leaf refl) f (not_followed_decided G.grammar G.text class a)
     quiet_leaf leaf.EndOfText e f = decided (AnswersForm G (form.Leaf leaf.EndOfText) a) _ a _ _ (answers.leaf refl) f (end_decided G.text a)
-    quiet_leaf (leaf.Declare class) e f = absurd f
+    quiet_leaf (leaf.Declare class) e f =
+        refused (AnswersForm G (form.Leaf (leaf.Declare class)) a) _ a _ _ (answers.leaf (ap (some_declare_outcome G.grammar G.text class a) f.named))
+        (declare_fails G.grammar G.text f.item class a (λ role h. unmatched G.text (sets.first p) a.place bare (f.first G.text scalars a.place (record { role = role; there = h }))))
 
     quiet_form : (f : Node) → slice_get G.grammar.nodes p ≡ Some f → IsPredictiveAt G.grammar sets p f → QuietForm f p a
     quiet_form (form.Leaf l) e f = quiet_leaf l e f

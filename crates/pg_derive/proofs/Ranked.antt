@@ -1,5 +1,5 @@
 -- Starts that are listed in their order: each stands there once.
-use Rattle.std.proofs.Common.{◌≡◌, ◌<◌, inl, inr, ℕ, zero, suc, List, [], ◌∷◌, Less, Equal, Some, slice_get, sym, ap, ◌∙◌, subst, arith}
+use Rattle.std.proofs.Common.{◌≡◌, ◌<◌, inl, inr, ℕ, zero, suc, List, [], ◌∷◌, Less, Some, slice_get, sym, ap, ◌∙◌, subst, arith}
 use Rattle.std.specs.List.Sorted.{IsStrictlySortedBy}
 use Rattle.std.proofs.lemmas.Bool.{cases_order}
 use Rattle.std.proofs.lemmas.Cmp.{tied_itself}
@@ -7,7 +7,7 @@ use Rattle.std.proofs.lemmas.Map.Keys.{sorted_head, sorted_tail}
 use Rattle.std.proofs.lemmas.Option.{same_Some}
 use Rattle.pg_own_starts.specs.Listed.{start_order, start_order_total}
 use Rattle.pg_own_starts.specs.declared.listed.ListedStart.{ListedStart}
-use Rattle.pg_graph.proofs.Lists.{all_get}
+use Rattle.pg_form.proofs.Each.{all-get}
 use Rattle.pg_own_starts.proofs.Ordered.{less-equal}
 
 -- of two places the earlier has the lesser start
@@ -15,7 +15,7 @@ ordered_at : (starts : List ListedStart) → IsStrictlySortedBy start_order star
     i < j → start_order x y ≡ Less
 ordered_at [] h i j x y e f l = absurd cc
 ordered_at (s ∷ ss) h zero zero x y e f l = absurd (omega arith)
-ordered_at (s ∷ ss) h zero (suc j) x y e f l = let same : s ≡ x = cc in subst (λ z. start_order z y ≡ Less) same (all_get (λ z. start_order s z ≡ Less) ss j y (sorted_head start_order s ss h) f)
+ordered_at (s ∷ ss) h zero (suc j) x y e f l = let same : s ≡ x = cc in subst (λ z. start_order z y ≡ Less) same (all-get (λ z. start_order s z ≡ Less) ss j y (sorted_head start_order s ss h) f)
 ordered_at (s ∷ ss) h (suc i) zero x y e f l = absurd (omega arith)
 ordered_at (s ∷ ss) h (suc i) (suc j) x y e f l = ordered_at ss (sorted_tail start_order s ss h) i j x y e f (omega arith)
 

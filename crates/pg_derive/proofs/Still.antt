@@ -15,14 +15,20 @@ use Rattle.pg_form.specs.declared.side.Side.{Side}
 use Rattle.pg_value.specs.declared.trail.TrailItem.{TrailItem}
 use Rattle.pg_value.specs.declared.trail.TrailItem.TheVariants.{Alt}
 use Rattle.pg_form.specs.declared.word_item.WordItem.{WordItem}
+use Rattle.pg_form.specs.Operators.{Operator}
+use Rattle.pg_form.specs.declared.operators_item.OperatorsItem.{OperatorsItem}
+use Rattle.pg_table.specs.Tables.{admit_fault}
+use Rattle.pg_table.specs.declared.fault.AdmitFault.{AdmitFault}
+use Rattle.pg_language.specs.Declarations.{Declaration, no_keyword, no_digit, no_symbol, declared, declaration_at, unless_refused, declaration_outcome, declare_outcome}
 use Rattle.pg_language.specs.Derives.{Spot}
 use Rattle.pg_language.specs.Runs.{run_at}
 use Rattle.pg_language.specs.Answers as answers
 use Rattle.pg_language.specs.Answers.{Given, Answers, entered, AnswersForm, nothing, seq, choice, many, rule, AnswersParts, part, AfterPart, part_last, part_failed, part_stuck, part_ok, AnswersAlternatives, no_alternative, alternative, AfterAlternative, alternative_consumed, alternative_stands, alternative_waits, alternative_commits, alternative_failed, alternative_stuck, AnswersRounds, round, AfterRound, round_ended, round_failed, round_empty, round_stuck, round_ok, AnswersChain, first_operand, AfterFirst, first_failed, first_stuck, first_ok, AnswersLinks, link, AfterSeparator, separator_failed, separator_stuck, separator_ok, AfterOperand, operand_failed, operand_stuck, operand_ok}
 use Rattle.pg_language.specs.Errors.{Error}
-use Rattle.pg_language.specs.Leaves.{satisfy_next, word_read, word_next, not_followed_next, string_outcome, matched, end_outcome, word_outcome, some_word_outcome, leaf_outcome}
+use Rattle.pg_language.specs.Leaves.{satisfy_next, word_read, word_next, not_followed_next, string_outcome, matched, end_outcome, word_outcome, some_word_outcome, some_declare_outcome, leaf_outcome}
 use Rattle.pg_language.specs.Outcomes.{Outcome, ok, failed, empty_round}
 use Rattle.pg_language.specs.Reactions.{then_rest, then_round, noted, after_failure, unless_consumed, surrounded, as_finished, unless_begun}
+use Rattle.pg_language.proofs.Onward.{left_still}
 
 -- where the outcome is ok and consumed nothing, its end is this spot
 abbrev pub Stays : Spot → Outcome → Type 0
@@ -68,7 +74,7 @@ stays_unless a b v t e empty_round g = tt
 
 stays_surrounded : (a : Spot) (k : Around) (text : List ℕ) (o : Outcome) → Stays a o → Stays a (surrounded k text a o)
 stays_surrounded a k text (ok true b v t e) h = tt
-stays_surrounded a k text (ok false b v t e) h = h
+stays_surrounded a k text (ok false b v t e) h = left_still k a b h
 stays_surrounded a k text (failed c e) h = tt
 stays_surrounded a k text empty_round h = tt
 
@@ -117,13 +123,27 @@ stays_some_word : (g : Grammar) (text : List ℕ) (a : Spot) (item : Option Word
 stays_some_word g text a None o e = absurd (cc)
 stays_some_word g text a (Some item) o e = stays_this a (word_outcome g text item a) o e (stays_word g text item a (slice_get text a.place))
 
+stays_refused : (d : Operator) (a : Spot) (i j : ℕ) (fault : Option AdmitFault) → Stays a (unless_refused d a.table i j fault)
+stays_refused d a i j (Some fault) = tt
+stays_refused d a i j None = tt
+
+stays_declaration : (text : List ℕ) (a : Spot) (x : Declaration) → Stays a (declaration_outcome text a x)
+stays_declaration text a no_keyword = tt
+stays_declaration text a (no_digit i) = tt
+stays_declaration text a (no_symbol i) = tt
+stays_declaration text a (declared d i j) = stays_refused d a i j (admit_fault a.table d)
+
+stays_some_declare : (g : Grammar) (text : List ℕ) (class : List ClassPart) (a : Spot) (item : Option OperatorsItem) (o : Outcome) → some_declare_outcome g text class a item ≡ Some o → Stays a o
+stays_some_declare g text class a None o e = absurd (cc)
+stays_some_declare g text class a (Some item) o e = stays_this a (declare_outcome g text item class a) o e (stays_declaration text a (declaration_at g text item class a.place))
+
 stays_leaf : (g : Grammar) (text : List ℕ) (l : Leaf ℕ) (a : Spot) (o : Outcome) → leaf_outcome g text l a ≡ Some o → Stays a o
 stays_leaf g text (leaf.Satisfy class) a o e = stays_this a _ o e (stays_satisfy g class a (slice_get text a.place))
 stays_leaf g text (leaf.String s) a o e = stays_this a _ o e (stays_string text s a)
 stays_leaf g text (leaf.Word w) a o e = stays_some_word g text a (slice_get g.words w) o e
 stays_leaf g text (leaf.NotFollowedBy class) a o e = stays_this a _ o e (stays_not_followed g class a (slice_get text a.place))
 stays_leaf g text leaf.EndOfText a o e = stays_this a _ o e (stays_end text a)
-stays_leaf g text (leaf.Declare class) a o e = absurd (cc)
+stays_leaf g text (leaf.Declare class) a o e = stays_some_declare g text class a g.operators o e
 
 -- ---- the relation
 

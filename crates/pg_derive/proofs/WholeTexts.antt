@@ -1,5 +1,5 @@
 -- What runs of the start rule with the end of the text after it say of a whole text.
-use Rattle.std.proofs.Common.{◌≡◌, ◌<◌, ◌⊎◌, inl, inr, ℕ, suc, List, [], ◌++◌, Bool, true, false, ◌||◌, refl, sym, ap, subst, length, Some, slice_get, arith, append-nil}
+use Rattle.std.proofs.Common.{◌≡◌, ◌<◌, ◌⊎◌, inl, inr, ℕ, suc, List, [], ◌++◌, Bool, refl, sym, ap, subst, length, Some, slice_get, arith, append-nil}
 use Rattle.std.proofs.Math.Bool.{or-false}
 use Rattle.pg_tree.specs.Trees.{Tree}
 use Rattle.pg_form.specs.declared.form.Form.TheVariants as form

@@ -12,11 +12,13 @@ use Rattle.pg_form.specs.declared.form.Leaf.TheVariants as leaf
 use Rattle.pg_form.specs.declared.form.Around.{Around}
 use Rattle.pg_form.specs.declared.form.Around.TheVariants as kind
 use Rattle.pg_value.specs.declared.grammar.Rule as declared
+use Rattle.pg_form.specs.declared.decl.Role.{Role}
+use Rattle.pg_form.specs.declared.operators_item.OperatorsItem.{OperatorsItem}
 use Rattle.pg_form.specs.declared.word_item.WordItem.{WordItem}
 use Rattle.pg_start.specs.Apart.{Apart}
 use Rattle.pg_start.specs.declared.kind.StartKind.{StartKind}
 use Rattle.pg_start.specs.declared.kind.StartKind.TheVariants.{End}
-use Rattle.pg_language.specs.Runs.{HasAt, StandsAt, IsWordAt}
+use Rattle.pg_language.specs.Runs.{HasAt, StandsAt, IsWordAt, IsKeywordAt}
 use Rattle.pg_derive.specs.ClosedSets.{NodeSets, Meets, Covers, Within, AllApart, AllNullable, BeginsParts, PartsFollowed, PartsFall}
 
 -- ---- leaves
@@ -38,6 +40,17 @@ pub record IsSomeWordAt (g : Grammar) (w : ℕ) (text : List ℕ) (place : ℕ) 
 pub record StringIsPredictive (sets : NodeSets) (p : ℕ) (characters : List ℕ) : Type 0 where
   pub spelled : 0 < length characters
   pub first : Meets (sets.first p) (λ text place. BeginsAt text place characters)
+
+-- the keyword of some role stands at the place
+pub record IsSomeKeywordAt (g : Grammar) (class : List ClassPart) (text : List ℕ) (place : ℕ) : Type 0 where
+  pub role : Role
+  pub there : IsKeywordAt g text class role place
+
+-- declarations are read by an operators item
+pub record DeclareIsPredictive (g : Grammar) (sets : NodeSets) (p : ℕ) (class : List ClassPart) : Type 0 where
+  pub item : OperatorsItem
+  pub named : g.operators ≡ Some item
+  pub first : Meets (sets.first p) (IsSomeKeywordAt g class)
 
 -- ---- forms with one part
 
@@ -109,14 +122,14 @@ pub record ChainIsPredictive (sets : NodeSets) (p q r : ℕ) : Type 0 where
 
 -- ---- nodes
 
--- by the leaf; grammars with declarations aren't judged yet
+-- by the leaf
 abbrev pub LeafIsPredictive : Grammar → NodeSets → ℕ → Leaf ℕ → Type 0
 LeafIsPredictive g sets p (leaf.Satisfy class) = Meets (sets.first p) (λ text place. HasAt g text class place)
 LeafIsPredictive g sets p (leaf.String s) = StringIsPredictive sets p s
 LeafIsPredictive g sets p (leaf.Word w) = Meets (sets.first p) (IsSomeWordAt g w)
 LeafIsPredictive g sets p (leaf.NotFollowedBy class) = sets.nullable p ≡ true
 LeafIsPredictive g sets p leaf.EndOfText = sets.nullable p ≡ true
-LeafIsPredictive g sets p (leaf.Declare class) = ⊥
+LeafIsPredictive g sets p (leaf.Declare class) = DeclareIsPredictive g sets p class
 
 -- by what stands around a part q
 abbrev pub AroundIsPredictive : Grammar → NodeSets → ℕ → Around → ℕ → Type 0
@@ -125,6 +138,7 @@ AroundIsPredictive g sets p kind.Text q = PartIsPredictive sets p q
 AroundIsPredictive g sets p kind.Skip q = PartIsPredictive sets p q
 AroundIsPredictive g sets p (kind.Build used symbol) q = PartIsPredictive sets p q
 AroundIsPredictive g sets p (kind.Label message) q = PartIsPredictive sets p q
+AroundIsPredictive g sets p kind.Local q = PartIsPredictive sets p q
 
 -- by what stands at the node; grammars with expressions aren't judged yet
 abbrev pub IsPredictiveAt : Grammar → NodeSets → ℕ → Node → Type 0

@@ -1,21 +1,12 @@
 -- What is printed of a fault of a grammar file, as bytes.
 use Rattle.std.specs.Prelude.{ℕ, List, ◌++◌, codes}
 use Rattle.std.specs.Fmt.{decimal}
-use Rattle.pg_table.specs.declared.fault.AdmitFault.{AdmitFault}
-use Rattle.pg_table.specs.declared.fault.AdmitFault.TheVariants.{SymbolTooLong, SymbolReserved, PrefixThere, SymbolThere, TableFull}
+use Rattle.pg_table.specs.FaultLabels.{fault_label}
 use Rattle.pg_file.specs.declared.fault.FaultKind.{FaultKind}
 use Rattle.pg_file.specs.declared.fault.FaultKind.TheVariants.{NotUtf8, BadToken, UnexpectedToken, UnknownName, NameTwice, NoStart, BadLiteral, LimitPassed, NotAdmitted}
 use Rattle.pg_file.specs.declared.fault.FileFault.{FileFault}
 use Rattle.pg_file.specs.declared.fault.FileError.{FileError}
 use Rattle.pg_file.specs.declared.fault.FileError.TheVariants.{Fault, Memory}
-
--- the label of the reason why an operator isn't admitted
-abbrev pub reason_text : AdmitFault → List ℕ
-reason_text SymbolTooLong = codes "A1"
-reason_text SymbolReserved = codes "A2"
-reason_text PrefixThere = codes "A3"
-reason_text SymbolThere = codes "A4"
-reason_text TableFull = codes "A5"
 
 -- a label for scripts, and then words
 abbrev pub kind_text : FaultKind → List ℕ
@@ -27,7 +18,7 @@ kind_text NameTwice = codes "F5 name defined twice"
 kind_text NoStart = codes "F6 no start rule"
 kind_text BadLiteral = codes "F7 bad literal"
 kind_text LimitPassed = codes "F8 limit passed"
-kind_text (NotAdmitted fault) = codes "F9 operator not admitted (" ++ reason_text fault ++ codes ")"
+kind_text (NotAdmitted fault) = codes "F9 operator not admitted (" ++ fault_label fault ++ codes ")"
 
 -- the line, the column and the kind
 abbrev pub fault_text : FileFault → List ℕ

@@ -6,7 +6,7 @@
 
 ghost use Rattle.std.specs.Prelude.{◌≡◌, Some};
 ghost use Rattle.pg_file.specs.declared.fault.FileError.TheVariants.{Memory};
-ghost use Rattle.pg_file.specs.Texts.{reason_text, kind_text, fault_text, error_text};
+ghost use Rattle.pg_file.specs.Texts.{kind_text, fault_text, error_text};
 
 use pg_table::AdmitFault;
 use pg_text::Pos;
@@ -56,23 +56,10 @@ impl fmt::Display for FaultKind {
             FaultKind::BadLiteral => f.write_str("F7 bad literal"),
             FaultKind::LimitPassed => f.write_str("F8 limit passed"),
             FaultKind::NotAdmitted(fault) => {
-                let reason = reason(*fault);
-                write!(f, "F9 operator not admitted ({reason})")
+                let label = fault.label();
+                write!(f, "F9 operator not admitted ({label})")
             }
         }
-    }
-}
-
-/// The label of the reason why an operator isn't admitted.
-fn reason(fault: AdmitFault) -> &'static str
-    ensures { result.now ≡ reason_text fault }
-{
-    match fault {
-        AdmitFault::SymbolTooLong => "A1",
-        AdmitFault::SymbolReserved => "A2",
-        AdmitFault::PrefixThere => "A3",
-        AdmitFault::SymbolThere => "A4",
-        AdmitFault::TableFull => "A5",
     }
 }
 

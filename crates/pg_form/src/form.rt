@@ -49,6 +49,8 @@ pub enum Around {
     Build(BuilderUse, Label),
     /// This message for what is expected where nothing was consumed (`<?>` of R).
     Label(Characters),
+    /// What the part declares ends with it, where it is ok (ours).
+    Local,
 }
 
 /// A form. `R` is what a rule is known by, `W` a word item, `P` one part, and `L` any number of parts.
@@ -133,7 +135,7 @@ impl Around {
     {
         match self {
             Around::Build(used, _) => Some(used),
-            Around::Try | Around::Text | Around::Skip | Around::Label(_) => None,
+            Around::Try | Around::Text | Around::Skip | Around::Label(_) | Around::Local => None,
         }
     }
 
@@ -147,6 +149,7 @@ impl Around {
             Around::Skip => Around::Skip,
             Around::Build(used, symbol) => Around::Build(used.copy(alloc)?, symbol.copy(alloc)?),
             Around::Label(message) => Around::Label(copied(alloc, message)?),
+            Around::Local => Around::Local,
         })
     }
 }

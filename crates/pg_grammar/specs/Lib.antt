@@ -1,3 +1,3 @@
 pub mod Made
 pub mod Numbering
-pub mod Room
+pub mod Capacity

@@ -84,7 +84,10 @@ fn has_long_builder(form: &BaseForm) -> bool
         | Form::Choice(_)
         | Form::Many(_)
         | Form::Rule(_)
-        | Form::Around(Around::Try | Around::Text | Around::Skip | Around::Label(_), _) => false,
+        | Form::Around(
+            Around::Try | Around::Text | Around::Skip | Around::Label(_) | Around::Local,
+            _,
+        ) => false,
     }
 }
 
@@ -118,7 +121,7 @@ fn literal_length(form: &BaseForm) -> usize
         | Form::Chain(_, _, _, _)
         | Form::Rule(_)
         | Form::Expression(_, _)
-        | Form::Around(Around::Try | Around::Text | Around::Skip, _) => 0,
+        | Form::Around(Around::Try | Around::Text | Around::Skip | Around::Local, _) => 0,
     }
 }
 

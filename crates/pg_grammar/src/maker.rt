@@ -50,7 +50,7 @@ impl Model for Maker {
 impl Maker {
     ghost use Rattle.pg_form.specs.Forms.{IsBody};
     ghost use Rattle.pg_grammar.specs.Made.{nothing_made, with_start, with_class, with_word, with_operators, with_initial, with_rule, class_fault, word_fault, operators_fault, initial_fault, rule_fault, word_passes_limit, passes_limit, is_incomplete, finish_fault, IsReady, AreNumbers, Says};
-    ghost use Rattle.pg_grammar.specs.Room.{HasRoom};
+    ghost use Rattle.pg_grammar.specs.Capacity.{HasCapacity};
 
     /// A maker that was given nothing yet. It takes no memory until it is.
     pub fn new(alloc: Global) -> Maker
@@ -311,7 +311,7 @@ impl Maker {
     /// The number of the rule to start with, and those of all forms, with the maker kept.
     fn numbers(&self) -> Result<(RuleId, Numbers), MakerFault>
         ensures ok { IfOk result (λ x. AreNumbers self.now x.1.parts.items x.1.bodies.items x.0) }
-        ensures room { IfOk result (λ x. HasRoom self.now x.1) }
+        ensures room { IfOk result (λ x. HasCapacity self.now x.1) }
         ensures refused { MatchOption (finish_fault self.now) (IsOkUnless result MakerFault.Memory) (λ fault. result ≡ Err fault) }
     {
         let start = self.start_number()?;
@@ -325,7 +325,7 @@ impl Maker {
     /// The grammar of all that was given, with these numbers. What was given is moved into it.
     fn grammar(self, start: RuleId, numbers: Numbers) -> Grammar
         requires numbers { AreNumbers self numbers.parts.items numbers.bodies.items start }
-        requires room { HasRoom self numbers }
+        requires room { HasCapacity self numbers }
         ensures { Says self result }
     {
         let Maker {

@@ -1,7 +1,7 @@
 -- Facts on lists.
-use Rattle.std.proofs.Common.{◌≡◌, ◌≢◌, ℕ, zero, suc, Bool, true, false, ◌||◌, ◌⊎◌, inl, inr, List, [], ◌∷◌, ◌++◌, Some, None, slice_get, map, length, ◌<◌, arith, subst, refl, ap, sym, ◌∙◌}
+use Rattle.std.proofs.Common.{◌≡◌, ◌≢◌, ℕ, zero, suc, Bool, true, false, ◌||◌, ◌⊎◌, inl, inr, List, [], ◌∷◌, ◌++◌, Some, None, slice_get, map, length, ◌<◌, arith, refl, ap, sym, ◌∙◌}
 use Rattle.std.specs.Prelude.{◌==◌}
-use Rattle.std.specs.List.{list_any, AllByRecursion}
+use Rattle.std.specs.List.{list_any}
 use Rattle.std.proofs.Math.Bool.{or-false}
 use Rattle.std.proofs.lemmas.Bool.{eq-eqb, eqb-true, ne_eqb, or_left, or_right, or_cases, or_parts, or_from, true≢false}
 use Rattle.std.proofs.lemmas.List.Folds.{list_any-append}
@@ -23,13 +23,6 @@ passes-from_any {X} test (x ∷ xs) e = go (test x) refl e (λ h. passes-from_an
     go : (b : Bool) → test x ≡ b → (b || list_any test xs) ≡ true → (list_any test xs ≡ true → Passes test xs) → Passes test (x ∷ xs)
     go true is h ih = record { place = zero; element = x; there = refl; passes = is }
     go false is h ih = let rest = ih h in record { place = suc rest.place; element = rest.element; there = rest.there; passes = rest.passes }
-
--- a fact that holds of each element holds of the one at a place
-pub all_get : {X : Type 0} (P : X → Type 0) (xs : List X) (k : ℕ) (x : X) → AllByRecursion P xs → slice_get xs k ≡ Some x → P x
-all_get P [] zero x h e = absurd cc
-all_get P [] (suc k) x h e = absurd cc
-all_get P (y ∷ ys) zero x h e = let same : y ≡ x = cc in subst P same h.0
-all_get P (y ∷ ys) (suc k) x h e = all_get P ys k x h.1 e
 
 -- the numbers that an element has among those of all
 pub map_at : {X : Type 0} (f : X → List ℕ) (xs : List X) (k : ℕ) (x : X) → slice_get xs k ≡ Some x → numbers_at (map f xs) k ≡ f x

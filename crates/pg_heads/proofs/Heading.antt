@@ -16,7 +16,8 @@ use Rattle.pg_heads.specs.Nullable.{Nullable}
 use Rattle.pg_heads.specs.Parts.{up_to_unmarked, reached_parts, used_rules, all_joined}
 use Rattle.pg_heads.specs.Reached as reached_by
 use Rattle.pg_heads.specs.Reached.{ReachedIn, first, later, ReachedPart, seq, choice, many, expression, ReachesUse, here, through, Heads, AreHeads}
-use Rattle.pg_graph.proofs.Lists.{has_first, has_after, has_cases, has_at, only_one, stands, all_get, map_at, map_past}
+use Rattle.pg_graph.proofs.Lists.{has_first, has_after, has_cases, has_at, only_one, stands, map_at, map_past}
+use Rattle.pg_form.proofs.Each.{all-get}
 use Rattle.pg_graph.proofs.Walking.{reached_below}
 use Rattle.pg_heads.proofs.Naming.{Names, all_cases, all_new, all_length}
 use Rattle.pg_graph.proofs.Joining.{none_at}
@@ -150,7 +151,7 @@ module _ (g : Grammar) (marks : List Bool) (on : MarksNullable g marks) (graph u
 
   -- a use names a rule
   use_named : {v b : ℕ} → IsGrammar g → ReachesUse g v b → b < length g.rules
-  use_named {b = b} grammar (here {p} at) = all_get (NamesRule (length g.rules)) g.nodes p (form.Rule b) grammar.named at
+  use_named {b = b} grammar (here {p} at) = all-get (NamesRule (length g.rules)) g.nodes p (form.Rule b) grammar.named at
   use_named grammar (through at is reaches) = use_named grammar reaches
 
   -- so the heads of a rule are the rules whose uses are met from its body up
@@ -179,7 +180,7 @@ module _ (g : Grammar) (marks : List Bool) (on : MarksNullable g marks) (graph u
       )
       members a b (Some rule) at =
           let is = map_at (λ rule. numbers_at reaching rule.body) g.rules a rule at in
-          let below : rule.body < length g.nodes = all_get (λ r. rule_body r < length g.nodes) g.rules a rule bodies at in
+          let below : rule.body < length g.nodes = all-get (λ r. rule_body r < length g.nodes) g.rules a rule bodies at in
           let long = graph_long in
           let met = gathered.members rule.body b (omega arith) in (
             λ h. record { rule = rule; is_rule = at; reached = use_reached (met.0 (ap (λ xs. has xs b) (sym is) ∙ h)).1 },

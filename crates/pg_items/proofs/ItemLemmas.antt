@@ -3,3 +3,4 @@ pub mod Whole
 pub mod Classes
 pub mod Counted
 pub mod Backwards
+pub mod Joined

@@ -7,3 +7,4 @@ pub mod Sizes
 pub mod Entries
 pub mod Heads
 pub mod Words
+pub mod Joined

@@ -15,8 +15,8 @@ reserved_words =
     ∷ codes "start" ∷ codes "not" ∷ codes "infixl" ∷ codes "infixr" ∷ codes "infix" ∷ codes "prefix" ∷ codes "postfix"
     ∷ codes "satisfy" ∷ codes "string" ∷ codes "seq" ∷ codes "choice" ∷ codes "many" ∷ codes "chainl1" ∷ codes "chainr1"
     ∷ codes "try" ∷ codes "notFollowedBy" ∷ codes "eof" ∷ codes "expr" ∷ codes "declare" ∷ codes "text" ∷ codes "skip"
-    ∷ codes "build" ∷ codes "label" ∷ codes "many1" ∷ codes "option" ∷ codes "between" ∷ codes "sepBy" ∷ codes "sepBy1"
-    ∷ codes "endBy" ∷ []
+    ∷ codes "build" ∷ codes "label" ∷ codes "local" ∷ codes "many1" ∷ codes "option" ∷ codes "between" ∷ codes "sepBy"
+    ∷ codes "sepBy1" ∷ codes "endBy" ∷ []
 
 unfoldable pub is_reserved : List ℕ → Bool
 is_reserved s = list_any (λ word. bytes_eq word s) reserved_words

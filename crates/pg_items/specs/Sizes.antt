@@ -40,6 +40,7 @@ size_at (suc k) (size ∷ sizes) = size_at k sizes
 abbrev pub some_size : SomeForm → ℕ → List ℕ → ℕ
 some_size some_form.Choice n sizes = 1 + sum_of sizes
 some_size some_form.Try n sizes = (if n == 1 then 1 else 2) + sum_of sizes
+some_size some_form.Local n sizes = (if n == 1 then 1 else 2) + sum_of sizes
 
 abbrev pub one_size : OneForm → ℕ → ℕ
 one_size one_form.Many size = 1 + size

@@ -5,7 +5,7 @@ use Rattle.pg_form.specs.declared.decl.Role.TheVariants.{InfixLeft, InfixRight, 
 use Rattle.pg_items.specs.declared.words.ClassForm.{ClassForm}
 use Rattle.pg_items.specs.declared.words.ClassForm.TheVariants.{Satisfy, NotFollowedBy, Declare}
 use Rattle.pg_items.specs.declared.words.SomeForm.{SomeForm}
-use Rattle.pg_items.specs.declared.words.SomeForm.TheVariants.{Choice, Try}
+use Rattle.pg_items.specs.declared.words.SomeForm.TheVariants.{Choice, Try, Local}
 use Rattle.pg_items.specs.declared.words.OneForm.{OneForm}
 use Rattle.pg_items.specs.declared.words.OneForm.TheVariants as one
 use Rattle.pg_items.specs.declared.words.TwoForm.{TwoForm}
@@ -26,6 +26,7 @@ class_word Declare = codes "declare"
 abbrev pub some_word : SomeForm → List ℕ
 some_word Choice = codes "choice"
 some_word Try = codes "try"
+some_word Local = codes "local"
 
 abbrev pub one_word : OneForm → List ℕ
 one_word one.Many = codes "many"

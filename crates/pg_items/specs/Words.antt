@@ -6,7 +6,7 @@ use Rattle.pg_form.specs.declared.decl.Role.TheVariants.{InfixLeft, InfixRight, 
 use Rattle.pg_items.specs.declared.words.ClassForm.{ClassForm}
 use Rattle.pg_items.specs.declared.words.ClassForm.TheVariants.{Satisfy, NotFollowedBy, Declare}
 use Rattle.pg_items.specs.declared.words.SomeForm.{SomeForm}
-use Rattle.pg_items.specs.declared.words.SomeForm.TheVariants.{Choice, Try}
+use Rattle.pg_items.specs.declared.words.SomeForm.TheVariants.{Choice, Try, Local}
 use Rattle.pg_items.specs.declared.words.OneForm.{OneForm}
 use Rattle.pg_items.specs.declared.words.OneForm.TheVariants as one
 use Rattle.pg_items.specs.declared.words.TwoForm.{TwoForm}
@@ -28,6 +28,7 @@ unfoldable pub some_form : List ℕ → Option SomeForm
 some_form s =
     if bytes_eq (some_word Choice) s then Some Choice
     else if bytes_eq (some_word Try) s then Some Try
+    else if bytes_eq (some_word Local) s then Some Local
     else None
 
 unfoldable pub one_form : List ℕ → Option OneForm

@@ -87,14 +87,14 @@ fn size_of_form(form: &WrittenForm, waiting: &mut VecDeque<usize>) -> usize
     }
 }
 
-/// The size of a form of so many values, whose sizes have this sum: several values of a `try` are a `seq` in it.
+/// The size of a form of so many values, whose sizes have this sum: several values of a `try` or a `local` are a `seq` in it.
 fn some_size(form: SomeForm, count: usize, values: usize) -> usize
     ensures { result ≡ counted (sizes.some_size form count (values ∷ [])) }
 {
     match form {
         SomeForm::Choice => sum(1, values),
-        SomeForm::Try if count == 1 => sum(1, values),
-        SomeForm::Try => sum(2, values),
+        SomeForm::Try | SomeForm::Local if count == 1 => sum(1, values),
+        SomeForm::Try | SomeForm::Local => sum(2, values),
     }
 }
 

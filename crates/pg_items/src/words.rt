@@ -13,7 +13,7 @@ use pg_form::{Role, Side};
 use pg_tokens::is_word;
 
 /// The words that no rule, no class and no word has for a name.
-const RESERVED: [&str; 36] = [
+const RESERVED: [&str; 37] = [
     "class",
     "word",
     "operators",
@@ -44,6 +44,7 @@ const RESERVED: [&str; 36] = [
     "skip",
     "build",
     "label",
+    "local",
     "many1",
     "option",
     "between",
@@ -70,6 +71,8 @@ pub enum SomeForm {
     Choice,
     /// `try`: the values one after another, all or nothing.
     Try,
+    /// `local`: the values one after another, whose declarations end with them.
+    Local,
 }
 
 /// A form of one value.
@@ -164,6 +167,8 @@ fn some_form(name: &[char]) -> Option<SomeForm>
         Some(SomeForm::Choice)
     } else if is_word("try", name) {
         Some(SomeForm::Try)
+    } else if is_word("local", name) {
+        Some(SomeForm::Local)
     } else {
         None
     }

@@ -4,7 +4,7 @@ use Rattle.pg_tree.specs.Trees.{Tree}
 use Rattle.pg_tree.specs.declared.shape.Shape.{Shape}
 use Rattle.pg_form.specs.declared.form.Around.{Around}
 use Rattle.pg_form.specs.declared.side.Side.{Side}
-use Rattle.pg_language.specs.Derives.{Spot, finished, made_by}
+use Rattle.pg_language.specs.Derives.{Spot, finished, made_by, left_by}
 use Rattle.pg_value.specs.declared.trail.TrailItem.{TrailItem}
 use Rattle.pg_language.specs.Errors.{Error}
 use Rattle.pg_language.specs.Outcomes.{Outcome, ok, failed, empty_round}
@@ -62,7 +62,7 @@ ok_unless D b v t e (failed false f) g h = g
 ok_unless D b v t e empty_round g h = tt
 
 pub ok_surrounded : (D E : Fact) (k : Around) (text : List ℕ) (a : Spot) (o : Outcome) →
-    ((b : Spot) (v : List Tree) (t : List TrailItem) → D b v t → E b (made_by k text a.place b.place v) t) → WhereOk D o → WhereOk E (surrounded k text a o)
+    ((b : Spot) (v : List Tree) (t : List TrailItem) → D b v t → E (left_by k a b) (made_by k text a.place b.place v) t) → WhereOk D o → WhereOk E (surrounded k text a o)
 ok_surrounded D E k text a (ok c b v t e) f h = f b v t h
 ok_surrounded D E k text a (failed c e) f h = tt
 ok_surrounded D E k text a empty_round f h = tt

@@ -61,7 +61,8 @@ nodes =
     form.Expression builders 1 ∷ form.Leaf (leaf.Satisfy digits) ∷ form.Leaf (leaf.Declare letters) ∷ form.Chain side.Left pairs 1 4 ∷ form.Leaf (leaf.String (codes ",")) ∷
     form.Choice (6 ∷ 10 ∷ []) ∷ form.Seq (1 ∷ 7 ∷ []) ∷ form.Many 8 ∷ form.Seq (9 ∷ 1 ∷ []) ∷ form.Around kind.Skip 4 ∷ form.Seq [] ∷
     form.Chain side.Right pairs 1 4 ∷ form.Seq (13 ∷ 14 ∷ 15 ∷ []) ∷ form.Leaf (leaf.Word 0) ∷ form.Leaf (leaf.NotFollowedBy letters) ∷ form.Leaf leaf.EndOfText ∷
-    form.Around kind.Try 17 ∷ form.Around (kind.Label (codes "digit")) 18 ∷ form.Rule 0 ∷ form.Around (kind.Build symbols (codes "n")) 20 ∷ form.Around kind.Text 1 ∷ []
+    form.Around kind.Try 17 ∷ form.Around (kind.Label (codes "digit")) 18 ∷ form.Rule 0 ∷ form.Around (kind.Build symbols (codes "n")) 20 ∷ form.Around kind.Text 1 ∷
+    form.Around kind.Local 2 ∷ []
 
 abbrev g : Grammar
 g = record { classes = []; words = names ∷ []; operators = Some item; initials = []; nodes = nodes; rules = (record { name = codes "main"; body = 19 }) ∷ []; start = 0 }
@@ -164,6 +165,10 @@ declared_operator = at_node refl (derives.leaf (declare refl (record {
   spelled = omega arith;
   last_gap = refl;
 }) refl))
+
+-- in `local` it ends with the declaration
+declared_locally : Derives g (codes "infixl 6 +1") 21 (spot 0 (times ∷ [])) (spot 10 (times ∷ [])) (declaration_tree plus ∷ []) []
+declared_locally = at_node refl (derives.around declared_operator)
 
 abbrev twice : List ℕ
 twice = codes "infixl 6 +"

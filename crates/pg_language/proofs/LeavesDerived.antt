@@ -14,7 +14,10 @@ use Rattle.pg_language.specs.Outcomes.{Outcome}
 use Rattle.pg_language.specs.Derives as derives
 use Rattle.pg_language.specs.Derives.{Spot, DerivesForm, satisfy, string, word, not_followed_by, end_of_text}
 use Rattle.pg_language.specs.Runs.{run_at}
-use Rattle.pg_language.specs.Leaves.{satisfy_next, satisfy_outcome, word_read, word_next, word_outcome, not_followed_next, not_followed_outcome, matched, string_outcome, end_outcome, some_word_outcome, leaf_outcome}
+use Rattle.pg_language.specs.Leaves.{satisfy_next, satisfy_outcome, word_read, word_next, word_outcome, not_followed_next, not_followed_outcome, matched, string_outcome, end_outcome, some_word_outcome, some_declare_outcome, leaf_outcome}
+use Rattle.pg_form.specs.declared.operators_item.OperatorsItem.{OperatorsItem}
+use Rattle.pg_language.specs.Declarations.{declare_outcome}
+use Rattle.pg_language.proofs.DeclarationsDerived.{declare_derived}
 use Rattle.pg_language.proofs.Derived.{WhereOk, ok_if}
 
 -- ---- one character
@@ -92,10 +95,15 @@ word_item_derived : (g : Grammar) (text : List ℕ) (w : ℕ) (a : Spot) (item :
 word_item_derived g text w a None o there e = absurd (cc)
 word_item_derived g text w a (Some item) o there e = of_this g text (leaf.Word w) a (word_outcome g text item a) o e (word_derived g text w item a there)
 
+declare_item_derived : (g : Grammar) (text : List ℕ) (class : List ClassPart) (a : Spot) (item : Option OperatorsItem) (o : Outcome) → g.operators ≡ item →
+    some_declare_outcome g text class a item ≡ Some o → WhereOk (DerivesForm g text (form.Leaf (leaf.Declare class)) a) o
+declare_item_derived g text class a None o there e = absurd (cc)
+declare_item_derived g text class a (Some item) o there e = of_this g text (leaf.Declare class) a (declare_outcome g text item class a) o e (declare_derived g text item class a there)
+
 pub leaf_derived : (g : Grammar) (text : List ℕ) (l : Leaf ℕ) (a : Spot) (o : Outcome) → leaf_outcome g text l a ≡ Some o → WhereOk (DerivesForm g text (form.Leaf l) a) o
 leaf_derived g text (leaf.Satisfy class) a o e = of_this g text (leaf.Satisfy class) a (satisfy_outcome g text class a) o e (satisfy_derived g text class a)
 leaf_derived g text (leaf.String s) a o e = of_this g text (leaf.String s) a (string_outcome text s a) o e (string_derived g text s a)
 leaf_derived g text (leaf.Word w) a o e = word_item_derived g text w a (slice_get g.words w) o refl e
 leaf_derived g text (leaf.NotFollowedBy class) a o e = of_this g text (leaf.NotFollowedBy class) a (not_followed_outcome g text class a) o e (not_followed_derived g text class a)
 leaf_derived g text leaf.EndOfText a o e = of_this g text leaf.EndOfText a (end_outcome text a) o e (end_derived g text a)
-leaf_derived g text (leaf.Declare class) a o e = absurd (cc)
+leaf_derived g text (leaf.Declare class) a o e = declare_item_derived g text class a g.operators o refl e

@@ -1,6 +1,8 @@
 pub mod Onward
 pub mod Examples
 pub mod Derived
+pub mod DeclarationsDerived
+pub mod KeywordsRead
 pub mod LeavesDerived
 pub mod ChainsDerived
 pub mod Sound

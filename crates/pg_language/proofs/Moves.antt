@@ -17,13 +17,19 @@ use Rattle.pg_language.specs.Derives.{Spot}
 use Rattle.pg_language.specs.Runs.{run_at}
 use Rattle.pg_language.specs.Answers as answers
 use Rattle.pg_language.specs.Answers.{Given, Answers, entered, AnswersForm, nothing, seq, choice, many, rule, AnswersParts, part, AfterPart, part_last, part_failed, part_stuck, part_ok, AnswersAlternatives, no_alternative, alternative, AfterAlternative, alternative_consumed, alternative_stands, alternative_waits, alternative_commits, alternative_failed, alternative_stuck, AnswersRounds, round, AfterRound, round_ended, round_failed, round_empty, round_stuck, round_ok, AnswersChain, first_operand, AfterFirst, first_failed, first_stuck, first_ok, AnswersLinks, link, AfterSeparator, separator_failed, separator_stuck, separator_ok, AfterOperand, operand_failed, operand_stuck, operand_ok}
+use Rattle.pg_form.specs.Operators.{Operator}
+use Rattle.pg_form.specs.declared.operators_item.OperatorsItem.{OperatorsItem}
+use Rattle.pg_table.specs.Tables.{admit_fault}
+use Rattle.pg_table.specs.declared.fault.AdmitFault.{AdmitFault}
+use Rattle.pg_language.specs.Declarations.{Declaration, no_keyword, no_digit, no_symbol, declared, declaration_at, unless_refused, declaration_outcome, declare_outcome}
 use Rattle.pg_language.specs.Errors.{Error}
-use Rattle.pg_language.specs.Leaves.{taken, satisfy_next, word_read, word_next, not_followed_next, string_outcome, matched, end_outcome, word_outcome, some_word_outcome, leaf_outcome}
+use Rattle.pg_language.specs.Leaves.{taken, satisfy_next, word_read, word_next, not_followed_next, string_outcome, matched, end_outcome, word_outcome, some_word_outcome, some_declare_outcome, leaf_outcome}
 use Rattle.pg_language.specs.Outcomes.{Outcome, ok, failed, empty_round}
 use Rattle.pg_language.specs.Reactions.{then_rest, then_round, noted, after_failure, unless_consumed, surrounded, as_finished, unless_begun}
 use Rattle.pg_form.specs.declared.side.Side.{Side}
 use Rattle.pg_form.specs.declared.form.Around.{Around}
 use Rattle.pg_form.specs.declared.form.Leaf.{Leaf}
+use Rattle.pg_language.proofs.DeclarationsDerived.{Stands, declaration_stands, declaration_moves}
 use Rattle.pg_language.proofs.Flags.{moved, stayed, both_moved}
 
 -- where the outcome is ok, its end isn't before its first place, and it says whether it lies after it
@@ -115,6 +121,21 @@ tells_some_word : (g : Grammar) (text : List ℕ) (a : Spot) (item : Option Word
 tells_some_word g text a None o e = absurd (cc)
 tells_some_word g text a (Some item) o e = tells_this a (word_outcome g text item a) o e (tells_word g text item a (slice_get text a.place))
 
+tells_refused : (d : Operator) (a : Spot) (i j : ℕ) (fault : Option AdmitFault) → a.place < j → Tells a (unless_refused d a.table i j fault)
+tells_refused d a i j (Some fault) l = tt
+tells_refused d a i j None l = (sym (moved l), omega arith)
+
+tells_declaration : (g : Grammar) (text : List ℕ) (item : OperatorsItem) (class : List ClassPart) (a : Spot) (x : Declaration) → Stands g text item class a.place x → Tells a (declaration_outcome text a x)
+tells_declaration g text item class a no_keyword h = tt
+tells_declaration g text item class a (no_digit i) h = tt
+tells_declaration g text item class a (no_symbol i) h = tt
+tells_declaration g text item class a (declared d i j) h =
+    tells_refused d a i j (admit_fault a.table d) (declaration_moves g text item class d a.place j h)
+
+tells_some_declare : (g : Grammar) (text : List ℕ) (class : List ClassPart) (a : Spot) (item : Option OperatorsItem) (o : Outcome) → some_declare_outcome g text class a item ≡ Some o → Tells a o
+tells_some_declare g text class a None o e = absurd (cc)
+tells_some_declare g text class a (Some item) o e = tells_this a (declare_outcome g text item class a) o e (tells_declaration g text item class a (declaration_at g text item class a.place) (declaration_stands g text item class a.place))
+
 -- any leaf, whose string has a character
 tells_leaf : (g : Grammar) (text : List ℕ) (l : Leaf ℕ) (a : Spot) (o : Outcome) → ((s : List ℕ) → l ≡ leaf.String s → 0 < length s) → leaf_outcome g text l a ≡ Some o → Tells a o
 tells_leaf g text (leaf.Satisfy class) a o spelled e = tells_this a _ o e (tells_satisfy g class a (slice_get text a.place))
@@ -122,7 +143,7 @@ tells_leaf g text (leaf.String s) a o spelled e = tells_this a _ o e (tells_stri
 tells_leaf g text (leaf.Word w) a o spelled e = tells_some_word g text a (slice_get g.words w) o e
 tells_leaf g text (leaf.NotFollowedBy class) a o spelled e = tells_this a _ o e (tells_not_followed g class a (slice_get text a.place))
 tells_leaf g text leaf.EndOfText a o spelled e = tells_this a _ o e (tells_end text a)
-tells_leaf g text (leaf.Declare class) a o spelled e = absurd (cc)
+tells_leaf g text (leaf.Declare class) a o spelled e = tells_some_declare g text class a g.operators o e
 
 -- ---- the relation
 

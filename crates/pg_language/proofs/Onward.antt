@@ -16,8 +16,10 @@ use Rattle.pg_table.specs.Fitting.{Expression}
 use Rattle.pg_value.specs.declared.trail.TrailItem.{TrailItem}
 use Rattle.pg_language.specs.Runs.{run_at, past_run, HasAt, StandsAt, IsWordAt, IsOperatorAt, IsDeclarationAt}
 use Rattle.pg_form.specs.declared.form.Leaf.{Leaf}
+use Rattle.pg_form.specs.declared.form.Around.{Around}
+use Rattle.pg_form.specs.declared.form.Around.TheVariants as kind
 use Rattle.pg_language.specs.Derives as derives
-use Rattle.pg_language.specs.Derives.{Spot, at, after, Link, Derives, DerivesForm, DerivesParts, DerivesRounds, DerivesLinks, DerivesExpression, Reads, at_node, satisfy, string, word, not_followed_by, end_of_text, declare, seq, choice, many, rule, expression, no_part, first_part, no_round, first_round, no_link, first_link, a_term, a_prefix, a_postfix, an_infix}
+use Rattle.pg_language.specs.Derives.{Spot, at, after, left_by, Link, Derives, DerivesForm, DerivesParts, DerivesRounds, DerivesLinks, DerivesExpression, Reads, at_node, satisfy, string, word, not_followed_by, end_of_text, declare, seq, choice, many, rule, expression, no_part, first_part, no_round, first_round, no_link, first_link, a_term, a_prefix, a_postfix, an_infix}
 use Rattle.pg_language.specs.Onward.{LeadsOn}
 use Rattle.pg_table.proofs.Added.{added_after, added_at_end, all_proper}
 
@@ -132,6 +134,19 @@ leaf_on {s = s} (not_followed_by {a = a} lacks) = stays s a
 leaf_on {s = s} (end_of_text {a = a} e) = stays s a
 leaf_on {g} {s} (declare {class} {item} {d} {j} {a} e is admits) = declaration_on g s item class d a j is admits
 
+-- the table that a form around a part leaves is that of before or the part's
+around_on : (s : List ℕ) (k : Around) (a b : Spot) → LeadsOn s a b → LeadsOn s a (left_by k a b)
+around_on s kind.Local a b h = moves s a b.place h.onward h.within
+around_on s _ a b h = h
+
+-- where the part stayed at a spot, the form around it does
+pub left_still : (k : Around) (a b : Spot) → b ≡ a → left_by k a b ≡ a
+left_still k a b e = ap (left_by k a) e ∙ same k
+  where
+    same : (k : Around) → left_by k a a ≡ a
+    same kind.Local = refl
+    same _ = refl
+
 -- ---- derivations
 
 mutual
@@ -145,7 +160,7 @@ mutual
   form_on (many d) = rounds_on d
   form_on {s = s} (derives.chain {a = a} {b = b} {c = c} d ds) = joins s a b c (leads_on d) (links_on ds)
   form_on (rule e d) = leads_on d
-  form_on (derives.around d) = leads_on d
+  form_on {s = s} (derives.around {k = k} {a = a} {b = b} d) = around_on s k a b (leads_on d)
   form_on (expression e fits d) = expression_on d
 
   parts_on : {g : Grammar} {s : List ℕ} {parts : List ℕ} {a b : Spot} {forest : List Tree} {trail : List TrailItem} → DerivesParts g s parts a b forest trail → LeadsOn s a b

@@ -85,6 +85,20 @@ made_by kind.Text text from to forest = leaf_of (span text from to) ∷ []
 made_by kind.Skip text from to forest = []
 made_by (kind.Build used symbol) text from to forest = built used.shape symbol forest ∷ []
 made_by (kind.Label message) text from to forest = forest
+made_by kind.Local text from to forest = forest
+
+-- the table in force after a form around a part, from those before and after the part: what is declared in `local` ends with it
+abbrev pub table_by : Around → Table → Table → Table
+table_by kind.Try before after = after
+table_by kind.Text before after = after
+table_by kind.Skip before after = after
+table_by (kind.Build used symbol) before after = after
+table_by (kind.Label message) before after = after
+table_by kind.Local before after = before
+
+-- the spot after a form around a part, from those before and after the part
+abbrev pub left_by : Around → Spot → Spot → Spot
+left_by k a b = record { place = b.place; table = table_by k a.table b.table }
 
 -- ---- leaves
 
@@ -140,9 +154,9 @@ mutual
     expression : {builders : OperatorBuilders} {item : OperatorsItem} {p : ℕ} {x : Expression} {a b : Spot} {forest : List Tree} {trail : List TrailItem} →
         g.operators ≡ Some item → IsFitting a.table.operators x → DerivesExpression g text item builders p x a b forest trail →
         DerivesForm g text (form.Expression builders p) a b forest (Ops (operators_read x) ∷ trail)
-    -- the part, with what is made of its forest
+    -- the part, with what is made of its forest, and under the table that the form leaves
     around : {k : Around} {p : ℕ} {a b : Spot} {forest : List Tree} {trail : List TrailItem} → Derives g text p a b forest trail →
-        DerivesForm g text (form.Around k p) a b (made_by k text a.place b.place forest) trail
+        DerivesForm g text (form.Around k p) a (left_by k a b) (made_by k text a.place b.place forest) trail
 
   -- the parts span adjoining stretches, the table passes from each to the next, and the forests are joined
   pub data DerivesParts (g : Grammar) (text : List ℕ) : List ℕ → Spot → Spot → List Tree → List TrailItem → Type 0 where

@@ -59,6 +59,10 @@ abbrev pub stopped_before : Text → Text → ℕ → Error
 stopped_before expected seen i =
     record { place = i; messages = record no_messages { system_unexpected = seen ∷ []; expected = expected ∷ [] } }
 
+-- a parser's own words, as they are
+abbrev pub told : Text → ℕ → Error
+told words i = record { place = i; messages = record no_messages { plain = words ∷ [] } }
+
 -- a parser's own word for what it doesn't take
 abbrev pub refused : Text → ℕ → Error
 refused unexpected i = record { place = i; messages = record no_messages { unexpected = unexpected ∷ [] } }

@@ -9,6 +9,8 @@ use Rattle.pg_form.specs.declared.word_item.WordItem.{WordItem}
 use Rattle.pg_form.specs.declared.form.Leaf.{Leaf}
 use Rattle.pg_form.specs.declared.form.Leaf.TheVariants as leaf
 use Rattle.pg_language.specs.Derives.{Spot, after, leaf_of}
+use Rattle.pg_form.specs.declared.operators_item.OperatorsItem.{OperatorsItem}
+use Rattle.pg_language.specs.Declarations.{declare_outcome}
 use Rattle.pg_language.specs.Runs.{run_at}
 use Rattle.pg_language.specs.Errors.{quote, seen_at, no_messages_at, stopped_by, stopped_before, refused, refused_before}
 use Rattle.pg_language.specs.Outcomes.{Outcome, ok, failed}
@@ -79,11 +81,16 @@ abbrev pub some_word_outcome : Grammar → List ℕ → Spot → Option WordItem
 some_word_outcome g text a None = None
 some_word_outcome g text a (Some item) = Some (word_outcome g text item a)
 
--- what a leaf answers; declarations have no answer yet
+-- a declaration by the operators item, if there is one
+abbrev pub some_declare_outcome : Grammar → List ℕ → List ClassPart → Spot → Option OperatorsItem → Option Outcome
+some_declare_outcome g text class a None = None
+some_declare_outcome g text class a (Some item) = Some (declare_outcome g text item class a)
+
+-- what a leaf answers
 abbrev pub leaf_outcome : Grammar → List ℕ → Leaf ℕ → Spot → Option Outcome
 leaf_outcome g text (leaf.Satisfy class) a = Some (satisfy_outcome g text class a)
 leaf_outcome g text (leaf.String s) a = Some (string_outcome text s a)
 leaf_outcome g text (leaf.Word w) a = some_word_outcome g text a (slice_get g.words w)
 leaf_outcome g text (leaf.NotFollowedBy class) a = Some (not_followed_outcome g text class a)
 leaf_outcome g text leaf.EndOfText a = Some (end_outcome text a)
-leaf_outcome g text (leaf.Declare class) a = None
+leaf_outcome g text (leaf.Declare class) a = some_declare_outcome g text class a g.operators

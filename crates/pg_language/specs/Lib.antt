@@ -3,6 +3,7 @@ pub mod Derives
 pub mod Onward
 pub mod Errors
 pub mod Outcomes
+pub mod Declarations
 pub mod Leaves
 pub mod Reactions
 pub mod Answers

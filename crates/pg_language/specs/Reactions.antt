@@ -5,7 +5,7 @@ use Rattle.pg_message.specs.declared.answer.AnswerKind.{AnswerKind}
 use Rattle.pg_message.specs.declared.answer.AnswerKind.TheVariants.{ConsumedOk, ConsumedError, EmptyOk, EmptyError}
 use Rattle.pg_tree.specs.Trees.{Tree}
 use Rattle.pg_tree.specs.declared.shape.Shape.{Shape}
-use Rattle.pg_language.specs.Derives.{Spot, finished, made_by}
+use Rattle.pg_language.specs.Derives.{Spot, finished, made_by, left_by}
 use Rattle.pg_form.specs.declared.form.Around.{Around}
 use Rattle.pg_form.specs.declared.form.Around.TheVariants as kind
 use Rattle.pg_form.specs.declared.side.Side.{Side}
@@ -71,6 +71,7 @@ counted_by kind.Text c = c
 counted_by kind.Skip c = c
 counted_by (kind.Build used symbol) c = c
 counted_by (kind.Label message) c = c
+counted_by kind.Local c = c
 
 -- the form's error, from how the part answered and the part's error
 abbrev pub labelled_by : Around → AnswerKind → Error → Error
@@ -79,10 +80,11 @@ labelled_by kind.Text answer e = e
 labelled_by kind.Skip answer e = e
 labelled_by (kind.Build used symbol) answer e = e
 labelled_by (kind.Label message) answer e = relabel answer (encode_utf8_all message) e
+labelled_by kind.Local answer e = e
 
 -- what a form around a part answers at a spot of the text, where the part answers so
 abbrev pub surrounded : Around → List ℕ → Spot → Outcome → Outcome
-surrounded k text a (ok c b v t e) = ok c b (made_by k text a.place b.place v) t (labelled_by k (ok_kind c) e)
+surrounded k text a (ok c b v t e) = ok c (left_by k a b) (made_by k text a.place b.place v) t (labelled_by k (ok_kind c) e)
 surrounded k text a (failed c e) = failed (counted_by k c) (labelled_by k (error_kind c) e)
 surrounded k text a empty_round = empty_round
 

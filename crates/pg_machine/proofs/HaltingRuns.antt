@@ -1,7 +1,6 @@
 -- What holds of a run of an accepted grammar, turn by turn: it comes to an answer.
 use Rattle.std.proofs.Common.{◌≡◌, ℕ, zero, suc, ◌+◌, ◌*◌, ◌≤◌, ◌<◌, ◌-◌, ◌^◌, List, [], ◌∷◌, Bool, true, false, refl, sym, ap, subst, ◌∙◌, arith, length, map, take, min, length-drop, length-take}
 use Rattle.std.specs.Prelude.{Option, Some, None, slice_get, option_map, if◌then◌else◌}
-use Rattle.pg_tree.specs.Trees.{Tree}
 use Rattle.pg_pred.specs.Offer.{Offer}
 use Rattle.pg_value.specs.Fits.{Fits}
 use Rattle.pg_form.specs.Forms.{Node, parts_of, node_part_count, InPreorder}
@@ -26,7 +25,9 @@ use Rattle.pg_machine.specs.Halting.{tape_before, IsLastAfter, Halts, turns_left
 use Rattle.pg_message_tape.specs.Messages.{TapeMessage}
 use Rattle.pg_machine.specs.Outcomes.{outcome_of, Ends}
 use Rattle.pg_turns.specs.Ready.{IsTapeReady}
+use Rattle.pg_turns.specs.RunTrees.{RunTrees, no_run_trees}
 use Rattle.pg_turns.specs.Shows.{Shows, shows_at, no_frames}
+use Rattle.pg_turns.proofs.Hiding.{none_mean}
 use Rattle.pg_turns.specs.Tape.{spot_at, OnFrame, Tape, tape_at, tape_turn, tape_is_last}
 use Rattle.pg_turns.specs.Turns.{State, at_node, turn, is_last}
 use Rattle.pg_machine.specs.declared.answer.Outcome as ended
@@ -97,7 +98,7 @@ halts G h T from = go (answered G h T from start.0 start.1)
 
     found : (o : Outcome) (m : ℕ) → Answers G start.0.body (spot_at T 0) o m → Halts G T
     found o m d =
-        let r = ends_within G start.0.body (spot_at T 0) o m d (suc (2 * m)) 0 (at_node start.0.body (spot_at T 0) []) (tape_at start.0.body 0 [] [] [] [] T) (shows_at no_frames)
+        let r = ends_within G start.0.body (spot_at T 0) o m d (suc (2 * m)) 0 (at_node start.0.body (spot_at T 0) []) (tape_at start.0.body 0 [] no_run_trees [] [] T) (shows_at no_frames none_mean)
         (run_start G start.0.body (spot_at T 0)) (omega arith) in
         (r.0, subst (λ (o : Option declared.Rule). IsLastAfter G r.0 (tape_before T o)) (sym start.1) r.1)
 
@@ -117,14 +118,14 @@ pub record IsHalting (offer : Offer) (G : Given) (T : Table) (most steps : ℕ) 
   pub within : left ≤ most
   pub last : IsLastAfter G left x
 
-begins : (T : Table) (o : Option declared.Rule) (body : ℕ) → option_map rule_body o ≡ Some body → tape_before T o ≡ tape_at body 0 [] [] [] [] T
+begins : (T : Table) (o : Option declared.Rule) (body : ℕ) → option_map rule_body o ≡ Some body → tape_before T o ≡ tape_at body 0 [] no_run_trees [] [] T
 begins T None body h = absurd cc
-begins T (Some rule) body h = let is : rule.body ≡ body = cc in ap (λ p. tape_at p 0 [] [] [] [] T) is
+begins T (Some rule) body h = let is : rule.body ≡ body = cc in ap (λ p. tape_at p 0 [] no_run_trees [] [] T) is
 
-pub halting_begins : (offer : Offer) (G : Given) (T : Table) (h : Halts G T) (body : ℕ) (fs : List OnFrame) (v : List Tree) (t : List TrailItem) (x : List TapeMessage) (U : Table) →
-    option_map rule_body (slice_get G.grammar.rules G.grammar.start) ≡ Some body → fs ≡ [] → v ≡ [] → t ≡ [] → x ≡ [] → U ≡ T → IsHalting offer G T h.0 0 (tape_at body 0 fs v t x U)
+pub halting_begins : (offer : Offer) (G : Given) (T : Table) (h : Halts G T) (body : ℕ) (fs : List OnFrame) (v : RunTrees) (t : List TrailItem) (x : List TapeMessage) (U : Table) →
+    option_map rule_body (slice_get G.grammar.rules G.grammar.start) ≡ Some body → fs ≡ [] → v ≡ no_run_trees → t ≡ [] → x ≡ [] → U ≡ T → IsHalting offer G T h.0 0 (tape_at body 0 fs v t x U)
 halting_begins offer G T h body fs v t x U e f i k m l =
-    let is : tape_at body 0 [] [] [] [] T ≡ tape_at body 0 fs v t x U = cc in
+    let is : tape_at body 0 [] no_run_trees [] [] T ≡ tape_at body 0 fs v t x U = cc in
     record {
       turns = 0;
       counted = refl;

@@ -1,7 +1,6 @@
 -- What holds of a run from the start rule, turn by turn, and what it ends with.
 use Rattle.std.proofs.Common.{◌≡◌, ℕ, suc, ◌+◌, ◌*◌, ◌≤◌, ◌<◌, ◌-◌, ◌^◌, ◌⊎◌, inl, inr, List, [], ◌∷◌, ◌++◌, length, Bool, true, false, refl, sym, ap, subst, ◌∙◌, arith, drop}
 use Rattle.std.specs.Prelude.{Option, Some, None, slice_get, option_map}
-use Rattle.pg_tree.specs.Trees.{Tree}
 use Rattle.pg_pred.specs.Offer.{Offer}
 use Rattle.pg_value.specs.Fits.{Fits}
 use Rattle.pg_value.specs.Grammar.{rule_body}
@@ -20,12 +19,14 @@ use Rattle.pg_machine.specs.Outcomes.{outcome_of, IsDerived, IsOutcome, outcome_
 use Rattle.pg_turns.specs.Shows.{no_frames, stands_parts, Shows, shows_at, shows_succeeded, shows_failed, shows_stuck, shows_endless}
 use Rattle.pg_turns.specs.Tape.{spot_at, OnFrame, Tape, tape_at, tape_turn, tape_is_last}
 use Rattle.pg_turns.specs.Ready.{IsTapeReady}
+use Rattle.pg_turns.specs.RunTrees.{RunTrees, no_run_trees}
 use Rattle.pg_turns.specs.Turns.{State, at_node, with_outcome, endless, turn, is_last}
 use Rattle.pg_message_tape.specs.TapeErrors.{Says, says}
 use Rattle.pg_machine.specs.declared.answer.Outcome as ended
 use Rattle.pg_machine.specs.declared.answer.Outcome.TheVariants.{Answered, StepsUsed, EmptyRound}
 use Rattle.pg_message_tape.specs.declared.message_tape.TapeError.{TapeError}
 use Rattle.pg_message_tape.proofs.Merged.{drop_seam}
+use Rattle.pg_turns.proofs.Hiding.{none_mean, all_kept}
 use Rattle.pg_turns.proofs.Ready.{turn_ready, tape_more}
 use Rattle.pg_turns.proofs.Runs.{Run, run_start, run_turn, run_answer, run_shorter, run_endless}
 use Rattle.pg_turns.proofs.Turned.{turn_shown, last_shown}
@@ -40,18 +41,18 @@ pub record Running (offer : Offer) (G : Given) (T : Table) (most steps : ℕ) (x
   pub ready : IsTapeReady offer (suc steps) x
   pub within : steps ≤ most
 
-pub running_start : (offer : Offer) (G : Given) (T : Table) (most : ℕ) (rule : declared.Rule) (fs : List OnFrame) (v : List Tree) (t : List TrailItem) (x : List TapeMessage) (U : Table) → slice_get G.grammar.rules G.grammar.start ≡ Some rule →
-    fs ≡ [] → v ≡ [] → t ≡ [] → x ≡ [] → U ≡ T → Running offer G T most 0 (tape_at rule.body 0 fs v t x U)
+pub running_start : (offer : Offer) (G : Given) (T : Table) (most : ℕ) (rule : declared.Rule) (fs : List OnFrame) (v : RunTrees) (t : List TrailItem) (x : List TapeMessage) (U : Table) → slice_get G.grammar.rules G.grammar.start ≡ Some rule →
+    fs ≡ [] → v ≡ no_run_trees → t ≡ [] → x ≡ [] → U ≡ T → Running offer G T most 0 (tape_at rule.body 0 fs v t x U)
 running_start offer G T most rule fs v t x U there e f h k l =
     let z : 0 ≤ most = omega arith in
-    let r : Running offer G T most 0 (tape_at rule.body 0 [] [] [] [] T) =
-    record { rule = rule; is_start = there; state = at_node rule.body (spot_at T 0) []; shows = shows_at no_frames; run = run_start G rule.body (spot_at T 0); ready = tt; within = z } in
-    let q : tape_at rule.body 0 [] [] [] [] T ≡ tape_at rule.body 0 fs v t x U = cc in
+    let r : Running offer G T most 0 (tape_at rule.body 0 [] no_run_trees [] [] T) =
+    record { rule = rule; is_start = there; state = at_node rule.body (spot_at T 0) []; shows = shows_at no_frames none_mean; run = run_start G rule.body (spot_at T 0); ready = tt; within = z } in
+    let q : tape_at rule.body 0 [] no_run_trees [] [] T ≡ tape_at rule.body 0 fs v t x U = cc in
     subst (Running offer G T most 0) q r
 
 -- the same of the body that the start rule has
-pub running_begins : (offer : Offer) (G : Given) (T : Table) (most body : ℕ) (fs : List OnFrame) (v : List Tree) (t : List TrailItem) (x : List TapeMessage) (U : Table) → option_map rule_body (slice_get G.grammar.rules G.grammar.start) ≡ Some body →
-    fs ≡ [] → v ≡ [] → t ≡ [] → x ≡ [] → U ≡ T → Running offer G T most 0 (tape_at body 0 fs v t x U)
+pub running_begins : (offer : Offer) (G : Given) (T : Table) (most body : ℕ) (fs : List OnFrame) (v : RunTrees) (t : List TrailItem) (x : List TapeMessage) (U : Table) → option_map rule_body (slice_get G.grammar.rules G.grammar.start) ≡ Some body →
+    fs ≡ [] → v ≡ no_run_trees → t ≡ [] → x ≡ [] → U ≡ T → Running offer G T most 0 (tape_at body 0 fs v t x U)
 running_begins offer G T most body fs v t x U h e f i k l = of_rule (slice_get G.grammar.rules G.grammar.start) refl h
   where
     of_rule : (o : Option declared.Rule) → slice_get G.grammar.rules G.grammar.start ≡ o → option_map rule_body o ≡ Some body → Running offer G T most 0 (tape_at body 0 fs v t x U)
@@ -96,19 +97,20 @@ no_answer e = absurd cc
 
 -- an outcome on the tape is that of the state
 pub outcome_shown : {st : State} {x : Tape} {o : Outcome} → Shows st x → outcome_on x ≡ Some o → st ≡ with_outcome o []
-outcome_shown (shows_at h) e = absurd (no_answer e)
-outcome_shown {o = o} (shows_succeeded {w = w} {u = u} {U = U} {c = c} {j = j} no_frames s d) e =
+outcome_shown (shows_at h g) e = absurd (no_answer e)
+outcome_shown {o = o} (shows_succeeded {w = w} {u = u} {U = U} {c = c} {j = j} no_frames k s d) e =
     let f = messages_are_there s in
+    let all = all_kept k in
     let g : outcome.ok c (spot_at U j) w u _ ≡ o = cc in
     ap (λ (o : Outcome). with_outcome o []) g
-outcome_shown {o = o} (shows_failed {c = c} w u no_frames s d) e =
+outcome_shown {o = o} (shows_failed {c = c} w u no_frames k s d) e =
     let f = messages_are_there s in
     let g : outcome.failed c _ ≡ o = cc in
     ap (λ (o : Outcome). with_outcome o []) g
-outcome_shown (shows_succeeded (stands_parts h k) s d) e = absurd (no_answer e)
-outcome_shown (shows_succeeded _ s d) e = absurd (no_answer e)
-outcome_shown (shows_failed w u (stands_parts h k) s d) e = absurd (no_answer e)
-outcome_shown (shows_failed w u _ s d) e = absurd (no_answer e)
+outcome_shown (shows_succeeded (stands_parts h k) m s d) e = absurd (no_answer e)
+outcome_shown (shows_succeeded _ m s d) e = absurd (no_answer e)
+outcome_shown (shows_failed w u (stands_parts h k) m s d) e = absurd (no_answer e)
+outcome_shown (shows_failed w u _ m s d) e = absurd (no_answer e)
 outcome_shown {o = o} (shows_stuck {fs = fs} {gs = []} same) e =
     let g : outcome.empty_round ≡ o = cc in
     ap (with_outcome outcome.empty_round) (none_left fs same) ∙ ap (λ (o : Outcome). with_outcome o []) g
@@ -117,13 +119,13 @@ outcome_shown shows_endless e = absurd (no_answer e)
 
 -- the last tape without an outcome is the one without an end
 pub endless_shown : {st : State} {x : Tape} → Shows st x → outcome_on x ≡ None → tape_is_last x ≡ true → st ≡ endless
-endless_shown (shows_at h) e l = cc
-endless_shown (shows_succeeded no_frames s d) e l = absurd (no_answer (sym e))
-endless_shown (shows_failed w u no_frames s d) e l = absurd (no_answer (sym e))
-endless_shown (shows_succeeded (stands_parts h k) s d) e l = cc
-endless_shown (shows_succeeded _ s d) e l = cc
-endless_shown (shows_failed w u (stands_parts h k) s d) e l = cc
-endless_shown (shows_failed w u _ s d) e l = cc
+endless_shown (shows_at h m) e l = cc
+endless_shown (shows_succeeded no_frames m s d) e l = absurd (no_answer (sym e))
+endless_shown (shows_failed w u no_frames m s d) e l = absurd (no_answer (sym e))
+endless_shown (shows_succeeded (stands_parts h k) m s d) e l = cc
+endless_shown (shows_succeeded _ m s d) e l = cc
+endless_shown (shows_failed w u (stands_parts h k) m s d) e l = cc
+endless_shown (shows_failed w u _ m s d) e l = cc
 endless_shown (shows_stuck {gs = []} same) e l = absurd (no_answer (sym e))
 endless_shown (shows_stuck {gs = g ∷ gs} same) e l = cc
 endless_shown shows_endless e l = refl

@@ -1,7 +1,7 @@
 -- An answer that isn't the last one: some frame still waits for it.
 use Rattle.std.proofs.Common.{◌≡◌, List, length, false, sym, subst, refl}
 use Rattle.std.specs.Prelude.{◌==◌, None}
-use Rattle.pg_tree.specs.Trees.{Tree}
+use Rattle.pg_turns.specs.RunTrees.{RunTrees}
 use Rattle.pg_value.specs.declared.trail.TrailItem.{TrailItem}
 use Rattle.pg_table.specs.Tables.{Table}
 use Rattle.pg_message_tape.specs.Messages.{TapeMessage}
@@ -12,5 +12,5 @@ use Rattle.pg_turns.specs.declared.frame.Reply.{Reply}
 use Rattle.pg_turns.proofs.Stack.{some_left}
 use Rattle.pg_machine.specs.Outcomes.{outcome_on}
 
-pub none_on : (reply : Reply) (fs : List Frame) (v : List Tree) (t : List TrailItem) (x : List TapeMessage) (T : Table) → (length fs == 0) ≡ false → outcome_on (tape_with reply (stack_of fs) v t x T) ≡ None
+pub none_on : (reply : Reply) (fs : List Frame) (v : RunTrees) (t : List TrailItem) (x : List TapeMessage) (T : Table) → (length fs == 0) ≡ false → outcome_on (tape_with reply (stack_of fs) v t x T) ≡ None
 none_on reply fs v t x T h = let r = some_left fs h in subst (λ (gs : List OnFrame). outcome_on (tape_with reply gs v t x T) ≡ None) (sym r.2) refl

@@ -7,11 +7,12 @@ use Rattle.pg_value.specs.declared.grammar.Rule as declared
 use Rattle.pg_table.specs.Tables.{Table}
 use Rattle.pg_language.specs.Answers.{Given}
 use Rattle.pg_turns.specs.Tape.{Tape, tape_at, tape_endless, tape_turn, tape_is_last}
+use Rattle.pg_turns.specs.RunTrees.{no_run_trees}
 
 -- a rule's body is to be entered at the start of the text, under the table, with empty lists
 abbrev pub tape_before : Table → Option declared.Rule → Tape
 tape_before table None = tape_endless
-tape_before table (Some rule) = tape_at rule.body 0 [] [] [] [] table
+tape_before table (Some rule) = tape_at rule.body 0 [] no_run_trees [] [] table
 
 -- no turn is left after exactly so many
 abbrev pub IsLastAfter : Given → ℕ → Tape → Type 0

@@ -49,7 +49,7 @@ IsOutcome G table most EmptyRound = (m : ℕ) × AnswersStart G table outcome.em
 abbrev pub outcome_on : Tape → Option Outcome
 outcome_on (tape_at p i fs v t x T) = None
 outcome_on (tape_with r (f ∷ fs) v t x T) = None
-outcome_on (tape_with (reply.Succeeded c j error) [] v t x T) = Some (outcome.ok c (spot_at T j) v t (error_of error.place (drop error.from x)))
+outcome_on (tape_with (reply.Succeeded c j error) [] v t x T) = Some (outcome.ok c (spot_at T j) v.kept t (error_of error.place (drop error.from x)))
 outcome_on (tape_with (reply.Failed c error) [] v t x T) = Some (outcome.failed c (error_of error.place (drop error.from x)))
 outcome_on (tape_with reply.EmptyRound [] v t x T) = Some outcome.empty_round
 outcome_on tape_endless = None

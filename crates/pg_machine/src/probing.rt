@@ -106,7 +106,7 @@ pub(crate) fn ended(
 fn success(machine: Machine<'_>, end: usize) -> Result<Success, AllocError>
     ensures place { IfOk result (λ success. success.place ≡ end) }
     ensures table { IfOk result (λ success. success.table ≡ machine.entry.table) }
-    ensures forest { IfOk result (λ success. success.forest ≡ machine.entry.forest) }
+    ensures forest { IfOk result (λ success. success.forest ≡ machine.entry.forest.kept) }
     ensures trail { IfOk result (λ success. success.trail ≡ machine.entry.trail.items) }
 {
     let Machine {

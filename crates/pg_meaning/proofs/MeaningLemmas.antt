@@ -3,10 +3,10 @@ pub mod Lookup
 pub mod Classes
 pub mod Bodies
 pub mod Sizes
-pub mod Kept
+pub mod Composing
 pub mod ProperClasses
 pub mod Sound
-pub mod Fine
+pub mod Faultless
 pub mod Placed
 pub mod Meant
 pub mod Proper

@@ -13,6 +13,7 @@ use Rattle.pg_form.specs.declared.form.Around.TheVariants as around
 use Rattle.pg_form.specs.declared.side.Side.{Side}
 use Rattle.pg_form.specs.declared.used.BuilderUse.{BuilderUse}
 use Rattle.pg_form.specs.declared.used.OperatorBuilders.{OperatorBuilders}
+use Rattle.pg_items.specs.Joined.{joined}
 use Rattle.pg_items.specs.declared.words.ClassForm.{ClassForm}
 use Rattle.pg_items.specs.declared.words.ClassForm.TheVariants as class_form
 use Rattle.pg_items.specs.declared.words.SomeForm.{SomeForm}
@@ -27,11 +28,6 @@ use Rattle.pg_meaning.specs.Names.{builder_named, class_named}
 -- the base forms of a body, in preorder
 abbrev pub Body : Type 0
 Body = List BaseForm
-
--- lists, one after another
-abbrev pub joined : {A : Type 0} → List (List A) → List A
-joined [] = []
-joined (xs ∷ lists) = xs ++ joined lists
 
 -- ---- class expressions
 
@@ -65,15 +61,16 @@ seq_of bodies = form.Seq (length bodies) ∷ joined bodies
 abbrev pub choice_of : List Body → Body
 choice_of bodies = form.Choice (length bodies) ∷ joined bodies
 
--- one body, or several one after another, all or nothing
-abbrev pub try_of : List Body → Body
-try_of [] = form.Around around.Try (record {}) ∷ seq_of []
-try_of (body ∷ []) = form.Around around.Try (record {}) ∷ body
-try_of (body ∷ other ∷ bodies) = form.Around around.Try (record {}) ∷ seq_of (body ∷ other ∷ bodies)
+-- one body, or several one after another
+abbrev pub whole_of : List Body → Body
+whole_of [] = seq_of []
+whole_of (body ∷ []) = body
+whole_of (body ∷ other ∷ bodies) = seq_of (body ∷ other ∷ bodies)
 
 abbrev pub some_of : SomeForm → List Body → Body
 some_of some_form.Choice bodies = choice_of bodies
-some_of some_form.Try bodies = try_of bodies
+some_of some_form.Try bodies = form.Around around.Try (record {}) ∷ whole_of bodies
+some_of some_form.Local bodies = form.Around around.Local (record {}) ∷ whole_of bodies
 
 -- a body without its trees
 abbrev pub skipped : Body → Body

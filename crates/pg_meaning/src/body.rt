@@ -5,6 +5,7 @@
 
 ghost use Rattle.std.specs.Prelude.{◌≡◌, ◌∷◌, [], map, IfOk};
 ghost use Rattle.std.specs.Global.{Vec};
+ghost use Rattle.pg_items.specs.Joined as spec;
 ghost use Rattle.pg_meaning.specs.Bodies.{bases_of, all_bases_of};
 ghost use Rattle.pg_meaning.specs.Meaning as meaning;
 
@@ -42,7 +43,7 @@ pub fn before_all(
 
 /// The bodies, one after another.
 pub fn joined(alloc: Global, bodies: Vec<Vec<PlacedBase>>) -> Result<Vec<PlacedBase>, AllocError>
-    ensures { IfOk result (λ all. bases_of all.items ≡ meaning.joined (all_bases_of bodies.items)) }
+    ensures { IfOk result (λ all. bases_of all.items ≡ spec.joined (all_bases_of bodies.items)) }
 {
     let mut all = Vec::new(alloc);
     for body in bodies {
@@ -90,20 +91,19 @@ fn choice_of(
     before_all(form, place, joined(alloc, bodies)?)
 }
 
-/// One body, or several one after another, all or nothing.
-fn try_of(
+/// One body, or several one after another.
+fn whole_of(
     alloc: Global,
     place: usize,
     bodies: Vec<Vec<PlacedBase>>,
 ) -> Result<Vec<PlacedBase>, AllocError>
-    ensures { IfOk result (λ body. bases_of body.items ≡ meaning.try_of (all_bases_of bodies.items)) }
+    ensures { IfOk result (λ body. bases_of body.items ≡ meaning.whole_of (all_bases_of bodies.items)) }
 {
-    let body = if bodies.len() == 1 {
-        joined(alloc, bodies)?
+    if bodies.len() == 1 {
+        joined(alloc, bodies)
     } else {
-        seq_of(alloc, place, bodies)?
-    };
-    before_all(Form::Around(Around::Try, NextForm), place, body)
+        seq_of(alloc, place, bodies)
+    }
 }
 
 /// What a form of several bodies stands for.
@@ -117,7 +117,14 @@ pub fn some_of(
 {
     match form {
         SomeForm::Choice => choice_of(alloc, place, bodies),
-        SomeForm::Try => try_of(alloc, place, bodies),
+        SomeForm::Try => {
+            let body = whole_of(alloc, place, bodies)?;
+            before_all(Form::Around(Around::Try, NextForm), place, body)
+        }
+        SomeForm::Local => {
+            let body = whole_of(alloc, place, bodies)?;
+            before_all(Form::Around(Around::Local, NextForm), place, body)
+        }
     }
 }
 

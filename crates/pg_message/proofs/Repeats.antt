@@ -8,7 +8,8 @@ use Rattle.std.proofs.lemmas.Map.Views.{any-filter_same}
 use Rattle.pg_message.specs.Messages.{Text, Messages, has_text, with_text, with_texts, with_messages, with_repeats}
 use Rattle.pg_message.specs.Printed.{has_bytes, shown_texts, system_text, system_line, messages_text, printed}
 use Rattle.pg_message.specs.declared.error.ParseError.{ParseError}
-use Rattle.pg_message.proofs.TextLists.{equal_texts, with_texts-append, with_texts_assoc, no_length, is_empty-with_texts}
+use Rattle.std.proofs.Math.Dec.{eqb-suc-zero}
+use Rattle.pg_message.proofs.TextLists.{equal_texts, with_texts-append, with_texts_assoc, is_empty-with_texts}
 
 -- a text that has bytes is among those that have
 has_text-filter : (xs : List Text) (y : Text) → has_bytes y ≡ true → has_text (filter has_bytes xs) y ≡ has_text xs y
@@ -54,7 +55,7 @@ system_line-with_texts (x ∷ xs) ys = system_line-first x xs ys
 is_empty-append : (xs ys : List Text) → (length (xs ++ ys) == 0) ≡ ((length xs == 0) && (length ys == 0))
 is_empty-append [] ys = refl
 is_empty-append (x ∷ xs) ys =
-    no_length (length (xs ++ ys)) ∙ sym (ap (λ b. b && (length ys == 0)) (no_length (length xs)))
+    eqb-suc-zero (length (xs ++ ys)) ∙ sym (ap (λ b. b && (length ys == 0)) (eqb-suc-zero (length xs)))
 
 same_test : (xs ys : List Text) → (length (with_texts xs ys) == 0) ≡ (length (xs ++ ys) == 0)
 same_test xs ys = is_empty-with_texts xs ys ∙ sym (is_empty-append xs ys)

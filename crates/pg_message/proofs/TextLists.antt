@@ -1,9 +1,9 @@
 -- Texts put after others without repeats: what is there stays, and it doesn't matter which are put together first.
-use Rattle.std.proofs.Common.{◌≡◌, ℕ, suc, arith, List, [], ◌∷◌, ◌++◌, Bool, true, false, refl, sym, ap, subst, ◌∙◌, length, length-append}
+use Rattle.std.proofs.Common.{◌≡◌, ℕ, arith, List, [], ◌∷◌, ◌++◌, Bool, true, false, refl, sym, ap, subst, ◌∙◌, length, length-append}
 use Rattle.std.proofs.Math.Bool.{or-true}
+use Rattle.std.proofs.Math.Dec.{eqb-suc-zero}
 use Rattle.std.specs.Prelude.{◌||◌, ◌&&◌, ◌==◌, ◌≤◌, ◌+◌, not, if◌then◌else◌}
 use Rattle.std.specs.Str.{bytes_eq}
-use Rattle.std.proofs.lemmas.Bool.Decides.{nat_tests}
 use Rattle.std.proofs.lemmas.Slice.Eq.{bytes_eq-Decides}
 use Rattle.std.proofs.lemmas.List.Folds.{list_any-append}
 use Rattle.std.proofs.lemmas.List.Sums.{sum_by-cons, sum_by-le-sum_by}
@@ -67,18 +67,15 @@ with_texts_assoc xs ys [] = refl
 with_texts_assoc xs ys (z ∷ zs) =
     with_texts_assoc xs (with_text ys z) zs ∙ ap (λ texts. with_texts texts zs) (with_texts-with_text xs ys z)
 
-pub no_length : (n : ℕ) → (suc n == 0) ≡ false
-no_length n = grind (arith, nat_tests)
-
 -- where a text has come to others there is one
 pub length-with_text : (xs : List Text) (y : Text) → (length (with_text xs y) == 0) ≡ false
 length-with_text xs y = either (has_text xs y) xs refl
   where
     either : (b : Bool) (texts : List Text) → has_text texts y ≡ b → (length (if b then texts else texts ++ y ∷ []) == 0) ≡ false
     either true [] e = cc
-    either true (x ∷ texts) e = no_length (length texts)
+    either true (x ∷ texts) e = eqb-suc-zero (length texts)
     either false [] e = refl
-    either false (x ∷ texts) e = no_length (length (texts ++ y ∷ []))
+    either false (x ∷ texts) e = eqb-suc-zero (length (texts ++ y ∷ []))
 
 and-true : (b : Bool) → b ≡ (b && true)
 and-true true = refl
@@ -92,7 +89,7 @@ and-false false = refl
 pub is_empty-with_texts : (xs ys : List Text) → (length (with_texts xs ys) == 0) ≡ ((length xs == 0) && (length ys == 0))
 is_empty-with_texts xs [] = and-true (length xs == 0)
 is_empty-with_texts xs (y ∷ ys) =
-    is_empty-with_texts (with_text xs y) ys ∙ ap (λ b. b && (length ys == 0)) (length-with_text xs y) ∙ and-false (length xs == 0) ∙ ap (λ b. (length xs == 0) && b) (sym (no_length (length ys)))
+    is_empty-with_texts (with_text xs y) ys ∙ ap (λ b. b && (length ys == 0)) (length-with_text xs y) ∙ and-false (length xs == 0) ∙ ap (λ b. (length xs == 0) && b) (sym (eqb-suc-zero (length ys)))
 
 -- a text is no longer missing where others have come
 term-append : (b c : Bool) → (b ≡ true → c ≡ true) → (if not c then 1 else 0) ≤ (if not b then 1 else 0)

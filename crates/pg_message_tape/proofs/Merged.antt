@@ -1,5 +1,6 @@
 -- Errors on the list of messages are merged, kept and labelled as the relation's are.
-use Rattle.std.proofs.Common.{◌≡◌, ℕ, suc, ◌+◌, List, [], ◌∷◌, ◌++◌, Bool, true, false, not, refl, ap, sym, ◌∙◌, subst, append_assoc, append-nil, arith, length, take, drop, length-append}
+use Rattle.std.proofs.Common.{◌≡◌, ℕ, ◌+◌, List, [], ◌∷◌, ◌++◌, Bool, true, false, not, refl, ap, sym, ◌∙◌, subst, append_assoc, append-nil, arith, length, take, drop, length-append}
+use Rattle.std.proofs.Math.Dec.{eqb-suc-zero}
 use Rattle.std.proofs.lemmas.Bool.Decides.{nat_tests}
 use Rattle.std.specs.Prelude.{◌&&◌, ◌==◌, nat_lt, if◌then◌else◌}
 use Rattle.pg_message.specs.Messages.{Text, Messages, no_messages, is_empty, with_messages}
@@ -67,12 +68,9 @@ still_messages m [] h = h
 still_messages m (x ∷ xs) h = still_messages (with_message_once m x.kind x.text) xs (message_is_there m x.kind x.text)
 
 -- nothing is said where there is no message
-no_length : (n : ℕ) → (suc n == 0) ≡ false
-no_length n = grind (arith, nat_tests)
-
 pub none_with_messages : (xs : List TapeMessage) → is_empty (with_messages_once no_messages xs) ≡ (length xs == 0)
 none_with_messages [] = refl
-none_with_messages (x ∷ xs) = still_messages (with_message_once no_messages x.kind x.text) xs (message_is_there no_messages x.kind x.text) ∙ sym (no_length (length xs))
+none_with_messages (x ∷ xs) = still_messages (with_message_once no_messages x.kind x.text) xs (message_is_there no_messages x.kind x.text) ∙ sym (eqb-suc-zero (length xs))
 
 -- ---- lists
 

@@ -4,9 +4,10 @@ use Rattle.std.specs.Str.{encode_utf8_all}
 use Rattle.pg_message.specs.Messages.{Text, Messages, no_messages, with_text}
 use Rattle.pg_message.specs.declared.kind.MessageKind.{MessageKind}
 use Rattle.pg_message.specs.declared.kind.MessageKind.TheVariants.{SystemUnexpected, Unexpected, Expected, Plain}
+use Rattle.pg_language.specs.Declarations.{not_admitted}
 use Rattle.pg_language.specs.Errors.{Error, quote, next_text, seen_at, stopped_before, refused_before}
 use Rattle.pg_message_tape.specs.declared.message.Message.{Message}
-use Rattle.pg_message_tape.specs.declared.message.Message.TheVariants.{Stopped, Refused, Reserved, Wanted, WantedEnd, Named}
+use Rattle.pg_message_tape.specs.declared.message.Message.TheVariants.{Stopped, Refused, Reserved, Wanted, WantedEnd, Named, WantedDeclaration, WantedPrecedence, WantedSymbol, NotAdmitted}
 
 -- a message's kind and text
 pub record TapeMessage : Type 0 where
@@ -20,6 +21,10 @@ message_kind (Reserved word) = Unexpected
 message_kind (Wanted s) = Expected
 message_kind WantedEnd = Expected
 message_kind (Named name) = Expected
+message_kind WantedDeclaration = Expected
+message_kind WantedPrecedence = Expected
+message_kind WantedSymbol = Expected
+message_kind (NotAdmitted symbol fault) = Plain
 
 abbrev pub message_text : Message → Text
 message_text (Stopped next) = next_text next
@@ -28,6 +33,10 @@ message_text (Reserved word) = codes "reserved word " ++ quote word.now
 message_text (Wanted s) = quote s.now
 message_text WantedEnd = codes "end of input"
 message_text (Named name) = encode_utf8_all name.now
+message_text WantedDeclaration = codes "declaration"
+message_text WantedPrecedence = codes "precedence"
+message_text WantedSymbol = codes "operator symbol"
+message_text (NotAdmitted symbol fault) = not_admitted symbol.now fault
 
 abbrev pub tape_message_of : Message → TapeMessage
 tape_message_of message = record { kind = message_kind message; text = message_text message }

@@ -5,10 +5,12 @@
 
 ghost use Rattle.std.specs.Prelude.{◌≡◌, ◌++◌, codes, string_bytes, IfOk};
 ghost use Rattle.std.specs.Str.{encode_utf8_all};
+ghost use Rattle.pg_language.specs.Declarations.{not_admitted};
 ghost use Rattle.pg_language.specs.Errors.{quote, next_text};
 ghost use Rattle.pg_message_tape.specs.Messages.{message_kind, message_text, is_expected};
 
 use pg_message::MessageKind;
+use pg_table::AdmitFault;
 use serde_json::Value;
 use std::alloc::{AllocError, Global};
 
@@ -27,6 +29,14 @@ pub enum Message<'a> {
     WantedEnd,
     /// What has this name would have been taken.
     Named(&'a [char]),
+    /// The keyword of a declaration would have been taken.
+    WantedDeclaration,
+    /// A digit that says how tightly an operator binds would have been taken.
+    WantedPrecedence,
+    /// The symbol of an operator would have been taken.
+    WantedSymbol,
+    /// The table doesn't admit an operator with this symbol, for this reason.
+    NotAdmitted(&'a [char], AdmitFault),
 }
 
 impl Message<'_> {
@@ -41,6 +51,10 @@ impl Message<'_> {
             Message::Wanted(_) => MessageKind::Expected,
             Message::WantedEnd => MessageKind::Expected,
             Message::Named(_) => MessageKind::Expected,
+            Message::WantedDeclaration => MessageKind::Expected,
+            Message::WantedPrecedence => MessageKind::Expected,
+            Message::WantedSymbol => MessageKind::Expected,
+            Message::NotAdmitted(_, _) => MessageKind::Plain,
         }
     }
 
@@ -49,8 +63,16 @@ impl Message<'_> {
         ensures { result ≡ is_expected (message_kind self.now) }
     {
         match self {
-            Message::Stopped(_) | Message::Refused(_) | Message::Reserved(_) => false,
-            Message::Wanted(_) | Message::WantedEnd | Message::Named(_) => true,
+            Message::Stopped(_)
+            | Message::Refused(_)
+            | Message::Reserved(_)
+            | Message::NotAdmitted(_, _) => false,
+            Message::Wanted(_)
+            | Message::WantedEnd
+            | Message::Named(_)
+            | Message::WantedDeclaration
+            | Message::WantedPrecedence
+            | Message::WantedSymbol => true,
         }
     }
 
@@ -65,6 +87,10 @@ impl Message<'_> {
             Message::Wanted(characters) => quote(alloc, characters),
             Message::WantedEnd => String::from_str(alloc, "end of input"),
             Message::Named(name) => utf8(alloc, name),
+            Message::WantedDeclaration => String::from_str(alloc, "declaration"),
+            Message::WantedPrecedence => String::from_str(alloc, "precedence"),
+            Message::WantedSymbol => String::from_str(alloc, "operator symbol"),
+            Message::NotAdmitted(symbol, fault) => not_admitted(alloc, symbol, *fault),
         }
     }
 }
@@ -104,4 +130,13 @@ fn reserved_word(alloc: Global, word: &[char]) -> Result<String, AllocError>
 {
     let quoted = quote(alloc, word)?;
     format!(in alloc; "reserved word {quoted}")
+}
+
+/// What is said of a symbol that the table refuses.
+fn not_admitted(alloc: Global, symbol: &[char], fault: AdmitFault) -> Result<String, AllocError>
+    ensures { IfOk result (λ said. string_bytes said ≡ not_admitted symbol.now fault) }
+{
+    let quoted = quote(alloc, symbol)?;
+    let label = fault.label();
+    format!(in alloc; "operator {quoted} not admitted: {label}")
 }

@@ -21,11 +21,13 @@ use Rattle.pg_start.specs.declared.kind.StartKind.TheVariants.{Class, Key, Word}
 use Rattle.pg_own_starts.specs.Listed.{IsListed, IsNumbered, IsFirstReader}
 use Rattle.pg_own_starts.specs.Own.{OwnListed, IsPlain, IsAmong, AreOwn, keyword_keys}
 use Rattle.pg_own_starts.specs.Own as plain
+use Rattle.pg_own_starts.specs.OperatorStarts.{IsGapStart, AreBothStarts, gap}
 use Rattle.pg_own_starts.specs.OwnStarts.{OwnStart, IsOperatorStart, IsClassOf, IsExcludedBy, IsKeyed, IsKeyTry, ReadsWords, ReservedAs, SameTexts, role_keyword}
 use Rattle.pg_own_starts.specs.OwnStarts as own
 use Rattle.pg_own_starts.specs.Words.{ListsWords}
 use Rattle.pg_own_starts.specs.Words as words
 use Rattle.pg_own_starts.specs.declared.listed.ListedStart.{ListedStart}
+use Rattle.pg_own_starts.specs.declared.operators.OperatorStarts.{OperatorStarts}
 use Rattle.pg_own_starts.proofs.Reading.{one_class}
 
 pub listed_path : {s t : StartKind} {w v : ℕ} → s ≡ t → w ≡ v → ◌≡◌ {A = ListedStart} (record { start = s; word = w }) (record { start = t; word = v })
@@ -145,7 +147,7 @@ spelled g p text grammar at = positive text (none-get has_bad_literal (form_of (
 pub declare_own : {g : Grammar} {expression : List ClassPart} (class : List Range) → IsExcludedBy g expression class → AreOwn g (form.Leaf (leaf.Declare expression)) (keyword_keys class)
 declare_own {g} {expression} class is = record {
   members = λ other. (λ among. from other among, λ o. to other.start other.word o.own o.named);
-  there = λ plain. absurd (no_plain plain);
+  there = λ plain. (Key (role_keyword InfixLeft) class, own.declare InfixLeft is);
 }
   where
     key_of : Role → ListedStart
@@ -171,9 +173,6 @@ declare_own {g} {expression} class is = record {
     to s w (own.declare InfixNone also) named = inr (inr (inl (path InfixNone also named)))
     to s w (own.declare Prefix also) named = inr (inr (inr (inl (path Prefix also named))))
     to s w (own.declare Postfix also) named = inr (inr (inr (inr (inl (path Postfix also named)))))
-
-    no_plain : IsPlain g (form.Leaf (leaf.Declare expression)) → ⊥
-    no_plain (plain.key is) = elim is [ ]
 
 -- ---- words
 
@@ -286,6 +285,32 @@ operator_own {g} {builders} {term} item op listed at is lists =
 
     only : (s : StartKind) (v : ℕ) → OwnStart g (form.Expression builders term) s → IsNumbered g s v → listed ≡ record { start = s; word = v }
     only s v (own.expression is) named = from s v is named
+
+-- the operator start is one
+operator_is : {g : Grammar} (item : OperatorsItem) (op : List Range) (listed : ListedStart) → g.operators ≡ Some item → IsClassOf g item.class op
+    → ListsWords g op op item.reserved listed → IsOperatorStart g listed.start
+operator_is {g} item op listed at is lists = let known = words_reserved listed lists in subst (IsOperatorStart g) (sym known.1) (own.operator at is known.2)
+
+operator_same : {g : Grammar} (item : OperatorsItem) (op : List Range) (listed : ListedStart) → g.operators ≡ Some item → IsClassOf g item.class op
+    → ListsWords g op op item.reserved listed → (s : StartKind) → IsOperatorStart g s → listed.start ≡ s
+operator_same {g} item op listed at is lists s (own.operator {item = also} {op = other} {reserved = reserved} there class reserves) =
+    let known = words_reserved listed lists in
+    let one : also ≡ item = same_Some also item (sym there ∙ at) in
+    let same : other ≡ op = one_class (subst (λ i. IsClassOf g i.class other) one class) is in
+    let reserved_so : ReservedAs g op op item.reserved reserved = subst (λ i. ReservedAs g op op i.reserved reserved) one (subst (λ x. ReservedAs g x x also.reserved reserved) same reserves) in
+    known.1 ∙ (ap (Word op op) (one_reserved known.0 reserved known.2 reserved_so) ∙ ap (λ x. Word x x reserved) (sym same))
+
+gap_same : {g : Grammar} (item : OperatorsItem) (class : List Range) → g.operators ≡ Some item → IsClassOf g item.gap class → (s : StartKind) → IsGapStart g s → Class class ≡ s
+gap_same {g} item class at is s (gap {item = also} {class = other} there belongs) =
+    ap Class (one_class is (subst (λ i. IsClassOf g i.gap other) (same_Some also item (sym there ∙ at)) belongs))
+
+pub both_starts : {g : Grammar} (item : OperatorsItem) (op after : List Range) (starts : OperatorStarts) → g.operators ≡ Some item → IsClassOf g item.class op → IsClassOf g item.gap after
+    → ListsWords g op op item.reserved starts.operator → starts.gap ≡ Class after → AreBothStarts g starts
+both_starts {g} item op after starts at is is_gap lists e = record {
+  named = (words_reserved starts.operator lists).3;
+  operator = λ s. (operator_same item op starts.operator at is lists s, λ same. subst (IsOperatorStart g) same (operator_is item op starts.operator at is lists));
+  gap = λ s. (λ h. e ∙ gap_same item after at is_gap s h, λ same. subst (IsGapStart g) (sym e ∙ same) (gap at is_gap));
+}
 
 pub no_operator_own : {g : Grammar} {builders : OperatorBuilders} {term : ℕ} → g.operators ≡ None → AreOwn g (form.Expression builders term) []
 no_operator_own {g} {builders} {term} no_item = none_own none no_plain_expression

@@ -4,3 +4,4 @@ pub mod Listed
 pub mod Words
 pub mod Own
 pub mod PrintedStarts
+pub mod OperatorStarts

@@ -20,11 +20,12 @@ pub record OwnListed (g : Grammar) (n : Node) (listed : ListedStart) : Type 0 wh
   pub own : OwnStart g n listed.start
   pub named : IsListed g listed
 
--- a character of a class, a word of an item that is there, and a try that gives a key
+-- a character of a class, a word of an item that is there, a try that gives a key, and a declaration
 pub data IsPlain (g : Grammar) : Node → Type 0 where
   satisfy : {class : List ClassPart} → IsPlain g (form.Leaf (leaf.Satisfy class))
   word : {w : ℕ} {item : WordItem} → slice_get g.words w ≡ Some item → IsPlain g (form.Leaf (leaf.Word w))
   key : {n : Node} → IsKeyTry g n → IsPlain g n
+  declare : {class : List ClassPart} → IsPlain g (form.Leaf (leaf.Declare class))
 
 -- the start is one of these
 abbrev pub IsAmong : List ListedStart → ListedStart → Type 0

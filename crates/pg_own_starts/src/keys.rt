@@ -43,7 +43,8 @@ fn is_key_around(grammar: &Grammar, around: &Around, part: NodeId) -> bool
 {
     match around {
         Around::Try => gives_key(grammar, part),
-        Around::Text | Around::Skip | Around::Build(_, _) | Around::Label(_) => false,
+        Around::Text | Around::Skip | Around::Build(_, _) | Around::Label(_) | Around::Local =>
+            false,
     }
 }
 

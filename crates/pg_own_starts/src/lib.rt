@@ -8,6 +8,7 @@
 mod classes;
 mod keys;
 mod listed;
+mod operators;
 mod own;
 mod printed;
 mod words;
@@ -15,6 +16,7 @@ mod words;
 pub use classes::classes_of_items;
 pub use keys::key_tries;
 pub use listed::ListedStart;
+pub use operators::{OperatorStarts, operator_starts};
 pub use own::own_starts;
 pub use printed::printed_start;
 pub use words::{WordClasses, classes_of_words};

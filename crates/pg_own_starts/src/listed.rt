@@ -1,7 +1,7 @@
 //! Starts as sets list them: with the word item under whose name they stand, and in one order.
 //!
 //! The order is total, and only a start itself is equal to it, so that lists in this order hold each start once.
-ghost use Rattle.std.specs.Prelude.{◌≡◌};
+ghost use Rattle.std.specs.Prelude.{◌≡◌, IfOk};
 ghost use Rattle.std.proofs.Common.{rules};
 ghost use Rattle.std.specs.Cmp.{eq_by_cmp_equiv, partial_equiv_from_equiv, partial_order_from_total};
 ghost use Rattle.std.specs.Cmp.Lexicographic.{slice_cmp};
@@ -11,6 +11,7 @@ ghost use Rattle.pg_own_starts.specs.Listed.{kind_number, key_text, ranges_of, h
 
 use pg_start::{Start, StartKind};
 use pg_text::Characters;
+use std::alloc::{AllocError, Global};
 use std::cmp::Ordering;
 
 /// A start of a set.
@@ -21,6 +22,24 @@ pub struct ListedStart {
     /// Of a word, the number of the first word item that reads just its words, and if there is none, how many word items
     /// there are; 0 of every other start.
     pub word: usize,
+}
+
+impl ListedStart {
+    /// An equal start in memory of its own. The only error is that memory ran out.
+    pub fn copy(&self, alloc: Global) -> Result<ListedStart, AllocError>
+        ensures { IfOk result (λ copy. copy ≡ self.now) }
+    {
+        let word = self.word;
+        let start = match self.start.view() {
+            StartKind::Class(class) => Start::class(alloc, class)?,
+            StartKind::Key(key, excluded) => Start::key(alloc, key.as_slice(), excluded)?,
+            StartKind::Word(heads, rest, reserved) => {
+                Start::word(alloc, heads, rest, reserved.as_slice())?
+            }
+            StartKind::End => Start::end(),
+        };
+        Ok(ListedStart { start, word })
+    }
 }
 
 impl PartialEq for ListedStart {

@@ -72,7 +72,9 @@ fn around_starts(
 {
     match around {
         Around::Try => key_starts(alloc, grammar, classes, part),
-        Around::Text | Around::Skip | Around::Build(_, _) | Around::Label(_) => Ok(Vec::new(alloc)),
+        Around::Text | Around::Skip | Around::Build(_, _) | Around::Label(_) | Around::Local => Ok(
+            Vec::new(alloc),
+        ),
     }
 }
 

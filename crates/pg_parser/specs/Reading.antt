@@ -1,7 +1,8 @@
 -- Reading tokens from left to right, as functions: what was read and the tokens after it, or None at a fault. The parser's
 -- code is held to them, and they read exactly what Syntax writes.
-use Rattle.std.specs.Prelude.{ℕ, zero, suc, Bool, true, false, ◌-◌, ◌&&◌, ◌==◌, nat_le, if◌then◌else◌, List, [], ◌∷◌, ◌++◌, length, Option, Some, None, codes}
+use Rattle.std.specs.Prelude.{ℕ, zero, suc, Bool, true, false, ◌-◌, ◌&&◌, ◌==◌, nat_le, if◌then◌else◌, List, [], ◌∷◌, length, Option, Some, None, codes}
 use Rattle.std.specs.Str.{bytes_eq}
+use Rattle.pg_items.specs.Joined.{joined}
 use Rattle.pg_items.specs.declared.written.WrittenPart.{WrittenPart}
 use Rattle.pg_items.specs.declared.written.WrittenPart.TheVariants as part
 use Rattle.pg_items.specs.declared.written.WrittenForm.{WrittenForm}
@@ -119,11 +120,6 @@ more_at between part (suc n) ts = more_with part (more_at between part n) ts (ma
 -- a part and at most n others
 unfoldable pub some_at : {A : Type 0} → Mark → Reader A → ℕ → Reader (List A)
 some_at between part n ts = part ts >>= λ x. with_first x.0 (more_at between part n x.1)
-
--- lists, one after another
-abbrev pub joined : {A : Type 0} → List (List A) → List A
-joined [] = []
-joined (xs ∷ lists) = xs ++ joined lists
 
 -- ---- class expressions
 

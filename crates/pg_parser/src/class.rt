@@ -7,6 +7,7 @@
 ghost use Rattle.std.specs.Prelude.{◌≡◌, [], ◌∷◌, length, IfOk};
 ghost use Rattle.pg_tokens.specs.declared.token.Mark.TheVariants.{Bar};
 ghost use Rattle.pg_tokens.specs.View.{tokens_of};
+ghost use Rattle.pg_items.specs.Joined as spec;
 ghost use Rattle.pg_parser.specs.Given.{Gives, classes_of};
 ghost use Rattle.pg_parser.specs.Reading.{range_at, literal_atom_at, named_at, plain_at, atom_at, more_at, some_at, expressed, class_with, group_at, class_at};
 ghost use Rattle.pg_parser.specs.Reading as reading;
@@ -198,7 +199,7 @@ fn atoms<'a>(
 
 /// Lists, one after another.
 fn joined(alloc: Global, lists: Vec<Vec<WrittenPart>>) -> Result<Vec<WrittenPart>, AllocError>
-    ensures { IfOk result (λ parts. parts.items ≡ reading.joined (classes_of lists.items)) }
+    ensures { IfOk result (λ parts. parts.items ≡ spec.joined (classes_of lists.items)) }
 {
     let mut parts = Vec::new(alloc);
     for mut list in lists {

@@ -7,6 +7,7 @@ ghost use Rattle.std.specs.Prelude.{◌≡◌, [], ◌∷◌, ◌<◌, length, I
 ghost use Rattle.pg_tokens.specs.declared.token.Mark.TheVariants.{Comma, Close};
 ghost use Rattle.pg_tokens.specs.View.{tokens_of};
 ghost use Rattle.pg_items.specs.Entries.{forms_of};
+ghost use Rattle.pg_items.specs.Joined as spec;
 ghost use Rattle.pg_parser.specs.Given.{Gives, bodies_of, body_of};
 ghost use Rattle.pg_parser.specs.Reading.{with_close, more_at, some_at, mark_at, class_at, seq_with, of_some_at, counted, around_at, message_at, label_at, form_at, value_at, rule_named_at};
 ghost use Rattle.pg_parser.specs.Reading as reading;
@@ -24,7 +25,7 @@ use std::alloc::{AllocError, Global};
 
 /// Bodies, one after another.
 fn joined(alloc: Global, bodies: Vec<Vec<PlacedForm>>) -> Result<Vec<PlacedForm>, AllocError>
-    ensures { IfOk result (λ parts. forms_of parts.items ≡ reading.joined (bodies_of bodies.items)) }
+    ensures { IfOk result (λ parts. forms_of parts.items ≡ spec.joined (bodies_of bodies.items)) }
 {
     let mut parts = Vec::new(alloc);
     for mut body in bodies {

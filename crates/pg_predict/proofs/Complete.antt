@@ -8,24 +8,25 @@ use Rattle.std.proofs.lemmas.Option.{slice_get_within, get_or_from_slice_get}
 use Rattle.pg_value.specs.Grammar.{Grammar, IsGrammar}
 use Rattle.pg_form.specs.Forms.{Node}
 use Rattle.pg_form.specs.declared.form.Form.TheVariants as form
-use Rattle.pg_form.specs.declared.form.Around.TheVariants as around
 use Rattle.pg_value.proofs.Numbers.{bodies_are_nodes}
 use Rattle.pg_sets.specs.Follow.{IsChain}
 use Rattle.pg_sets.specs.Follow as chain
 use Rattle.pg_graph.specs.Marks.{is_marked}
 use Rattle.pg_heads.specs.Nullable.{Nullable}
 use Rattle.pg_own_starts.specs.declared.listed.ListedStart.{ListedStart}
-use Rattle.pg_graph.proofs.Lists.{all_get}
+use Rattle.pg_form.proofs.Each.{all-get}
 use Rattle.pg_predict.specs.WithStarts.{kind_with_starts, start_at}
 use Rattle.pg_predict.specs.Conditions.{Violates, AreFirstToMeet, Begins, Follows, BeginsLink, EndsNullable}
 use Rattle.pg_predict.specs.Conditions as violates
-use Rattle.pg_predict.specs.Judged.{Facts, noted, noted_meeting, all_below, part_at, node_meeting, follow_meeting, link_meeting, empty_alternative, empty_alternatives, meeting_alternatives, meetings_of_alternative, alternatives_that_meet, alternative_and_follow, alternatives_and_follow, ends_nullable, noted_chain, noted_form, noted_node}
+use Rattle.pg_form.specs.declared.form.Leaf.TheVariants as leaf
+use Rattle.pg_predict.proofs.GapMeetings.{gap_from}
+use Rattle.pg_predict.specs.Judged.{Facts, gap_met, noted, noted_meeting, all_below, part_at, node_meeting, follow_meeting, link_meeting, empty_alternative, empty_alternatives, meeting_alternatives, meetings_of_alternative, alternatives_that_meet, alternative_and_follow, alternatives_and_follow, ends_nullable, noted_chain, noted_form, noted_node}
 use Rattle.pg_predict.specs.Shown.{AreFacts}
 use Rattle.pg_predict.specs.declared.violation.Violation.{Violation}
 use Rattle.pg_predict.specs.declared.violation.ViolationKind.{ViolationKind}
-use Rattle.pg_predict.specs.declared.violation.ViolationKind.TheVariants.{LeftRecursion, EmptyRound, EmptyAlternative, AlternativesMeet, AlternativeMeetsFollow, RoundMeetsFollow}
+use Rattle.pg_predict.specs.declared.violation.ViolationKind.TheVariants.{LeftRecursion, EmptyRound, EmptyAlternative, AlternativesMeet, AlternativeMeetsFollow, RoundMeetsFollow, GapMeets}
 use Rattle.pg_predict.specs.declared.meetings.Meeting.{Meeting}
-use Rattle.pg_predict.proofs.Lists.{In, in_left, in_right, all_below_has, noted_has, noted_meeting_has}
+use Rattle.pg_predict.proofs.Lists.{In, in_left, in_right, all_below_has, noted_has, noted_meeting_has, noted_gap_has}
 use Rattle.pg_predict.proofs.Meanings.{MeetAt, first_numbers, first_there, follow_there, link_there, node_found, follow_found, link_found}
 use Rattle.pg_predict.proofs.Pairs.{pair_from}
 use Rattle.pg_predict.proofs.Sound.{parts_below}
@@ -203,7 +204,7 @@ module _ (g : Grammar) (facts : Facts) (are : AreFacts g facts) (grammar : IsGra
         same = refl;
         noted_there = in_left (noted (is_marked facts.recursive rule.body) rule.body LeftRecursion) (option_map_or (noted_form facts rule.body) (slice_get g.nodes rule.body) [])
             (record { node = rule.body; kind = LeftRecursion }) (noted_has (is_marked facts.recursive rule.body) rule.body LeftRecursion test);
-        below = all_get (λ one. one.body < length g.nodes) g.rules r rule (bodies_are_nodes g.rules g.nodes grammar.bodies) there;
+        below = all-get (λ one. one.body < length g.nodes) g.rules r rule (bodies_are_nodes g.rules g.nodes grammar.bodies) there;
       }
   violation_noted p what (violates.empty_round {q = q} at null) =
       let b : Violation ℕ = record { node = p; kind = EmptyRound } in
@@ -256,4 +257,13 @@ module _ (g : Grammar) (facts : Facts) (are : AreFacts g facts) (grammar : IsGra
             (noted_meeting (link_meeting facts operand separator p) p RoundMeetsFollow) b
             (noted_meeting_has (link_meeting facts operand separator p) p RoundMeetsFollow found.meeting found.found));
         below = p_below;
+      }
+  violation_noted p what (violates.gap_meets {class = class} {s = s} at first) =
+      let below = slice_get_within g.nodes p (form.Leaf (leaf.Declare class)) at in
+      let b : Violation ℕ = record { node = p; kind = GapMeets s } in
+      record {
+        kind = GapMeets s;
+        same = refl;
+        noted_there = at_form p (form.Leaf (leaf.Declare class)) b at (noted_gap_has (gap_met facts p) p s (gap_from g facts are p below s first));
+        below = below;
       }

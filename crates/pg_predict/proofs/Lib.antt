@@ -7,8 +7,10 @@ pub mod Numbered
 pub mod Pairs
 pub mod Lists
 pub mod Meanings
+pub mod GapMeetings
 pub mod Sound
 pub mod Complete
 pub mod Violations
+pub mod Sayings
 pub mod Unsuspected
 pub mod Standing

@@ -9,10 +9,10 @@ use Rattle.std.proofs.lemmas.Bool.{cases_eq, true≢false}
 use Rattle.pg_own_starts.specs.declared.listed.ListedStart.{ListedStart}
 use Rattle.pg_predict.specs.WithStarts.{kind_with_starts, with_starts}
 use Rattle.pg_predict.specs.Findings.{condition_number, alternatives_of, violation_key, violation_order}
-use Rattle.pg_predict.specs.Judged.{noted, noted_meeting, all_below}
+use Rattle.pg_predict.specs.Judged.{noted, noted_meeting, noted_gap, all_below}
 use Rattle.pg_predict.specs.declared.violation.Violation.{Violation}
 use Rattle.pg_predict.specs.declared.violation.ViolationKind.{ViolationKind}
-use Rattle.pg_predict.specs.declared.violation.ViolationKind.TheVariants.{LeftRecursion, EmptyRound, EmptyAlternative, AlternativesMeet, AlternativeMeetsFollow, RoundMeetsFollow}
+use Rattle.pg_predict.specs.declared.violation.ViolationKind.TheVariants.{LeftRecursion, EmptyRound, EmptyAlternative, AlternativesMeet, AlternativeMeetsFollow, RoundMeetsFollow, GapMeets}
 use Rattle.pg_predict.specs.declared.meetings.Meeting.{Meeting}
 
 -- ---- what is among others
@@ -82,6 +82,22 @@ pub noted_meeting_has : (o : Option Meeting) (p : ℕ) (what : ℕ → ℕ → V
 noted_meeting_has (Some k) p what m e = let same : k ≡ m = cc in inl (ap (λ (x : Meeting). record { node = p; kind = what x.one x.other }) same)
 noted_meeting_has None p what m e = absurd cc
 
+-- a start that gaps meet
+pub record NotedGap (o : Option ListedStart) (p : ℕ) (b : Violation ℕ) : Type 0 where
+  pub start : ListedStart
+  pub found : o ≡ Some start
+  pub same : record { node = p; kind = GapMeets start } ≡ b
+
+pub in_noted_gap : (o : Option ListedStart) (p : ℕ) (b : Violation ℕ) → In (noted_gap o p) b → NotedGap o p b
+in_noted_gap (Some s) p b (inl e) = record { start = s; found = refl; same = e }
+in_noted_gap (Some s) p b (inr is) = absurd is
+in_noted_gap None p b is = absurd is
+
+pub noted_gap_has : (o : Option ListedStart) (p : ℕ) (s : ListedStart) → o ≡ Some s → In (noted_gap o p) (record { node = p; kind = GapMeets s })
+noted_gap_has (Some x) p s e =
+    let same : x ≡ s = cc in let met : ListedStart → Violation ℕ = λ y. record { node = p; kind = GapMeets y } in inl (ap met same)
+noted_gap_has None p s e = absurd cc
+
 -- ---- the order
 
 -- the one stands before the other
@@ -113,6 +129,10 @@ ascends_noted false p what = tt
 pub ascends_meeting : (o : Option Meeting) (p : ℕ) (what : ℕ → ℕ → ViolationKind ℕ) → Ascends (noted_meeting o p what)
 ascends_meeting (Some m) p what = (λ c is. absurd is, tt)
 ascends_meeting None p what = tt
+
+pub ascends_gap : (o : Option ListedStart) (p : ℕ) → Ascends (noted_gap o p)
+ascends_gap (Some s) p = (λ c is. absurd is, tt)
+ascends_gap None p = tt
 
 -- ---- keys
 
@@ -160,6 +180,7 @@ same_number starts (EmptyAlternative k) = refl
 same_number starts (AlternativesMeet j k s t) = refl
 same_number starts (AlternativeMeetsFollow k s t) = refl
 same_number starts (RoundMeetsFollow s t) = refl
+same_number starts (GapMeets s) = refl
 
 -- and so is all that the order sees
 same_key : (starts : List ListedStart) (p : ℕ) (kind : ViolationKind ℕ) → violation_key (with_starts starts (record { node = p; kind = kind })) ≡ violation_key {S = ℕ} (record { node = p; kind = kind })
@@ -169,6 +190,7 @@ same_key starts p (EmptyAlternative k) = refl
 same_key starts p (AlternativesMeet j k s t) = refl
 same_key starts p (AlternativeMeetsFollow k s t) = refl
 same_key starts p (RoundMeetsFollow s t) = refl
+same_key starts p (GapMeets s) = refl
 
 precedes_with : (starts : List ListedStart) (b c : Violation ℕ) → Precedes b c → violation_order (with_starts starts b) (with_starts starts c) ≡ Less
 precedes_with starts b c less =

@@ -43,18 +43,18 @@ pub record ShowsKind (starts : List ListedStart) (set : List Bool) (Kind : Start
 module _ (g : Grammar) (facts : Facts) (are : AreFacts g facts) where
   -- ---- from starts to numbers, and back
 
-  placed : (set : List Bool) (Kind : StartKind → Type 0) (x : ListedStart) → ShowsKind facts.sets.starts set Kind → IsListed g x → Kind x.start → Placed facts.sets.starts x
+  pub placed : (set : List Bool) (Kind : StartKind → Type 0) (x : ListedStart) → ShowsKind facts.sets.starts set Kind → IsListed g x → Kind x.start → Placed facts.sets.starts x
   placed set Kind x shows is kind = placed_by g facts.sets.starts set x are.sets.start_sets.listed is ((shows.starts_of x.start).1 kind)
 
-  member : (set : List Bool) (Kind : StartKind → Type 0) (s : ℕ) (x : ListedStart) → ShowsKind facts.sets.starts set Kind → slice_get facts.sets.starts s ≡ Some x → Kind x.start
+  pub member : (set : List Bool) (Kind : StartKind → Type 0) (s : ℕ) (x : ListedStart) → ShowsKind facts.sets.starts set Kind → slice_get facts.sets.starts s ≡ Some x → Kind x.start
       → contains set s ≡ true
   member set Kind s x shows at kind = member_by g facts.sets.starts set s x are.sets.start_sets.ordered are.sets.start_sets.listed at ((shows.starts_of x.start).1 kind)
 
-  kind_of : (set : List Bool) (Kind : StartKind → Type 0) (s : ℕ) (x : ListedStart) → ShowsKind facts.sets.starts set Kind → slice_get facts.sets.starts s ≡ Some x → contains set s ≡ true
+  pub kind_of : (set : List Bool) (Kind : StartKind → Type 0) (s : ℕ) (x : ListedStart) → ShowsKind facts.sets.starts set Kind → slice_get facts.sets.starts s ≡ Some x → contains set s ≡ true
       → Kind x.start
   kind_of set Kind s x shows at h = (shows.starts_of x.start).0 (record { number = s; listed = x; member = h; there = at; same = refl })
 
-  start_in : (set : List Bool) (Kind : StartKind → Type 0) (s : ℕ) → ShowsKind facts.sets.starts set Kind → contains set s ≡ true → (x : ListedStart) × (slice_get facts.sets.starts s ≡ Some x)
+  pub start_in : (set : List Bool) (Kind : StartKind → Type 0) (s : ℕ) → ShowsKind facts.sets.starts set Kind → contains set s ≡ true → (x : ListedStart) × (slice_get facts.sets.starts s ≡ Some x)
   start_in set Kind s shows h =
       let below = contains_below set s h in
       let limit = shows.limit in

@@ -20,7 +20,7 @@ less_greater : Less ≡ Greater → ⊥
 less_greater e = grind (arith, e)
 
 -- no two starts are each below the other
-never_both : (x y : ListedStart) → start_order x y ≡ Less → start_order y x ≡ Less → ⊥
+pub never_both : (x y : ListedStart) → start_order x y ≡ Less → start_order y x ≡ Less → ⊥
 never_both x y e f = less_greater (sym e ∙ (start_order_total.antisymm x y ∙ ap ordering_reverse f))
 
 -- starts that stand in their order have the order of their numbers

@@ -8,24 +8,26 @@ use Rattle.std.proofs.lemmas.Option.{slice_get-get_or, slice_get_within}
 use Rattle.pg_form.specs.Forms.{Node, parts_of}
 use Rattle.pg_value.specs.Grammar.{Grammar, IsGrammar}
 use Rattle.pg_form.specs.declared.form.Form.TheVariants as form
-use Rattle.pg_form.specs.declared.form.Around.TheVariants as around
 use Rattle.pg_value.proofs.Numbers.{parts_are_after}
 use Rattle.pg_sets.specs.Follow.{IsChain}
 use Rattle.pg_sets.specs.Follow as chain
 use Rattle.pg_graph.specs.Marks.{is_marked}
 use Rattle.pg_own_starts.specs.declared.listed.ListedStart.{ListedStart}
-use Rattle.pg_graph.proofs.Lists.{all_get}
+use Rattle.pg_form.proofs.Each.{all-get}
 use Rattle.pg_predict.specs.WithStarts.{kind_with_starts, start_at}
 use Rattle.pg_predict.specs.Conditions.{Violates, AreFirstToMeet, Begins, Follows, BeginsLink, EndsNullable}
 use Rattle.pg_predict.specs.Conditions as violates
 use Rattle.pg_predict.specs.Findings.{condition_number}
-use Rattle.pg_predict.specs.Judged.{Facts, noted, noted_meeting, all_below, part_at, node_meeting, follow_meeting, link_meeting, empty_alternative, empty_alternatives, meeting_alternatives, meetings_of_alternative, alternatives_that_meet, alternative_and_follow, alternatives_and_follow, ends_nullable, noted_many, noted_chain, noted_form, noted_node}
+use Rattle.pg_form.specs.declared.class.ClassPart.{ClassPart}
+use Rattle.pg_form.specs.declared.form.Leaf.TheVariants as leaf
+use Rattle.pg_predict.proofs.GapMeetings.{gap_some}
+use Rattle.pg_predict.specs.Judged.{Facts, gap_met, noted_gap, noted, noted_meeting, all_below, part_at, node_meeting, follow_meeting, link_meeting, empty_alternative, empty_alternatives, meeting_alternatives, meetings_of_alternative, alternatives_that_meet, alternative_and_follow, alternatives_and_follow, ends_nullable, noted_many, noted_chain, noted_form, noted_node}
 use Rattle.pg_predict.specs.Shown.{AreFacts}
 use Rattle.pg_predict.specs.declared.violation.Violation.{Violation}
 use Rattle.pg_predict.specs.declared.violation.ViolationKind.{ViolationKind}
-use Rattle.pg_predict.specs.declared.violation.ViolationKind.TheVariants.{LeftRecursion, EmptyRound, EmptyAlternative, AlternativesMeet, AlternativeMeetsFollow, RoundMeetsFollow}
+use Rattle.pg_predict.specs.declared.violation.ViolationKind.TheVariants.{LeftRecursion, EmptyRound, EmptyAlternative, AlternativesMeet, AlternativeMeetsFollow, RoundMeetsFollow, GapMeets}
 use Rattle.pg_predict.specs.declared.meetings.Meeting.{Meeting}
-use Rattle.pg_predict.proofs.Lists.{In, in_cases, NotedFor, in_all_below, in_noted, NotedMeeting, in_noted_meeting, Tagged}
+use Rattle.pg_predict.proofs.Lists.{In, in_cases, NotedFor, in_all_below, in_noted, NotedMeeting, in_noted_meeting, in_noted_gap, Tagged}
 use Rattle.pg_predict.proofs.Meanings.{MeetAt, numbers_first, first_there, follow_there, link_there, node_found, follow_found, link_found}
 use Rattle.pg_predict.proofs.Pairs.{pair_is}
 
@@ -40,7 +42,7 @@ pub part_inside : (parts : List ℕ) (k : ℕ) → k < length parts → slice_ge
 part_inside parts k below = slice_get-get_or parts k 0 below
 
 pub parts_below : (g : Grammar) (p : ℕ) (n : Node) (k q : ℕ) → IsGrammar g → slice_get g.nodes p ≡ Some n → slice_get (parts_of n) k ≡ Some q → q < length g.nodes
-parts_below g p n k q is at part = (all_get (λ r. (p < r) × (r < length g.nodes)) (parts_of n) k q (parts_are_after g.nodes p n is.preorder at) part).1
+parts_below g p n k q is at part = (all-get (λ r. (p < r) × (r < length g.nodes)) (parts_of n) k q (parts_are_after g.nodes p n is.preorder at) part).1
 
 below_test : (j k : ℕ) → nat_lt j k ≡ true → j < k
 below_test j k e = grind (arith, e)
@@ -191,6 +193,15 @@ module _ (g : Grammar) (facts : Facts) (are : AreFacts g facts) (grammar : IsGra
             inr (wrong_where p 6 (RoundMeetsFollow found.meeting.one found.meeting.other) b found.same refl (violates.link_meets_follow at is_chain first))
       ]
 
+  -- ---- leaves
+
+  declaration_wrong : (p : ℕ) (class : List ClassPart) (b : Violation ℕ) → slice_get g.nodes p ≡ Some (form.Leaf (leaf.Declare class)) → In (noted_gap (gap_met facts p) p) b
+      → IsWrong g facts.sets.starts p 9 b
+  declaration_wrong p class b at is =
+      let found = in_noted_gap (gap_met facts p) p b is in
+      let first = gap_some g facts are p (slice_get_within g.nodes p (form.Leaf (leaf.Declare class)) at) found.start found.found in
+      wrong_where p 9 (GapMeets found.start) b found.same refl (violates.gap_meets at first)
+
   -- ---- nodes
 
   -- what is noted is wrong, under a number above another
@@ -218,6 +229,7 @@ module _ (g : Grammar) (facts : Facts) (are : AreFacts g facts) (grammar : IsGra
       let parts = form.Chain side used operand separator in
       either_above 1 p 2 6 b (omega arith) (omega arith)
       (chain_wrong p operand separator parts b at chain.chain (parts_below g p parts 0 operand grammar at refl) (parts_below g p parts 1 separator grammar at refl) is)
+  form_wrong p (form.Leaf (leaf.Declare class)) b at is = record { number = 9; above = omega arith; wrong = declaration_wrong p class b at is }
   form_wrong p n b at is = absurd is
 
   pub recursion_wrong : (p : ℕ) (b : Violation ℕ) → In (noted (is_marked facts.recursive p) p LeftRecursion) b → IsWrong g facts.sets.starts p 1 b

@@ -11,7 +11,7 @@ use Rattle.pg_value.specs.Grammar.{Grammar, IsGrammar, rule_body}
 use Rattle.pg_form.specs.Preorder.{roots}
 use Rattle.pg_value.specs.declared.grammar.Rule.{Rule}
 use Rattle.pg_value.proofs.Numbers.{bodies_are_nodes}
-use Rattle.pg_graph.proofs.Lists.{all_get}
+use Rattle.pg_form.proofs.Each.{all-get}
 use Rattle.pg_own_starts.specs.declared.listed.ListedStart.{ListedStart}
 use Rattle.pg_predict.specs.Conditions as conditions
 use Rattle.pg_predict.specs.Conditions.{Violates}
@@ -226,7 +226,7 @@ module _ (g : Grammar) where
 
   -- a condition is broken at a node of the grammar
   at_a_node : IsGrammar g → (p : ℕ) (kind : ViolationKind ListedStart) → Violates g p kind → p < length g.nodes
-  at_a_node grammar p kind (conditions.left_recursion {rule = rule} at chain) = all_get (λ one. rule_body one < length g.nodes) g.rules _ rule (bodies_are_nodes g.rules g.nodes grammar.bodies) at
+  at_a_node grammar p kind (conditions.left_recursion {rule = rule} at chain) = all-get (λ one. rule_body one < length g.nodes) g.rules _ rule (bodies_are_nodes g.rules g.nodes grammar.bodies) at
   at_a_node grammar p kind (conditions.empty_round at h) = slice_get_within g.nodes _ _ at
   at_a_node grammar p kind (conditions.empty_link at is h k) = slice_get_within g.nodes _ _ at
   at_a_node grammar p kind (conditions.empty_alternative at part last h) = slice_get_within g.nodes _ _ at
@@ -234,6 +234,7 @@ module _ (g : Grammar) where
   at_a_node grammar p kind (conditions.alternative_meets_follow at part last ends met) = slice_get_within g.nodes _ _ at
   at_a_node grammar p kind (conditions.round_meets_follow at met) = slice_get_within g.nodes _ _ at
   at_a_node grammar p kind (conditions.link_meets_follow at is met) = slice_get_within g.nodes _ _ at
+  at_a_node grammar p kind (conditions.gap_meets at met) = slice_get_within g.nodes _ _ at
 
   speaks : IsGrammar g → (finding : Finding) (v : Violation ListedStart) → said finding ≡ saying_of g v → Violates g v.node v.kind → SpeaksOf g finding
   speaks grammar finding v e h =

@@ -10,13 +10,13 @@ use lib.ListN.{get_or}
 use Rattle.pg_value.specs.Grammar.{Grammar, IsGrammar}
 use Rattle.pg_form.specs.Forms.{Node}
 use Rattle.pg_form.specs.declared.form.Form.TheVariants as form
-use Rattle.pg_form.specs.declared.form.Around.TheVariants as around
 use Rattle.pg_graph.specs.Marks.{is_marked}
 use Rattle.pg_own_starts.specs.declared.listed.ListedStart.{ListedStart}
 use Rattle.pg_predict.specs.WithStarts.{kind_with_starts, with_starts}
 use Rattle.pg_predict.specs.Conditions.{Violates, IsFaultless}
 use Rattle.pg_predict.specs.Findings.{AreViolations, AreFindings, said, saying_of}
-use Rattle.pg_predict.specs.Judged.{Facts, noted, noted_meeting, all_below, part_at, node_meeting, follow_meeting, link_meeting, empty_alternative, empty_alternatives, meeting_alternatives, meetings_of_alternative, alternatives_that_meet, alternative_and_follow, alternatives_and_follow, ends_nullable, noted_choice, noted_form, noted_node, noted_grammar}
+use Rattle.pg_form.specs.declared.form.Leaf.TheVariants as leaf
+use Rattle.pg_predict.specs.Judged.{Facts, gap_met, noted, noted_meeting, all_below, part_at, node_meeting, follow_meeting, link_meeting, empty_alternative, empty_alternatives, meeting_alternatives, meetings_of_alternative, alternatives_that_meet, alternative_and_follow, alternatives_and_follow, ends_nullable, noted_choice, noted_form, noted_node, noted_grammar}
 use Rattle.pg_predict.specs.Shown.{AreFacts}
 use Rattle.pg_predict.specs.declared.violation.Violation.{Violation}
 use Rattle.pg_predict.specs.declared.violation.ViolationKind.{ViolationKind}
@@ -24,7 +24,7 @@ use Rattle.pg_predict.specs.declared.violation.ViolationKind.TheVariants.{LeftRe
 use Rattle.pg_predict.specs.declared.meetings.Meeting.{Meeting}
 use Rattle.pg_predict.specs.declared.finding.Finding.{Finding}
 use Rattle.pg_predict.proofs.Complete.{violation_noted}
-use Rattle.pg_predict.proofs.Lists.{In, in_all_below, all_below_has, in_noted, in_noted_meeting, in_cases, Precedes, Ascends, ascends_append, ascends_below, ascends_noted, ascends_meeting, key_less, key_same, node_precedes, tags_precede, contains_noted, noted_contains, ascends_sorted}
+use Rattle.pg_predict.proofs.Lists.{In, in_all_below, all_below_has, in_noted, in_noted_meeting, in_cases, Precedes, Ascends, ascends_append, ascends_below, ascends_noted, ascends_meeting, ascends_gap, key_less, key_same, node_precedes, tags_precede, contains_noted, noted_contains, ascends_sorted}
 use Rattle.pg_predict.proofs.Sound.{in_pair, empty_wrong, meet_wrong, follow_wrong, recursion_wrong, standing_wrong, node_wrong}
 
 -- ---- order within a condition
@@ -127,6 +127,7 @@ module _ (g : Grammar) (facts : Facts) (are : AreFacts g facts) (grammar : IsGra
   form_ascends p (form.Many part) at = round_ascends p (is_marked facts.sets.nullable part) (follow_meeting facts part p)
   form_ascends p (form.Chain side used operand separator) at =
       round_ascends p (is_marked facts.sets.nullable separator && is_marked facts.sets.nullable operand) (link_meeting facts operand separator p)
+  form_ascends p (form.Leaf (leaf.Declare class)) at = ascends_gap (gap_met facts p) p
   form_ascends p n at = tt
 
   standing_ascends : (p : ℕ) → Ascends (option_map_or (noted_form facts p) (slice_get g.nodes p) [])

@@ -5,18 +5,20 @@ use Rattle.pg_value.specs.Grammar.{Grammar}
 use Rattle.pg_form.specs.Forms.{Node}
 use Rattle.pg_form.specs.declared.form.Form.TheVariants as form
 use Rattle.pg_form.specs.declared.form.Leaf.TheVariants as leaf
-use Rattle.pg_form.specs.declared.form.Around.TheVariants as around
 use Rattle.pg_value.specs.declared.grammar.Rule as declared
 use Rattle.pg_start.specs.Apart.{Apart}
 use Rattle.pg_start.specs.declared.kind.StartKind.{StartKind}
 use Rattle.pg_sets.specs.First.{IsFirst, IsFirstOf}
 use Rattle.pg_sets.specs.Follow.{IsFollow, IsChain}
+use Rattle.pg_form.specs.declared.class.ClassPart.{ClassPart}
+use Rattle.pg_own_starts.specs.OperatorStarts.{IsGapStart}
+use Rattle.pg_own_starts.specs.OwnStarts.{IsOperatorStart}
 use Rattle.pg_own_starts.specs.Listed.{IsListed, start_order}
 use Rattle.pg_heads.specs.Nullable.{Nullable}
 use Rattle.pg_heads.specs.Ranks.{Chain}
 use Rattle.pg_own_starts.specs.declared.listed.ListedStart.{ListedStart}
 use Rattle.pg_predict.specs.declared.violation.ViolationKind.{ViolationKind}
-use Rattle.pg_predict.specs.declared.violation.ViolationKind.TheVariants.{LeftRecursion, EmptyRound, EmptyAlternative, AlternativesMeet, AlternativeMeetsFollow, RoundMeetsFollow}
+use Rattle.pg_predict.specs.declared.violation.ViolationKind.TheVariants.{LeftRecursion, EmptyRound, EmptyAlternative, AlternativesMeet, AlternativeMeetsFollow, RoundMeetsFollow, GapMeets}
 
 -- ---- meetings
 
@@ -33,6 +35,15 @@ pub record AreFirstToMeet (g : Grammar) (One Other : StartKind → Type 0) (s t 
   pub meet : Meet g One Other s t
   pub first_one : (x y : ListedStart) → Meet g One Other x y → start_order x s ≡ Less → ⊥
   pub first_other : (y : ListedStart) → Meet g One Other s y → start_order y t ≡ Less → ⊥
+
+-- all starts of the one kind are apart from all of the other
+abbrev pub NoneMeet : Grammar → (StartKind → Type 0) → (StartKind → Type 0) → Type 0
+NoneMeet g One Other = (s t : ListedStart) → Meet g One Other s t → ⊥
+
+-- the first start that isn't apart from gaps: that of operators, and where that is apart, the first of those that may come after
+pub data IsFirstToMeetGap (g : Grammar) (After : StartKind → Type 0) (s : ListedStart) : Type 0 where
+  operator : {t : ListedStart} → AreFirstToMeet g (IsOperatorStart g) (IsGapStart g) s t → IsFirstToMeetGap g After s
+  after : {t : ListedStart} → NoneMeet g (IsOperatorStart g) (IsGapStart g) → AreFirstToMeet g After (IsGapStart g) s t → IsFirstToMeetGap g After s
 
 -- the starts of a node, those that follow it, and those of a chain's round, which is a separator and an operand
 abbrev pub Begins : Grammar → ℕ → StartKind → Type 0
@@ -77,6 +88,9 @@ pub data Violates (g : Grammar) : ℕ → ViolationKind ListedStart → Type 0 w
       → Violates g p (RoundMeetsFollow s t)
   link_meets_follow : {p operand separator : ℕ} {n : Node} {s t : ListedStart} → slice_get g.nodes p ≡ Some n → IsChain operand separator n
       → AreFirstToMeet g (BeginsLink g operand separator) (Follows g p) s t → Violates g p (RoundMeetsFollow s t)
+  -- the gap of a declaration isn't apart from operators, or from what follows
+  gap_meets : {p : ℕ} {class : List ClassPart} {s : ListedStart} → slice_get g.nodes p ≡ Some (form.Leaf (leaf.Declare class)) → IsFirstToMeetGap g (Follows g p) s
+      → Violates g p (GapMeets s)
 
 -- nothing is wrong at any node: the grammar is predictive
 abbrev pub IsFaultless : Grammar → Type 0

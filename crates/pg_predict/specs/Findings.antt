@@ -15,7 +15,7 @@ use Rattle.pg_own_starts.specs.declared.listed.ListedStart.{ListedStart}
 use Rattle.pg_predict.specs.Conditions.{Violates}
 use Rattle.pg_predict.specs.declared.violation.Violation.{Violation}
 use Rattle.pg_predict.specs.declared.violation.ViolationKind.{ViolationKind}
-use Rattle.pg_predict.specs.declared.violation.ViolationKind.TheVariants.{LeftRecursion, EmptyRound, EmptyAlternative, AlternativesMeet, AlternativeMeetsFollow, RoundMeetsFollow}
+use Rattle.pg_predict.specs.declared.violation.ViolationKind.TheVariants.{LeftRecursion, EmptyRound, EmptyAlternative, AlternativesMeet, AlternativeMeetsFollow, RoundMeetsFollow, GapMeets}
 use Rattle.pg_predict.specs.declared.finding.Finding.{Finding}
 
 -- ---- the order
@@ -28,6 +28,7 @@ condition_number (EmptyAlternative k) = 3
 condition_number (AlternativesMeet j k s t) = 4
 condition_number (AlternativeMeetsFollow k s t) = 5
 condition_number (RoundMeetsFollow s t) = 6
+condition_number (GapMeets s) = 9
 
 -- the alternatives that it names
 abbrev pub alternatives_of : {S : Type 0} → ViolationKind S → List ℕ
@@ -37,6 +38,7 @@ alternatives_of (EmptyAlternative k) = k ∷ []
 alternatives_of (AlternativesMeet j k s t) = j ∷ k ∷ []
 alternatives_of (AlternativeMeetsFollow k s t) = k ∷ []
 alternatives_of (RoundMeetsFollow s t) = []
+alternatives_of (GapMeets s) = []
 
 -- by the number of the node, which stand rule by rule, then by that of the condition, then by the alternatives
 abbrev pub violation_key : {S : Type 0} → Violation S → List ℕ
@@ -63,6 +65,7 @@ violation_text g (EmptyAlternative k) = codes "C3 alternative " ++ (decimal k ++
 violation_text g (AlternativesMeet j k s t) = codes "C4 alternatives " ++ (decimal j ++ (codes " and " ++ (decimal k ++ (codes " meet at " ++ meeting_text g s t))))
 violation_text g (AlternativeMeetsFollow k s t) = codes "C5 alternative " ++ (decimal k ++ (codes " meets the follow set at " ++ meeting_text g s t))
 violation_text g (RoundMeetsFollow s t) = codes "C6 repetition meets its follow set at " ++ meeting_text g s t
+violation_text g (GapMeets s) = codes "C9 gap meets " ++ start_text g s
 
 -- ---- the places
 

@@ -1,28 +1,31 @@
 -- What is noted of a grammar, a condition a line, from sets of numbers.
 use Rattle.std.specs.Prelude.{◌+◌, ◌-◌, ℕ, zero, suc, Bool, true, false, ◌&&◌, nat_lt, if◌then◌else◌, List, [], ◌∷◌, ◌++◌, length, Option, Some, None, slice_get, slice_index_or}
-use Rattle.std.specs.Option.{option_map_or}
+use Rattle.std.specs.Option.{option_and_then, option_map_or}
 use Rattle.pg_value.specs.Grammar.{Grammar}
 use Rattle.pg_form.specs.Forms.{Node}
 use Rattle.pg_form.specs.declared.form.Form.TheVariants as form
-use Rattle.pg_form.specs.declared.form.Around.{Around}
-use Rattle.pg_form.specs.declared.form.Around.TheVariants as around
 use Rattle.pg_bit_set.specs.Numbers.{set_at}
 use Rattle.pg_graph.specs.Marks.{is_marked}
 use Rattle.pg_sets.specs.Sets.{Sets}
-use Rattle.pg_predict.specs.Meetings.{first_meeting, earlier}
+use Rattle.pg_predict.specs.Meetings.{first_met, first_meeting, earlier}
 use Rattle.pg_predict.specs.declared.violation.Violation.{Violation}
 use Rattle.pg_predict.specs.declared.violation.ViolationKind.{ViolationKind}
-use Rattle.pg_predict.specs.declared.violation.ViolationKind.TheVariants.{LeftRecursion, EmptyRound, EmptyAlternative, AlternativesMeet, AlternativeMeetsFollow, RoundMeetsFollow}
+use Rattle.pg_predict.specs.declared.violation.ViolationKind.TheVariants.{LeftRecursion, EmptyRound, EmptyAlternative, AlternativesMeet, AlternativeMeetsFollow, RoundMeetsFollow, GapMeets}
 use Rattle.pg_predict.specs.declared.meetings.Meeting.{Meeting}
+use Rattle.pg_predict.specs.declared.operator_facts.OperatorFacts.{OperatorFacts}
+use Rattle.pg_own_starts.specs.declared.listed.ListedStart.{ListedStart}
+use Rattle.pg_form.specs.declared.form.Leaf.{Leaf}
+use Rattle.pg_form.specs.declared.form.Leaf.TheVariants as leaf
 
 -- ---- what is asked
 
--- the sets of a grammar, marks on the bodies of rules that head themselves, and for each start the set of those that aren't
--- apart from it
+-- the sets of a grammar, marks on the bodies of rules that head themselves, for each start the set of those that aren't
+-- apart from it, and what is asked of operators, if there are any
 pub record Facts : Type 0 where
   pub sets : Sets
   pub recursive : List Bool
   pub meetings : List (List Bool)
+  pub operators : Option OperatorFacts
 
 -- the first meeting of two nodes, of a node and what follows another, of a round of a chain and what follows the chain
 abbrev pub node_meeting : Facts → ℕ → ℕ → Option Meeting
@@ -35,6 +38,14 @@ abbrev pub link_meeting : Facts → ℕ → ℕ → ℕ → Option Meeting
 link_meeting facts operand separator p =
     if is_marked facts.sets.nullable separator then earlier (follow_meeting facts separator p) (follow_meeting facts operand p) else follow_meeting facts separator p
 
+-- the first start that gaps meet after a node: that of operators, or else the first that follows the node
+abbrev pub gap_met_by : Facts → ℕ → OperatorFacts → Option ListedStart
+gap_met_by facts p operators =
+    if operators.in_gap then Some operators.operator else option_and_then (slice_get facts.sets.starts) (first_met operators.met_by_gap (set_at facts.sets.follows p))
+
+abbrev pub gap_met : Facts → ℕ → Option ListedStart
+gap_met facts p = option_and_then (gap_met_by facts p) facts.operators
+
 -- ---- what is noted
 
 -- a violation where a test holds
@@ -46,6 +57,11 @@ noted false p what = []
 abbrev pub noted_meeting : Option Meeting → ℕ → (ℕ → ℕ → ViolationKind ℕ) → List (Violation ℕ)
 noted_meeting None p what = []
 noted_meeting (Some meeting) p what = record { node = p; kind = what meeting.one meeting.other } ∷ []
+
+-- a violation at a start that gaps meet, if there is one
+abbrev pub noted_gap : Option ListedStart → ℕ → List (Violation ℕ)
+noted_gap None p = []
+noted_gap (Some start) p = record { node = p; kind = GapMeets start } ∷ []
 
 -- what is noted for the numbers below a limit, one after another
 abbrev pub all_below : (ℕ → List (Violation ℕ)) → ℕ → List (Violation ℕ)
@@ -97,10 +113,20 @@ noted_chain facts p operand separator =
     noted (is_marked facts.sets.nullable separator && is_marked facts.sets.nullable operand) p EmptyRound
     ++ noted_meeting (link_meeting facts operand separator p) p RoundMeetsFollow
 
+-- ---- leaves
+
+abbrev pub noted_leaf : Facts → ℕ → Leaf ℕ → List (Violation ℕ)
+noted_leaf facts p (leaf.Satisfy class) = []
+noted_leaf facts p (leaf.String text) = []
+noted_leaf facts p (leaf.Word word) = []
+noted_leaf facts p (leaf.NotFollowedBy class) = []
+noted_leaf facts p leaf.EndOfText = []
+noted_leaf facts p (leaf.Declare class) = noted_gap (gap_met facts p) p
+
 -- ---- all forms
 
 abbrev pub noted_form : Facts → ℕ → Node → List (Violation ℕ)
-noted_form facts p (form.Leaf leaf) = []
+noted_form facts p (form.Leaf l) = noted_leaf facts p l
 noted_form facts p (form.Seq parts) = []
 noted_form facts p (form.Choice parts) = noted_choice facts p parts
 noted_form facts p (form.Many part) = noted_many facts p part

@@ -1,4 +1,4 @@
-pub mod Operators
+pub mod Expressions
 pub mod Conditions
 pub mod Findings
 pub mod Places

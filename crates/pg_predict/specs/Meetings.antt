@@ -9,9 +9,13 @@ abbrev pub least : (ℕ → Bool) → ℕ → Option ℕ
 least passes zero = None
 least passes (suc n) = if is_some (least passes n) then least passes n else (if passes n then Some n else None)
 
+-- the first start of a set that is in another
+abbrev pub first_met : List Bool → List Bool → Option ℕ
+first_met met set = least (in_both met set) (length set)
+
 -- for each start there is the set of those that meet it: the least of a set that meets a start
 abbrev pub least_met : List (List Bool) → List Bool → ℕ → Option ℕ
-least_met meetings other s = least (in_both (set_at meetings s) other) (length other)
+least_met meetings other s = first_met (set_at meetings s) other
 
 -- whether a start of a set meets one of another
 abbrev pub is_met : List (List Bool) → List Bool → List Bool → ℕ → Bool

@@ -1,16 +1,17 @@
 //! What a grammar is judged by: its sets, the rules that head themselves, and the starts that meet.
 //!
 //! Each question of a condition is answered here, and in one place.
-ghost use Rattle.std.specs.Prelude.{◌≡◌, IfOk, is_some};
+ghost use Rattle.std.specs.Prelude.{◌≡◌, IfOk, is_some, option_copied};
 ghost use Rattle.pg_bit_set.specs.Numbers.{set_at};
 ghost use Rattle.pg_graph.specs.Marks.{is_marked};
-ghost use Rattle.pg_predict.specs.Judged.{node_meeting, follow_meeting, link_meeting};
+ghost use Rattle.pg_predict.specs.Judged.{node_meeting, follow_meeting, link_meeting, gap_met, gap_met_by};
 ghost use Rattle.pg_predict.specs.Meetings.{first_meeting};
 ghost use Rattle.pg_predict.specs.Shown.{AreFacts};
 
 use crate::marks::is_marked;
-use crate::meetings::{Meeting, earlier, first_meeting};
+use crate::meetings::{Meeting, earlier, first_meeting, first_met};
 use crate::met_starts::met_starts;
+use crate::operator_facts::{OperatorFacts, operator_facts};
 use crate::recursion::recursive_bodies;
 use pg_bit_set::BitSet;
 use pg_form::NodeId;
@@ -26,6 +27,7 @@ pub(crate) struct Judge {
     sets: Sets,
     recursive: Vec<bool>,
     meetings: Vec<BitSet>,
+    operators: Option<OperatorFacts>,
 }
 
 impl Model for Judge {
@@ -33,7 +35,7 @@ impl Model for Judge {
 
     ghost Value = { Facts };
 
-    ghost view = { λ judge. record { sets = judge.sets; recursive = judge.recursive.items; meetings = judge.meetings.items } };
+    ghost view = { λ judge. record { sets = judge.sets; recursive = judge.recursive.items; meetings = judge.meetings.items; operators = judge.operators } };
 }
 
 impl Judge {
@@ -44,10 +46,12 @@ impl Judge {
         let sets = Sets::compute(alloc, grammar)?;
         let recursive = recursive_bodies(alloc, grammar, &sets)?;
         let meetings = met_starts(alloc, sets.starts())?;
+        let operators = operator_facts(alloc, grammar, sets.starts())?;
         Ok(Judge {
             sets,
             recursive,
             meetings,
+            operators,
         })
     }
 
@@ -125,6 +129,33 @@ impl Judge {
             earlier(met, self.follow_meeting(operand, node))
         } else {
             met
+        }
+    }
+
+    /// The first start that gaps meet after a node: that of operators, or else the first that follows the node.
+    pub(crate) fn gap_met(&self, node: NodeId) -> Option<&ListedStart>
+        ensures { option_copied result ≡ gap_met self.now node }
+    {
+        match &self.operators {
+            Some(operators) => self.gap_met_by(node, operators),
+            None => None,
+        }
+    }
+
+    /// The same by what is asked of operators.
+    fn gap_met_by<'j>(
+        &'j self,
+        node: NodeId,
+        operators: &'j OperatorFacts,
+    ) -> Option<&'j ListedStart>
+        ensures { option_copied result ≡ gap_met_by self.now node operators.now }
+    {
+        if operators.in_gap {
+            return Some(&operators.operator);
+        }
+        match first_met(&operators.met_by_gap, self.sets.follow(node)) {
+            Some(number) => self.sets.starts().get(number),
+            None => None,
         }
     }
 }

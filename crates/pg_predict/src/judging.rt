@@ -5,6 +5,7 @@ ghost use Rattle.pg_predict.specs.Judged.{noted_form, noted_node, noted_grammar}
 ghost use Rattle.pg_predict.specs.Shown.{AreFacts};
 
 use crate::choices::judge_choice;
+use crate::declarations::judge_leaf;
 use crate::judge::Judge;
 use crate::noting::note_where;
 use crate::repetitions::{judge_chain, judge_many};
@@ -71,11 +72,8 @@ fn judge_form(
         Form::Chain(_, _, operand, separator) => {
             judge_chain(judge, node, *operand, *separator, violations)
         }
-        // C7 to C9 judge expressions and declarations; whoever checks a grammar owes that it has none of them yet.
-        Form::Leaf(_)
-        | Form::Seq(_)
-        | Form::Rule(_)
-        | Form::Expression(_, _)
-        | Form::Around(_, _) => Ok(()),
+        Form::Leaf(leaf) => judge_leaf(alloc, judge, node, leaf, violations),
+        // C7 to C9 judge expressions; whoever checks a grammar owes that it has none of them yet.
+        Form::Seq(_) | Form::Rule(_) | Form::Expression(_, _) | Form::Around(_, _) => Ok(()),
     }
 }

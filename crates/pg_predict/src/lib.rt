@@ -2,7 +2,7 @@
 //! wrong with it.
 //!
 //! [`check`] works out the sets of a grammar (`pg_sets`) and then judges each node by the conditions on its form, a module
-//! for each kind: `choices.rt`, `repetitions.rt`, `tries.rt` and `recursion.rt`. A condition that is broken at a node is
+//! for each kind: `choices.rt`, `repetitions.rt`, `declarations.rt` and `recursion.rt`. A condition that is broken at a node is
 //! noted as a violation (`violation.rt`); it is reported as a finding (`finding.rt`), and put into words in one place
 //! (`texts.rt`). A grammar that is accepted keeps its sets.
 #![tactic(auto)]
@@ -10,6 +10,8 @@
 mod checked;
 mod checking;
 mod choices;
+mod declarations;
+mod expressions;
 mod finding;
 mod judge;
 mod judging;
@@ -18,7 +20,7 @@ mod marks;
 mod meetings;
 mod met_starts;
 mod noting;
-mod operators;
+mod operator_facts;
 mod recursion;
 mod repetitions;
 mod suspects;
@@ -27,6 +29,6 @@ mod violation;
 
 pub use checked::Checked;
 pub use checking::{CheckFault, Refused, check};
+pub use expressions::has_no_expressions;
 pub use finding::Finding;
 pub use laws::findings_speak_of_nodes;
-pub use operators::has_no_operators;

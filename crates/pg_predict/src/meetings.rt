@@ -3,7 +3,7 @@
 //! Whether two starts are apart is asked once of each pair, and kept as a set for each start. After that a meeting of two
 //! sets is found word by word.
 ghost use Rattle.std.specs.Prelude.{◌≡◌};
-ghost use Rattle.pg_predict.specs.Meetings.{least_met, first_meeting, earlier};
+ghost use Rattle.pg_predict.specs.Meetings.{first_met, least_met, first_meeting, earlier};
 
 use pg_bit_set::BitSet;
 
@@ -38,14 +38,22 @@ pub(crate) fn first_meeting(meetings: &[BitSet], one: &BitSet, other: &BitSet) -
 }
 
 /// The first start of the set that a start meets.
-#[tactic(auto, using(crate::proofs::FirstMeetings::common_least, crate::proofs::FirstMeetings::past_least))]
+#[tactic(auto, using(crate::proofs::FirstMeetings::past_least))]
 fn least_met(meetings: &[BitSet], other: &BitSet, start: usize) -> Option<usize>
     ensures { result ≡ least_met meetings.now other.now start }
 {
     match meetings.get(start) {
-        Some(met) => met.first_common(other),
+        Some(met) => first_met(met, other),
         None => None,
     }
+}
+
+/// The first start of the set that is among those that are met.
+#[tactic(auto, using(crate::proofs::FirstMeetings::common_least))]
+pub(crate) fn first_met(met: &BitSet, set: &BitSet) -> Option<usize>
+    ensures { result ≡ first_met met.now set.now }
+{
+    met.first_common(set)
 }
 
 /// The meeting whose first start comes first.

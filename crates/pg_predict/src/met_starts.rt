@@ -21,7 +21,11 @@ pub(crate) fn met_starts(alloc: Global, starts: &[ListedStart]) -> Result<Vec<Bi
 }
 
 /// Those of the starts that a start meets. The only error is that memory ran out.
-fn met_by(alloc: Global, starts: &[ListedStart], start: &Start) -> Result<BitSet, AllocError>
+pub(crate) fn met_by(
+    alloc: Global,
+    starts: &[ListedStart],
+    start: &Start,
+) -> Result<BitSet, AllocError>
     ensures { IfOk result (λ met. IsMetSet starts.now start.now met) }
 {
     let mut met = BitSet::new(alloc, starts.len())?;

@@ -36,6 +36,10 @@ pub(crate) fn violation_text(
             let met = meeting_text(alloc, grammar, starts, *one, *other)?;
             format!(in alloc; "C6 repetition meets its follow set at {met}")
         }
+        ViolationKind::GapMeets(start) => {
+            let met = printed_start(alloc, grammar, start)?;
+            format!(in alloc; "C9 gap meets {met}")
+        }
     }
 }
 

@@ -3,6 +3,8 @@
 //! `S` is what a start is known by: by its number in the grammar's sets while a grammar is judged, so that nothing is copied,
 //! and by itself in the definitions. Texts are written in `texts.rt`.
 
+use pg_own_starts::ListedStart;
+
 /// How a condition is broken. Alternatives count from 1.
 #[derive(Debug, Drop)]
 pub(crate) enum ViolationKind<S> {
@@ -18,7 +20,9 @@ pub(crate) enum ViolationKind<S> {
     AlternativeMeetsFollow(usize, S, S),
     /// C6: a round meets what follows the repetition at these starts.
     RoundMeetsFollow(S, S),
-    // C7 to C9, which judge expressions and declarations, come here, and C11, which judges the cost.
+    /// C9: gaps meet this start, which may come after one. It needn't be among the starts of the sets.
+    GapMeets(ListedStart),
+    // C7 and C8, which judge expressions, come here, and C11, which judges the cost.
 }
 
 /// A broken condition, and the number of the node at which it is.

@@ -106,6 +106,7 @@ around_value around.Text part = Of_one one_form.Text part
 around_value around.Skip part = Of_one one_form.Skip part
 around_value (around.Build used symbol) part = build_from (chars used.name) (chars symbol) part
 around_value (around.Label message) part = Label part message
+around_value around.Local part = Of_some some_form.Local part No_value
 
 -- the value of a base form, over those that are its parts, where the class items have these names
 abbrev pub value_of_form : List names.Name → BaseForm → List Value → Value

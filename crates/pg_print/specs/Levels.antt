@@ -181,6 +181,7 @@ around_piece around.Text = form_piece (codes "text") [] 1
 around_piece around.Skip = form_piece (codes "skip") [] 1
 around_piece (around.Build used symbol) = form_piece (codes "build") (builder_tokens (chars used.name) (chars symbol)) 1
 around_piece (around.Label message) = label_piece message
+around_piece around.Local = form_piece (codes "local") [] 1
 
 abbrev pub chain_piece : Side → BuilderUse → Piece
 chain_piece side used = form_piece (chain_word side) (builder_tokens (chars used.name) []) 2

@@ -116,6 +116,7 @@ fn put_around(
         Around::Skip => put_form(alloc, out, "skip", 1, levels),
         Around::Build(used, symbol) => put_build(alloc, out, used, symbol.as_str(), levels),
         Around::Label(message) => put_label(alloc, out, message, levels),
+        Around::Local => put_form(alloc, out, "local", 1, levels),
     }
 }
 

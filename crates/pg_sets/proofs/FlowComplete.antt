@@ -33,7 +33,7 @@ use Rattle.pg_sets.proofs.FlowSound.{follow_is, parts_below}
 use Rattle.pg_own_starts.specs.OwnStarts.{MarksKeys}
 use Rattle.pg_sets.proofs.Flowing.{IsIn, here, further, in_left, in_right, flows_length, edge_new, all_in}
 use Rattle.pg_heads.proofs.Heading.{MarksNullable, again_left}
-use Rattle.pg_graph.proofs.Lists.{all_get}
+use Rattle.pg_form.proofs.Each.{all-get}
 use Rattle.pg_sets.proofs.Placing.{stands_next}
 use Rattle.pg_graph.proofs.Walking.{reached_below}
 
@@ -114,7 +114,7 @@ module _ (g : Grammar) (start : StartKind) (nullable keys : List Bool) (on : Mar
   to_follow_set p n u q at below is from = let e = follow_is (length g.nodes) q below in along p n u (follow_of (length g.nodes) q) at is (omega arith) from
 
   body_below : (r : ℕ) (named : declared.Rule) → slice_get g.rules r ≡ Some named → rule_body named < length g.nodes
-  body_below r named e = all_get (λ rule. rule_body rule < length g.nodes) g.rules r named (bodies_are_nodes g.rules g.nodes grammar.bodies) e
+  body_below r named e = all-get (λ rule. rule_body rule < length g.nodes) g.rules r named (bodies_are_nodes g.rules g.nodes grammar.bodies) e
 
   below : (p : ℕ) (n : Node) → slice_get g.nodes p ≡ Some n → AllByRecursion (λ q. q < length g.nodes) (parts_of n)
   below p n at = parts_below g start nullable keys on tries grammar p n at
@@ -236,7 +236,7 @@ module _ (g : Grammar) (start : StartKind) (nullable keys : List Bool) (on : Mar
   follow_as same (follow.next p at stands f) = next_met p at stands same f
   follow_as same (follow.last {p = p} at stands all f) = last_met p at stands all (follow_as same f)
   follow_as same (follow.alternative {p = p} {q = q} {parts = parts} k at e f) =
-      to_follow_set p (form.Choice parts) (follow_of (length g.nodes) p) q at (all_get (λ r. r < length g.nodes) parts k q (below p (form.Choice parts) at) e)
+      to_follow_set p (form.Choice parts) (follow_of (length g.nodes) p) q at (all-get (λ r. r < length g.nodes) parts k q (below p (form.Choice parts) at) e)
       (alternative_follow g nullable on p parts k q e) (follow_as same f)
   follow_as same (follow.next_round p {q = q} at f) = to_follow_set p (form.Many q) q q at (below p (form.Many q) at).0 here (first_as same f)
   follow_as same (follow.last_round {p = p} {q = q} at f) =

@@ -26,9 +26,8 @@ use Rattle.pg_graph.specs.Graphs.{has, numbers_at, IsReached}
 use Rattle.pg_graph.specs.Graphs as walk
 use Rattle.pg_sets.proofs.Flowing.{IsIn, here, further, in_cases, edge_cases, all_told}
 use Rattle.pg_graph.proofs.Joining.{none_at}
-use Rattle.pg_graph.proofs.Lists.{all_get}
 use Rattle.pg_sets.proofs.Placing.{follow_comes, stands_next}
-use Rattle.pg_form.proofs.Each.{all-weaker}
+use Rattle.pg_form.proofs.Each.{all-get, all-weaker}
 use Rattle.pg_value.proofs.Numbers.{parts_are_after, bodies_are_nodes}
 use Rattle.pg_heads.proofs.Heading.{MarksNullable, again_shown}
 
@@ -254,7 +253,7 @@ module _ (g : Grammar) (start : StartKind) (nullable keys : List Bool) (on : Mar
       → IsIn u x (option_map_or (λ rule. flows_of_only (length g.nodes) p (rule_body rule)) found []) → Holds g start u → Holds g start x
   use_sound p r at None e u x is from = elim is [ ]
   use_sound p r at (Some named) e u x is from =
-      let below : rule_body named < length g.nodes = all_get (λ rule. rule_body rule < length g.nodes) g.rules r named (bodies_are_nodes g.rules g.nodes grammar.bodies) e in
+      let below : rule_body named < length g.nodes = all-get (λ rule. rule_body rule < length g.nodes) g.rules r named (bodies_are_nodes g.rules g.nodes grammar.bodies) e in
       only_sound g start nullable on p (rule_body named) u x (λ i. first_of.rule at e i) (λ f. follow.used at e f) below (slice_get_within g.nodes p (form.Rule r) at) is from
 
   -- each edge that a node tells leads to a set that contains the one that it comes from

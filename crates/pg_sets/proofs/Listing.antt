@@ -22,7 +22,7 @@ use Rattle.pg_sets.specs.Sources.{IsSource}
 use Rattle.pg_sets.specs.Sources as source
 use Rattle.pg_own_starts.specs.declared.listed.ListedStart.{ListedStart}
 use Rattle.pg_sets.proofs.Adding.{same_if_tied, tied_if_same}
-use Rattle.pg_graph.proofs.Lists.{all_get}
+use Rattle.pg_form.proofs.Each.{all-get}
 use Rattle.pg_own_starts.proofs.Owned.{reads_like}
 use Rattle.pg_own_starts.proofs.Ordered.{less-equal}
 
@@ -48,7 +48,7 @@ value_at (e ∷ es) zero q sorted at =
     let same : e.0 ≡ q = cc in
     ap (λ b. cond b (Some e.1) (lookup (λ x. is_eq (start_order q x)) es)) (tied_if_same q e.0 (sym same))
 value_at (e ∷ es) (suc k) q sorted at =
-    let below = all_get (λ y. start_order e.0 y ≡ Less) (keys_of es) k q (sorted_head start_order e.0 (keys_of es) sorted) at in
+    let below = all-get (λ y. start_order e.0 y ≡ Less) (keys_of es) k q (sorted_head start_order e.0 (keys_of es) sorted) at in
     elim (cases_Bool (is_eq (start_order q e.0))) [
       | inl tied ↦
           let same : q ≡ e.0 = same_if_tied q e.0 tied in

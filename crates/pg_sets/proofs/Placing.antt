@@ -16,7 +16,8 @@ use Rattle.pg_sets.specs.Follow.{StandsBefore, here, further, IsChain, HasOnly, 
 use Rattle.pg_sets.specs.Follow as follow
 use Rattle.pg_graph.specs.Graphs.{has, AreOnce}
 use Rattle.pg_heads.specs.Nullable.{AllNullable}
-use Rattle.pg_graph.proofs.Lists.{all_get, has_at, has_after, has_cases, has_first, stands}
+use Rattle.pg_graph.proofs.Lists.{has_at, has_after, has_cases, has_first, stands}
+use Rattle.pg_form.proofs.Each.{all-get}
 
 -- ---- numbers that stand once
 
@@ -68,7 +69,7 @@ once_at (y ∷ ys) (suc k) (suc m) x once at also = ap suc (once_at ys k m x onc
 root_after : (i j : ℕ) (counts : List ℕ) → has (roots i counts) j ≡ true → i ≤ j
 root_after i j counts h =
     let at = stands (roots i counts) j h in
-    (all_get (λ q. (i ≤ q) × (q < i + length counts)) (roots i counts) at.place j (roots_within i counts) at.there).0
+    (all-get (λ q. (i ≤ q) × (q < i + length counts)) (roots i counts) at.place j (roots_within i counts) at.there).0
 
 roots_once : (i : ℕ) (counts : List ℕ) → AreOnce (roots i counts)
 roots_once i [] = tt
@@ -100,7 +101,7 @@ part_no_root i (m ∷ nodes) (suc k) n j h at is root =
     elim (has_cases (drop (node_part_count m) all) i j root) [
       | inl e ↦
           let place = stands (parts_of n) j is in
-          let after = all_get (λ q. (suc i + k < q) × (q < suc i + length nodes)) (parts_of n) place.place j (parts_follow (suc i) nodes k n h.1 at) place.there in
+          let after = all-get (λ q. (suc i + k < q) × (q < suc i + length nodes)) (parts_of n) place.place j (parts_follow (suc i) nodes k n h.1 at) place.there in
           let low = after.0 in
           absurd (omega arith)
       | inr remains ↦ part_no_root (suc i) nodes k n j h.1 at is (has_drop (node_part_count m) all j remains)

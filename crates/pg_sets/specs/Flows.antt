@@ -72,6 +72,7 @@ around_flows keys count p kind.Text q = flows_of_only count p q
 around_flows keys count p kind.Skip q = flows_of_only count p q
 around_flows keys count p (kind.Build used symbol) q = flows_of_only count p q
 around_flows keys count p (kind.Label message) q = flows_of_only count p q
+around_flows keys count p kind.Local q = flows_of_only count p q
 
 -- of a use of a rule
 abbrev pub flows_of_use : List Rule → ℕ → ℕ → ℕ → List Flow

@@ -89,7 +89,7 @@ fn join_around(
 {
     match around {
         Around::Try => join_try(graph, keys, count, number, part),
-        Around::Text | Around::Skip | Around::Build(_, _) | Around::Label(_) => {
+        Around::Text | Around::Skip | Around::Build(_, _) | Around::Label(_) | Around::Local => {
             join_only(graph, count, number, part)
         }
     }

@@ -65,6 +65,7 @@ around_word around.Text = codes "text"
 around_word around.Skip = codes "skip"
 around_word (around.Build used symbol) = codes "build"
 around_word (around.Label message) = codes "label"
+around_word around.Local = codes "local"
 
 -- the word of a form
 abbrev pub form_word : Node → List ℕ

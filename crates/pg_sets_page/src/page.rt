@@ -231,6 +231,7 @@ fn around_word(around: &Around) -> &'static str
         Around::Skip => "skip",
         Around::Build(_, _) => "build",
         Around::Label(_) => "label",
+        Around::Local => "local",
     }
 }
 

@@ -2,4 +2,4 @@ pub mod Ahead
 pub mod Keys
 pub mod Runs
 pub mod Meeting
-pub mod Told
+pub mod Tested

@@ -2,3 +2,4 @@ pub mod Tables
 pub mod Rows
 pub mod Fitting
 pub mod Trails
+pub mod FaultLabels

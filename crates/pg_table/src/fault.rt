@@ -4,6 +4,7 @@
 //! (ours). Programs print these texts.
 
 ghost use Rattle.std.specs.Prelude.{◌≡◌};
+ghost use Rattle.pg_table.specs.FaultLabels.{fault_label};
 ghost use Rattle.pg_table.specs.declared.fault.InitialFault.TheVariants.{Memory};
 ghost use Rattle.pg_table.specs.declared.fault.ExtendFault.TheVariants as extend_fault;
 
@@ -28,6 +29,21 @@ pub enum AdmitFault {
     /// As many operators are there as may be.
     #[error("A5")]
     TableFull,
+}
+
+impl AdmitFault {
+    /// Its label, `A1` to `A5`.
+    pub fn label(&self) -> &'static str
+        ensures { result.now ≡ fault_label self.now }
+    {
+        match self {
+            AdmitFault::SymbolTooLong => "A1",
+            AdmitFault::SymbolReserved => "A2",
+            AdmitFault::PrefixThere => "A3",
+            AdmitFault::SymbolThere => "A4",
+            AdmitFault::TableFull => "A5",
+        }
+    }
 }
 
 /// Why a grammar has no initial table.

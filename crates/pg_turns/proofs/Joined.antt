@@ -1,6 +1,6 @@
 -- What came of parts can be joined as they answer: joining is associative.
 use Rattle.std.proofs.Common.{◌≡◌, ℕ, suc, ◌+◌, List, [], ◌∷◌, ◌++◌, Bool, true, false, refl, ap, sym, ◌∙◌, append_assoc, append-nil, arith}
-use Rattle.std.proofs.Math.Bool.{or_assoc, or-true}
+use Rattle.std.proofs.Math.Bool.{or_assoc, or-false, or-true}
 use Rattle.std.specs.Prelude.{◌||◌, ◌&&◌, nat_lt, if◌then◌else◌, not}
 use Rattle.pg_tree.specs.Trees.{Tree}
 use Rattle.pg_value.specs.declared.trail.TrailItem.{TrailItem}
@@ -112,12 +112,8 @@ after_round true v w t u (failed d g) = refl
 after_round false v w t u (failed d g) = refl
 after_round c v w t u empty_round = refl
 
-or_false : (c : Bool) → (c || false) ≡ c
-or_false true = refl
-or_false false = refl
-
 pub no_round : (c : Bool) (b : Spot) (v : List Tree) (t : List TrailItem) (e : Error) → after_rounds c v t (ok false b [] [] e) ≡ ok c b v t e
-no_round c b v t e = let f = append-nil v in let h = append-nil t in let o = or_false c in cc
+no_round c b v t e = let f = append-nil v in let h = append-nil t in let o = or-false c in cc
 
 pub round_failed_so : (c : Bool) (v : List Tree) (t : List TrailItem) (e : Error) → after_rounds c v t (failed true e) ≡ failed true e
 round_failed_so true v t e = refl

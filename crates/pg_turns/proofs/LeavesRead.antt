@@ -5,7 +5,7 @@ use Rattle.std.proofs.lemmas.Option.{slice_get_within}
 use Rattle.std.specs.Prelude.{Option, Some, slice_get}
 use Rattle.std.specs.List.{list_any, common_prefix_len}
 use Rattle.std.specs.Str.{bytes_eq}
-use Rattle.pg_tree.specs.Trees.{Tree}
+use Rattle.pg_turns.specs.RunTrees.{RunTrees}
 use Rattle.pg_form.specs.ClassItems.{has_character}
 use Rattle.pg_value.specs.Grammar.{Grammar}
 use Rattle.pg_form.specs.declared.class.ClassPart.{ClassPart}
@@ -22,7 +22,7 @@ use Rattle.pg_turns.specs.Tape.{OnFrame, Tape, spot_at, tape_leaf}
 pub other_length : (n m : ℕ) → (n ≡ m → ⊥) → (n == m) ≡ false
 other_length n m h = grind (arith, nat_tests)
 
-module _ (fs : List OnFrame) (v : List Tree) (t : List TrailItem) (x : List TapeMessage) (table : Table) (tape : Tape) where
+module _ (fs : List OnFrame) (v : RunTrees) (t : List TrailItem) (x : List TapeMessage) (table : Table) (tape : Tape) where
   pub satisfy_taken : (g : Grammar) (text : List ℕ) (class : List ClassPart) (i c : ℕ) → slice_get text i ≡ Some c → has_character g.classes class c ≡ true →
       tape ≡ tape_leaf (taken (spot_at table i) (c ∷ [])) fs v t x table → tape ≡ tape_leaf (satisfy_outcome g text class (spot_at table i)) fs v t x table
   satisfy_taken g text class i c there member is = rw (there, member) is

@@ -8,6 +8,8 @@ pub mod Runs
 pub mod Shown
 pub mod ChainsShown
 pub mod Labels
+pub mod Declared
 pub mod Turned
 pub mod Ready
 pub mod Places
+pub mod Hiding

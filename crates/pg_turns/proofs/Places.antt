@@ -25,6 +25,8 @@ use Rattle.pg_language.specs.declared.reading.Reading.{Reading}
 use Rattle.pg_language.specs.declared.reading.Reading.TheVariants.{Library, Report}
 use Rattle.pg_message_tape.specs.Messages.{TapeMessage}
 use Rattle.pg_turns.specs.Tape.{OnTried, no_tried, tried_failure, tried_empty_ok, OnChain, OnLinks, OnFrame, on_parts, on_choice, on_rounds, on_first, on_separator, on_operand, on_rule, on_around, Tape, tape_at, tape_with, tape_endless, spot_at, tape_leaf, joined_consumed, joined_tape_error, joined_messages, tape_next_part, tape_to_parts, tape_settled, tape_next_alternative, tried_with_failure, tried_with_empty_ok, tried_kept, tried_messages, tape_empty_ok, tape_to_choice, tape_to_rounds, tape_to_first, tape_ended, tape_to_separator, link_forest, tape_linked, tape_to_operand, reply_around, tape_hand, tape_seq, tape_rule, tape_told, tape_enter, tape_enter_at, tape_turn}
+use Rattle.pg_turns.specs.RunTrees.{tree_count, first_trees, hidden_after}
+use Rattle.pg_turns.specs.RunTrees.{RunTrees}
 use Rattle.pg_turns.specs.Ready.{IsReady, AreReady, IsTapeReady}
 use Rattle.pg_message_tape.specs.TapeErrors.{tape_error, kept_at, tape_error_after, messages_after}
 use Rattle.pg_turns.specs.declared.frame.Before as before
@@ -61,7 +63,7 @@ module _ (far most : ℕ) where
   abbrev pub IsTriedAfter : ℕ → OnTried → Type 0
   IsTriedAfter h no_tried = Unit {0}
   IsTriedAfter h (tried_failure kept) = Unit {0}
-  IsTriedAfter h (tried_empty_ok j v t kept) = (h ≤ j) × (j ≤ far)
+  IsTriedAfter h (tried_empty_ok j v g t kept) = (h ≤ j) × (j ≤ far)
 
   -- a frame of a node that began at the first place, the part of which that runs began at the second
   abbrev pub IsPlaced : OnFrame → ℕ → ℕ → Type 0
@@ -72,7 +74,7 @@ module _ (far most : ℕ) where
   IsPlaced (on_separator links) h i = (links.start ≡ i) × (links.count ≤ i) × Goes links.consumed h i
   IsPlaced (on_operand links b n) h i = Goes b.consumed links.start i × (links.count ≤ links.start) × Goes links.consumed h links.start
   IsPlaced on_rule h i = h ≡ i
-  IsPlaced (on_around around s n) h i = h ≡ i
+  IsPlaced (on_around around s n o) h i = h ≡ i
 
   -- the frames below a node that began at the place
   abbrev pub ArePlaced : List OnFrame → ℕ → Type 0
@@ -92,63 +94,63 @@ module _ (far most : ℕ) where
 
   -- ---- an answer is handed to a frame
 
-  next_part_placed : (ps : List ℕ) (c : Bool) (h j : ℕ) (error : TapeError) (fs : List OnFrame) (v : List Tree) (t : List TrailItem) (x : List TapeMessage) (T : Table) → Goes c h j → j ≤ far → ArePlaced fs h →
+  next_part_placed : (ps : List ℕ) (c : Bool) (h j : ℕ) (error : TapeError) (fs : List OnFrame) (v : RunTrees) (t : List TrailItem) (x : List TapeMessage) (T : Table) → Goes c h j → j ≤ far → ArePlaced fs h →
       IsTapePlaced (tape_next_part ps c j error fs v t x T)
   next_part_placed [] c h j error fs v t x T g l r = (h, (g, l), r)
   next_part_placed (p ∷ ps) c h j error fs v t x T g l r = (l, (h, g, r))
 
-  parts_placed : (ps : List ℕ) (b : Option before.Before) (h i : ℕ) (reply : Reply) (fs : List OnFrame) (v : List Tree) (t : List TrailItem) (x : List TapeMessage) (T : Table) → Goes (consumed_before b) h i → ArePlaced fs h →
+  parts_placed : (ps : List ℕ) (b : Option before.Before) (h i : ℕ) (reply : Reply) (fs : List OnFrame) (v : RunTrees) (t : List TrailItem) (x : List TapeMessage) (T : Table) → Goes (consumed_before b) h i → ArePlaced fs h →
       IsReplyFrom i reply → IsTapePlaced (tape_to_parts ps b reply fs v t x T)
   parts_placed ps b h i (Succeeded c j error) fs v t x T g r a =
       next_part_placed ps (joined_consumed b c) h j (joined_tape_error b c error x) fs v t (joined_messages b c error x) T (joined_goes b c h i j g a.0) a.1 r
   parts_placed ps b h i (Failed c error) fs v t x T g r a = let l = g.onward in (h, omega arith, r)
   parts_placed ps b h i EmptyRound fs v t x T g r a = let l = g.onward in (h, omega arith, r)
 
-  settled_placed : (q : OnTried) (n m o h : ℕ) (reply : Reply) (fs : List OnFrame) (v : List Tree) (t : List TrailItem) (x : List TapeMessage) (T : Table) → IsTriedAfter h q → ArePlaced fs h → IsReplyFrom h reply →
+  settled_placed : (q : OnTried) (n m o h : ℕ) (reply : Reply) (fs : List OnFrame) (v : RunTrees) (t : List TrailItem) (x : List TapeMessage) (T : Table) → IsTriedAfter h q → ArePlaced fs h → IsReplyFrom h reply →
       IsTapePlaced (tape_settled q n m o reply fs v t x T)
   settled_placed no_tried n m o h reply fs v t x T k r a = (h, a, r)
   settled_placed (tried_failure kept) n m o h (Succeeded c j error) fs v t x T k r a = (h, a, r)
   settled_placed (tried_failure kept) n m o h (Failed c error) fs v t x T k r a = (h, a, r)
   settled_placed (tried_failure kept) n m o h EmptyRound fs v t x T k r a = (h, a, r)
-  settled_placed (tried_empty_ok i w u kept) n m o h (Succeeded true j error) fs v t x T k r a = (h, a, r)
-  settled_placed (tried_empty_ok i w u kept) n m o h (Succeeded false j error) fs v t x T k r a = (h, (goes_empty h i k.0, k.1), r)
-  settled_placed (tried_empty_ok i w u kept) n m o h (Failed true error) fs v t x T k r a = (h, a, r)
-  settled_placed (tried_empty_ok i w u kept) n m o h (Failed false error) fs v t x T k r a = (h, (goes_empty h i k.0, k.1), r)
-  settled_placed (tried_empty_ok i w u kept) n m o h EmptyRound fs v t x T k r a = (h, a, r)
+  settled_placed (tried_empty_ok i w g u kept) n m o h (Succeeded true j error) fs v t x T k r a = (h, a, r)
+  settled_placed (tried_empty_ok i w g u kept) n m o h (Succeeded false j error) fs v t x T k r a = (h, (goes_empty h i k.0, k.1), r)
+  settled_placed (tried_empty_ok i w g u kept) n m o h (Failed true error) fs v t x T k r a = (h, a, r)
+  settled_placed (tried_empty_ok i w g u kept) n m o h (Failed false error) fs v t x T k r a = (h, (goes_empty h i k.0, k.1), r)
+  settled_placed (tried_empty_ok i w g u kept) n m o h EmptyRound fs v t x T k r a = (h, a, r)
 
-  alternative_placed : (k : ℕ) (ps : List ℕ) (h : ℕ) (q : OnTried) (fs : List OnFrame) (v : List Tree) (t : List TrailItem) (x : List TapeMessage) (T : Table) → k + length ps ≤ suc most → h ≤ far → IsTriedAfter h q → ArePlaced fs h →
+  alternative_placed : (k : ℕ) (ps : List ℕ) (h : ℕ) (q : OnTried) (fs : List OnFrame) (v : RunTrees) (t : List TrailItem) (x : List TapeMessage) (T : Table) → k + length ps ≤ suc most → h ≤ far → IsTriedAfter h q → ArePlaced fs h →
       IsTapePlaced (tape_next_alternative k ps h q fs v t x T)
-  alternative_placed k [] h q fs v t x T l m b r = settled_placed q (length v) (length t) (length T.operators) h (Failed false (tape_error h (length x))) fs v t x T b r m
+  alternative_placed k [] h q fs v t x T l m b r = settled_placed q (tree_count v) (length t) (length T.operators) h (Failed false (tape_error h (length x))) fs v t x T b r m
   alternative_placed k (p ∷ ps) h q fs v t x T l m b r = (m, (h, (refl, refl, omega arith, b), r))
 
   failure_tried : (h : ℕ) (q : OnTried) (kept : KeptError) → IsTriedAfter h q → IsTriedAfter h (tried_with_failure q kept)
   failure_tried h no_tried kept b = tt
   failure_tried h (tried_failure before) kept b = tt
-  failure_tried h (tried_empty_ok i w u before) kept b = b
+  failure_tried h (tried_empty_ok i w g u before) kept b = b
 
-  empty_ok_tried : (h j : ℕ) (q : OnTried) (w : List Tree) (u : List TrailItem) (kept : KeptError) → h ≤ j → j ≤ far → IsTriedAfter h q → IsTriedAfter h (tried_with_empty_ok q j w u kept)
-  empty_ok_tried h j no_tried w u kept l m b = (l, m)
-  empty_ok_tried h j (tried_failure before) w u kept l m b = (l, m)
-  empty_ok_tried h j (tried_empty_ok i y z before) w u kept l m b = b
+  empty_ok_tried : (h j : ℕ) (q : OnTried) (w : List Tree) (n : ℕ) (u : List TrailItem) (kept : KeptError) → h ≤ j → j ≤ far → IsTriedAfter h q → IsTriedAfter h (tried_with_empty_ok q j w n u kept)
+  empty_ok_tried h j no_tried w n u kept l m b = (l, m)
+  empty_ok_tried h j (tried_failure before) w n u kept l m b = (l, m)
+  empty_ok_tried h j (tried_empty_ok i y g z before) w n u kept l m b = b
 
-  empty_ok_placed : (reading : Reading) (k : ℕ) (ps : List ℕ) (h : ℕ) (q : OnTried) (n m o j : ℕ) (error : TapeError) (fs : List OnFrame) (v : List Tree) (t : List TrailItem) (x : List TapeMessage) (T : Table) → k + length ps ≤ most →
+  empty_ok_placed : (reading : Reading) (k : ℕ) (ps : List ℕ) (h : ℕ) (q : OnTried) (n m o j : ℕ) (error : TapeError) (fs : List OnFrame) (v : RunTrees) (t : List TrailItem) (x : List TapeMessage) (T : Table) → k + length ps ≤ most →
       IsTriedAfter h q → ArePlaced fs h → Goes false h j → j ≤ far → IsTapePlaced (tape_empty_ok reading k ps h q n m o j error fs v t x T)
   empty_ok_placed Library k ps h q n m o j error fs v t x T l b r g f = settled_placed q n m o h (Succeeded false j error) fs v t x T b r (g, f)
   empty_ok_placed Report k ps h q n m o j error fs v t x T l b r g f =
       let onward = g.onward in
-      alternative_placed (suc k) ps h (tried_with_empty_ok q j (drop n v) (drop m t) (tried_kept q error x)) fs (take n v) (take m t) (tried_messages q error x) (first_operators o T) (omega arith) (omega arith)
-      (empty_ok_tried h j q (drop n v) (drop m t) (tried_kept q error x) onward f b) r
+      alternative_placed (suc k) ps h (tried_with_empty_ok q j (drop n v.kept) (hidden_after n v) (drop m t) (tried_kept q error x)) fs (first_trees n v) (take m t) (tried_messages q error x) (first_operators o T) (omega arith) (omega arith)
+      (empty_ok_tried h j q (drop n v.kept) (hidden_after n v) (drop m t) (tried_kept q error x) onward f b) r
 
-  choice_placed : (reading : Reading) (k : ℕ) (ps : List ℕ) (h : ℕ) (q : OnTried) (n m o : ℕ) (reply : Reply) (fs : List OnFrame) (v : List Tree) (t : List TrailItem) (x : List TapeMessage) (T : Table) → k + length ps ≤ most →
+  choice_placed : (reading : Reading) (k : ℕ) (ps : List ℕ) (h : ℕ) (q : OnTried) (n m o : ℕ) (reply : Reply) (fs : List OnFrame) (v : RunTrees) (t : List TrailItem) (x : List TapeMessage) (T : Table) → k + length ps ≤ most →
       IsTriedAfter h q → ArePlaced fs h → IsReplyFrom h reply → IsTapePlaced (tape_to_choice reading k ps h q n m o reply fs v t x T)
   choice_placed reading k ps h q n m o (Succeeded true j error) fs v t x T l b r a = settled_placed q n m o h (Succeeded true j error) fs v t x T b r a
   choice_placed reading k ps h q n m o (Succeeded false j error) fs v t x T l b r a = empty_ok_placed reading k ps h q n m o j error fs v t x T l b r a.0 a.1
   choice_placed reading k ps h q n m o (Failed true error) fs v t x T l b r a = settled_placed q n m o h (Failed true error) fs v t x T b r a
   choice_placed reading k ps h q n m o (Failed false error) fs v t x T l b r a =
-      alternative_placed (suc k) ps h (tried_with_failure q (tried_kept q error x)) fs (take n v) (take m t) (tried_messages q error x) (first_operators o T) (omega arith) a (failure_tried h q (tried_kept q error x) b) r
+      alternative_placed (suc k) ps h (tried_with_failure q (tried_kept q error x)) fs (first_trees n v) (take m t) (tried_messages q error x) (first_operators o T) (omega arith) a (failure_tried h q (tried_kept q error x) b) r
   choice_placed reading k ps h q n m o EmptyRound fs v t x T l b r a = (h, a, r)
 
-  rounds_placed : (p k : ℕ) (c : Bool) (i slot n m o y h : ℕ) (reply : Reply) (fs : List OnFrame) (v : List Tree) (t : List TrailItem) (x : List TapeMessage) (T : Table) → k ≤ i → Goes c h i → ArePlaced fs h → IsReplyFrom i reply →
+  rounds_placed : (p k : ℕ) (c : Bool) (i slot n m o y h : ℕ) (reply : Reply) (fs : List OnFrame) (v : RunTrees) (t : List TrailItem) (x : List TapeMessage) (T : Table) → k ≤ i → Goes c h i → ArePlaced fs h → IsReplyFrom i reply →
       IsTapePlaced (tape_to_rounds p k c i slot n m o y reply fs v t x T)
   rounds_placed p k c i slot n m o y h (Succeeded true j error) fs v t x T l g r a =
       let more = a.0.consumes refl in let s = g.onward in
@@ -158,30 +160,30 @@ module _ (far most : ℕ) where
   rounds_placed p k c i slot n m o y h (Failed false error) fs v t x T l g r a = (h, (g, a), r)
   rounds_placed p k c i slot n m o y h EmptyRound fs v t x T l g r a = let s = g.onward in (h, omega arith, r)
 
-  first_placed : (ch : OnChain) (slot n h : ℕ) (reply : Reply) (fs : List OnFrame) (v : List Tree) (t : List TrailItem) (x : List TapeMessage) (T : Table) → ArePlaced fs h → IsReplyFrom h reply →
+  first_placed : (ch : OnChain) (slot n h : ℕ) (reply : Reply) (fs : List OnFrame) (v : RunTrees) (t : List TrailItem) (x : List TapeMessage) (T : Table) → ArePlaced fs h → IsReplyFrom h reply →
       IsTapePlaced (tape_to_first ch slot n reply fs v t x T)
   first_placed ch slot n h (Succeeded c j error) fs v t x T r a = (a.1, (h, (refl, omega arith, a.0), r))
   first_placed ch slot n h (Failed c error) fs v t x T r a = (h, a, r)
   first_placed ch slot n h EmptyRound fs v t x T r a = (h, a, r)
 
-  ended_placed : (links : OnLinks) (c : Bool) (error : TapeError) (h : ℕ) (fs : List OnFrame) (v : List Tree) (t : List TrailItem) (x : List TapeMessage) (T : Table) → links.start ≤ far → Goes links.consumed h links.start → ArePlaced fs h →
+  ended_placed : (links : OnLinks) (c : Bool) (error : TapeError) (h : ℕ) (fs : List OnFrame) (v : RunTrees) (t : List TrailItem) (x : List TapeMessage) (T : Table) → links.start ≤ far → Goes links.consumed h links.start → ArePlaced fs h →
       IsTapePlaced (tape_ended links c error fs v t x T)
   ended_placed links true error h fs v t x T l g r = let s = g.onward in (h, omega arith, r)
   ended_placed links false error h fs v t x T l g r = (h, (g, l), r)
 
-  separator_placed : (links : OnLinks) (h : ℕ) (reply : Reply) (fs : List OnFrame) (v : List Tree) (t : List TrailItem) (x : List TapeMessage) (T : Table) → links.count ≤ links.start → Goes links.consumed h links.start → ArePlaced fs h →
+  separator_placed : (links : OnLinks) (h : ℕ) (reply : Reply) (fs : List OnFrame) (v : RunTrees) (t : List TrailItem) (x : List TapeMessage) (T : Table) → links.count ≤ links.start → Goes links.consumed h links.start → ArePlaced fs h →
       IsReplyFrom links.start reply → IsTapePlaced (tape_to_separator links reply fs v t x T)
   separator_placed links h (Succeeded c j error) fs v t x T l g r a = (a.1, (h, (a.0, l, g), r))
   separator_placed links h (Failed c error) fs v t x T l g r a = ended_placed links c error h fs v t x T a g r
   separator_placed links h EmptyRound fs v t x T l g r a = let s = g.onward in (h, omega arith, r)
 
-  linked_placed : (c : Bool) (links : OnLinks) (h j n : ℕ) (kept : KeptError) (fs : List OnFrame) (v : List Tree) (t : List TrailItem) (x : List TapeMessage) (T : Table) → links.count ≤ links.start → h ≤ links.start → ArePlaced fs h →
+  linked_placed : (c : Bool) (links : OnLinks) (h j n : ℕ) (kept : KeptError) (fs : List OnFrame) (v : RunTrees) (t : List TrailItem) (x : List TapeMessage) (T : Table) → links.count ≤ links.start → h ≤ links.start → ArePlaced fs h →
       Goes c links.start j → j ≤ far → IsTapePlaced (tape_linked c links j n kept fs v t x T)
   linked_placed true links h j n kept fs v t x T l m r g f =
       let o = g.consumes refl in (f, (h, (refl, omega arith, record { onward = omega arith; consumes = λ e. omega arith }), r))
   linked_placed false links h j n kept fs v t x T l m r g f = tt
 
-  operand_placed : (links : OnLinks) (b : before.Before) (n h i : ℕ) (reply : Reply) (fs : List OnFrame) (v : List Tree) (t : List TrailItem) (x : List TapeMessage) (T : Table) → Goes b.consumed links.start i →
+  operand_placed : (links : OnLinks) (b : before.Before) (n h i : ℕ) (reply : Reply) (fs : List OnFrame) (v : RunTrees) (t : List TrailItem) (x : List TapeMessage) (T : Table) → Goes b.consumed links.start i →
       links.count ≤ links.start → Goes links.consumed h links.start → ArePlaced fs h → IsReplyFrom i reply → IsTapePlaced (tape_to_operand links b n reply fs v t x T)
   operand_placed links b n h i (Succeeded d j error) fs v t x T s l g r a =
       linked_placed (b.consumed || d) links h j n (kept_at (length (messages_after d b.kept error x)) (tape_error_after d b.kept error x)) fs
@@ -195,7 +197,7 @@ module _ (far most : ℕ) where
   around_placed around h (Failed c error) a = a
   around_placed around h EmptyRound a = a
 
-  hand_placed : (G : Given) (f : OnFrame) (h i : ℕ) (reply : Reply) (fs : List OnFrame) (v : List Tree) (t : List TrailItem) (x : List TapeMessage) (T : Table) → IsPlaced f h i → ArePlaced fs h → IsReplyFrom i reply →
+  hand_placed : (G : Given) (f : OnFrame) (h i : ℕ) (reply : Reply) (fs : List OnFrame) (v : RunTrees) (t : List TrailItem) (x : List TapeMessage) (T : Table) → IsPlaced f h i → ArePlaced fs h → IsReplyFrom i reply →
       IsTapePlaced (tape_hand G f reply fs v t x T)
   hand_placed G (on_parts rest b) h i reply fs v t x T f r a = parts_placed rest b h i reply fs v t x T f r a
   hand_placed G (on_choice k ps s tried n m o) h i reply fs v t x T f r a =
@@ -209,7 +211,7 @@ module _ (far most : ℕ) where
       separator_placed links h reply fs v t x T (omega arith) (subst (Goes links.consumed h) (sym e) f.2) r (subst (λ (j : ℕ). IsReplyFrom j reply) (sym e) a)
   hand_placed G (on_operand links b n) h i reply fs v t x T f r a = operand_placed links b n h i reply fs v t x T f.0 f.1 f.2 r a
   hand_placed G on_rule h i reply fs v t x T f r a = (h, subst (λ (j : ℕ). IsReplyFrom j reply) (sym f) a, r)
-  hand_placed G (on_around around s n) h i reply fs v t x T f r a = (h, around_placed around h reply (subst (λ (j : ℕ). IsReplyFrom j reply) (sym f) a), r)
+  hand_placed G (on_around around s n o) h i reply fs v t x T f r a = (h, around_placed around h reply (subst (λ (j : ℕ). IsReplyFrom j reply) (sym f) a), r)
 
   -- ---- a node is entered
 
@@ -218,7 +220,7 @@ module _ (far most : ℕ) where
   IsLeafFrom i (outcome.failed c e) = Unit {0}
   IsLeafFrom i outcome.empty_round = Unit {0}
 
-  leaf_placed : (o : Outcome) (i : ℕ) (fs : List OnFrame) (v : List Tree) (t : List TrailItem) (x : List TapeMessage) (T : Table) → i ≤ far → ArePlaced fs i → IsLeafFrom i o → IsTapePlaced (tape_leaf o fs v t x T)
+  leaf_placed : (o : Outcome) (i : ℕ) (fs : List OnFrame) (v : RunTrees) (t : List TrailItem) (x : List TapeMessage) (T : Table) → i ≤ far → ArePlaced fs i → IsLeafFrom i o → IsTapePlaced (tape_leaf o fs v t x T)
   leaf_placed (outcome.ok c b w u e) i fs v t x T l r a = (i, a, r)
   leaf_placed (outcome.failed c e) i fs v t x T l r a = (i, l, r)
   leaf_placed outcome.empty_round i fs v t x T l r a = (i, l, r)
@@ -233,7 +235,7 @@ module _ (far most : ℕ) where
   frame_roomy offer n room h i a b l (on_separator links) f r = let e = f.1 in let m = f.2.onward in ((omega arith, r.1), omega arith)
   frame_roomy offer n room h i a b l (on_operand links q x) f r = let d = f.0.onward in let e = f.1 in let m = f.2.onward in ((omega arith, r.1), omega arith)
   frame_roomy offer n room h i a b l on_rule f r = (tt, omega arith)
-  frame_roomy offer n room h i a b l (on_around around s x) f r = (r, omega arith)
+  frame_roomy offer n room h i a b l (on_around around s x y) f r = (r, omega arith)
 
   frames_roomy : (offer : Offer) (n room i : ℕ) → far < room → most < room → i ≤ far → (fs : List OnFrame) → ArePlaced fs i → AreReady offer n fs → AreReady offer room fs
   frames_roomy offer n room i a b l [] p r = tt
@@ -269,7 +271,7 @@ module _ (G : Given) (most : ℕ) (bounded : IsBounded G.grammar most) where
   leaf_from T i (outcome.failed c e) d l = tt
   leaf_from T i outcome.empty_round d l = tt
 
-  module _ (i : ℕ) (fs : List OnFrame) (v : List Tree) (t : List TrailItem) (x : List TapeMessage) (T : Table) (within : i ≤ length G.text) (placed : ArePlaced (length G.text) most fs i) where
+  module _ (i : ℕ) (fs : List OnFrame) (v : RunTrees) (t : List TrailItem) (x : List TapeMessage) (T : Table) (within : i ≤ length G.text) (placed : ArePlaced (length G.text) most fs i) where
     abbrev Placed : Tape → Type 0
     Placed y = IsTapePlaced (length G.text) most y
 

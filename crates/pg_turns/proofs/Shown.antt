@@ -7,14 +7,19 @@ use Rattle.pg_form.specs.Operators.{Operator}
 use Rattle.pg_value.specs.declared.trail.TrailItem.{TrailItem}
 use Rattle.pg_value.specs.declared.trail.TrailItem.TheVariants.{Alt, Rounds}
 use Rattle.pg_table.specs.Tables.{Table, first_operators}
+use Rattle.pg_form.specs.declared.form.Around.{Around}
+use Rattle.pg_form.specs.declared.form.Around.TheVariants as kind
+use Rattle.pg_language.specs.Derives.{table_by}
 use Rattle.pg_language.specs.Errors.{Error}
 use Rattle.pg_language.specs.Outcomes.{ok, failed}
 use Rattle.pg_language.specs.declared.reading.Reading.{Reading}
 use Rattle.pg_language.specs.declared.reading.Reading.TheVariants.{Library, Report}
 use Rattle.pg_turns.specs.Frames.{Before, Tried, after_tried, with_failure, with_empty_ok, Frame}
 use Rattle.pg_message_tape.specs.Messages.{TapeMessage}
-use Rattle.pg_turns.specs.Shows.{with_operators, Extends, same_table, more_operators, ShowsBefore, no_parts, some_parts, ShowsTried, nothing_tried, a_failure, an_empty_ok, Stands, no_frames, stands_parts, stands_choice, stands_rounds, stands_first, stands_separator, stands_operand, stands_rule, stands_around, Shows, shows_at, shows_succeeded, shows_failed, shows_stuck}
-use Rattle.pg_turns.specs.Tape.{spot_at, OnTried, OnFrame, Tape, tape_to_parts, tape_settled, tape_next_alternative, tried_messages, tried_with_failure, tried_with_empty_ok, tried_kept, tape_empty_ok, tape_to_choice, tape_to_rounds}
+use Rattle.pg_turns.specs.Shows.{with_operators, Extends, same_table, more_operators, ShowsBefore, no_parts, some_parts, ShowsTried, nothing_tried, a_failure, an_empty_ok, thrown_from, Means, KeepsPart, Stands, no_frames, stands_parts, stands_choice, stands_rounds, stands_first, stands_separator, stands_operand, stands_rule, stands_around, Shows, shows_at, shows_succeeded, shows_failed, shows_stuck}
+use Rattle.pg_turns.specs.RunTrees.{RunTrees}
+use Rattle.pg_turns.proofs.Hiding.{relisted, means_first, means_rejoined, means_part, means_count, means_cut, framed}
+use Rattle.pg_turns.specs.Tape.{spot_at, OnTried, OnFrame, Tape, left_table, tape_to_parts, tape_settled, tape_next_alternative, tried_messages, tried_with_failure, tried_with_empty_ok, tried_kept, tape_empty_ok, tape_to_choice, tape_to_rounds}
 use Rattle.pg_turns.specs.Turns.{State, with_outcome, next_alternative, hand_empty_ok, hand_to_choice, hand_to_parts, hand_to_rounds}
 use Rattle.pg_message_tape.specs.TapeErrors.{Says}
 use Rattle.pg_turns.specs.declared.frame.Before as declared
@@ -74,123 +79,132 @@ given_back {T = T} same_table =
 given_back {T = T} (more_operators ds) =
     ap (λ (os : List Operator). let u : Table = record { operators = os; reserved = T.reserved; most = T.most } in u) (take_seam T.operators ds)
 
+-- a form around a part leaves the table of before or the part's
+pub leaves : {c : Bool} {T U : Table} (around : Around) → Extends c T U → Extends c T (table_by around T U)
+leaves kind.Local e = same_table
+leaves _ e = e
+
+-- the table that it leaves on the tape is that one
+pub table_left : {c : Bool} {T U : Table} (around : Around) → Extends c T U → left_table around (length T.operators) U ≡ table_by around T U
+table_left kind.Local e = given_back e
+table_left _ e = refl
+
 module _ {T : Table} where
   -- ---- sequences
 
-  pub parts_succeeded : {fs : List Frame} {gs : List OnFrame} {v w : List Tree} {t u : List TrailItem} {x y z : List TapeMessage} {U W : Table} {done : Before} {b : Option declared.Before} {error : TapeError} {f : Error}
-      (ps : List ℕ) (c : Bool) (j : ℕ) (s : List Tree) (r : List TrailItem) → Stands fs gs v t x T → ShowsBefore x T done w u b y U → Says y error f z → Extends c U W →
-      Shows (hand_to_parts ps done (ok c (spot_at W j) s r f) fs) (tape_to_parts ps b (Succeeded c j error) gs (v ++ w ++ s) (t ++ u ++ r) z W)
-  parts_succeeded {v = v} {t = t} [] c j s r h no_parts q m =
-      let a = append-nil v in let d = append-nil t in moved (shows_succeeded h q m) cc
-  parts_succeeded {v = v} {t = t} (p ∷ ps) c j s r h no_parts q m =
-      let a = append-nil v in let d = append-nil t in moved (shows_at (stands_parts h (some_parts (hold q) m))) cc
-  parts_succeeded {v = v} {w = w} {t = t} {u = u} [] c j s r h (some_parts {c = b} k l) q m =
-      let a = three v w s in let d = three t u r in moved (shows_succeeded h (after_says c k q) (extends_both b c l m)) cc
-  parts_succeeded {v = v} {w = w} {t = t} {u = u} (p ∷ ps) c j s r h (some_parts {c = b} k l) q m =
-      let a = three v w s in let d = three t u r in moved (shows_at (stands_parts h (some_parts (hold (after_says c k q)) (extends_both b c l m)))) cc
+  pub parts_succeeded : {fs : List Frame} {gs : List OnFrame} {v w : List Tree} {g : RunTrees} {t u : List TrailItem} {x y z : List TapeMessage} {U W : Table} {done : Before} {b : Option declared.Before} {error : TapeError} {f : Error}
+      (ps : List ℕ) (c : Bool) (j : ℕ) (s : List Tree) (r : List TrailItem) → Stands fs gs v t x T → ShowsBefore x T done w u b y U → Means gs g (v ++ w ++ s) → Says y error f z → Extends c U W →
+      Shows (hand_to_parts ps done (ok c (spot_at W j) s r f) fs) (tape_to_parts ps b (Succeeded c j error) gs g (t ++ u ++ r) z W)
+  parts_succeeded {v = v} {t = t} [] c j s r h no_parts g q m =
+      let d = append-nil t in moved (shows_succeeded h (relisted (ap (λ k. k ++ s) (append-nil v)) g) q m) cc
+  parts_succeeded {v = v} {t = t} (p ∷ ps) c j s r h no_parts g q m =
+      let d = append-nil t in moved (shows_at (stands_parts h (some_parts (hold q) m)) (framed refl refl (relisted (ap (λ k. k ++ s) (append-nil v)) g))) cc
+  parts_succeeded {v = v} {w = w} {t = t} {u = u} [] c j s r h (some_parts {c = b} k l) g q m =
+      let d = three t u r in moved (shows_succeeded h (relisted (sym (three v w s)) g) (after_says c k q) (extends_both b c l m)) cc
+  parts_succeeded {v = v} {w = w} {t = t} {u = u} (p ∷ ps) c j s r h (some_parts {c = b} k l) g q m =
+      let d = three t u r in moved (shows_at (stands_parts h (some_parts (hold (after_says c k q)) (extends_both b c l m))) (framed refl refl (relisted (sym (three v w s)) g))) cc
 
-  pub parts_failed : {fs : List Frame} {gs : List OnFrame} {v w : List Tree} {t u : List TrailItem} {x y z : List TapeMessage} {U W : Table} {done : Before} {b : Option declared.Before} {error : TapeError} {f : Error}
-      (ps : List ℕ) (c : Bool) (s : List Tree) (r : List TrailItem) → Stands fs gs v t x T → ShowsBefore x T done w u b y U → Says y error f z → Extends true U W →
-      Shows (hand_to_parts ps done (failed c f) fs) (tape_to_parts ps b (Failed c error) gs (v ++ w ++ s) (t ++ u ++ r) z W)
-  parts_failed {v = v} {t = t} [] c s r h no_parts q m = let a = append-nil v in let d = append-nil t in moved (shows_failed s r h q m) cc
-  parts_failed {v = v} {t = t} (p ∷ ps) c s r h no_parts q m = let a = append-nil v in let d = append-nil t in moved (shows_failed s r h q m) cc
-  parts_failed {v = v} {w = w} {t = t} {u = u} [] c s r h (some_parts k l) q m =
-      let a = three v w s in let d = three t u r in moved (shows_failed (w ++ s) (u ++ r) h (after_says c k q) (extends_both true true (extends_any l) m)) cc
-  parts_failed {v = v} {w = w} {t = t} {u = u} (p ∷ ps) c s r h (some_parts k l) q m =
-      let a = three v w s in let d = three t u r in moved (shows_failed (w ++ s) (u ++ r) h (after_says c k q) (extends_both true true (extends_any l) m)) cc
+  pub parts_failed : {fs : List Frame} {gs : List OnFrame} {v w : List Tree} {g : RunTrees} {t u : List TrailItem} {x y z : List TapeMessage} {U W : Table} {done : Before} {b : Option declared.Before} {error : TapeError} {f : Error}
+      (ps : List ℕ) (c : Bool) (s : List Tree) (r : List TrailItem) → Stands fs gs v t x T → ShowsBefore x T done w u b y U → Means gs g (v ++ w ++ s) → Says y error f z → Extends true U W →
+      Shows (hand_to_parts ps done (failed c f) fs) (tape_to_parts ps b (Failed c error) gs g (t ++ u ++ r) z W)
+  parts_failed {v = v} {t = t} [] c s r h no_parts g q m =
+      let d = append-nil t in moved (shows_failed s r h (relisted (ap (λ k. k ++ s) (append-nil v)) g) q m) cc
+  parts_failed {v = v} {t = t} (p ∷ ps) c s r h no_parts g q m =
+      let d = append-nil t in moved (shows_failed s r h (relisted (ap (λ k. k ++ s) (append-nil v)) g) q m) cc
+  parts_failed {v = v} {w = w} {t = t} {u = u} [] c s r h (some_parts k l) g q m =
+      let d = three t u r in moved (shows_failed (w ++ s) (u ++ r) h (relisted (sym (three v w s)) g) (after_says c k q) (extends_both true true (extends_any l) m)) cc
+  parts_failed {v = v} {w = w} {t = t} {u = u} (p ∷ ps) c s r h (some_parts k l) g q m =
+      let d = three t u r in moved (shows_failed (w ++ s) (u ++ r) h (relisted (sym (three v w s)) g) (after_says c k q) (extends_both true true (extends_any l) m)) cc
 
   -- ---- choices
 
-  settled_succeeded : {fs : List Frame} {gs : List OnFrame} {v : List Tree} {t : List TrailItem} {x y z : List TapeMessage} {U : Table} {tried : Tried} {q : OnTried} {error : TapeError} {f : Error}
-      (c : Bool) (j : ℕ) (s : List Tree) (r : List TrailItem) → Stands fs gs v t x T → ShowsTried T x tried q y → Says y error f z → Extends c T U →
-      Shows (with_outcome (after_tried tried (ok c (spot_at U j) s r f)) fs) (tape_settled q (length v) (length t) (length T.operators) (Succeeded c j error) gs (v ++ s) (t ++ r) z U)
-  settled_succeeded c j s r h nothing_tried o m = shows_succeeded h o m
-  settled_succeeded c j s r h (a_failure k) o m = shows_succeeded h (after_says c k o) m
-  settled_succeeded true j s r h (an_empty_ok k) o m = shows_succeeded h (alone k o) m
-  settled_succeeded {v = v} {t = t} false j s r h (an_empty_ok k) o m =
-      let a = take_seam v s in let d = take_seam t r in let g = given_back m in moved (shows_succeeded h (merge_says k o) same_table) cc
+  settled_succeeded : {fs : List Frame} {gs : List OnFrame} {v : List Tree} {g : RunTrees} {t : List TrailItem} {x y z : List TapeMessage} {U : Table} {tried : Tried} {q : OnTried} {error : TapeError} {f : Error}
+      (c : Bool) (j : ℕ) (s : List Tree) (r : List TrailItem) → Stands fs gs v t x T → ShowsTried (thrown_from gs) T x tried q y → Means gs g (v ++ s) → Says y error f z → Extends c T U →
+      Shows (with_outcome (after_tried tried (ok c (spot_at U j) s r f)) fs) (tape_settled q (length v) (length t) (length T.operators) (Succeeded c j error) gs g (t ++ r) z U)
+  settled_succeeded c j s r h nothing_tried g o m = shows_succeeded h g o m
+  settled_succeeded c j s r h (a_failure k) g o m = shows_succeeded h g (after_says c k o) m
+  settled_succeeded true j s r h (an_empty_ok k p) g o m = shows_succeeded h g (alone k o) m
+  settled_succeeded {v = v} {t = t} false j s r h (an_empty_ok k p) g o m =
+      let d = take_seam t r in let back = given_back m in moved (shows_succeeded h (means_rejoined (means_first s h g) p) (merge_says k o) same_table) cc
 
-  settled_failed : {fs : List Frame} {gs : List OnFrame} {v : List Tree} {t : List TrailItem} {x y z : List TapeMessage} {U : Table} {tried : Tried} {q : OnTried} {error : TapeError} {f : Error}
-      (c : Bool) (s : List Tree) (r : List TrailItem) → Stands fs gs v t x T → ShowsTried T x tried q y → Says y error f z → Extends true T U →
-      Shows (with_outcome (after_tried tried (failed c f)) fs) (tape_settled q (length v) (length t) (length T.operators) (Failed c error) gs (v ++ s) (t ++ r) z U)
-  settled_failed c s r h nothing_tried o m = shows_failed s r h o m
-  settled_failed c s r h (a_failure k) o m = shows_failed s r h (after_says c k o) m
-  settled_failed true s r h (an_empty_ok k) o m = shows_failed s r h (alone k o) m
-  settled_failed {v = v} {t = t} false s r h (an_empty_ok k) o m =
-      let a = take_seam v s in let d = take_seam t r in let g = given_back m in moved (shows_succeeded h (merge_says k o) same_table) cc
+  settled_failed : {fs : List Frame} {gs : List OnFrame} {v : List Tree} {g : RunTrees} {t : List TrailItem} {x y z : List TapeMessage} {U : Table} {tried : Tried} {q : OnTried} {error : TapeError} {f : Error}
+      (c : Bool) (s : List Tree) (r : List TrailItem) → Stands fs gs v t x T → ShowsTried (thrown_from gs) T x tried q y → Means gs g (v ++ s) → Says y error f z → Extends true T U →
+      Shows (with_outcome (after_tried tried (failed c f)) fs) (tape_settled q (length v) (length t) (length T.operators) (Failed c error) gs g (t ++ r) z U)
+  settled_failed c s r h nothing_tried g o m = shows_failed s r h g o m
+  settled_failed c s r h (a_failure k) g o m = shows_failed s r h g (after_says c k o) m
+  settled_failed true s r h (an_empty_ok k p) g o m = shows_failed s r h g (alone k o) m
+  settled_failed {v = v} {t = t} false s r h (an_empty_ok k p) g o m =
+      let d = take_seam t r in let back = given_back m in moved (shows_succeeded h (means_rejoined (means_first s h g) p) (merge_says k o) same_table) cc
 
-  pub next_shown : {fs : List Frame} {gs : List OnFrame} {v : List Tree} {t : List TrailItem} {x y : List TapeMessage} {tried : Tried} {q : OnTried}
-      (k : ℕ) (ps : List ℕ) (i : ℕ) → Stands fs gs v t x T → ShowsTried T x tried q y →
-      Shows (next_alternative k ps (spot_at T i) tried fs) (tape_next_alternative k ps i q gs v t y T)
-  next_shown {v = v} {t = t} {y = y} k [] i h o = let a = append-nil v in let d = append-nil t in moved (settled_failed false [] [] h o (nothing_says y i) same_table) cc
-  next_shown k (p ∷ ps) i h o = shows_at (stands_choice h o)
+  pub next_shown : {fs : List Frame} {gs : List OnFrame} {v : List Tree} {g : RunTrees} {t : List TrailItem} {x y : List TapeMessage} {tried : Tried} {q : OnTried}
+      (k : ℕ) (ps : List ℕ) (i : ℕ) → Stands fs gs v t x T → ShowsTried (thrown_from gs) T x tried q y → Means gs g v →
+      Shows (next_alternative k ps (spot_at T i) tried fs) (tape_next_alternative k ps i q gs g t y T)
+  next_shown {v = v} {t = t} {y = y} k [] i h o g =
+      let d = append-nil t in let n = means_count g in moved (settled_failed false [] [] h o (relisted (sym (append-nil v)) g) (nothing_says y i) same_table) cc
+  next_shown k (p ∷ ps) i h o g = let n = means_count g in moved (shows_at (stands_choice h o) (framed refl refl g)) cc
 
-  one_failed : {x y z : List TapeMessage} {tried : Tried} {q : OnTried} {error : TapeError} {f : Error} → ShowsTried T x tried q y → Says y error f z →
-      ShowsTried T x (with_failure tried f) (tried_with_failure q (tried_kept q error z)) (tried_messages q error z)
+  one_failed : {thrown : Option ℕ} {x y z : List TapeMessage} {tried : Tried} {q : OnTried} {error : TapeError} {f : Error} → ShowsTried thrown T x tried q y → Says y error f z →
+      ShowsTried thrown T x (with_failure tried f) (tried_with_failure q (tried_kept q error z)) (tried_messages q error z)
   one_failed nothing_tried o = a_failure (hold o)
   one_failed (a_failure k) o = a_failure (hold (merge_says k o))
-  one_failed (an_empty_ok k) o = an_empty_ok (hold (merge_says k o))
+  one_failed (an_empty_ok k p) o = an_empty_ok (hold (merge_says k o)) p
 
-  one_empty_ok : {x y z : List TapeMessage} {tried : Tried} {q : OnTried} {error : TapeError} {f : Error} (j : ℕ) (s : List Tree) (r : List TrailItem) → ShowsTried T x tried q y → Says y error f z →
-      ShowsTried T x (with_empty_ok tried (spot_at T j) s r f) (tried_with_empty_ok q j s r (tried_kept q error z)) (tried_messages q error z)
-  one_empty_ok j s r nothing_tried o = an_empty_ok (hold o)
-  one_empty_ok j s r (a_failure k) o = an_empty_ok (hold (merge_says k o))
-  one_empty_ok j s r (an_empty_ok k) o = an_empty_ok (hold (merge_says k o))
+  one_empty_ok : {thrown : Option ℕ} {x y z : List TapeMessage} {tried : Tried} {q : OnTried} {error : TapeError} {f : Error} {w : List Tree} {n : ℕ} (j : ℕ) (s : List Tree) (r : List TrailItem) → ShowsTried thrown T x tried q y → Says y error f z →
+      KeepsPart thrown w n s → ShowsTried thrown T x (with_empty_ok tried (spot_at T j) s r f) (tried_with_empty_ok q j w n r (tried_kept q error z)) (tried_messages q error z)
+  one_empty_ok j s r nothing_tried o p = an_empty_ok (hold o) p
+  one_empty_ok j s r (a_failure k) o p = an_empty_ok (hold (merge_says k o)) p
+  one_empty_ok j s r (an_empty_ok k own) o p = an_empty_ok (hold (merge_says k o)) own
 
-  empty_ok_shown : {fs : List Frame} {gs : List OnFrame} {v : List Tree} {t : List TrailItem} {x y z : List TapeMessage} {U : Table} {tried : Tried} {q : OnTried} {error : TapeError} {f : Error}
-      (reading : Reading) (k : ℕ) (ps : List ℕ) (i j : ℕ) (s : List Tree) (r : List TrailItem) → Stands fs gs v t x T → ShowsTried T x tried q y → Says y error f z → Extends false T U →
-      Shows (hand_empty_ok reading k ps (spot_at T i) tried (spot_at U j) s r f fs) (tape_empty_ok reading k ps i q (length v) (length t) (length T.operators) j error gs (v ++ s) (t ++ Alt k ∷ [] ++ r) z U)
-  empty_ok_shown {v = v} {t = t} Library k ps i j s r h o e m = let d = item_seam t (Alt k) r in moved (settled_succeeded false j s (Alt k ∷ r) h o e m) cc
-  empty_ok_shown {v = v} {t = t} Report k ps i j s r h o e same_table =
-      let a = take_seam v s in
-      let b = drop_seam v s in
+  empty_ok_shown : {fs : List Frame} {gs : List OnFrame} {v : List Tree} {g : RunTrees} {t : List TrailItem} {x y z : List TapeMessage} {U : Table} {tried : Tried} {q : OnTried} {error : TapeError} {f : Error}
+      (reading : Reading) (k : ℕ) (ps : List ℕ) (i j : ℕ) (s : List Tree) (r : List TrailItem) → Stands fs gs v t x T → ShowsTried (thrown_from gs) T x tried q y → Means gs g (v ++ s) → Says y error f z → Extends false T U →
+      Shows (hand_empty_ok reading k ps (spot_at T i) tried (spot_at U j) s r f fs) (tape_empty_ok reading k ps i q (length v) (length t) (length T.operators) j error gs g (t ++ Alt k ∷ [] ++ r) z U)
+  empty_ok_shown {v = v} {t = t} Library k ps i j s r h o g e m = let d = item_seam t (Alt k) r in moved (settled_succeeded false j s (Alt k ∷ r) h o g e m) cc
+  empty_ok_shown {v = v} {t = t} Report k ps i j s r h o g e same_table =
       let d = item_seam t (Alt k) r in
-      let g : take (length t) (t ++ Alt k ∷ [] ++ r) ≡ t = ap (take (length t)) (sym d) ∙ take_seam t (Alt k ∷ r) in
+      let n : take (length t) (t ++ Alt k ∷ [] ++ r) ≡ t = ap (take (length t)) (sym d) ∙ take_seam t (Alt k ∷ r) in
       let l : drop (length t) (t ++ Alt k ∷ [] ++ r) ≡ Alt k ∷ r = ap (drop (length t)) (sym d) ∙ drop_seam t (Alt k ∷ r) in
       let back : first_operators (length T.operators) T ≡ T = given_back {c = false} same_table in
-      moved (next_shown (suc k) ps i h (one_empty_ok j s (Alt k ∷ r) o e)) cc
+      moved (next_shown (suc k) ps i h (one_empty_ok j s (Alt k ∷ r) o e (means_part s h g)) (means_first s h g)) cc
 
-  pub choice_succeeded : {fs : List Frame} {gs : List OnFrame} {v : List Tree} {t : List TrailItem} {x y z : List TapeMessage} {U : Table} {tried : Tried} {q : OnTried} {error : TapeError} {f : Error}
-      (reading : Reading) (k : ℕ) (ps : List ℕ) (i : ℕ) (c : Bool) (j : ℕ) (s : List Tree) (r : List TrailItem) → Stands fs gs v t x T → ShowsTried T x tried q y → Says y error f z → Extends c T U →
-      Shows (hand_to_choice reading k ps (spot_at T i) tried (ok c (spot_at U j) s r f) fs) (tape_to_choice reading k ps i q (length v) (length t) (length T.operators) (Succeeded c j error) gs (v ++ s) (t ++ Alt k ∷ [] ++ r) z U)
-  choice_succeeded {t = t} reading k ps i true j s r h o e m = let d = item_seam t (Alt k) r in moved (settled_succeeded true j s (Alt k ∷ r) h o e m) cc
-  choice_succeeded reading k ps i false j s r h o e m = empty_ok_shown reading k ps i j s r h o e m
+  pub choice_succeeded : {fs : List Frame} {gs : List OnFrame} {v : List Tree} {g : RunTrees} {t : List TrailItem} {x y z : List TapeMessage} {U : Table} {tried : Tried} {q : OnTried} {error : TapeError} {f : Error}
+      (reading : Reading) (k : ℕ) (ps : List ℕ) (i : ℕ) (c : Bool) (j : ℕ) (s : List Tree) (r : List TrailItem) → Stands fs gs v t x T → ShowsTried (thrown_from gs) T x tried q y → Means gs g (v ++ s) → Says y error f z → Extends c T U →
+      Shows (hand_to_choice reading k ps (spot_at T i) tried (ok c (spot_at U j) s r f) fs) (tape_to_choice reading k ps i q (length v) (length t) (length T.operators) (Succeeded c j error) gs g (t ++ Alt k ∷ [] ++ r) z U)
+  choice_succeeded {t = t} reading k ps i true j s r h o g e m = let d = item_seam t (Alt k) r in moved (settled_succeeded true j s (Alt k ∷ r) h o g e m) cc
+  choice_succeeded reading k ps i false j s r h o g e m = empty_ok_shown reading k ps i j s r h o g e m
 
-  pub choice_failed : {fs : List Frame} {gs : List OnFrame} {v : List Tree} {t : List TrailItem} {x y z : List TapeMessage} {U : Table} {tried : Tried} {q : OnTried} {error : TapeError} {f : Error}
-      (reading : Reading) (k : ℕ) (ps : List ℕ) (i : ℕ) (c : Bool) (s : List Tree) (r : List TrailItem) → Stands fs gs v t x T → ShowsTried T x tried q y → Says y error f z → Extends true T U →
-      Shows (hand_to_choice reading k ps (spot_at T i) tried (failed c f) fs) (tape_to_choice reading k ps i q (length v) (length t) (length T.operators) (Failed c error) gs (v ++ s) (t ++ Alt k ∷ [] ++ r) z U)
-  choice_failed {t = t} reading k ps i true s r h o e m = let d = item_seam t (Alt k) r in moved (settled_failed true s (Alt k ∷ r) h o e m) cc
-  choice_failed {v = v} {t = t} reading k ps i false s r h o e m =
-      let a = take_seam v s in
+  pub choice_failed : {fs : List Frame} {gs : List OnFrame} {v : List Tree} {g : RunTrees} {t : List TrailItem} {x y z : List TapeMessage} {U : Table} {tried : Tried} {q : OnTried} {error : TapeError} {f : Error}
+      (reading : Reading) (k : ℕ) (ps : List ℕ) (i : ℕ) (c : Bool) (s : List Tree) (r : List TrailItem) → Stands fs gs v t x T → ShowsTried (thrown_from gs) T x tried q y → Means gs g (v ++ s) → Says y error f z → Extends true T U →
+      Shows (hand_to_choice reading k ps (spot_at T i) tried (failed c f) fs) (tape_to_choice reading k ps i q (length v) (length t) (length T.operators) (Failed c error) gs g (t ++ Alt k ∷ [] ++ r) z U)
+  choice_failed {t = t} reading k ps i true s r h o g e m = let d = item_seam t (Alt k) r in moved (settled_failed true s (Alt k ∷ r) h o g e m) cc
+  choice_failed {v = v} {t = t} reading k ps i false s r h o g e m =
       let back = given_back m in
       let d = item_seam t (Alt k) r in
-      let g : take (length t) (t ++ Alt k ∷ [] ++ r) ≡ t = ap (take (length t)) (sym d) ∙ take_seam t (Alt k ∷ r) in
-      moved (next_shown (suc k) ps i h (one_failed o e)) cc
+      let n : take (length t) (t ++ Alt k ∷ [] ++ r) ≡ t = ap (take (length t)) (sym d) ∙ take_seam t (Alt k ∷ r) in
+      moved (next_shown (suc k) ps i h (one_failed o e) (means_first s h g)) cc
 
   -- ---- repetitions
 
-  pub rounds_succeeded : {fs : List Frame} {gs : List OnFrame} {v : List Tree} {t : List TrailItem} {x z : List TapeMessage} {U W : Table} {error : TapeError} {f : Error} (w : List Tree) (u : List TrailItem)
-      (p k : ℕ) (b : Bool) (i : ℕ) (item : TrailItem) (c : Bool) (j : ℕ) (s : List Tree) (r : List TrailItem) → Stands fs gs v t x T → Extends b T U → Says x error f z → Extends c U W →
+  pub rounds_succeeded : {fs : List Frame} {gs : List OnFrame} {v : List Tree} {g : RunTrees} {t : List TrailItem} {x z : List TapeMessage} {U W : Table} {error : TapeError} {f : Error} (w : List Tree) (u : List TrailItem)
+      (p k : ℕ) (b : Bool) (i : ℕ) (item : TrailItem) (c : Bool) (j : ℕ) (s : List Tree) (r : List TrailItem) → Stands fs gs v t x T → Extends b T U → Means gs g (v ++ w ++ s) → Says x error f z → Extends c U W →
       Shows (hand_to_rounds p k b (spot_at U i) w u (ok c (spot_at W j) s r f) fs)
-      (tape_to_rounds p k b i (length t) (length (v ++ w)) (length (t ++ item ∷ u)) (length U.operators) (length x) (Succeeded c j error) gs (v ++ w ++ s) (t ++ item ∷ u ++ r) z W)
-  rounds_succeeded {v = v} {t = t} {x = x} w u p k b i item true j s r h l o m =
+      (tape_to_rounds p k b i (length t) (length (v ++ w)) (length (t ++ item ∷ u)) (length U.operators) (length x) (Succeeded c j error) gs g (t ++ item ∷ u ++ r) z W)
+  rounds_succeeded {v = v} {t = t} {x = x} w u p k b i item true j s r h l g o m =
+      let n = means_count g in
       let a = three v w s in
       let d : t ++ (item ∷ (u ++ r)) ≡ t ++ item ∷ u ++ r = three t (item ∷ u) r in
-      let g = cut_messages o in
-      moved (shows_at (stands_rounds item h (extends_both true true (extends_any l) m))) cc
-  rounds_succeeded w u p k b i item false j s r h l o m = shows_stuck (stands_length h)
+      let cut = cut_messages o in
+      moved (shows_at (stands_rounds item h (extends_both true true (extends_any l) m)) (framed refl refl (relisted (sym a) g))) cc
+  rounds_succeeded w u p k b i item false j s r h l g o m = shows_stuck (stands_length h)
 
-  pub rounds_failed : {fs : List Frame} {gs : List OnFrame} {v : List Tree} {t : List TrailItem} {x z : List TapeMessage} {U W : Table} {error : TapeError} {f : Error} (w : List Tree) (u : List TrailItem)
-      (p k : ℕ) (b : Bool) (i : ℕ) (item : TrailItem) (c : Bool) (s : List Tree) (r : List TrailItem) → Stands fs gs v t x T → Extends b T U → Says x error f z → Extends true U W →
+  pub rounds_failed : {fs : List Frame} {gs : List OnFrame} {v : List Tree} {g : RunTrees} {t : List TrailItem} {x z : List TapeMessage} {U W : Table} {error : TapeError} {f : Error} (w : List Tree) (u : List TrailItem)
+      (p k : ℕ) (b : Bool) (i : ℕ) (item : TrailItem) (c : Bool) (s : List Tree) (r : List TrailItem) → Stands fs gs v t x T → Extends b T U → Means gs g (v ++ w ++ s) → Says x error f z → Extends true U W →
       Shows (hand_to_rounds p k b (spot_at U i) w u (failed c f) fs)
-      (tape_to_rounds p k b i (length t) (length (v ++ w)) (length (t ++ item ∷ u)) (length U.operators) (length x) (Failed c error) gs (v ++ w ++ s) (t ++ item ∷ u ++ r) z W)
-  rounds_failed {v = v} {t = t} w u p k b i item true s r h l o m =
-      let a = three v w s in
+      (tape_to_rounds p k b i (length t) (length (v ++ w)) (length (t ++ item ∷ u)) (length U.operators) (length x) (Failed c error) gs g (t ++ item ∷ u ++ r) z W)
+  rounds_failed {v = v} {t = t} w u p k b i item true s r h l g o m =
       let d : t ++ (item ∷ (u ++ r)) ≡ t ++ item ∷ u ++ r = three t (item ∷ u) r in
-      moved (shows_failed (w ++ s) (item ∷ (u ++ r)) h o (extends_both true true (extends_any l) m)) cc
-  rounds_failed {v = v} {t = t} w u p k b i item false s r h l o m =
-      let a = take_seam (v ++ w) s in
+      moved (shows_failed (w ++ s) (item ∷ (u ++ r)) h (relisted (sym (three v w s)) g) o (extends_both true true (extends_any l) m)) cc
+  rounds_failed {v = v} {t = t} w u p k b i item false s r h l g o m =
       let d = take_seam (t ++ item ∷ u) r in
-      let g : slice_set (t ++ item ∷ u) (length t) (Rounds k) ≡ t ++ Rounds k ∷ u = set-append_seam t item u (Rounds k) in
+      let slot : slice_set (t ++ item ∷ u) (length t) (Rounds k) ≡ t ++ Rounds k ∷ u = set-append_seam t item u (Rounds k) in
       let back = given_back m in
-      moved (shows_succeeded h o l) cc
+      moved (shows_succeeded h (means_cut s refl (stands_rounds {w = w} {u = u} {p = p} {k = k} {i = i} {c = b} item h l) g) o l) cc

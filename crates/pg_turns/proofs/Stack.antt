@@ -1,8 +1,8 @@
 -- The topmost frame stands last in the machine.
-use Rattle.std.proofs.Common.{◌≡◌, ℕ, suc, List, [], ◌∷◌, ◌++◌, length, false, refl, sym, ap, ◌∙◌, arith}
-use Rattle.std.proofs.lemmas.Bool.Decides.{nat_tests}
+use Rattle.std.proofs.Common.{◌≡◌, List, [], ◌∷◌, ◌++◌, length, false, refl, sym, ap, ◌∙◌}
+use Rattle.std.proofs.Math.Dec.{eqb-suc-zero}
 use Rattle.std.specs.Prelude.{◌==◌}
-use Rattle.pg_tree.specs.Trees.{Tree}
+use Rattle.pg_turns.specs.RunTrees.{RunTrees}
 use Rattle.pg_value.specs.declared.trail.TrailItem.{TrailItem}
 use Rattle.pg_table.specs.Tables.{Table}
 use Rattle.pg_message_tape.specs.Messages.{TapeMessage}
@@ -22,14 +22,11 @@ some_stack : (below : List OnFrame) (f : OnFrame) (fs : List Frame) → (g : OnF
 some_stack below f [] = (f, below, refl)
 some_stack below f (x ∷ fs) = some_stack (f ∷ below) (frame_of x) fs
 
-not_empty : (n : ℕ) → (suc n == 0) ≡ false
-not_empty n = grind (arith, nat_tests)
-
 -- an answer is the last one where no frame is left
-pub last_reply : (reply : Reply) (fs : List Frame) (v : List Tree) (t : List TrailItem) (x : List TapeMessage) (T : Table) → (length fs == 0) ≡ tape_is_last (tape_with reply (stack_of fs) v t x T)
+pub last_reply : (reply : Reply) (fs : List Frame) (v : RunTrees) (t : List TrailItem) (x : List TapeMessage) (T : Table) → (length fs == 0) ≡ tape_is_last (tape_with reply (stack_of fs) v t x T)
 last_reply reply [] v t x T = refl
 last_reply reply (f ∷ fs) v t x T =
-    let r = some_stack [] (frame_of f) fs in not_empty (length fs) ∙ ap (λ (gs : List OnFrame). tape_is_last (tape_with reply gs v t x T)) (sym r.2)
+    let r = some_stack [] (frame_of f) fs in eqb-suc-zero (length fs) ∙ ap (λ (gs : List OnFrame). tape_is_last (tape_with reply gs v t x T)) (sym r.2)
 
 -- some frame
 pub some_left : (fs : List Frame) → (length fs == 0) ≡ false → (g : OnFrame) × (gs : List OnFrame) × (stack_of fs ≡ g ∷ gs)

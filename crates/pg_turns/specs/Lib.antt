@@ -5,3 +5,4 @@ pub mod Tape
 pub mod Ready
 pub mod Shows
 pub mod View
+pub mod RunTrees

@@ -20,7 +20,7 @@ IsReady offer most (on_first chain slot n) = BuilderFits offer chain.used
 IsReady offer most (on_separator links) = (links.count < most) × BuilderFits offer links.chain.used
 IsReady offer most (on_operand links before n) = (links.count < most) × BuilderFits offer links.chain.used
 IsReady offer most on_rule = Unit {0}
-IsReady offer most (on_around around i n) = AroundFits offer around
+IsReady offer most (on_around around i n o) = AroundFits offer around
 
 abbrev pub AreReady : Offer → ℕ → List OnFrame → Type 0
 AreReady offer most [] = Unit {0}

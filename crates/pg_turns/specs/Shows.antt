@@ -1,7 +1,7 @@
 -- The machine on plain values that the machine over lists stands for: what frames own lies on the lists, those of the
 -- topmost frame last. Lengths that frames keep are those of what stands below. The table on the tape is that of the spot where
 -- the machine stands: the first operators of it, as many as a frame kept, are those of the frame's spot.
-use Rattle.std.specs.Prelude.{◌≡◌, ℕ, Bool, List, [], ◌∷◌, ◌++◌, true, length, Option, Some, None}
+use Rattle.std.specs.Prelude.{◌≡◌, ◌≤◌, ◌+◌, ◌-◌, ℕ, Bool, List, [], ◌∷◌, ◌++◌, true, false, length, take, Option, Some, None}
 use Rattle.pg_tree.specs.Trees.{Tree}
 use Rattle.pg_form.specs.Operators.{Operator}
 use Rattle.pg_form.specs.declared.form.Around.{Around}
@@ -13,7 +13,8 @@ use Rattle.pg_language.specs.Errors.{Error}
 use Rattle.pg_language.specs.Outcomes.{ok, failed, empty_round}
 use Rattle.pg_turns.specs.Frames.{Before, none_before, before, Tried, none_tried, failed_tried, ok_tried, Chain, Linked, Frame, in_parts, in_choice, in_rounds, in_first, in_separator, in_operand, in_rule, in_around}
 use Rattle.pg_message_tape.specs.Messages.{TapeMessage}
-use Rattle.pg_turns.specs.Tape.{spot_at, OnTried, no_tried, tried_failure, tried_empty_ok, OnChain, OnLinks, OnFrame, on_parts, on_choice, on_rounds, on_first, on_separator, on_operand, on_rule, on_around, Tape, tape_at, tape_with, tape_endless}
+use Rattle.pg_turns.specs.Tape.{spot_at, OnTried, no_tried, tried_failure, tried_empty_ok, OnChain, OnLinks, OnFrame, on_parts, on_choice, on_rounds, on_first, on_separator, on_operand, on_rule, on_around, Tape, tape_at, tape_with, tape_endless, hides}
+use Rattle.pg_turns.specs.RunTrees.{RunTrees}
 use Rattle.pg_turns.specs.Turns.{State, at_node, with_outcome, endless}
 use Rattle.pg_message_tape.specs.TapeErrors.{Says, Holds}
 use Rattle.pg_turns.specs.declared.frame.Before as declared
@@ -42,11 +43,62 @@ pub data ShowsBefore : List TapeMessage → Table → Before → List Tree → L
   some_parts : {x y : List TapeMessage} {T U : Table} {kept : KeptError} {c : Bool} {v : List Tree} {t : List TrailItem} {e : Error} →
       Holds x kept e y → Extends c T U → ShowsBefore x T (before c v t e) v t (Some (record { consumed = c; kept = kept })) y U
 
-pub data ShowsTried (T : Table) : List TapeMessage → Tried → OnTried → List TapeMessage → Type 0 where
-  nothing_tried : {x : List TapeMessage} → ShowsTried T x none_tried no_tried x
-  a_failure : {x y : List TapeMessage} {kept : KeptError} {e : Error} → Holds x kept e y → ShowsTried T x (failed_tried e) (tried_failure kept) y
-  an_empty_ok : {x y : List TapeMessage} {kept : KeptError} {i : ℕ} {v : List Tree} {t : List TrailItem} {e : Error} → Holds x kept e y →
-      ShowsTried T x (ok_tried (spot_at T i) v t e) (tried_empty_ok i v t kept) y
+-- where the trees begin that a form throws away, if one does: at the lowest of these forms
+abbrev pub lower : Option ℕ → Bool → ℕ → Option ℕ
+lower (Some m) hides n = Some m
+lower None true n = Some n
+lower None false n = None
+
+abbrev pub thrown_from : List OnFrame → Option ℕ
+thrown_from [] = None
+thrown_from (on_parts rest b ∷ gs) = thrown_from gs
+thrown_from (on_choice k ps i q n m o ∷ gs) = thrown_from gs
+thrown_from (on_rounds p k c i slot n m o l ∷ gs) = thrown_from gs
+thrown_from (on_first chain slot n ∷ gs) = thrown_from gs
+thrown_from (on_separator l ∷ gs) = thrown_from gs
+thrown_from (on_operand l b n ∷ gs) = thrown_from gs
+thrown_from (on_rule ∷ gs) = thrown_from gs
+thrown_from (on_around around i n o ∷ gs) = lower (thrown_from gs) (hides around) n
+
+abbrev pub one_if : Bool → ℕ
+one_if true = 1
+one_if false = 0
+
+-- how many of these frames throw trees away
+abbrev pub hiding_in : List OnFrame → ℕ
+hiding_in [] = 0
+hiding_in (on_parts rest b ∷ gs) = hiding_in gs
+hiding_in (on_choice k ps i q n m o ∷ gs) = hiding_in gs
+hiding_in (on_rounds p k c i slot n m o l ∷ gs) = hiding_in gs
+hiding_in (on_first chain slot n ∷ gs) = hiding_in gs
+hiding_in (on_separator l ∷ gs) = hiding_in gs
+hiding_in (on_operand l b n ∷ gs) = hiding_in gs
+hiding_in (on_rule ∷ gs) = hiding_in gs
+hiding_in (on_around around i n o ∷ gs) = hiding_in gs + one_if (hides around)
+
+-- these trees, all kept, or only those before the ones that will be thrown away
+abbrev pub Keeps : Option ℕ → RunTrees → List Tree → Type 0
+Keeps None f v = (f.hiding ≡ 0) × (f.kept ≡ v) × (f.hidden ≡ 0)
+Keeps (Some n) f v = (1 ≤ f.hiding) × (n ≤ length v) × (f.kept ≡ take n v) × (f.hidden ≡ length v - n)
+
+-- the trees of the run under these frames
+pub record Means (gs : List OnFrame) (f : RunTrees) (v : List Tree) : Type 0 where
+  pub count : f.hiding ≡ hiding_in gs
+  pub trees : Keeps (thrown_from gs) f v
+
+-- the same of trees that were taken off: all, or their number
+abbrev pub IsPart : Option ℕ → List Tree → ℕ → List Tree → Type 0
+IsPart None p h v = (p ≡ v) × (h ≡ 0)
+IsPart (Some n) p h v = (p ≡ []) × (h ≡ length v)
+
+pub record KeepsPart (thrown : Option ℕ) (p : List Tree) (h : ℕ) (v : List Tree) : Type 0 where
+  pub is : IsPart thrown p h v
+
+pub data ShowsTried (thrown : Option ℕ) (T : Table) : List TapeMessage → Tried → OnTried → List TapeMessage → Type 0 where
+  nothing_tried : {x : List TapeMessage} → ShowsTried thrown T x none_tried no_tried x
+  a_failure : {x y : List TapeMessage} {kept : KeptError} {e : Error} → Holds x kept e y → ShowsTried thrown T x (failed_tried e) (tried_failure kept) y
+  an_empty_ok : {x y : List TapeMessage} {kept : KeptError} {i h : ℕ} {v p : List Tree} {t : List TrailItem} {e : Error} → Holds x kept e y →
+      KeepsPart thrown p h v → ShowsTried thrown T x (ok_tried (spot_at T i) v t e) (tried_empty_ok i p h t kept) y
 
 -- the trees that wait to be folded lie after the first list; from the left none do
 pub data Waits : OnChain → List Tree → List (List Tree × List Tree) → List ℕ → List Tree → Type 0 where
@@ -87,7 +139,7 @@ pub data Stands : List Frame → List OnFrame → List Tree → List TrailItem �
       Stands (in_parts ps done ∷ fs) (on_parts ps b ∷ gs) (v ++ w) (t ++ u) y U
   stands_choice : {fs : List Frame} {gs : List OnFrame} {v : List Tree} {t : List TrailItem} {x y : List TapeMessage} {T : Table}
       {ps : List ℕ} {k i : ℕ} {tried : Tried} {q : OnTried} →
-      Stands fs gs v t x T → ShowsTried T x tried q y →
+      Stands fs gs v t x T → ShowsTried (thrown_from gs) T x tried q y →
       Stands (in_choice k ps (spot_at T i) tried ∷ fs) (on_choice k ps i q (length v) (length t) (length T.operators) ∷ gs) v
       (t ++ Alt k ∷ []) y T
   stands_rounds : {fs : List Frame} {gs : List OnFrame} {v w : List Tree} {t u : List TrailItem} {x : List TapeMessage} {T U : Table}
@@ -111,21 +163,21 @@ pub data Stands : List Frame → List OnFrame → List Tree → List TrailItem �
       Stands fs gs v t x T → Stands (in_rule ∷ fs) (on_rule ∷ gs) v t x T
   stands_around : {fs : List Frame} {gs : List OnFrame} {v : List Tree} {t : List TrailItem} {x : List TapeMessage} {T : Table}
       {around : Around} {i : ℕ} →
-      Stands fs gs v t x T → Stands (in_around around (spot_at T i) ∷ fs) (on_around around i (length v) ∷ gs) v t x T
+      Stands fs gs v t x T → Stands (in_around around (spot_at T i) ∷ fs) (on_around around i (length v) (length T.operators) ∷ gs) v t x T
 
 -- the state of the one is the tape of the other: an ok outcome's trees, items, messages and operators stand last, after a
 -- failed one others may, and what lies there after an empty round doesn't matter
 pub data Shows : State → Tape → Type 0 where
-  shows_at : {fs : List Frame} {gs : List OnFrame} {v : List Tree} {t : List TrailItem} {x : List TapeMessage} {T : Table} {p i : ℕ} →
-      Stands fs gs v t x T → Shows (at_node p (spot_at T i) fs) (tape_at p i gs v t x T)
-  shows_succeeded : {fs : List Frame} {gs : List OnFrame} {v w : List Tree} {t u : List TrailItem} {x y : List TapeMessage} {T U : Table}
-      {c : Bool} {j : ℕ} {error : TapeError} {e : Error} →
-      Stands fs gs v t x T → Says x error e y → Extends c T U →
-      Shows (with_outcome (ok c (spot_at U j) w u e) fs) (tape_with (Succeeded c j error) gs (v ++ w) (t ++ u) y U)
-  shows_failed : {fs : List Frame} {gs : List OnFrame} {v : List Tree} {t : List TrailItem} {x y : List TapeMessage} {T U : Table} {c : Bool}
-      {error : TapeError} {e : Error} (w : List Tree) (u : List TrailItem) →
-      Stands fs gs v t x T → Says x error e y → Extends true T U →
-      Shows (with_outcome (failed c e) fs) (tape_with (Failed c error) gs (v ++ w) (t ++ u) y U)
-  shows_stuck : {fs : List Frame} {gs : List OnFrame} {v : List Tree} {t : List TrailItem} {x : List TapeMessage} {T : Table} →
-      length fs ≡ length gs → Shows (with_outcome empty_round fs) (tape_with EmptyRound gs v t x T)
+  shows_at : {fs : List Frame} {gs : List OnFrame} {v : List Tree} {f : RunTrees} {t : List TrailItem} {x : List TapeMessage} {T : Table} {p i : ℕ} →
+      Stands fs gs v t x T → Means gs f v → Shows (at_node p (spot_at T i) fs) (tape_at p i gs f t x T)
+  shows_succeeded : {fs : List Frame} {gs : List OnFrame} {v w : List Tree} {f : RunTrees} {t u : List TrailItem} {x y : List TapeMessage}
+      {T U : Table} {c : Bool} {j : ℕ} {error : TapeError} {e : Error} →
+      Stands fs gs v t x T → Means gs f (v ++ w) → Says x error e y → Extends c T U →
+      Shows (with_outcome (ok c (spot_at U j) w u e) fs) (tape_with (Succeeded c j error) gs f (t ++ u) y U)
+  shows_failed : {fs : List Frame} {gs : List OnFrame} {v : List Tree} {f : RunTrees} {t : List TrailItem} {x y : List TapeMessage} {T U : Table}
+      {c : Bool} {error : TapeError} {e : Error} (w : List Tree) (u : List TrailItem) →
+      Stands fs gs v t x T → Means gs f (v ++ w) → Says x error e y → Extends true T U →
+      Shows (with_outcome (failed c e) fs) (tape_with (Failed c error) gs f (t ++ u) y U)
+  shows_stuck : {fs : List Frame} {gs : List OnFrame} {f : RunTrees} {t : List TrailItem} {x : List TapeMessage} {T : Table} →
+      length fs ≡ length gs → Shows (with_outcome empty_round fs) (tape_with EmptyRound gs f t x T)
   shows_endless : Shows endless tape_endless

@@ -1,7 +1,6 @@
 -- The machine over one forest, one trail, one list of messages and one table: frames keep how long these lists, and that of the
 -- table's operators, were.
 use Rattle.std.specs.Prelude.{ℕ, suc, zero, ◌==◌, List, [], ◌∷◌, ◌++◌, length, take, drop, map, Option, Some, None, Bool, true, false, ◌||◌, slice_get, slice_set, if◌then◌else◌}
-use Rattle.pg_tree.specs.Built.{built}
 use Rattle.pg_tree.specs.Trees.{Tree}
 use Rattle.pg_tree.specs.declared.shape.Shape.{Shape}
 use Rattle.pg_message.specs.Messages.{Text, Messages}
@@ -17,7 +16,7 @@ use Rattle.pg_value.specs.declared.grammar.Rule as declared
 use Rattle.pg_value.specs.declared.trail.TrailItem.{TrailItem}
 use Rattle.pg_value.specs.declared.trail.TrailItem.TheVariants.{Alt, Rounds}
 use Rattle.pg_form.specs.declared.used.BuilderUse.{BuilderUse}
-use Rattle.pg_language.specs.Derives.{Spot, made_by}
+use Rattle.pg_language.specs.Derives.{Spot, leaf_of, span}
 use Rattle.pg_table.specs.Tables.{Table, first_operators}
 use Rattle.pg_language.specs.Answers.{Given}
 use Rattle.pg_language.specs.Leaves.{leaf_outcome}
@@ -28,6 +27,8 @@ use Rattle.pg_language.specs.declared.reading.Reading.{Reading}
 use Rattle.pg_language.specs.declared.reading.Reading.TheVariants.{Library, Report}
 use Rattle.pg_message_tape.specs.Messages.{TapeMessage, relabelled}
 use Rattle.pg_message_tape.specs.TapeErrors.{tape_error, kept_at, merged_tape_error, merged_messages, tape_error_after, messages_after}
+use Rattle.pg_turns.specs.RunTrees.{tree_count, rejoined, with_trees, first_trees, hidden_after, built_after, with_hiding, without_hiding}
+use Rattle.pg_turns.specs.RunTrees.{RunTrees}
 use Rattle.pg_turns.specs.declared.frame.Before.{Before}
 use Rattle.pg_turns.specs.declared.frame.Reply.{Reply}
 use Rattle.pg_turns.specs.declared.frame.Reply.TheVariants.{Succeeded, Failed, EmptyRound}
@@ -43,7 +44,8 @@ spot_at table place = record { place = place; table = table }
 pub data OnTried : Type 0 where
   no_tried : OnTried
   tried_failure : (kept : KeptError) → OnTried
-  tried_empty_ok : (end : ℕ) (v : List Tree) (t : List TrailItem) (kept : KeptError) → OnTried
+  -- with the trees that it kept, and how many more it had
+  tried_empty_ok : (end : ℕ) (v : List Tree) (hidden : ℕ) (t : List TrailItem) (kept : KeptError) → OnTried
 
 pub record OnChain : Type 0 where
   pub side : Side
@@ -79,13 +81,13 @@ pub data OnFrame : Type 0 where
   -- with how long the forest was before the operand
   on_operand : OnLinks → Before → (forest : ℕ) → OnFrame
   on_rule : OnFrame
-  -- with how long the forest was
-  on_around : (around : Around) (start forest : ℕ) → OnFrame
+  -- with how long the forest was, and how many operators there were
+  on_around : (around : Around) (start forest operators : ℕ) → OnFrame
 
 -- the topmost frame first, the forest, the trail, the messages, and the table in force
 pub data Tape : Type 0 where
-  tape_at : (node place : ℕ) (fs : List OnFrame) (v : List Tree) (t : List TrailItem) (x : List TapeMessage) (T : Table) → Tape
-  tape_with : (reply : Reply) (fs : List OnFrame) (v : List Tree) (t : List TrailItem) (x : List TapeMessage) (T : Table) → Tape
+  tape_at : (node place : ℕ) (fs : List OnFrame) (v : RunTrees) (t : List TrailItem) (x : List TapeMessage) (T : Table) → Tape
+  tape_with : (reply : Reply) (fs : List OnFrame) (v : RunTrees) (t : List TrailItem) (x : List TapeMessage) (T : Table) → Tape
   tape_endless : Tape
 
 -- ---- leaves
@@ -99,8 +101,8 @@ listed m = listed_kind SystemUnexpected m.system_unexpected ++ (listed_kind Unex
     ++ listed_kind Plain m.plain))
 
 -- what a leaf came to is put on the lists
-abbrev pub tape_leaf : Outcome → List OnFrame → List Tree → List TrailItem → List TapeMessage → Table → Tape
-tape_leaf (outcome.ok c b w u e) fs v t x T = tape_with (Succeeded c b.place (tape_error e.place (length x))) fs (v ++ w) (t ++ u)
+abbrev pub tape_leaf : Outcome → List OnFrame → RunTrees → List TrailItem → List TapeMessage → Table → Tape
+tape_leaf (outcome.ok c b w u e) fs v t x T = tape_with (Succeeded c b.place (tape_error e.place (length x))) fs (with_trees w v) (t ++ u)
     (x ++ listed e.messages) b.table
 tape_leaf (outcome.failed c e) fs v t x T = tape_with (Failed c (tape_error e.place (length x))) fs v t (x ++ listed e.messages) T
 tape_leaf outcome.empty_round fs v t x T = tape_with EmptyRound fs v t x T
@@ -124,11 +126,11 @@ joined_messages (Some b) c error x = messages_after c b.kept error x
 abbrev pub before_at : Bool → ℕ → TapeError → Before
 before_at c upto error = record { consumed = c; kept = kept_at upto error }
 
-abbrev pub tape_next_part : List ℕ → Bool → ℕ → TapeError → List OnFrame → List Tree → List TrailItem → List TapeMessage → Table → Tape
+abbrev pub tape_next_part : List ℕ → Bool → ℕ → TapeError → List OnFrame → RunTrees → List TrailItem → List TapeMessage → Table → Tape
 tape_next_part [] c j error fs v t x T = tape_with (Succeeded c j error) fs v t x T
 tape_next_part (p ∷ ps) c j error fs v t x T = tape_at p j (on_parts ps (Some (before_at c (length x) error)) ∷ fs) v t x T
 
-abbrev pub tape_to_parts : List ℕ → Option Before → Reply → List OnFrame → List Tree → List TrailItem → List TapeMessage → Table → Tape
+abbrev pub tape_to_parts : List ℕ → Option Before → Reply → List OnFrame → RunTrees → List TrailItem → List TapeMessage → Table → Tape
 tape_to_parts rest before (Succeeded c j error) fs v t x T = tape_next_part rest (joined_consumed before c) j (joined_tape_error before c error x) fs v t
     (joined_messages before c error x) T
 tape_to_parts rest before (Failed c error) fs v t x T = tape_with (Failed (joined_consumed before c)
@@ -138,92 +140,88 @@ tape_to_parts rest before EmptyRound fs v t x T = tape_with EmptyRound fs v t x 
 -- ---- choices
 
 -- the last answer of the alternatives, after what those before it came to: their lists were so long
-abbrev pub tape_settled : OnTried → ℕ → ℕ → ℕ → Reply → List OnFrame → List Tree → List TrailItem → List TapeMessage → Table → Tape
+abbrev pub tape_settled : OnTried → ℕ → ℕ → ℕ → Reply → List OnFrame → RunTrees → List TrailItem → List TapeMessage → Table → Tape
 tape_settled no_tried n m o reply fs v t x T = tape_with reply fs v t x T
 tape_settled (tried_failure kept) n m o (Succeeded c j error) fs v t x T = tape_with (Succeeded c j (tape_error_after c kept error x)) fs v t (messages_after c
     kept error x) T
 tape_settled (tried_failure kept) n m o (Failed c error) fs v t x T = tape_with (Failed c (tape_error_after c kept error x)) fs v t (messages_after c
     kept error x) T
 tape_settled (tried_failure kept) n m o EmptyRound fs v t x T = tape_with EmptyRound fs v t x T
-tape_settled (tried_empty_ok i w u kept) n m o (Succeeded true j error) fs v t x T = tape_with (Succeeded true j error) fs v t x T
-tape_settled (tried_empty_ok i w u kept) n m o (Succeeded false j error) fs v t x T =
-    tape_with (Succeeded false i (merged_tape_error kept error x)) fs (take n v ++ w) (take m t ++ u) (merged_messages kept error x)
+tape_settled (tried_empty_ok i w h u kept) n m o (Succeeded true j error) fs v t x T = tape_with (Succeeded true j error) fs v t x T
+tape_settled (tried_empty_ok i w h u kept) n m o (Succeeded false j error) fs v t x T =
+    tape_with (Succeeded false i (merged_tape_error kept error x)) fs (rejoined w h (first_trees n v)) (take m t ++ u) (merged_messages kept error x)
     (first_operators o T)
-tape_settled (tried_empty_ok i w u kept) n m o (Failed true error) fs v t x T = tape_with (Failed true error) fs v t x T
-tape_settled (tried_empty_ok i w u kept) n m o (Failed false error) fs v t x T =
-    tape_with (Succeeded false i (merged_tape_error kept error x)) fs (take n v ++ w) (take m t ++ u) (merged_messages kept error x)
+tape_settled (tried_empty_ok i w h u kept) n m o (Failed true error) fs v t x T = tape_with (Failed true error) fs v t x T
+tape_settled (tried_empty_ok i w h u kept) n m o (Failed false error) fs v t x T =
+    tape_with (Succeeded false i (merged_tape_error kept error x)) fs (rejoined w h (first_trees n v)) (take m t ++ u) (merged_messages kept error x)
     (first_operators o T)
-tape_settled (tried_empty_ok i w u kept) n m o EmptyRound fs v t x T = tape_with EmptyRound fs v t x T
+tape_settled (tried_empty_ok i w h u kept) n m o EmptyRound fs v t x T = tape_with EmptyRound fs v t x T
 
-abbrev pub tape_next_alternative : ℕ → List ℕ → ℕ → OnTried → List OnFrame → List Tree → List TrailItem → List TapeMessage → Table → Tape
+abbrev pub tape_next_alternative : ℕ → List ℕ → ℕ → OnTried → List OnFrame → RunTrees → List TrailItem → List TapeMessage → Table → Tape
 tape_next_alternative k [] i tried fs v t x T =
-    tape_settled tried (length v) (length t) (length T.operators) (Failed false (tape_error i (length x))) fs v t x T
-tape_next_alternative k (p ∷ ps) i tried fs v t x T = tape_at p i (on_choice k ps i tried (length v) (length t)
+    tape_settled tried (tree_count v) (length t) (length T.operators) (Failed false (tape_error i (length x))) fs v t x T
+tape_next_alternative k (p ∷ ps) i tried fs v t x T = tape_at p i (on_choice k ps i tried (tree_count v) (length t)
     (length T.operators) ∷ fs) v (t ++ Alt k ∷ []) x T
 
 -- the error of one more alternative that consumed nothing
 abbrev pub tried_tape_error : OnTried → TapeError → List TapeMessage → TapeError
 tried_tape_error no_tried error x = error
 tried_tape_error (tried_failure kept) error x = merged_tape_error kept error x
-tried_tape_error (tried_empty_ok i w u kept) error x = merged_tape_error kept error x
+tried_tape_error (tried_empty_ok i w h u kept) error x = merged_tape_error kept error x
 
 abbrev pub tried_messages : OnTried → TapeError → List TapeMessage → List TapeMessage
 tried_messages no_tried error x = x
 tried_messages (tried_failure kept) error x = merged_messages kept error x
-tried_messages (tried_empty_ok i w u kept) error x = merged_messages kept error x
+tried_messages (tried_empty_ok i w h u kept) error x = merged_messages kept error x
 
 -- one more that failed
 abbrev pub tried_with_failure : OnTried → KeptError → OnTried
 tried_with_failure no_tried kept = tried_failure kept
 tried_with_failure (tried_failure before) kept = tried_failure kept
-tried_with_failure (tried_empty_ok i w u before) kept = tried_empty_ok i w u kept
+tried_with_failure (tried_empty_ok i w h u before) kept = tried_empty_ok i w h u kept
 
 -- one more that was ok, with this at the ends of the lists
-abbrev pub tried_with_empty_ok : OnTried → ℕ → List Tree → List TrailItem → KeptError → OnTried
-tried_with_empty_ok no_tried j w u kept = tried_empty_ok j w u kept
-tried_with_empty_ok (tried_failure before) j w u kept = tried_empty_ok j w u kept
-tried_with_empty_ok (tried_empty_ok i v t before) j w u kept = tried_empty_ok i v t kept
+abbrev pub tried_with_empty_ok : OnTried → ℕ → List Tree → ℕ → List TrailItem → KeptError → OnTried
+tried_with_empty_ok no_tried j w h u kept = tried_empty_ok j w h u kept
+tried_with_empty_ok (tried_failure before) j w h u kept = tried_empty_ok j w h u kept
+tried_with_empty_ok (tried_empty_ok i v g t before) j w h u kept = tried_empty_ok i v g t kept
 
 -- the error that is kept from now on
 abbrev pub tried_kept : OnTried → TapeError → List TapeMessage → KeptError
 tried_kept tried error x = kept_at (length (tried_messages tried error x)) (tried_tape_error tried error x)
 
-abbrev pub tape_empty_ok : Reading → ℕ → List ℕ → ℕ → OnTried → ℕ → ℕ → ℕ → ℕ → TapeError → List OnFrame → List Tree → List TrailItem →
+abbrev pub tape_empty_ok : Reading → ℕ → List ℕ → ℕ → OnTried → ℕ → ℕ → ℕ → ℕ → TapeError → List OnFrame → RunTrees → List TrailItem →
     List TapeMessage → Table → Tape
 tape_empty_ok Library k ps i tried n m o j error fs v t x T = tape_settled tried n m o (Succeeded false j error) fs v t x T
 tape_empty_ok Report k ps i tried n m o j error fs v t x T =
-    tape_next_alternative (suc k) ps i (tried_with_empty_ok tried j (drop n v) (drop m t) (tried_kept tried error x)) fs (take n v) (take m t)
+    tape_next_alternative (suc k) ps i (tried_with_empty_ok tried j (drop n v.kept) (hidden_after n v) (drop m t) (tried_kept tried error x)) fs (first_trees n v) (take m t)
     (tried_messages tried error x) (first_operators o T)
 
-abbrev pub tape_to_choice : Reading → ℕ → List ℕ → ℕ → OnTried → ℕ → ℕ → ℕ → Reply → List OnFrame → List Tree → List TrailItem →
+abbrev pub tape_to_choice : Reading → ℕ → List ℕ → ℕ → OnTried → ℕ → ℕ → ℕ → Reply → List OnFrame → RunTrees → List TrailItem →
     List TapeMessage → Table → Tape
 tape_to_choice reading k ps i tried n m o (Succeeded true j error) fs v t x T = tape_settled tried n m o (Succeeded true j error) fs v t x T
 tape_to_choice reading k ps i tried n m o (Succeeded false j error) fs v t x T = tape_empty_ok reading k ps i tried n m o j error fs v t x T
 tape_to_choice reading k ps i tried n m o (Failed true error) fs v t x T = tape_settled tried n m o (Failed true error) fs v t x T
 tape_to_choice reading k ps i tried n m o (Failed false error) fs v t x T =
-    tape_next_alternative (suc k) ps i (tried_with_failure tried (tried_kept tried error x)) fs (take n v) (take m t) (tried_messages tried error x)
+    tape_next_alternative (suc k) ps i (tried_with_failure tried (tried_kept tried error x)) fs (first_trees n v) (take m t) (tried_messages tried error x)
     (first_operators o T)
 tape_to_choice reading k ps i tried n m o EmptyRound fs v t x T = tape_with EmptyRound fs v t x T
 
 -- ---- repetitions
 
-abbrev pub tape_to_rounds : ℕ → ℕ → Bool → ℕ → ℕ → ℕ → ℕ → ℕ → ℕ → Reply → List OnFrame → List Tree → List TrailItem → List TapeMessage → Table → Tape
-tape_to_rounds p k c i slot n m o l (Succeeded true j error) fs v t x T = tape_at p j (on_rounds p (suc k) true j slot (length v)
+abbrev pub tape_to_rounds : ℕ → ℕ → Bool → ℕ → ℕ → ℕ → ℕ → ℕ → ℕ → Reply → List OnFrame → RunTrees → List TrailItem → List TapeMessage → Table → Tape
+tape_to_rounds p k c i slot n m o l (Succeeded true j error) fs v t x T = tape_at p j (on_rounds p (suc k) true j slot (tree_count v)
     (length t) (length T.operators) l ∷ fs) v t (take l x) T
 tape_to_rounds p k c i slot n m o l (Succeeded false j error) fs v t x T = tape_with EmptyRound fs v t x T
 tape_to_rounds p k c i slot n m o l (Failed true error) fs v t x T = tape_with (Failed true error) fs v t x T
-tape_to_rounds p k c i slot n m o l (Failed false error) fs v t x T = tape_with (Succeeded c i error) fs (take n v)
+tape_to_rounds p k c i slot n m o l (Failed false error) fs v t x T = tape_with (Succeeded c i error) fs (first_trees n v)
     (slice_set (take m t) slot (Rounds k)) x (first_operators o T)
 tape_to_rounds p k c i slot n m o l EmptyRound fs v t x T = tape_with EmptyRound fs v t x T
 
 -- ---- chains
 
--- the trees after the first n are made into one
-abbrev pub built_after : Shape → List ℕ → ℕ → List Tree → List Tree
-built_after shape symbol n v = take n v ++ built shape symbol (drop n v) ∷ []
-
 -- all that waits is folded, from the last place on
-abbrev pub all_built : Shape → List ℕ → List Tree → List Tree
+abbrev pub all_built : Shape → List ℕ → RunTrees → RunTrees
 all_built shape [] v = v
 all_built shape (n ∷ ns) v = all_built shape ns (built_after shape [] n v)
 
@@ -242,9 +240,9 @@ first_links chain slot n c j kept forest trail operators = record {
   operators = operators;
 }
 
-abbrev pub tape_to_first : OnChain → ℕ → ℕ → Reply → List OnFrame → List Tree → List TrailItem → List TapeMessage → Table → Tape
+abbrev pub tape_to_first : OnChain → ℕ → ℕ → Reply → List OnFrame → RunTrees → List TrailItem → List TapeMessage → Table → Tape
 tape_to_first chain slot n (Succeeded c j error) fs v t x T =
-    tape_at chain.separator j (on_separator (first_links chain slot n c j (kept_at (length x) error) (length v) (length t)
+    tape_at chain.separator j (on_separator (first_links chain slot n c j (kept_at (length x) error) (tree_count v) (length t)
     (length T.operators)) ∷ fs) v t x T
 tape_to_first chain slot n (Failed c error) fs v t x T = tape_with (Failed c error) fs v t x T
 tape_to_first chain slot n EmptyRound fs v t x T = tape_with EmptyRound fs v t x T
@@ -257,21 +255,21 @@ abbrev pub end_messages : OnLinks → TapeError → List TapeMessage → List Ta
 end_messages links error x = merged_messages (kept_at (length x) error) (tape_error links.start (length x)) x
 
 -- a link failed, having consumed or not
-abbrev pub tape_ended : OnLinks → Bool → TapeError → List OnFrame → List Tree → List TrailItem → List TapeMessage → Table → Tape
+abbrev pub tape_ended : OnLinks → Bool → TapeError → List OnFrame → RunTrees → List TrailItem → List TapeMessage → Table → Tape
 tape_ended links true error fs v t x T = tape_with (Failed true error) fs v t x T
 tape_ended links false error fs v t x T =
     tape_with (Succeeded links.consumed links.start (merged_tape_error links.kept (end_tape_error links error x) (end_messages links error x))) fs
-    (all_built links.chain.used.shape links.waiting (take links.forest v)) (slice_set (take links.trail t) links.slot (Rounds links.count))
+    (all_built links.chain.used.shape links.waiting (first_trees links.forest v)) (slice_set (take links.trail t) links.slot (Rounds links.count))
     (merged_messages links.kept (end_tape_error links error x) (end_messages links error x)) (first_operators links.operators T)
 
-abbrev pub tape_to_separator : OnLinks → Reply → List OnFrame → List Tree → List TrailItem → List TapeMessage → Table → Tape
+abbrev pub tape_to_separator : OnLinks → Reply → List OnFrame → RunTrees → List TrailItem → List TapeMessage → Table → Tape
 tape_to_separator links (Succeeded c j error) fs v t x T = tape_at links.chain.operand j (on_operand links (before_at c (length x) error)
-    (length v) ∷ fs) v t x T
+    (tree_count v) ∷ fs) v t x T
 tape_to_separator links (Failed c error) fs v t x T = tape_ended links c error fs v t x T
 tape_to_separator links EmptyRound fs v t x T = tape_with EmptyRound fs v t x T
 
 -- the forest after a link: from the left it is one tree, and from the right the operand's trees stand alone
-abbrev pub link_forest : Side → Shape → ℕ → List Tree → List Tree
+abbrev pub link_forest : Side → Shape → ℕ → RunTrees → RunTrees
 link_forest Left shape n v = built_after shape [] n v
 link_forest Right shape n v = v
 
@@ -299,12 +297,12 @@ more_links links j n kept forest trail operators = record {
   operators = operators;
 }
 
-abbrev pub tape_linked : Bool → OnLinks → ℕ → ℕ → KeptError → List OnFrame → List Tree → List TrailItem → List TapeMessage → Table → Tape
-tape_linked true links j n kept fs v t x T = tape_at links.chain.separator j (on_separator (more_links links j n kept (length v)
+abbrev pub tape_linked : Bool → OnLinks → ℕ → ℕ → KeptError → List OnFrame → RunTrees → List TrailItem → List TapeMessage → Table → Tape
+tape_linked true links j n kept fs v t x T = tape_at links.chain.separator j (on_separator (more_links links j n kept (tree_count v)
     (length t) (length T.operators)) ∷ fs) v t x T
 tape_linked false links j n kept fs v t x T = tape_endless
 
-abbrev pub tape_to_operand : OnLinks → Before → ℕ → Reply → List OnFrame → List Tree → List TrailItem → List TapeMessage → Table → Tape
+abbrev pub tape_to_operand : OnLinks → Before → ℕ → Reply → List OnFrame → RunTrees → List TrailItem → List TapeMessage → Table → Tape
 tape_to_operand links before n (Succeeded d j error) fs v t x T =
     tape_linked (before.consumed || d) links j n (kept_at (length (messages_after d before.kept error x))
     (tape_error_after d before.kept error x)) fs
@@ -321,11 +319,41 @@ reply_around around (Succeeded c j error) = Succeeded c j error
 reply_around around (Failed c error) = Failed (counted_by around c) error
 reply_around around EmptyRound = EmptyRound
 
--- after the first n trees stands what the form makes of the others, where the reply is ok
-abbrev pub forest_around : Around → List ℕ → ℕ → ℕ → Reply → List Tree → List Tree
-forest_around around text i n (Succeeded c j error) v = take n v ++ made_by around text i j (drop n v)
-forest_around around text i n (Failed c error) v = v
+-- whether a form throws away the trees of its part
+abbrev pub hides : Around → Bool
+hides kind.Try = false
+hides kind.Text = true
+hides kind.Skip = true
+hides (kind.Build used symbol) = false
+hides (kind.Label message) = false
+hides kind.Local = false
+
+-- what the form makes of the trees after the first n, where the part took the text from the one place to the other
+abbrev pub forest_made : Around → List ℕ → ℕ → ℕ → ℕ → RunTrees → RunTrees
+forest_made kind.Try text i j n v = v
+forest_made kind.Text text i j n v = with_trees (leaf_of (span text i j) ∷ []) (without_hiding (first_trees n v))
+forest_made kind.Skip text i j n v = without_hiding (first_trees n v)
+forest_made (kind.Build used symbol) text i j n v = built_after used.shape symbol n v
+forest_made (kind.Label message) text i j n v = v
+forest_made kind.Local text i j n v = v
+
+-- what it leaves of them where the part failed: nothing that is hidden
+abbrev pub forest_left : Around → ℕ → RunTrees → RunTrees
+forest_left kind.Try n v = v
+forest_left kind.Text n v = without_hiding (first_trees n v)
+forest_left kind.Skip n v = without_hiding (first_trees n v)
+forest_left (kind.Build used symbol) n v = v
+forest_left (kind.Label message) n v = v
+forest_left kind.Local n v = v
+
+abbrev pub forest_around : Around → List ℕ → ℕ → ℕ → Reply → RunTrees → RunTrees
+forest_around around text i n (Succeeded c j error) v = forest_made around text i j n v
+forest_around around text i n (Failed c error) v = forest_left around n v
 forest_around around text i n EmptyRound v = v
+
+-- as a form begins
+abbrev pub forest_in : Around → RunTrees → RunTrees
+forest_in around v = if hides around then with_hiding v else v
 
 -- a name stands for what was expected, but an ok answer without messages gets none
 abbrev pub label_succeeded : Bool → List ℕ → TapeError → List TapeMessage → List TapeMessage
@@ -347,14 +375,30 @@ messages_around kind.Text reply x = x
 messages_around kind.Skip reply x = x
 messages_around (kind.Build used symbol) reply x = x
 messages_around (kind.Label message) reply x = labelled_messages message reply x
+messages_around kind.Local reply x = x
 
-abbrev pub tape_to_around : List ℕ → Around → ℕ → ℕ → Reply → List OnFrame → List Tree → List TrailItem → List TapeMessage → Table → Tape
-tape_to_around text around i n reply fs v t x T =
-    tape_with (reply_around around reply) fs (forest_around around text i n reply v) t (messages_around around reply x) T
+-- the table after an ok answer: `local` gives back the first operators, so many as there were before
+abbrev pub left_table : Around → ℕ → Table → Table
+left_table kind.Try o T = T
+left_table kind.Text o T = T
+left_table kind.Skip o T = T
+left_table (kind.Build used symbol) o T = T
+left_table (kind.Label message) o T = T
+left_table kind.Local o T = first_operators o T
+
+abbrev pub table_around : Around → ℕ → Reply → Table → Table
+table_around around o (Succeeded c j error) T = left_table around o T
+table_around around o (Failed c error) T = T
+table_around around o EmptyRound T = T
+
+abbrev pub tape_to_around : List ℕ → Around → ℕ → ℕ → ℕ → Reply → List OnFrame → RunTrees → List TrailItem → List TapeMessage → Table → Tape
+tape_to_around text around i n o reply fs v t x T =
+    tape_with (reply_around around reply) fs (forest_around around text i n reply v) t (messages_around around reply x)
+    (table_around around o reply T)
 
 -- ---- turns
 
-abbrev pub tape_hand : Given → OnFrame → Reply → List OnFrame → List Tree → List TrailItem → List TapeMessage → Table → Tape
+abbrev pub tape_hand : Given → OnFrame → Reply → List OnFrame → RunTrees → List TrailItem → List TapeMessage → Table → Tape
 tape_hand G (on_parts rest before) reply fs v t x T = tape_to_parts rest before reply fs v t x T
 tape_hand G (on_choice k ps i tried n m o) reply fs v t x T = tape_to_choice G.reading k ps i tried n m o reply fs v t x T
 tape_hand G (on_rounds p k c i slot n m o l) reply fs v t x T = tape_to_rounds p k c i slot n m o l reply fs v t x T
@@ -362,33 +406,33 @@ tape_hand G (on_first chain slot n) reply fs v t x T = tape_to_first chain slot 
 tape_hand G (on_separator links) reply fs v t x T = tape_to_separator links reply fs v t x T
 tape_hand G (on_operand links before n) reply fs v t x T = tape_to_operand links before n reply fs v t x T
 tape_hand G on_rule reply fs v t x T = tape_with reply fs v t x T
-tape_hand G (on_around around i n) reply fs v t x T = tape_to_around G.text around i n reply fs v t x T
+tape_hand G (on_around around i n o) reply fs v t x T = tape_to_around G.text around i n o reply fs v t x T
 
-abbrev pub tape_seq : List ℕ → ℕ → List OnFrame → List Tree → List TrailItem → List TapeMessage → Table → Tape
+abbrev pub tape_seq : List ℕ → ℕ → List OnFrame → RunTrees → List TrailItem → List TapeMessage → Table → Tape
 tape_seq [] i fs v t x T = tape_with (Succeeded false i (tape_error i (length x))) fs v t x T
 tape_seq (p ∷ ps) i fs v t x T = tape_at p i (on_parts ps None ∷ fs) v t x T
 
 -- a repetition begins, with an item whose number isn't known yet
-abbrev pub tape_many : ℕ → ℕ → List OnFrame → List Tree → List TrailItem → List TapeMessage → Table → Tape
+abbrev pub tape_many : ℕ → ℕ → List OnFrame → RunTrees → List TrailItem → List TapeMessage → Table → Tape
 tape_many p i fs v t x T =
-    tape_at p i (on_rounds p 0 false i (length t) (length v) (length (t ++ Rounds 0 ∷ [])) (length T.operators) (length x) ∷ fs) v
+    tape_at p i (on_rounds p 0 false i (length t) (tree_count v) (length (t ++ Rounds 0 ∷ [])) (length T.operators) (length x) ∷ fs) v
     (t ++ Rounds 0 ∷ []) x T
 
 -- a chain begins, with an item whose number isn't known yet
-abbrev pub tape_chain : OnChain → ℕ → List OnFrame → List Tree → List TrailItem → List TapeMessage → Table → Tape
-tape_chain chain i fs v t x T = tape_at chain.operand i (on_first chain (length t) (length v) ∷ fs) v (t ++ Rounds 0 ∷ []) x T
+abbrev pub tape_chain : OnChain → ℕ → List OnFrame → RunTrees → List TrailItem → List TapeMessage → Table → Tape
+tape_chain chain i fs v t x T = tape_at chain.operand i (on_first chain (length t) (tree_count v) ∷ fs) v (t ++ Rounds 0 ∷ []) x T
 
-abbrev pub tape_rule : Option declared.Rule → ℕ → List OnFrame → List Tree → List TrailItem → List TapeMessage → Table → Tape
+abbrev pub tape_rule : Option declared.Rule → ℕ → List OnFrame → RunTrees → List TrailItem → List TapeMessage → Table → Tape
 tape_rule None i fs v t x T = tape_endless
 tape_rule (Some named) i fs v t x T = tape_at named.body i (on_rule ∷ fs) v t x T
 
 -- what a leaf came to, if it came to anything
-abbrev pub tape_told : Option Outcome → List OnFrame → List Tree → List TrailItem → List TapeMessage → Table → Tape
+abbrev pub tape_told : Option Outcome → List OnFrame → RunTrees → List TrailItem → List TapeMessage → Table → Tape
 tape_told None fs v t x T = tape_endless
 tape_told (Some o) fs v t x T = tape_leaf o fs v t x T
 
 -- the table matters to no form that is run yet
-abbrev pub tape_enter : Given → Node → ℕ → List OnFrame → List Tree → List TrailItem → List TapeMessage → Table → Tape
+abbrev pub tape_enter : Given → Node → ℕ → List OnFrame → RunTrees → List TrailItem → List TapeMessage → Table → Tape
 tape_enter G (form.Leaf l) i fs v t x T = tape_told (leaf_outcome G.grammar G.text l (spot_at T i)) fs v t x T
 tape_enter G (form.Seq ps) i fs v t x T = tape_seq ps i fs v t x T
 tape_enter G (form.Choice ps) i fs v t x T = tape_next_alternative 1 ps i no_tried fs v t x T
@@ -396,9 +440,9 @@ tape_enter G (form.Many p) i fs v t x T = tape_many p i fs v t x T
 tape_enter G (form.Chain side used p s) i fs v t x T = tape_chain (record { side = side; used = used; operand = p; separator = s }) i fs v t x T
 tape_enter G (form.Rule r) i fs v t x T = tape_rule (slice_get G.grammar.rules r) i fs v t x T
 tape_enter G (form.Expression builders p) i fs v t x T = tape_endless
-tape_enter G (form.Around around p) i fs v t x T = tape_at p i (on_around around i (length v) ∷ fs) v t x T
+tape_enter G (form.Around around p) i fs v t x T = tape_at p i (on_around around i (tree_count v) (length T.operators) ∷ fs) (forest_in around v) t x T
 
-abbrev pub tape_enter_at : Given → Option Node → ℕ → List OnFrame → List Tree → List TrailItem → List TapeMessage → Table → Tape
+abbrev pub tape_enter_at : Given → Option Node → ℕ → List OnFrame → RunTrees → List TrailItem → List TapeMessage → Table → Tape
 tape_enter_at G None i fs v t x T = tape_endless
 tape_enter_at G (Some node) i fs v t x T = tape_enter G node i fs v t x T
 

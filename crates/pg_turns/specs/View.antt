@@ -1,6 +1,5 @@
 -- What the definitions see of the machine's values.
 use Rattle.std.specs.Prelude.{List, [], ◌∷◌, reverse}
-use Rattle.pg_tree.specs.Trees.{Tree}
 use Rattle.pg_value.specs.declared.trail.TrailItem.{TrailItem}
 use Rattle.pg_table.specs.Tables.{Table}
 use Rattle.pg_message_tape.specs.Messages.{TapeMessage}
@@ -14,11 +13,12 @@ use Rattle.pg_turns.specs.declared.frame.Frame.TheVariants as frame
 use Rattle.pg_turns.specs.declared.frame.Mode.{Mode}
 use Rattle.pg_turns.specs.declared.frame.Mode.TheVariants as mode
 use Rattle.pg_turns.specs.declared.machine.Machine.{Machine}
+use Rattle.pg_turns.specs.RunTrees.{RunTrees}
 
 abbrev pub tried_of : Tried → OnTried
 tried_of tried.Nothing = no_tried
 tried_of (tried.Failure kept) = tried_failure kept
-tried_of (tried.EmptyOk ok kept) = tried_empty_ok ok.value.end ok.value.forest ok.value.trail.items kept
+tried_of (tried.EmptyOk ok kept) = tried_empty_ok ok.value.end ok.value.forest ok.value.hidden ok.value.trail.items kept
 
 abbrev pub chain_of : ChainFrame → OnChain
 chain_of c = record { side = c.side; used = c.used.now; operand = c.operand; separator = c.separator }
@@ -47,7 +47,7 @@ frame_of (frame.First c) = on_first (chain_of c) c.slot c.forest
 frame_of (frame.Separator l) = on_separator (links_of l.value)
 frame_of (frame.Operand l before trees) = on_operand (links_of l.value) before trees
 frame_of frame.Rule = on_rule
-frame_of (frame.Around around start forest) = on_around around.now start forest
+frame_of (frame.Around around start forest operators) = on_around around.now start forest operators
 
 -- the topmost frame stands last in the machine
 abbrev pub stack_on : List OnFrame → List Frame → List OnFrame
@@ -63,5 +63,5 @@ tape_of (mode.With reply) m = tape_with reply (stack_of m.frames.items) m.forest
 tape_of mode.Endless m = tape_endless
 
 -- the tape of a turn that goes by the machine's lists and table
-abbrev pub on_lists : (List OnFrame → List Tree → List TrailItem → List TapeMessage → Table → Tape) → Machine → Tape
+abbrev pub on_lists : (List OnFrame → RunTrees → List TrailItem → List TapeMessage → Table → Tape) → Machine → Tape
 on_lists made m = made (stack_of m.frames.items) m.forest m.trail.items m.messages m.table

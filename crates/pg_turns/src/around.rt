@@ -1,25 +1,27 @@
 //! Forms around one part: what they make of its answer.
 
-ghost use Rattle.std.specs.Prelude.{◌≡◌, ◌∷◌, ◌++◌, [], take, drop, IfOk, OnOk};
-ghost use Rattle.pg_language.specs.Derives.{leaf_of, made_by, span};
+ghost use Rattle.std.specs.Prelude.{◌≡◌, ◌∷◌, [], IfOk, OnOk};
+ghost use Rattle.pg_language.specs.Derives.{leaf_of, span};
 ghost use Rattle.pg_language.specs.Reactions.{counted_by};
 ghost use Rattle.pg_pred.specs.Offer.{offer_of};
 ghost use Rattle.pg_turns.specs.Ready.{AroundFits};
-ghost use Rattle.pg_turns.specs.Tape.{forest_around, labelled_messages, messages_around, reply_around, tape_to_around};
+ghost use Rattle.pg_turns.specs.RunTrees.{first_trees, with_trees, without_hiding};
+ghost use Rattle.pg_turns.specs.Tape.{forest_around, forest_in, forest_left, forest_made, labelled_messages, left_table, messages_around, reply_around, table_around, tape_to_around};
 ghost use Rattle.pg_turns.specs.View.{on_lists, tape_of};
 
 use crate::chains::build_after;
 use crate::frame::{Mode, Reply};
 use crate::machine::Machine;
+use crate::run_forest::RunForest;
 use pg_form::Around;
 use pg_message_tape::MessageTape;
 use pg_pred::Registry;
+use pg_table::Table;
 use pg_text::{Characters, Text};
-use pg_tree::ForestTape;
 use std::alloc::{AllocError, Global};
 
 impl<'a> Machine<'a> {
-    /// An answer of the part, which began at the place, with so many trees before it.
+    /// An answer of the part, which began at the place, with so many trees and operators before it.
     pub(crate) fn hand_to_around(
         &mut self,
         alloc: Global,
@@ -28,11 +30,12 @@ impl<'a> Machine<'a> {
         around: &'a Around,
         start: usize,
         count: usize,
+        operators: usize,
         reply: Reply,
     ) -> Result<Mode, AllocError>
         requires { AroundFits (offer_of registry.now) around.now }
         ensures { IfOk result (λ mode. tape_of mode self.new ≡
-            on_lists (tape_to_around text.now around.now start count reply) self.old) }
+            on_lists (tape_to_around text.now around.now start count operators reply) self.old) }
     {
         make(
             alloc,
@@ -45,15 +48,27 @@ impl<'a> Machine<'a> {
             &mut self.forest,
         )?;
         say(&mut self.messages, around, reply)?;
+        leave(&mut self.table, around, operators, reply);
         Ok(Mode::With(answer(around, reply)))
     }
 }
 
-/// Whether the form takes the trees of its part together: then a stretch of them is opened before the part runs.
-pub(crate) fn takes_trees(around: &Around) -> bool {
+/// What a form that begins does with the trees: one that takes those of its part together opens a stretch of them, and one
+/// that throws them away has none made.
+pub(crate) fn begin(
+    alloc: Global,
+    around: &Around,
+    forest: &mut RunForest,
+) -> Result<(), AllocError>
+    ensures { OnOk result (forest.new ≡ forest_in around.now forest.old) }
+{
     match around {
-        Around::Build(_, _) => true,
-        Around::Try | Around::Text | Around::Skip | Around::Label(_) => false,
+        Around::Try => Ok(()),
+        Around::Text => forest.hide(),
+        Around::Skip => forest.hide(),
+        Around::Build(_, _) => forest.open(alloc),
+        Around::Label(_) => Ok(()),
+        Around::Local => Ok(()),
     }
 }
 
@@ -85,7 +100,8 @@ fn counted(around: &Around, consumed: bool) -> bool
 {
     match around {
         Around::Try => false,
-        Around::Text | Around::Skip | Around::Build(_, _) | Around::Label(_) => consumed,
+        Around::Text | Around::Skip | Around::Build(_, _) | Around::Label(_) | Around::Local =>
+            consumed,
     }
 }
 
@@ -99,7 +115,7 @@ fn say<'a>(
 {
     match around {
         Around::Label(name) => label(messages, name, reply),
-        Around::Try | Around::Text | Around::Skip | Around::Build(_, _) => Ok(()),
+        Around::Try | Around::Text | Around::Skip | Around::Build(_, _) | Around::Local => Ok(()),
     }
 }
 
@@ -141,7 +157,7 @@ fn make(
     start: usize,
     count: usize,
     reply: Reply,
-    forest: &mut ForestTape,
+    forest: &mut RunForest,
 ) -> Result<(), AllocError>
     requires { AroundFits (offer_of registry.now) around.now }
     ensures { OnOk result (forest.new ≡ forest_around around.now text.now start count reply forest.old) }
@@ -157,13 +173,25 @@ fn make(
     }
 }
 
-/// The stretch that was opened for the part is none of its own any more.
-fn give_up(around: &Around, count: usize, forest: &mut ForestTape) -> Result<(), AllocError>
-    ensures { OnOk result (forest.new ≡ forest.old) }
+/// What the form leaves of the trees after the first, where the part failed.
+fn give_up(around: &Around, count: usize, forest: &mut RunForest) -> Result<(), AllocError>
+    ensures { OnOk result (forest.new ≡ forest_left around.now count forest.old) }
 {
-    if takes_trees(around) {
-        forest.close(count)?;
+    match around {
+        Around::Try => Ok(()),
+        Around::Text => show_first(count, forest),
+        Around::Skip => show_first(count, forest),
+        Around::Build(_, _) => forest.close(count),
+        Around::Label(_) | Around::Local => Ok(()),
     }
+}
+
+/// Only the first trees stay, and trees are kept again as before the form.
+fn show_first(count: usize, forest: &mut RunForest) -> Result<(), AllocError>
+    ensures ok { OnOk result (forest.new ≡ without_hiding (first_trees count forest.old)) }
+{
+    forest.cut(count);
+    forest.show();
     Ok(())
 }
 
@@ -176,22 +204,39 @@ fn remake(
     start: usize,
     end: usize,
     count: usize,
-    forest: &mut ForestTape,
+    forest: &mut RunForest,
 ) -> Result<(), AllocError>
     requires { AroundFits (offer_of registry.now) around.now }
-    ensures { OnOk result (forest.new ≡ take count forest.old ++ made_by around.now text.now start end (drop count forest.old)) }
+    ensures { OnOk result (forest.new ≡ forest_made around.now text.now start end count forest.old) }
 {
     match around {
         Around::Try => Ok(()),
         Around::Text => as_text(text, start, end, count, forest),
-        Around::Skip => {
-            cut(forest, count);
-            Ok(())
-        }
+        Around::Skip => show_first(count, forest),
         Around::Build(used, symbol) => {
             build_after(alloc, registry, used, symbol.as_str(), count, forest)
         }
-        Around::Label(_) => Ok(()),
+        Around::Label(_) | Around::Local => Ok(()),
+    }
+}
+
+/// What the form leaves of the table, where the part is ok.
+fn leave(table: &mut Table, around: &Around, count: usize, reply: Reply)
+    ensures { table.new ≡ table_around around.now count reply table.old }
+{
+    match reply {
+        Reply::Succeeded { .. } => give_back(table, around, count),
+        Reply::Failed { .. } | Reply::EmptyRound => {}
+    }
+}
+
+/// What was declared in `local` ends with it: the first operators stay.
+fn give_back(table: &mut Table, around: &Around, count: usize)
+    ensures { table.new ≡ left_table around.now count table.old }
+{
+    match around {
+        Around::Local => table.cut(count),
+        Around::Try | Around::Text | Around::Skip | Around::Build(_, _) | Around::Label(_) => {}
     }
 }
 
@@ -201,11 +246,11 @@ fn as_text(
     start: usize,
     end: usize,
     count: usize,
-    forest: &mut ForestTape,
+    forest: &mut RunForest,
 ) -> Result<(), AllocError>
-    ensures { OnOk result (forest.new ≡ take count forest.old ++ leaf_of (span text.now start end) ∷ []) }
+    ensures { OnOk result (forest.new ≡ with_trees (leaf_of (span text.now start end) ∷ []) (without_hiding (first_trees count forest.old))) }
 {
-    cut(forest, count);
+    show_first(count, forest)?;
     forest.push_leaf(between(text.characters(), start, end))
 }
 
@@ -216,13 +261,4 @@ fn between(characters: &[char], from: usize, upto: usize) -> &[char]
     let upto = upto.min(characters.len());
     let from = from.min(upto);
     &characters[from..upto]
-}
-
-/// The first trees stay.
-fn cut(forest: &mut ForestTape, count: usize)
-    ensures { forest.new ≡ take count forest.old }
-{
-    if count < forest.len() {
-        forest.cut(count);
-    }
 }

@@ -6,17 +6,19 @@
 
 ghost use Rattle.std.specs.Prelude.{◌≡◌, ◌<◌, ◌+◌, ◌-◌, ◌^◌, true, [], length, take, reverse, IfOk, OnOk, Some};
 ghost use Rattle.pg_pred.specs.Offer.{offer_of, builder_shape};
-ghost use Rattle.pg_turns.specs.Tape.{tape_to_first, tape_to_separator, tape_to_operand, tape_ended, tape_linked, built_after, all_built, link_forest, link_waiting, link_left, end_tape_error, end_messages, more_links};
+ghost use Rattle.pg_turns.specs.Tape.{tape_to_first, tape_to_separator, tape_to_operand, tape_ended, tape_linked, all_built, link_forest, link_waiting, link_left, end_tape_error, end_messages, more_links};
 ghost use Rattle.pg_tree.specs.Built.{built};
+ghost use Rattle.pg_turns.specs.RunTrees.{built_after};
 ghost use Rattle.pg_turns.specs.View.{chain_of, links_of, on_lists, stack_of, tape_of};
 ghost use Rattle.pg_message_tape.specs.TapeErrors.{tape_error, kept_at, merged_tape_error};
 
 use crate::frame::{Before, ChainFrame, Frame, LinksFrame, Marks, Mode, Reply};
 use crate::machine::Machine;
+use crate::run_forest::RunForest;
 use pg_form::{BuilderUse, Side};
 use pg_message_tape::{KeptError, TapeError};
 use pg_pred::Registry;
-use pg_tree::{Forest, ForestTape, Tree};
+use pg_tree::{Forest, Tree};
 use pg_value::TrailItem;
 use std::alloc::{AllocError, Global};
 
@@ -261,7 +263,7 @@ fn fold(
     registry: &Registry,
     links: &mut LinksFrame<'_>,
     trees: usize,
-    forest: &mut ForestTape,
+    forest: &mut RunForest,
 ) -> Result<(), AllocError>
     requires { builder_shape (offer_of registry.now) links.old.chain.used.now.name ≡ Some links.old.chain.used.now.shape }
     ensures links { OnOk result (links_of links.new ≡ record (links_of links.old) {
@@ -301,35 +303,41 @@ fn count_link(links: &mut LinksFrame<'_>, kept: KeptError, end: usize, marks: Ma
     links.marks = marks;
 }
 
-/// Makes the trees after the first into one, which begins a stretch: it is taken again where a link comes before or after it.
+/// Makes the trees after the first into one, if trees are kept, which begins a stretch: it is taken again where a link comes before or after it.
 fn build_link(
     alloc: Global,
     registry: &Registry,
     used: &BuilderUse,
     count: usize,
-    forest: &mut ForestTape,
+    forest: &mut RunForest,
 ) -> Result<(), AllocError>
     requires { builder_shape (offer_of registry.now) used.now.name ≡ Some used.now.shape }
     ensures { OnOk result (forest.new ≡ built_after used.now.shape [] count forest.old) }
 {
-    let kids = forest.split_off(alloc, count.min(forest.len()))?;
+    if !forest.keeps() {
+        return forest.count_as_one(count);
+    }
+    let kids = forest.split_off(alloc, count)?;
     forest.open(alloc)?;
     forest.push(made(alloc, registry, used, "", kids)?)
 }
 
-/// Makes the trees after the first into one, by the builder with the symbol.
+/// Makes the trees after the first into one, if trees are kept, by the builder with the symbol.
 pub(crate) fn build_after(
     alloc: Global,
     registry: &Registry,
     used: &BuilderUse,
     symbol: &str,
     count: usize,
-    forest: &mut ForestTape,
+    forest: &mut RunForest,
 ) -> Result<(), AllocError>
     requires { builder_shape (offer_of registry.now) used.now.name ≡ Some used.now.shape }
     ensures { OnOk result (forest.new ≡ built_after used.now.shape symbol.now count forest.old) }
 {
-    let kids = forest.split_off(alloc, count.min(forest.len()))?;
+    if !forest.keeps() {
+        return forest.count_as_one(count);
+    }
+    let kids = forest.split_off(alloc, count)?;
     forest.push(made(alloc, registry, used, symbol, kids)?)
 }
 
@@ -339,7 +347,7 @@ fn build_waiting(
     registry: &Registry,
     used: &BuilderUse,
     places: &mut Vec<usize>,
-    forest: &mut ForestTape,
+    forest: &mut RunForest,
 ) -> Result<(), AllocError>
     requires { builder_shape (offer_of registry.now) used.now.name ≡ Some used.now.shape }
     ensures { OnOk result (forest.new ≡ all_built used.now.shape (reverse places.old.items) forest.old) }

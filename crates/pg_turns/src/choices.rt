@@ -3,6 +3,7 @@
 ghost use Rattle.std.specs.Prelude.{◌≡◌, ◌<◌, ◌-◌, ◌^◌, ◌++◌, false, drop, take, length, IfOk, OnOk};
 ghost use Rattle.pg_table.specs.Tables.{first_operators};
 ghost use Rattle.pg_turns.specs.Tape.{tape_with, tried_failure, tried_empty_ok, tape_to_choice, tape_next_alternative, tape_settled, tape_empty_ok, tried_kept, tried_messages, tried_with_failure, tried_with_empty_ok};
+ghost use Rattle.pg_turns.specs.RunTrees.{first_trees, hidden_after, rejoined};
 ghost use Rattle.pg_turns.specs.View.{tried_of, on_lists, stack_of, tape_of};
 ghost use Rattle.pg_message_tape.specs.TapeErrors.{tape_error, merged_tape_error, merged_messages, tape_error_after, messages_after};
 ghost use Rattle.pg_turns.specs.declared.frame.Reply.TheVariants.{Succeeded};
@@ -145,7 +146,7 @@ impl<'a> Machine<'a> {
         reply: Reply,
     ) -> Result<Mode, AllocError>
         ensures { IfOk result (λ mode. tape_of mode self.new ≡
-            on_lists (tape_settled (tried_empty_ok ok.end ok.forest ok.trail.items kept) marks.forest marks.trail marks.operators reply) self.old) }
+            on_lists (tape_settled (tried_empty_ok ok.end ok.forest ok.hidden ok.trail.items kept) marks.forest marks.trail marks.operators reply) self.old) }
     {
         match reply {
             Reply::Succeeded {
@@ -178,7 +179,7 @@ impl<'a> Machine<'a> {
     ) -> Result<Mode, AllocError>
         ensures { IfOk result (λ mode. tape_of mode self.new ≡
             tape_with (Succeeded false ok.end (merged_tape_error kept error self.old.messages)) (stack_of self.old.frames.items)
-            (take marks.forest self.old.forest ++ ok.forest) (take marks.trail self.old.trail.items ++ ok.trail.items) (merged_messages kept error self.old.messages)
+            (rejoined ok.forest ok.hidden (first_trees marks.forest self.old.forest)) (take marks.trail self.old.trail.items ++ ok.trail.items) (merged_messages kept error self.old.messages)
             (first_operators marks.operators self.old.table)) }
     {
         let error = self.messages.merge(kept, error)?;
@@ -186,9 +187,10 @@ impl<'a> Machine<'a> {
         let EmptyOk {
             end,
             forest,
+            hidden,
             mut trail,
         } = ok;
-        self.forest.append(forest)?;
+        self.forest.rejoin(forest, hidden)?;
         self.trail.append(&mut trail)?;
         let consumed = false;
         Ok(Mode::With(Reply::Succeeded {
@@ -226,9 +228,9 @@ impl<'a> Machine<'a> {
         end: usize,
     ) -> Result<Tried, AllocError>
         ensures tried { IfOk result (λ after. tried_of after ≡
-            tried_with_empty_ok (tried_of tried) end (drop marks.forest self.old.forest) (drop marks.trail self.old.trail.items) kept) }
+            tried_with_empty_ok (tried_of tried) end (drop marks.forest self.old.forest.kept) (hidden_after marks.forest self.old.forest) (drop marks.trail self.old.trail.items) kept) }
         ensures frames { OnOk result (self.new.frames ≡ self.old.frames) }
-        ensures forest { OnOk result (self.new.forest ≡ take marks.forest self.old.forest) }
+        ensures forest { OnOk result (self.new.forest ≡ first_trees marks.forest self.old.forest) }
         ensures trail { OnOk result (self.new.trail.items ≡ take marks.trail self.old.trail.items) }
         ensures messages { OnOk result (self.new.messages ≡ self.old.messages) }
         ensures table { OnOk result (self.new.table ≡ first_operators marks.operators self.old.table) }
@@ -249,19 +251,26 @@ impl<'a> Machine<'a> {
     /// has none of, are dropped.
     fn taken_off(&mut self, alloc: Global, marks: Marks, end: usize) -> Result<EmptyOk, AllocError>
         ensures end { IfOk result (λ ok. ok.end ≡ end) }
-        ensures tried_forest { IfOk result (λ ok. ok.forest ≡ drop marks.forest self.old.forest) }
+        ensures tried_forest { IfOk result (λ ok. ok.forest ≡ drop marks.forest self.old.forest.kept) }
+        ensures tried_hidden { IfOk result (λ ok. ok.hidden ≡ hidden_after marks.forest self.old.forest) }
         ensures tried_trail { IfOk result (λ ok. ok.trail.items ≡ drop marks.trail self.old.trail.items) }
         ensures frames { OnOk result (self.new.frames ≡ self.old.frames) }
-        ensures forest { OnOk result (self.new.forest ≡ take marks.forest self.old.forest) }
+        ensures forest { OnOk result (self.new.forest ≡ first_trees marks.forest self.old.forest) }
         ensures trail { OnOk result (self.new.trail.items ≡ take marks.trail self.old.trail.items) }
         ensures messages { OnOk result (self.new.messages ≡ self.old.messages) }
         ensures table { OnOk result (self.new.table ≡ first_operators marks.operators self.old.table) }
     {
+        let hidden = self.forest.hidden_after(marks.forest);
         let forest = self.forest_after(alloc, marks.forest)?;
         let from = marks.trail.min(self.trail.len());
         let trail = self.trail.split_off(from)?;
         self.table.cut(marks.operators);
-        Ok(EmptyOk { end, forest, trail })
+        Ok(EmptyOk {
+            end,
+            forest,
+            hidden,
+            trail,
+        })
     }
 }
 

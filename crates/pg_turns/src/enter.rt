@@ -6,11 +6,12 @@ ghost use Rattle.pg_form.specs.declared.form.Form.TheVariants as form;
 ghost use Rattle.pg_form.specs.declared.form.Leaf.TheVariants as leaf;
 ghost use Rattle.pg_language.specs.Answers.{given};
 ghost use Rattle.pg_language.specs.Leaves.{leaf_outcome};
-ghost use Rattle.pg_turns.specs.Tape.{tape_at, tape_enter_at, tape_enter, tape_seq, tape_many, tape_chain, tape_rule, tape_told, spot_at, on_around};
+ghost use Rattle.pg_turns.specs.Tape.{tape_at, tape_enter_at, tape_enter, tape_seq, tape_many, tape_chain, tape_rule, tape_told, spot_at, on_around, forest_in};
+ghost use Rattle.pg_turns.specs.RunTrees.{tree_count};
 ghost use Rattle.pg_turns.specs.View.{frame_of, on_lists, stack_of, tape_of};
 ghost use Rattle.pg_language.specs.declared.reading.Reading.{Reading};
 
-use crate::around::takes_trees;
+use crate::around::begin;
 use crate::frame::{ChainFrame, Frame, Mode, PartsFrame, Reply, RoundsFrame, Tried};
 use crate::machine::Machine;
 use pg_class_tables::ClassTables;
@@ -57,7 +58,7 @@ impl<'a> Machine<'a> {
             on_lists (tape_enter (given reading grammar.now text.now) form.now place) self.old) }
     {
         match form {
-            Form::Leaf(leaf) => self.enter_leaf(grammar, tables, text, node, leaf, place),
+            Form::Leaf(leaf) => self.enter_leaf(alloc, grammar, tables, text, node, leaf, place),
             Form::Seq(parts) => self.enter_parts(parts.as_slice(), place),
             Form::Choice(parts) => self.next_alternative(
                 1,
@@ -77,8 +78,10 @@ impl<'a> Machine<'a> {
     }
 
     /// A leaf answers at once.
+    #[tactic(auto, using(crate::proofs::Declared::declare_class_in))]
     fn enter_leaf(
         &mut self,
+        alloc: Global,
         grammar: &'a Grammar,
         tables: &ClassTables,
         text: &'a Text,
@@ -99,8 +102,7 @@ impl<'a> Machine<'a> {
                 self.not_followed_by(grammar, tables, text, node, class, place)
             }
             Leaf::EndOfText => self.end_of_text(text, place),
-            // It has no answer in the relation yet.
-            Leaf::Declare(_) => Ok(Mode::Endless),
+            Leaf::Declare(class) => self.declare(alloc, grammar, text, class, place),
         }
     }
 
@@ -113,17 +115,18 @@ impl<'a> Machine<'a> {
         place: usize,
     ) -> Result<Mode, AllocError>
         ensures { IfOk result (λ mode. tape_of mode self.new ≡
-            tape_at part place (on_around around.now place (length self.old.forest) ∷ stack_of self.old.frames.items)
-            self.old.forest self.old.trail.items self.old.messages self.old.table) }
+            tape_at part place (on_around around.now place (tree_count self.old.forest) (length self.old.table.operators)
+            ∷ stack_of self.old.frames.items)
+            (forest_in around.now self.old.forest) self.old.trail.items self.old.messages self.old.table) }
     {
         let (start, forest) = (place, self.forest.len());
-        if takes_trees(around) {
-            self.forest.open(alloc)?;
-        }
+        let operators = self.table.operators().len();
+        begin(alloc, around, &mut self.forest)?;
         let frame = Frame::Around {
             around,
             start,
             forest,
+            operators,
         };
         self.enter_part(frame, part, place)
     }

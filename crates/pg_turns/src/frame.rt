@@ -67,7 +67,10 @@ pub struct PartsFrame<'a> {
 #[derive(Drop)]
 pub struct EmptyOk {
     pub end: usize,
+    /// Its trees that were kept.
     pub forest: Forest,
+    /// How many more trees it had.
+    pub hidden: usize,
     pub trail: Vec<TrailItem>,
 }
 
@@ -158,10 +161,11 @@ pub enum Frame<'a> {
     /// An operand runs, after a separator that was ok; so many trees were there before it.
     Operand(Box<LinksFrame<'a>>, Before, usize),
     Rule,
-    /// The part of a form around it runs, from the place on; so many trees were there before it.
+    /// The part of a form around it runs, from the place on; so many trees and operators were there before it.
     Around {
         around: &'a Around,
         start: usize,
         forest: usize,
+        operators: usize,
     },
 }

@@ -173,7 +173,7 @@ impl<'a> Machine<'a> {
     }
 
     /// An error answer, and what is said of it.
-    fn fail(
+    pub(crate) fn fail(
         &mut self,
         consumed: bool,
         place: usize,
@@ -190,7 +190,7 @@ impl<'a> Machine<'a> {
     }
 
     /// The same, and what was expected.
-    fn fail_wanting(
+    pub(crate) fn fail_wanting(
         &mut self,
         consumed: bool,
         place: usize,

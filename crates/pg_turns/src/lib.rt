@@ -11,6 +11,7 @@
 mod around;
 mod chains;
 mod choices;
+mod declare;
 mod enter;
 mod errors;
 mod frame;
@@ -18,8 +19,10 @@ mod leaves;
 mod machine;
 mod parts;
 mod rounds;
+mod run_forest;
 mod turn;
 
 pub use errors::error_at_end;
 pub use frame::{Frame, Mode, Reply};
 pub use machine::Machine;
+pub use run_forest::RunForest;

@@ -2,13 +2,15 @@
 
 ghost use Rattle.std.specs.Prelude.{◌≡◌, ◌∷◌, [], length, take, drop, slice_set, IfOk, OnOk};
 ghost use Rattle.pg_table.specs.Tables.{first_operators};
+ghost use Rattle.pg_turns.specs.RunTrees.{no_run_trees, tree_count, first_trees};
 ghost use Rattle.pg_turns.specs.View.{frame_of, stack_of};
 ghost use Rattle.pg_message_tape.specs.TapeErrors.{tape_error, tape_error_after, messages_after};
 
 use crate::frame::{Frame, LinksFrame, Marks};
+use crate::run_forest::RunForest;
 use pg_message_tape::{KeptError, MessageTape, TapeError};
 use pg_table::Table;
-use pg_tree::{Forest, ForestTape};
+use pg_tree::Forest;
 use pg_value::TrailItem;
 use std::alloc::{AllocError, Global};
 
@@ -17,7 +19,7 @@ use std::alloc::{AllocError, Global};
 #[derive(Drop)]
 pub struct Machine<'a> {
     pub frames: Vec<Frame<'a>>,
-    pub forest: ForestTape,
+    pub forest: RunForest,
     pub trail: Vec<TrailItem>,
     pub messages: MessageTape<'a>,
     pub table: Table,
@@ -29,14 +31,14 @@ impl<'a> Machine<'a> {
     /// A machine in which nothing runs, under the table. It takes no memory.
     pub fn new(alloc: Global, table: Table) -> Machine<'a>
         ensures frames { stack_of result.frames.items ≡ [] }
-        ensures forest { result.forest ≡ [] }
+        ensures forest { result.forest ≡ no_run_trees }
         ensures trail { result.trail.items ≡ [] }
         ensures messages { result.messages ≡ [] }
         ensures table { result.table ≡ table }
     {
         Machine {
             frames: Vec::new(alloc),
-            forest: ForestTape::new(alloc),
+            forest: RunForest::new(alloc),
             trail: Vec::new(alloc),
             messages: MessageTape::new(alloc),
             table,
@@ -45,6 +47,7 @@ impl<'a> Machine<'a> {
     }
 
     /// Puts a frame on top.
+    #[inline(always)]
     #[tactic(auto, using(crate::proofs::Stack::stack_pushed))]
     pub(crate) fn push(&mut self, frame: Frame<'a>) -> Result<(), AllocError>
         ensures frames { OnOk result (stack_of self.new.frames.items ≡ frame_of frame.entry ∷ stack_of self.old.frames.items) }
@@ -59,7 +62,7 @@ impl<'a> Machine<'a> {
 
     /// How many trees, items and operators there are.
     pub(crate) fn marks(&self) -> Marks
-        ensures forest { result.forest ≡ length self.now.forest }
+        ensures forest { result.forest ≡ tree_count self.now.forest }
         ensures trail { result.trail ≡ length self.now.trail.items }
         ensures operators { result.operators ≡ length self.now.table.operators }
     {
@@ -73,7 +76,7 @@ impl<'a> Machine<'a> {
     /// Cuts trees, items and operators back to the marks.
     pub(crate) fn cut(&mut self, marks: Marks)
         ensures frames { self.new.frames ≡ self.old.frames }
-        ensures forest { self.new.forest ≡ take marks.forest self.old.forest }
+        ensures forest { self.new.forest ≡ first_trees marks.forest self.old.forest }
         ensures trail { self.new.trail.items ≡ take marks.trail self.old.trail.items }
         ensures messages { self.new.messages ≡ self.old.messages }
         ensures table { self.new.table ≡ first_operators marks.operators self.old.table }
@@ -86,26 +89,24 @@ impl<'a> Machine<'a> {
     /// Cuts trees.
     pub(crate) fn cut_forest(&mut self, count: usize)
         ensures frames { self.new.frames ≡ self.old.frames }
-        ensures forest { self.new.forest ≡ take count self.old.forest }
+        ensures forest { self.new.forest ≡ first_trees count self.old.forest }
         ensures trail { self.new.trail ≡ self.old.trail }
         ensures messages { self.new.messages ≡ self.old.messages }
         ensures table { self.new.table ≡ self.old.table }
     {
-        if count < self.forest.len() {
-            self.forest.cut(count);
-        }
+        self.forest.cut(count);
     }
 
-    /// The trees after the first leave the forest.
+    /// The trees after the first leave the forest; those that are only counted are dropped.
     pub(crate) fn forest_after(&mut self, alloc: Global, count: usize) -> Result<Forest, AllocError>
-        ensures after { IfOk result (λ after. after ≡ drop count self.old.forest) }
+        ensures after { IfOk result (λ after. after ≡ drop count self.old.forest.kept) }
         ensures frames { OnOk result (self.new.frames ≡ self.old.frames) }
-        ensures forest { OnOk result (self.new.forest ≡ take count self.old.forest) }
+        ensures forest { OnOk result (self.new.forest ≡ first_trees count self.old.forest) }
         ensures trail { OnOk result (self.new.trail ≡ self.old.trail) }
         ensures messages { OnOk result (self.new.messages ≡ self.old.messages) }
         ensures table { OnOk result (self.new.table ≡ self.old.table) }
     {
-        let after = self.forest.split_off(alloc, count.min(self.forest.len()))?;
+        let after = self.forest.split_off(alloc, count)?;
         Ok(after)
     }
 

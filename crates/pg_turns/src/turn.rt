@@ -23,6 +23,7 @@ impl<'a> Machine<'a> {
     /// One turn: the node at hand is entered, or the answer at hand is handed to the topmost frame. The caller owes that the
     /// registry fits, that the tables are the grammar's, and that the frames are ready: their counts can grow, and the builders that they name are offered. The
     /// only error is that memory ran out; what the machine holds then isn't said.
+    #[inline(always)]
     pub fn step(
         &mut self,
         alloc: Global,
@@ -77,7 +78,10 @@ impl<'a> Machine<'a> {
                 around,
                 start,
                 forest,
-            } => self.hand_to_around(alloc, registry, text, around, start, forest, reply),
+                operators,
+            } => self.hand_to_around(
+                alloc, registry, text, around, start, forest, operators, reply,
+            ),
         }
     }
 

@@ -112,7 +112,10 @@ fn node_builders_fit(registry: &Registry, node: &Node) -> bool
         | Form::Choice(_)
         | Form::Many(_)
         | Form::Rule(_)
-        | Form::Around(Around::Try | Around::Text | Around::Skip | Around::Label(_), _) => true,
+        | Form::Around(
+            Around::Try | Around::Text | Around::Skip | Around::Label(_) | Around::Local,
+            _,
+        ) => true,
     }
 }
 

@@ -17,7 +17,8 @@ use Rattle.pg_form.specs.declared.form.Around.TheVariants as around
 use Rattle.pg_form.specs.declared.used.BuilderUse.{BuilderUse}
 use Rattle.pg_items.specs.Tree.{Value}
 use Rattle.pg_meaning.specs.Names.{builder_named}
-use Rattle.pg_meaning.specs.Meaning.{Body, joined, meant, all_meant}
+use Rattle.pg_items.specs.Joined.{joined}
+use Rattle.pg_meaning.specs.Meaning.{Body, meant, all_meant}
 use Rattle.pg_print.specs.Canonical.{values_from, choice_from, build_from, value_at, leaf_value, around_value, value_of_form, values_of}
 use Rattle.pg_file.proofs.AgainLemmas.PrintedNames.{IsNamedForm, IsNamedBuilder}
 use Rattle.pg_print.proofs.PrinterLemmas.Bodies.{values_counted}

@@ -10,7 +10,8 @@ use Rattle.pg_form.specs.Classes.{member_count, IsProperUnion, IsExpression}
 use Rattle.pg_form.specs.declared.class.ClassPart.{ClassPart}
 use Rattle.pg_form.specs.declared.class.ClassPart.TheVariants as part
 use Rattle.pg_items.specs.Tree.{Atom, Set, Range, Name, Not, Group}
-use Rattle.pg_meaning.specs.Meaning.{joined, atom_meant, class_meant, atoms_meant}
+use Rattle.pg_items.specs.Joined.{joined}
+use Rattle.pg_meaning.specs.Meaning.{atom_meant, class_meant, atoms_meant}
 use Rattle.pg_print.specs.Canonical.{atoms_from, union_of, first_atom, atom_of, atoms_of, whole_class, class_from}
 use Rattle.pg_file.proofs.AgainLemmas.PrintedNames.{IsNamed}
 use Rattle.pg_print.proofs.PrinterLemmas.Classes.{atoms_counted}

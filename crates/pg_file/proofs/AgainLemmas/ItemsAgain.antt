@@ -17,7 +17,8 @@ use Rattle.pg_form.specs.declared.operators_item.OperatorsItem.{OperatorsItem}
 use Rattle.pg_form.specs.declared.word_item.WordItem.{WordItem}
 use Rattle.pg_items.specs.Tree.{Value, Item, Start}
 use Rattle.pg_items.specs.Proper.{value_of}
-use Rattle.pg_meaning.specs.Meaning.{Body, joined, class_meant, meant}
+use Rattle.pg_items.specs.Joined.{joined}
+use Rattle.pg_meaning.specs.Meaning.{Body, class_meant, meant}
 use Rattle.pg_making.specs.Spells.{made_classes, with_item, with_items}
 use Rattle.pg_print.specs.Canonical.{class_names, class_from, values_of, class_item, word_item, operators_items, table_item, rule_items, items_of}
 use Rattle.pg_file.proofs.AgainLemmas.PrintedNames.{AreNamedClasses, AreNamedWords, AreNamedOperators, IsNamedGrammar}

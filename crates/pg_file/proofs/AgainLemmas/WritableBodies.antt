@@ -23,11 +23,12 @@ use Rattle.pg_items.specs.Syntax.{written, written_list, written_more}
 use Rattle.pg_items.specs.Proper.{IsFreeName, IsBuilderName, IsLiteral, IsFilled, IsProper, AreProper}
 use Rattle.pg_items.specs.Heads.{heads, all_heads}
 use Rattle.pg_meaning.specs.Names.{builder_named, BuilderIsKnown, FormIsKnown}
-use Rattle.pg_meaning.specs.Meaning.{Body, joined, class_of, chain_of, meant, all_meant}
+use Rattle.pg_items.specs.Joined.{joined}
+use Rattle.pg_meaning.specs.Meaning.{Body, class_of, chain_of, meant, all_meant}
 use Rattle.pg_file.proofs.AgainLemmas.Printable.{ArePrintable}
 use Rattle.pg_file.proofs.AgainLemmas.PrintedNames.{IsNamedBuilder, IsNamedForm}
 use Rattle.pg_tokens.proofs.Encoded.{chars_encoded}
-use Rattle.pg_meaning.proofs.MeaningLemmas.Kept.{IsBare, IsKept, kept_some, kept_one, kept_two, kept_between}
+use Rattle.pg_meaning.proofs.MeaningLemmas.Composing.{IsBare, Composes, composes_some, composes_one, composes_two, composes_between}
 use Rattle.pg_file.proofs.AgainLemmas.Found.{AreFoundAgain}
 use Rattle.pg_file.proofs.AgainLemmas.WritableClasses.{each_first, each_second, IsWritableExpression, class_writable, class_is_named}
 
@@ -101,7 +102,7 @@ bare_writable offer items (around.Build used symbol) bare = absurd bare
 bare_writable offer items (around.Label message) bare = absurd bare
 bare_writable offer items _ bare = tt
 
-writable_kept : (offer : Offer) (items : List names.Name) → IsKept (IsWritableBody offer items)
+writable_kept : (offer : Offer) (items : List names.Name) → Composes (IsWritableBody offer items)
 writable_kept offer items = record {
   seq = λ bodies h. (tt, joined_writable offer items bodies h);
   choice = λ body bodies h. (tt, joined_writable offer items (body ∷ bodies) h);
@@ -130,21 +131,21 @@ mutual
   value_writable offer classes items found (Of_some form v vs) rest h p k =
       let first = value_writable offer classes items found v (written_more vs rest) h.0 p.1.1 (each_first (FormIsKnown offer classes) (heads v) (all_heads vs) k.1) in
       let others = more_writable offer classes items found vs rest h.1 first.1 (each_second (FormIsKnown offer classes) (heads v) (all_heads vs) k.1) in
-      (kept_some (IsWritableBody offer items) (writable_kept offer items) form _ _ (first.0, others.0), others.1)
+      (composes_some (IsWritableBody offer items) (writable_kept offer items) form _ _ (first.0, others.0), others.1)
   value_writable offer classes items found (Of_one form v) rest h p k =
       let q = value_writable offer classes items found v (mark Close ∷ rest) h p.1.1 k.1 in
-      (kept_one (IsWritableBody offer items) (writable_kept offer items) form _ q.0, q.1.1)
+      (composes_one (IsWritableBody offer items) (writable_kept offer items) form _ q.0, q.1.1)
   value_writable offer classes items found (Of_two form v separator) rest h p k =
       let first = value_writable offer classes items found v (mark Comma ∷ written separator (mark Close ∷ rest)) h.0 p.1.1 (each_first (FormIsKnown offer classes) (heads v) (heads separator) k.1) in
       let second = value_writable offer classes items found separator (mark Close ∷ rest) h.1 first.1.1 (each_second (FormIsKnown offer classes) (heads v) (heads separator) k.1) in
-      (kept_two (IsWritableBody offer items) (writable_kept offer items) form _ _ first.0 second.0, second.1.1)
+      (composes_two (IsWritableBody offer items) (writable_kept offer items) form _ _ first.0 second.0, second.1.1)
   value_writable offer classes items found (Between before after inner) rest h p k =
       let known = each_second (FormIsKnown offer classes) (heads before) (heads after ++ heads inner) k.1 in
       let first = value_writable offer classes items found before (mark Comma ∷ written after (mark Comma ∷ written inner (mark Close ∷ rest))) h.0 p.1.1
       (each_first (FormIsKnown offer classes) (heads before) (heads after ++ heads inner) k.1) in
       let second = value_writable offer classes items found after (mark Comma ∷ written inner (mark Close ∷ rest)) h.1 first.1.1 (each_first (FormIsKnown offer classes) (heads after) (heads inner) known) in
       let third = value_writable offer classes items found inner (mark Close ∷ rest) h.2 second.1.1 (each_second (FormIsKnown offer classes) (heads after) (heads inner) known) in
-      (kept_between (IsWritableBody offer items) (writable_kept offer items) _ _ _ first.0 second.0 third.0, third.1.1)
+      (composes_between (IsWritableBody offer items) (writable_kept offer items) _ _ _ first.0 second.0 third.0, third.1.1)
   value_writable offer classes items found (Chain form builder operand separator) rest h p k =
       let first = value_writable offer classes items found operand (mark Comma ∷ written separator (mark Close ∷ rest)) h.1 p.1.1.1.1 (each_first (FormIsKnown offer classes) (heads operand) (heads separator) k.1) in
       let second = value_writable offer classes items found separator (mark Close ∷ rest) h.2 first.1.1 (each_second (FormIsKnown offer classes) (heads operand) (heads separator) k.1) in

@@ -18,7 +18,8 @@ use Rattle.pg_items.specs.Syntax.{atom_written, class_written, atoms_written}
 use Rattle.pg_items.specs.Proper.{IsFreeName, IsLiteral, IsProperAtom, IsProperClass, AreProperAtoms}
 use Rattle.pg_items.specs.Heads.{atom_parts, class_parts, atoms_parts}
 use Rattle.pg_meaning.specs.Names.{class_named, item_or_predicate, predicate_named, is_class_name, PartIsKnown, ClassIsKnown}
-use Rattle.pg_meaning.specs.Meaning.{joined, atom_meant, class_meant, atoms_meant}
+use Rattle.pg_items.specs.Joined.{joined}
+use Rattle.pg_meaning.specs.Meaning.{atom_meant, class_meant, atoms_meant}
 use Rattle.pg_print.specs.Canonical.{atoms_from, union_of, first_atom, atom_of, atoms_of, class_from}
 use Rattle.pg_file.proofs.AgainLemmas.Printable.{ArePrintable}
 use Rattle.pg_file.proofs.AgainLemmas.PrintedNames.{IsNamed, IsNamedClass}

@@ -78,6 +78,7 @@ value_at_writable offer items (suc k) (v ∷ values) h = value_at_writable offer
 some_word_is_name : (form : SomeForm) → is_name (some_word form) ≡ true
 some_word_is_name some_form.Choice = refl
 some_word_is_name some_form.Try = refl
+some_word_is_name some_form.Local = refl
 
 some_writable : (offer : Offer) (items : List names.Name) (form : SomeForm) (v : Value) (values : List Value) → IsWritableValue offer items v → AreWritable offer items values
     → IsWritableValue offer items (Of_some form v (values_from values))
@@ -160,6 +161,7 @@ around_value_writable offer items (around.Label message) v h e = record {
   printable = λ rest p. (refl, (tt, e.printable (mark Comma ∷ literal message ∷ mark Close ∷ rest) (tt, (h.1, (tt, p)))));
   known = (tt, e.known);
 }
+around_value_writable offer items around.Local v h e = some_writable offer items some_form.Local v [] e tt
 
 form_value_writable : (offer : Offer) (items : List names.Name) (form : BaseForm) (values : List Value) → IsWritableForm offer items form → AreWritable offer items values
     → IsWritableValue offer items (value_of_form items form values)

@@ -25,17 +25,18 @@ use Rattle.pg_items.specs.declared.written.WrittenForm.TheVariants as written
 use Rattle.pg_items.specs.declared.words.ClassForm.{ClassForm}
 use Rattle.pg_items.specs.declared.words.ClassForm.TheVariants.{Satisfy}
 use Rattle.pg_items.specs.declared.words.SomeForm.{SomeForm}
-use Rattle.pg_items.specs.declared.words.SomeForm.TheVariants.{Choice, Try}
+use Rattle.pg_items.specs.declared.words.SomeForm.TheVariants.{Choice, Try, Local}
 use Rattle.pg_form.specs.declared.side.Side.{Side}
 use Rattle.pg_meaning.specs.Names.{builder_named, item_or_predicate, PartIsKnown, ClassIsKnown, BuilderIsKnown, FormIsKnown}
-use Rattle.pg_meaning.specs.Meaning.{Body, joined, some_of, class_of, chain_of}
+use Rattle.pg_items.specs.Joined.{joined}
+use Rattle.pg_meaning.specs.Meaning.{Body, some_of, class_of, chain_of}
 use Rattle.pg_meaning.specs.Bodies.{part_meant, parts_meant, body_at, body_of_form, bodies, body_meant}
 use Rattle.pg_items.specs.Sizes.{part_count}
 use Rattle.pg_items.specs.Entries as entry
 use Rattle.pg_items.specs.Entries.{Entry}
 use Rattle.pg_making.specs.Spells.{made_classes}
 use Rattle.pg_making.specs.Making.{with_entry, with_entries, EntriesAreInOrder, IsGrammarOfEntries}
-use Rattle.pg_meaning.proofs.MeaningLemmas.Kept.{IsBare, IsKept, kept_some, kept_one, kept_two, kept_between}
+use Rattle.pg_meaning.proofs.MeaningLemmas.Composing.{IsBare, Composes, composes_some, composes_one, composes_two, composes_between}
 use Rattle.pg_meaning.proofs.MeaningLemmas.Lookup.{none_is_absent}
 
 -- ---- what is offered
@@ -94,8 +95,8 @@ bare_fits : (offer : Offer) (k : Around) → IsBare k → FormFits offer (form.A
 bare_fits offer (around.Build used symbol) bare = absurd bare
 bare_fits offer _ bare = plain
 
-fits_kept : (offer : Offer) → IsKept (BodyFits offer)
-fits_kept offer = record {
+fits_composes : (offer : Offer) → Composes (BodyFits offer)
+fits_composes offer = record {
   seq = λ bodies h. (plain, joined_fit offer bodies h);
   choice = λ body bodies h. (plain, joined_fit offer (body ∷ bodies) h);
   many = λ body h. (plain, h);
@@ -105,7 +106,8 @@ fits_kept offer = record {
 some_fits : (offer : Offer) (form : SomeForm) (bs : List Body) → BodiesFit offer bs → BodyFits offer (some_of form bs)
 some_fits offer Choice [] h = (plain, tt)
 some_fits offer Try [] h = (plain, (plain, tt))
-some_fits offer form (b ∷ bs) h = kept_some (BodyFits offer) (fits_kept offer) form b bs h
+some_fits offer Local [] h = (plain, (plain, tt))
+some_fits offer form (b ∷ bs) h = composes_some (BodyFits offer) (fits_composes offer) form b bs h
 
 of_class_fits : (offer : Offer) (classes : List names.Name) (form : ClassForm) (parts : List WrittenPart) → ClassIsKnown offer classes parts → FormFits offer (class_of form (parts_meant offer classes parts))
 of_class_fits offer classes Satisfy parts h = (class_fits offer classes parts h, tt)
@@ -119,10 +121,10 @@ form_fits offer classes (written.OfClass form parts) bs h e = (of_class_fits off
 form_fits offer classes (written.String s) bs h e = (plain, tt)
 form_fits offer classes (written.Seq n) bs h e = (plain, joined_fit offer bs e)
 form_fits offer classes (written.OfSome form n) bs h e = some_fits offer form bs e
-form_fits offer classes (written.OfOne form) bs h e = kept_one (BodyFits offer) (fits_kept offer) form (body_at 0 bs) (body_fits offer 0 bs e)
-form_fits offer classes (written.OfTwo form) bs h e = kept_two (BodyFits offer) (fits_kept offer) form (body_at 0 bs) (body_at 1 bs) (body_fits offer 0 bs e) (body_fits offer 1 bs e)
+form_fits offer classes (written.OfOne form) bs h e = composes_one (BodyFits offer) (fits_composes offer) form (body_at 0 bs) (body_fits offer 0 bs e)
+form_fits offer classes (written.OfTwo form) bs h e = composes_two (BodyFits offer) (fits_composes offer) form (body_at 0 bs) (body_at 1 bs) (body_fits offer 0 bs e) (body_fits offer 1 bs e)
 form_fits offer classes written.Between bs h e =
-    kept_between (BodyFits offer) (fits_kept offer) (body_at 0 bs) (body_at 1 bs) (body_at 2 bs) (body_fits offer 0 bs e) (body_fits offer 1 bs e) (body_fits offer 2 bs e)
+    composes_between (BodyFits offer) (fits_composes offer) (body_at 0 bs) (body_at 1 bs) (body_at 2 bs) (body_fits offer 0 bs e) (body_fits offer 1 bs e) (body_fits offer 2 bs e)
 form_fits offer classes (written.Chain form builder) bs h e =
     (chain_fits offer form builder h, all_append (FormFits offer) (body_at 0 bs) (body_at 1 bs) (body_fits offer 0 bs e) (body_fits offer 1 bs e))
 form_fits offer classes (written.Expression infixes prefixes postfixes) bs h e =

@@ -50,6 +50,7 @@ more k m n h = both k k m n (same k) h
 some_alike : (form : SomeForm) (n : ℕ) (ns : List ℕ) → CountAlike (some_size form n (map counted ns)) (some_size form n ns)
 some_alike some_form.Choice n ns = more 1 _ _ (all ns)
 some_alike some_form.Try n ns = more (if n == 1 then 1 else 2) _ _ (all ns)
+some_alike some_form.Local n ns = more (if n == 1 then 1 else 2) _ _ (all ns)
 
 one_alike : (form : OneForm) (m n : ℕ) → CountAlike m n → CountAlike (one_size form m) (one_size form n)
 one_alike one_form.Many m n h = more 1 m n h

@@ -1,5 +1,5 @@
 -- What a grammar says can be finished.
-use Rattle.std.proofs.Common.{◌≡◌, ◌<◌, false, ◌||◌, List, [], ◌∷◌, length, map, None, refl, sym, subst, arith}
+use Rattle.std.proofs.Common.{◌≡◌, ◌<◌, false, List, [], ◌∷◌, length, map, None, refl, sym, subst, arith}
 use Rattle.std.proofs.lemmas.List.{length-map}
 use Rattle.std.specs.List.{AllByRecursion, list_any}
 use Rattle.pg_form.specs.Names.{Name}

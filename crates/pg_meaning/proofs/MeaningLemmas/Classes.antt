@@ -8,7 +8,8 @@ use Rattle.pg_form.specs.declared.class.ClassPart.TheVariants as class
 use Rattle.pg_items.specs.declared.written.WrittenPart.{WrittenPart}
 use Rattle.pg_items.specs.Tree.{Atom, Set, Range, Name, Not, Group, Class, Of, Atoms, No_atom, Or}
 use Rattle.pg_items.specs.Heads.{atom_count, atom_parts, class_parts, atoms_parts}
-use Rattle.pg_meaning.specs.Meaning.{joined, atom_meant, class_meant, atoms_meant}
+use Rattle.pg_items.specs.Joined.{joined}
+use Rattle.pg_meaning.specs.Meaning.{atom_meant, class_meant, atoms_meant}
 use Rattle.pg_meaning.specs.Bodies.{part_meant, parts_meant}
 
 pub atoms_counted : (offer : Offer) (classes : List names.Name) (others : Atoms) → length (atoms_meant offer classes others) ≡ atom_count others

@@ -1,6 +1,6 @@
 -- Placed base forms and forms without their places.
-use Rattle.std.proofs.Common.{◌≡◌, ℕ, List, [], ◌∷◌, ◌++◌, length, take, drop, sym, ap, subst, ◌∙◌, append_assoc}
-use Rattle.std.proofs.lemmas.List.{append-nil, map-append, map_push, take-map, drop-map}
+use Rattle.std.proofs.Common.{◌≡◌, ℕ, List, [], ◌∷◌, ◌++◌, length, take, drop, sym, ap, subst, ◌∙◌}
+use Rattle.std.proofs.lemmas.List.{map-append, map_push, take-map, drop-map}
 use Rattle.std.specs.Global.{Vec}
 use Rattle.std.specs.List.{AllByRecursion}
 use Rattle.pg_pred.specs.Offer.{Offer}
@@ -10,15 +10,12 @@ use Rattle.pg_meaning.specs.declared.body.PlacedBase.{PlacedBase}
 use Rattle.pg_items.specs.declared.item.PlacedForm.{PlacedForm}
 use Rattle.pg_items.specs.declared.written.WrittenForm.{WrittenForm}
 use Rattle.pg_items.specs.Entries.{forms_of}
-use Rattle.pg_meaning.specs.Meaning.{Body, joined}
+use Rattle.pg_items.specs.Joined.{joined}
+use Rattle.pg_items.proofs.ItemLemmas.Joined.{joined_push}
+use Rattle.pg_meaning.specs.Meaning.{Body}
 use Rattle.pg_items.specs.Sizes.{part_count}
 use Rattle.pg_meaning.specs.Bodies.{bases_of, all_bases_of, body_of_form, bodies}
 use Rattle.pg_items.proofs.ItemLemmas.Backwards.{IsOneBack}
-
--- one list more after joined lists
-pub joined_push : {A : Type 0} (lists : List (List A)) (list : List A) → joined (lists ++ list ∷ []) ≡ joined lists ++ list
-joined_push [] list = append-nil list
-joined_push (first ∷ lists) list = rw (joined_push lists list) (sym (append_assoc first (joined lists) list))
 
 -- joined bodies, and one more
 pub bases_joined : (bodies : List (Vec PlacedBase)) (body : Vec PlacedBase) (all after : List PlacedBase)

@@ -13,7 +13,7 @@ use Rattle.pg_meaning.specs.Meaning.{class_meant, meant}
 use Rattle.pg_meaning.specs.Bodies.{parts_meant}
 use Rattle.pg_meaning.proofs.MeaningLemmas.ProperClasses.{expression_of_parts, expression_of_class, ascending, short, known}
 use Rattle.pg_meaning.proofs.MeaningLemmas.Sound.{sound_value}
-use Rattle.pg_meaning.proofs.MeaningLemmas.Fine.{fine_value}
+use Rattle.pg_meaning.proofs.MeaningLemmas.Faultless.{faultless_value}
 
 -- ---- class expressions
 
@@ -39,10 +39,10 @@ pub meant_is_body : (offer : Offer) (classes : List names.Name) (v : Value) → 
 meant_is_body offer classes v = let h = sound_value offer classes v in record { whole = h.whole.whole; alternatives = h.alternatives.free }
 
 pub meant_has_no_bad_literal : (offer : Offer) (classes : List names.Name) (v : Value) → IsProper v → list_any has_bad_literal (meant offer classes v) ≡ false
-meant_has_no_bad_literal offer classes v h = (fine_value offer classes v h).literals.free
+meant_has_no_bad_literal offer classes v h = (faultless_value offer classes v h).literals.free
 
 pub meant_has_no_long_text : (offer : Offer) (classes : List names.Name) (v : Value) → IsProper v → list_any has_long_text (meant offer classes v) ≡ false
-meant_has_no_long_text offer classes v h = (fine_value offer classes v h).short.free
+meant_has_no_long_text offer classes v h = (faultless_value offer classes v h).short.free
 
 pub meant_has_no_unknown_class : (offer : Offer) (classes : List names.Name) (v : Value) → list_any (has_unknown_class (length classes)) (meant offer classes v) ≡ false
 meant_has_no_unknown_class offer classes v = (sound_value offer classes v).known.free

@@ -21,7 +21,8 @@ use Rattle.pg_items.specs.Written.{member_count, IsProperUnion, IsClass}
 use Rattle.pg_items.specs.Heads.{class_parts}
 use Rattle.pg_items.specs.Proper.{IsProperAtom, IsProperClass, AreProperAtoms}
 use Rattle.pg_meaning.specs.Names.{class_named, item_or_predicate}
-use Rattle.pg_meaning.specs.Meaning.{joined, expression_of, atom_meant, class_meant, atoms_meant}
+use Rattle.pg_items.specs.Joined.{joined}
+use Rattle.pg_meaning.specs.Meaning.{expression_of, atom_meant, class_meant, atoms_meant}
 use Rattle.pg_meaning.specs.Bodies.{part_meant, parts_meant}
 use Rattle.pg_items.proofs.ItemLemmas.Classes.{class_spells, class_unions}
 use Rattle.pg_meaning.proofs.MeaningLemmas.Classes.{class_is}

@@ -1,5 +1,6 @@
 -- The sizes of the heads of a value are those of the bodies that the tree stands for.
 use Rattle.std.proofs.Common.{◌≡◌, ℕ, suc, ◌+◌, ◌==◌, false, List, [], ◌∷◌, ◌++◌, length, map, take, drop, refl, sym, ap, subst, ◌∙◌, append_assoc, arith}
+use Rattle.std.specs.Prelude.{if◌then◌else◌}
 use Rattle.std.proofs.lemmas.Bool.Decides.{nat_tests}
 use Rattle.std.proofs.lemmas.List.{append-nil, length-append, length-map}
 use Rattle.pg_pred.specs.Offer.{Offer}
@@ -14,7 +15,8 @@ use Rattle.pg_items.specs.declared.words.TwoForm.{TwoForm}
 use Rattle.pg_items.specs.declared.words.TwoForm.TheVariants as two_form
 use Rattle.pg_items.specs.Tree.{Value, Of_class, String, Seq, Of_some, Of_one, Of_two, Between, Chain, Expression, Build, Build_symbol, Label, End_of_text, Word, Rule, Values, No_value, And}
 use Rattle.pg_items.specs.Heads.{class_parts, value_count, heads, all_heads}
-use Rattle.pg_meaning.specs.Meaning.{Body, joined, seq_of, choice_of, optional, separated, skipped, repeated, some_of, one_of, two_of, between_of, meant, all_meant}
+use Rattle.pg_items.specs.Joined.{joined}
+use Rattle.pg_meaning.specs.Meaning.{Body, seq_of, choice_of, optional, separated, skipped, repeated, whole_of, some_of, one_of, two_of, between_of, meant, all_meant}
 use Rattle.pg_items.specs.Sizes.{part_count, sum_of, some_size, one_size, two_size, size_of_form, sizes, body_size}
 use Rattle.pg_items.proofs.ItemLemmas.Backwards.{take_front, drop_front}
 use Rattle.pg_meaning.proofs.MeaningLemmas.Bodies.{values_counted}
@@ -41,11 +43,17 @@ separated_length body separator =
 several : (k : ℕ) → (suc (suc k) == 1) ≡ false
 several k = grind (arith, nat_tests)
 
+-- around one body, or around a sequence of several
+whole_length : (body : Body) (parts : List Body)
+    → (if suc (length parts) == 1 then 1 else 2) + sum_of (length body ∷ map length parts) ≡ suc (length (whole_of (body ∷ parts)))
+whole_length body [] = omega arith
+whole_length body (other ∷ parts) = let whole = seq_length (body ∷ other ∷ parts) in rw (several (length parts)) (omega arith)
+
 some_length : (form : SomeForm) (body : Body) (parts : List Body)
     → some_size form (suc (length parts)) (length body ∷ map length parts) ≡ length (some_of form (body ∷ parts))
 some_length some_form.Choice body parts = choice_length (body ∷ parts)
-some_length some_form.Try body [] = omega arith
-some_length some_form.Try body (other ∷ parts) = let whole = seq_length (body ∷ other ∷ parts) in rw (several (length parts)) (omega arith)
+some_length some_form.Try body parts = whole_length body parts
+some_length some_form.Local body parts = whole_length body parts
 
 one_length : (form : OneForm) (body : Body) → one_size form (length body) ≡ length (one_of form body)
 one_length one_form.Many body = omega arith

@@ -18,7 +18,7 @@ use Rattle.pg_form.specs.declared.side.Side.{Side}
 use Rattle.pg_items.specs.Tree.{Value, Of_class, String, Seq, Of_some, Of_one, Of_two, Between, Chain, Expression, Build, Build_symbol, Label, End_of_text, Word, Rule, Values, No_value, And}
 use Rattle.pg_meaning.specs.Names.{builder_named}
 use Rattle.pg_meaning.specs.Meaning.{Body, class_of, chain_of, class_meant, meant, all_meant}
-use Rattle.pg_meaning.proofs.MeaningLemmas.Kept.{IsKept, kept_some, kept_one, kept_two, kept_between, IsWhole, whole_kept, whole_two, IsFree, free_front, free_none, free_append, free_kept}
+use Rattle.pg_meaning.proofs.MeaningLemmas.Composing.{Composes, composes_some, composes_one, composes_two, composes_between, IsWhole, whole_composes, whole_two, IsFree, free_front, free_none, free_append, free_composes}
 use Rattle.pg_meaning.proofs.MeaningLemmas.ProperClasses.{known}
 
 pub record IsSound (count : ℕ) (body : Body) : Type 0 where
@@ -53,23 +53,23 @@ two count form one other h e f = record {
   known = free_front _ form _ h.known (free_append _ one other e.known f.known);
 }
 
-choices_kept : IsKept (IsFree lacks_alternative)
-choices_kept = free_kept lacks_alternative (record { seq = λ n. refl; choice = eqb-suc-zero; many = refl; around = λ k bare. refl })
+choices_compose : Composes (IsFree lacks_alternative)
+choices_compose = free_composes lacks_alternative (record { seq = λ n. refl; choice = eqb-suc-zero; many = refl; around = λ k bare. refl })
 
-known_kept : (count : ℕ) → IsKept (IsFree (has_unknown_class count))
-known_kept count = free_kept (has_unknown_class count) (record { seq = λ n. refl; choice = λ n. refl; many = refl; around = λ k bare. refl })
+known_composes : (count : ℕ) → Composes (IsFree (has_unknown_class count))
+known_composes count = free_composes (has_unknown_class count) (record { seq = λ n. refl; choice = λ n. refl; many = refl; around = λ k bare. refl })
 
-sound_kept : (count : ℕ) → IsKept (IsSound count)
-sound_kept count = record {
+sound_composes : (count : ℕ) → Composes (IsSound count)
+sound_composes count = record {
   seq = λ bodies h. record {
-    whole = whole_kept.seq bodies (all-weaker (IsSound count) IsWhole (λ body e. e.whole) bodies h);
-    alternatives = choices_kept.seq bodies (all-weaker (IsSound count) (IsFree lacks_alternative) (λ body e. e.alternatives) bodies h);
-    known = (known_kept count).seq bodies (all-weaker (IsSound count) (IsFree (has_unknown_class count)) (λ body e. e.known) bodies h);
+    whole = whole_composes.seq bodies (all-weaker (IsSound count) IsWhole (λ body e. e.whole) bodies h);
+    alternatives = choices_compose.seq bodies (all-weaker (IsSound count) (IsFree lacks_alternative) (λ body e. e.alternatives) bodies h);
+    known = (known_composes count).seq bodies (all-weaker (IsSound count) (IsFree (has_unknown_class count)) (λ body e. e.known) bodies h);
   };
   choice = λ body bodies h. record {
-    whole = whole_kept.choice body bodies (all-weaker (IsSound count) IsWhole (λ b e. e.whole) (body ∷ bodies) h);
-    alternatives = choices_kept.choice body bodies (all-weaker (IsSound count) (IsFree lacks_alternative) (λ b e. e.alternatives) (body ∷ bodies) h);
-    known = (known_kept count).choice body bodies (all-weaker (IsSound count) (IsFree (has_unknown_class count)) (λ b e. e.known) (body ∷ bodies) h);
+    whole = whole_composes.choice body bodies (all-weaker (IsSound count) IsWhole (λ b e. e.whole) (body ∷ bodies) h);
+    alternatives = choices_compose.choice body bodies (all-weaker (IsSound count) (IsFree lacks_alternative) (λ b e. e.alternatives) (body ∷ bodies) h);
+    known = (known_composes count).choice body bodies (all-weaker (IsSound count) (IsFree (has_unknown_class count)) (λ b e. e.known) (body ∷ bodies) h);
   };
   many = λ body h. wrap count (form.Many (record {})) body (record { parts = refl; alternatives = refl; known = refl }) h;
   around = λ k bare body h. wrap count (form.Around k (record {})) body (record { parts = refl; alternatives = refl; known = refl }) h;
@@ -87,12 +87,12 @@ mutual
   pub sound_value : (offer : Offer) (items : List names.Name) (v : Value) → IsSound (length items) (meant offer items v)
   sound_value offer items (Of_class form c) = alone _ _ (class_form_sound (length items) form (class_meant offer items c) (known offer items c))
   sound_value offer items (String s) = alone _ _ (record { parts = refl; alternatives = refl; known = refl })
-  sound_value offer items (Seq vs) = (sound_kept (length items)).seq _ (sound_values offer items vs)
-  sound_value offer items (Of_some form v vs) = kept_some (IsSound (length items)) (sound_kept (length items)) form _ _ (sound_value offer items v, sound_values offer items vs)
-  sound_value offer items (Of_one form v) = kept_one (IsSound (length items)) (sound_kept (length items)) form _ (sound_value offer items v)
-  sound_value offer items (Of_two form v separator) = kept_two (IsSound (length items)) (sound_kept (length items)) form _ _ (sound_value offer items v) (sound_value offer items separator)
+  sound_value offer items (Seq vs) = (sound_composes (length items)).seq _ (sound_values offer items vs)
+  sound_value offer items (Of_some form v vs) = composes_some (IsSound (length items)) (sound_composes (length items)) form _ _ (sound_value offer items v, sound_values offer items vs)
+  sound_value offer items (Of_one form v) = composes_one (IsSound (length items)) (sound_composes (length items)) form _ (sound_value offer items v)
+  sound_value offer items (Of_two form v separator) = composes_two (IsSound (length items)) (sound_composes (length items)) form _ _ (sound_value offer items v) (sound_value offer items separator)
   sound_value offer items (Between before after inner) =
-      kept_between (IsSound (length items)) (sound_kept (length items)) _ _ _ (sound_value offer items before) (sound_value offer items after) (sound_value offer items inner)
+      composes_between (IsSound (length items)) (sound_composes (length items)) _ _ _ (sound_value offer items before) (sound_value offer items after) (sound_value offer items inner)
   sound_value offer items (Chain form builder operand separator) =
       two _ _ _ _ (chain_form_sound (length items) form (builder_named offer builder)) (sound_value offer items operand) (sound_value offer items separator)
   sound_value offer items (Expression infixes prefixes postfixes term) = wrap _ _ _ (record { parts = refl; alternatives = refl; known = refl }) (sound_value offer items term)

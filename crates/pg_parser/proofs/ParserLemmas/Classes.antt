@@ -13,7 +13,8 @@ use Rattle.pg_items.specs.Syntax.{atom_written, class_written, atoms_written}
 use Rattle.pg_items.specs.Proper.{is_reserved, IsProperAtom, IsProperClass, AreProperAtoms}
 use Rattle.pg_items.specs.Depth.{atom_depth, class_depth, atoms_depth}
 use Rattle.pg_items.specs.Heads.{atom_count, atom_parts, class_parts, atoms_parts}
-use Rattle.pg_parser.specs.Reading.{◌>>=◌, Reader, ClassParts, literal_at, literal_text, free_name, range_end, range_between, range_at, set_at, atom_with, named_at, before_all, plain_at, atom_at, mark_at, some_at, joined, expressed, class_with, closed_at, group_at, class_at}
+use Rattle.pg_items.specs.Joined.{joined}
+use Rattle.pg_parser.specs.Reading.{◌>>=◌, Reader, ClassParts, literal_at, literal_text, free_name, range_end, range_between, range_at, set_at, atom_with, named_at, before_all, plain_at, atom_at, mark_at, some_at, expressed, class_with, closed_at, group_at, class_at}
 use Rattle.pg_tokens.specs.Tokens.{is_mark, is_word}
 use Rattle.pg_parser.proofs.ParserLemmas.Steps.{bind_some, some_is, chosen, guard_some, mark_is, literal_is, literal_text_is, free_name_is, word_is, literal_text_found, free_name_found, free_isnt}
 use Rattle.pg_parser.proofs.ParserLemmas.Parts.{Kind, Reads, Sound, Complete, more_written, some_sound, some_complete, some_long}

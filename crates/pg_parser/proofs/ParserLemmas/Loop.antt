@@ -14,7 +14,9 @@ use Rattle.pg_tokens.specs.Tokens.{Token}
 use Rattle.pg_tokens.specs.View.{token_of, tokens_of}
 use Rattle.pg_items.specs.Entries.{forms_of}
 use Rattle.pg_parser.specs.Given.{IsFault, Fails, bodies_of, classes_of}
-use Rattle.pg_parser.specs.Reading.{◌>>=◌, Body, ClassParts, Reader, joined, mark_at, word_at, plain_at, atom_at, with_first, more_at, class_at, form_at, value_with, value_at}
+use Rattle.pg_items.specs.Joined.{joined}
+use Rattle.pg_items.proofs.ItemLemmas.Joined.{joined_push}
+use Rattle.pg_parser.specs.Reading.{◌>>=◌, Body, ClassParts, Reader, mark_at, word_at, plain_at, atom_at, with_first, more_at, class_at, form_at, value_with, value_at}
 use Rattle.pg_tokens.specs.Tokens.{is_word}
 use Rattle.pg_parser.proofs.ParserLemmas.Steps.{guard_some, some_is}
 
@@ -82,10 +84,6 @@ ends (Fault kind place) between part front most i ts following total lt m h so_f
     sym so_far ∙ one
 
 -- one list more after joined lists
-pub joined_push : {A : Type 0} (bodies : List (List A)) (body : List A) → joined (bodies ++ body ∷ []) ≡ joined bodies ++ body
-joined_push [] body = append-nil body
-joined_push (first ∷ bodies) body = rw (joined_push bodies body) (sym (append_assoc first (joined bodies) body))
-
 forms_append : (a b : List PlacedForm) → forms_of (a ++ b) ≡ forms_of a ++ forms_of b
 forms_append [] b = refl
 forms_append (f ∷ a) b = ap (λ (forms : Body). f.form ∷ forms) (forms_append a b)

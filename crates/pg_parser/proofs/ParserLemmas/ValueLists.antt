@@ -9,7 +9,8 @@ use Rattle.pg_items.specs.Syntax.{written, written_more}
 use Rattle.pg_items.specs.Proper.{IsProper, AreProper}
 use Rattle.pg_items.specs.Depth.{depth, depths}
 use Rattle.pg_items.specs.Heads.{value_count, heads, all_heads}
-use Rattle.pg_parser.specs.Reading.{Body, Reader, joined, some_at}
+use Rattle.pg_items.specs.Joined.{joined}
+use Rattle.pg_parser.specs.Reading.{Body, Reader, some_at}
 use Rattle.pg_parser.proofs.ParserLemmas.Parts.{Kind, Sound, more_written, some_sound}
 
 abbrev pub values : ℕ → Kind Body

@@ -21,7 +21,8 @@ use Rattle.pg_items.specs.Proper.{IsProper, AreProper}
 use Rattle.pg_items.specs.Depth.{class_depth, depth, depths}
 use Rattle.pg_items.specs.Heads.{value_count, heads, all_heads}
 use Rattle.pg_items.specs.Words.{form_word}
-use Rattle.pg_parser.specs.Reading.{◌>>=◌, Body, ClassParts, Reader, mark_at, name_at, literal_at, literal_text, filled_text, short_name, free_name, joined, some_at, closed_at, class_at, of_class_at, string_at, word_name_at, values_at, seq_with, of_some_at, counted, around_at, builder_at, chain_head_at, expression_head_at, symbol_at, build_head_at, message_at, label_at, form_at, value_of_word, value_of_name, value_with, value_at}
+use Rattle.pg_items.specs.Joined.{joined}
+use Rattle.pg_parser.specs.Reading.{◌>>=◌, Body, ClassParts, Reader, mark_at, name_at, literal_at, literal_text, filled_text, short_name, free_name, some_at, closed_at, class_at, of_class_at, string_at, word_name_at, values_at, seq_with, of_some_at, counted, around_at, builder_at, chain_head_at, expression_head_at, symbol_at, build_head_at, message_at, label_at, form_at, value_of_word, value_of_name, value_with, value_at}
 use Rattle.pg_parser.proofs.ParserLemmas.Steps.{bind_some, some_is, chosen, guard_some, mark_is, name_is, literal_is, literal_text_is, filled_text_is, short_name_is, free_name_is, word_is}
 use Rattle.pg_parser.proofs.ParserLemmas.Parts.{Reads, Sound}
 use Rattle.pg_parser.proofs.ParserLemmas.Classes.{classes, class_sound}

@@ -14,7 +14,8 @@ use Rattle.pg_items.specs.Syntax.{class_written, opened, written, written_list, 
 use Rattle.pg_items.specs.Proper.{IsProper, AreProper}
 use Rattle.pg_items.specs.Depth.{class_depth, depth, depths}
 use Rattle.pg_items.specs.Heads.{value_count, heads, all_heads}
-use Rattle.pg_parser.specs.Reading.{Body, ClassParts, Reader, mark_at, joined, some_at, class_at, around_at, symbol_at, form_at, value_with, value_at}
+use Rattle.pg_items.specs.Joined.{joined}
+use Rattle.pg_parser.specs.Reading.{Body, ClassParts, Reader, mark_at, some_at, class_at, around_at, symbol_at, form_at, value_with, value_at}
 use Rattle.pg_parser.proofs.ParserLemmas.Steps.{short_name_found, free_name_found, literal_text_found, filled_text_found, free_isnt}
 use Rattle.pg_parser.proofs.ParserLemmas.Parts.{Complete, some_complete, some_long}
 use Rattle.pg_parser.proofs.ParserLemmas.Classes.{classes, class_complete, longer_class}

@@ -52,7 +52,8 @@ class_form_is s w e =
 
 some_form_is : (s : List ℕ) (w : SomeForm) → some_form s ≡ Some w → s ≡ some_word w
 unfolding some_form
-some_form_is s w e = word_or some_word s of_some.Choice w _ e (λ e. word_or some_word s of_some.Try w _ e (λ e. absurd cc))
+some_form_is s w e =
+    word_or some_word s of_some.Choice w _ e (λ e. word_or some_word s of_some.Try w _ e (λ e. word_or some_word s of_some.Local w _ e (λ e. absurd cc)))
 
 one_form_is : (s : List ℕ) (w : OneForm) → one_form s ≡ Some w → s ≡ one_word w
 unfolding one_form
@@ -108,6 +109,7 @@ form_word_found word.String = refl
 form_word_found word.Seq = refl
 form_word_found (word.OfSome of_some.Choice) = refl
 form_word_found (word.OfSome of_some.Try) = refl
+form_word_found (word.OfSome of_some.Local) = refl
 form_word_found (word.OfOne of_one.Many) = refl
 form_word_found (word.OfOne of_one.Many1) = refl
 form_word_found (word.OfOne of_one.Option) = refl
@@ -134,6 +136,7 @@ form_reserved word.String = refl
 form_reserved word.Seq = refl
 form_reserved (word.OfSome of_some.Choice) = refl
 form_reserved (word.OfSome of_some.Try) = refl
+form_reserved (word.OfSome of_some.Local) = refl
 form_reserved (word.OfOne of_one.Many) = refl
 form_reserved (word.OfOne of_one.Many1) = refl
 form_reserved (word.OfOne of_one.Option) = refl
@@ -159,6 +162,7 @@ form_isnt_end word.String = refl
 form_isnt_end word.Seq = refl
 form_isnt_end (word.OfSome of_some.Choice) = refl
 form_isnt_end (word.OfSome of_some.Try) = refl
+form_isnt_end (word.OfSome of_some.Local) = refl
 form_isnt_end (word.OfOne of_one.Many) = refl
 form_isnt_end (word.OfOne of_one.Many1) = refl
 form_isnt_end (word.OfOne of_one.Option) = refl

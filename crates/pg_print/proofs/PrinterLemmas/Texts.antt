@@ -2,11 +2,11 @@
 use Rattle.std.proofs.Common.{◌≡◌, ℕ, Bool, true, false, List, [], ◌∷◌, ◌++◌, Option, Some, None, codes, refl, ap, ◌∙◌, append_assoc}
 use Rattle.std.specs.List.{flat_map}
 use Rattle.pg_tokens.specs.declared.token.Mark.TheVariants.{Close, Comma, Semicolon}
-use Rattle.pg_tokens.specs.Tokens.{Token, name, number, literal, mark}
+use Rattle.pg_tokens.specs.Tokens.{Token, name, literal, mark}
 use Rattle.pg_value.specs.Grammar.{Grammar}
 use Rattle.pg_form.specs.declared.decl.Role.TheVariants.{InfixLeft, InfixRight, InfixNone, Prefix, Postfix}
 use Rattle.pg_items.specs.declared.words.ClassForm.TheVariants.{Satisfy, NotFollowedBy, Declare}
-use Rattle.pg_items.specs.declared.words.SomeForm.TheVariants.{Choice, Try}
+use Rattle.pg_items.specs.declared.words.SomeForm.TheVariants.{Choice, Try, Local}
 use Rattle.pg_items.specs.declared.words.OneForm.TheVariants as one
 use Rattle.pg_items.specs.declared.words.TwoForm.TheVariants.{SepBy, SepBy1, EndBy}
 use Rattle.pg_form.specs.declared.side.Side.TheVariants.{Left, Right}
@@ -128,6 +128,7 @@ class_plain Declare = refl
 some_plain : (form : SomeForm) → comes_before_class (some_word form) ≡ false
 some_plain Choice = refl
 some_plain Try = refl
+some_plain Local = refl
 
 one_plain : (form : OneForm) → comes_before_class (one_word form) ≡ false
 one_plain one.Many = refl

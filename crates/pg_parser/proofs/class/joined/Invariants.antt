@@ -1,6 +1,6 @@
 use Rattle.std.proofs.Common.{◌≡◌}
 use Rattle.pg_parser.specs.Given.{classes_of}
-use Rattle.pg_parser.specs.Reading.{joined}
+use Rattle.pg_items.specs.Joined.{joined}
 use Rattle.pg_parser.proofs.class.joined.Given as goal
 
 abbrev pub invariant-loop-list : goal.invariant-loop-list

@@ -1,7 +1,7 @@
 use Rattle.std.proofs.Common.{◌<◌, ◌+◌, length, refl, sym, ap, subst, ◌∙◌, arith, true, slice_get, slice_set, ℕ}
 use Rattle.std.proofs.lemmas.Bool.{true≢false}
 use Rattle.std.proofs.lemmas.Option.{slice_get_read}
-use Rattle.pg_graph.proofs.Lists.{all_get}
+use Rattle.pg_form.proofs.Each.{all-get}
 use Rattle.pg_predict.proofs.Chains.{MarksBelow, marks_more, marks_same, marks_all}
 use Rattle.pg_predict.proofs.recursion.recursive_bodies.Goals.{then-branch, else-branch}
 use Rattle.pg_predict.proofs.recursion.recursive_bodies.Goals as goal
@@ -15,7 +15,7 @@ loop-number-preserved c =
     let inside : k < length c.rules-rule-items.result.now = omega arith in
     let there_in = slice_get_read c.rules-rule-items.result.now (length c.rules-rule-items.result.now) k rule refl inside c.rule-item.is in
     let there = sym (ap (λ rules. slice_get rules k) items) ∙ there_in in
-    let is_node = all_get (λ one. one.body < length g.nodes) c.rules-rule-items.result.now k rule c.rules-rule-items.ensures.bodies there_in in
+    let is_node = all-get (λ one. one.body < length g.nodes) c.rules-rule-items.result.now k rule c.rules-rule-items.ensures.bodies there_in in
     let long = c.loop-number.invariant.long in
     let chain = c.in_ok-heads_itself.ensures in
     elim c.if-branch.branch [

@@ -1,19 +1,19 @@
 use Rattle.std.proofs.Common.{drop, ap, sym, ◌∙◌}
 use Rattle.pg_start.specs.Prefixes.{begins_in, word_prefix, is_reserved}
-use Rattle.pg_start.proofs.Told.{from_place, class_told, key_told, word_told, no_word_told}
+use Rattle.pg_start.proofs.Tested.{from_place, class_tested, key_tested, word_tested, no_word_tested}
 use Rattle.pg_start.proofs.matching.matches_at.Goals as goal
 
 pub returns-in-Class : goal.returns-in-Class
 returns-in-Class c =
     let ahead = from_place c.characters.result.now c.args.place ∙ ap (drop c.args.place) c.characters.ensures.same in
     let start = sym c.view.ensures.same ∙ c.in-Class.is in
-    class_told _ _ _ _ _ start (c.begins_in.ensures ∙ ap (begins_in c.in-Class.class) ahead)
+    class_tested _ _ _ _ _ start (c.begins_in.ensures ∙ ap (begins_in c.in-Class.class) ahead)
 
 pub returns-in-Key : goal.returns-in-Key
 returns-in-Key c =
     let ahead = from_place c.characters.result.now c.args.place ∙ ap (drop c.args.place) c.characters.ensures.same in
     let start = sym c.view.ensures.same ∙ c.in-Key.is in
-    key_told _ _ _ _ _ _ _ _ start c.view.ensures.start c.as_slice.ensures ahead c.begins_with_key.ensures
+    key_tested _ _ _ _ _ _ _ _ start c.view.ensures.start c.as_slice.ensures ahead c.begins_with_key.ensures
 
 pub returns-then-begins_in : goal.returns-then-begins_in
 returns-then-begins_in c =
@@ -21,11 +21,11 @@ returns-then-begins_in c =
     let start = sym c.view.ensures.same ∙ c.in-Word.is in
     let begins = sym (ap (begins_in c.in-Word.heads) ahead) ∙ sym c.begins_in-in-Word.ensures ∙ c.if-begins_in.true in
     let prefix = c.word_prefix.ensures ∙ ap (word_prefix c.in-Word.rest) ahead in
-    word_told _ _ _ _ _ _ _ start begins (c.has.ensures ∙ ap (is_reserved c.in-Word.reserved) prefix)
+    word_tested _ _ _ _ _ _ _ start begins (c.has.ensures ∙ ap (is_reserved c.in-Word.reserved) prefix)
 
 pub returns-else-begins_in : goal.returns-else-begins_in
 returns-else-begins_in c =
     let ahead = from_place c.characters.result.now c.args.place ∙ ap (drop c.args.place) c.characters.ensures.same in
     let start = sym c.view.ensures.same ∙ c.in-Word.is in
     let begins = c.begins_in-in-Word.ensures ∙ ap (begins_in c.in-Word.heads) ahead in
-    no_word_told _ _ _ _ _ _ _ start begins c.if-begins_in.false
+    no_word_tested _ _ _ _ _ _ _ start begins c.if-begins_in.false

@@ -1,7 +1,7 @@
 use Rattle.std.proofs.Common.{length, ap, sym, ◌∙◌}
 use Rattle.pg_start.specs.Prefixes.{begins_in, IsPrefix}
 use Rattle.pg_start.proofs.Keys.{KeysApart-swap, goes_on_from_begins, begins_from_goes_on}
-use Rattle.pg_start.proofs.Told.{from_place}
+use Rattle.pg_start.proofs.Tested.{from_place}
 use Rattle.pg_start.proofs.pairs.keys_are_apart.Goals as goal
 
 pub returns-then-begins_with : goal.returns-then-begins_with

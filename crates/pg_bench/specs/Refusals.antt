@@ -1,0 +1,101 @@
+-- With which faults the steps refuse that read and parse a text, and why.
+use Rattle.std.specs.Prelude.{◌≡◌, ◌≤◌, ◌<◌, ◌+◌, ◌*◌, ◌⊎◌, ℕ, List, length, true, false, Option, None}
+use Rattle.std.specs.Str.{chars, IsUtf8}
+use Rattle.pg_text.specs.declared.text.TheConstants.{LIMIT}
+use Rattle.pg_message.specs.declared.error.ParseError as message
+use Rattle.pg_tree.specs.Meter.{Metered, saturating_sum}
+use Rattle.pg_pred.specs.Offer.{Offer}
+use Rattle.pg_value.specs.Grammar.{Grammar}
+use Rattle.pg_machine.specs.declared.answer.Answer.{Answer}
+use Rattle.pg_predict.specs.Expressions.{HasNoExpressions}
+use Rattle.pg_predict.specs.declared.finding.Finding.{Finding}
+use Rattle.pg_grammar_bench.specs.Files.{AreFindingsOf, IsFaultOfFile, SpellsSome, SpellsOther}
+use Rattle.pg_grammar_bench.specs.Faults.{Claimed, memory_alone}
+use Rattle.pg_grammar_bench.specs.declared.fault.BenchFault.{BenchFault}
+use Rattle.pg_bench.specs.Parsed.{IsErrorOf, IsErrorOfBytes, ReadsText}
+use Rattle.pg_bench.specs.Promise.{IsAccepted, IsErrorOfText}
+
+-- ---- the reader, before and after it is asked for a text
+
+-- it failed, or gave more bytes than the longest text has
+abbrev pub IsUnread : {R : Type 0} → Metered R → Metered R → Type 0
+IsUnread before after = (after.failed ≡ true) ⊎ (saturating_sum before.bytes (4 * LIMIT + 1) ≤ after.bytes)
+
+-- it didn't
+pub record IsWell {R : Type 0} (before after : Metered R) : Type 0 where
+  pub failed : after.failed ≡ false
+  pub bytes : after.bytes ≤ saturating_sum before.bytes (4 * LIMIT)
+
+-- ---- which step refuses with which fault
+
+-- what reading the text refuses with, and why
+abbrev pub IsReadRefusal : {R : Type 0} → Metered R → Metered R → BenchFault → Type 0
+IsReadRefusal before after = Claimed (record memory_alone { reader = IsUnread before after })
+
+-- what decoding these bytes refuses with, and why
+abbrev pub IsTextRefusal : List ℕ → BenchFault → Type 0
+IsTextRefusal bytes = Claimed (record memory_alone { not_utf8 = ¬ (IsUtf8 bytes); too_long = IsUtf8 bytes × (LIMIT < length (chars bytes)) })
+
+-- what an answer refuses with: its error, unless it is ok
+abbrev pub IsErrorOfAnswer : Answer → BenchFault → Type 0
+IsErrorOfAnswer a = Claimed (record memory_alone { parse_error = λ error. (a.success ≡ None) × (error ≡ a.error); memory = ⊥ })
+
+-- what parsing a text refuses with, and why
+abbrev pub IsRunRefusal : Grammar → List ℕ → BenchFault → Type 0
+IsRunRefusal g text = Claimed (record memory_alone { parse_error = IsErrorOfText g text })
+
+-- what parsing the text that these bytes spell refuses with, and why
+abbrev pub IsParseRefusal : Grammar → List ℕ → BenchFault → Type 0
+IsParseRefusal g bytes =
+    Claimed (record memory_alone {
+      not_utf8 = ¬ (IsUtf8 bytes);
+      too_long = IsUtf8 bytes × (LIMIT < length (chars bytes));
+      parse_error = IsErrorOfBytes g bytes;
+    })
+
+-- what parsing what a reader gives refuses with, and why
+abbrev pub IsTextFault : {R : Type 0} → Grammar → Metered R → Metered R → Option (List ℕ) → Option (List ℕ) → BenchFault → Type 0
+IsTextFault g before after reader left =
+    Claimed (record memory_alone {
+      reader = IsUnread before after;
+      not_utf8 = IsWell before after × ReadsText reader left (λ bytes. ¬ (IsUtf8 bytes));
+      too_long = IsWell before after × ReadsText reader left (λ bytes. IsUtf8 bytes × (LIMIT < length (chars bytes)));
+      parse_error = λ error. IsWell before after × ReadsText reader left (λ bytes. IsErrorOfBytes g bytes error);
+    })
+
+-- and probing it
+abbrev pub IsProbeFault : {R : Type 0} → Metered R → Metered R → Option (List ℕ) → Option (List ℕ) → BenchFault → Type 0
+IsProbeFault before after reader left =
+    Claimed (record memory_alone {
+      reader = IsUnread before after;
+      not_utf8 = IsWell before after × ReadsText reader left (λ bytes. ¬ (IsUtf8 bytes));
+      too_long = IsWell before after × ReadsText reader left (λ bytes. IsUtf8 bytes × (LIMIT < length (chars bytes)));
+    })
+
+-- what a run refuses with before it writes, by a grammar of this kind that a file spells: with findings or with an error only
+-- where this is claimed of them
+abbrev pub IsFilesRefusal : {R : Type 0} → (Grammar → Type 0) → (List Finding → Type 0) → (message.ParseError → Type 0) → Offer → List ℕ
+    → Metered R → Metered R → Option (List ℕ) → Option (List ℕ) → BenchFault → Type 0
+IsFilesRefusal Is Finds Errs offer file before after reader left =
+    Claimed (record memory_alone {
+      file = λ fault. IsFaultOfFile offer file fault × (after ≡ before);
+      not_run = SpellsOther HasNoExpressions offer file × (after ≡ before);
+      refused = λ findings. Finds findings × (after ≡ before);
+      reader = SpellsSome Is offer file × IsUnread before after;
+      not_utf8 = SpellsSome Is offer file × IsWell before after × ReadsText reader left (λ bytes. ¬ (IsUtf8 bytes));
+      too_long = SpellsSome Is offer file × IsWell before after × ReadsText reader left (λ bytes. IsUtf8 bytes × (LIMIT < length (chars bytes)));
+      parse_error = λ error. SpellsSome Is offer file × IsWell before after × Errs error;
+    })
+
+-- parsing does so
+abbrev pub IsForestRefusal : {R : Type 0} → Offer → List ℕ → Metered R → Metered R → Option (List ℕ) → Option (List ℕ) → BenchFault → Type 0
+IsForestRefusal offer file before after reader left =
+    IsFilesRefusal IsAccepted (AreFindingsOf offer file) (IsErrorOf offer file reader left) offer file before after reader left
+
+-- and probing
+abbrev pub IsProbeRefusal : {R : Type 0} → Offer → List ℕ → Metered R → Metered R → Option (List ℕ) → Option (List ℕ) → BenchFault → Type 0
+IsProbeRefusal = IsFilesRefusal HasNoExpressions (λ findings. ⊥) (λ error. ⊥)
+
+-- what writing refuses with
+abbrev pub IsWriteRefusal : BenchFault → Type 0
+IsWriteRefusal = Claimed (record memory_alone { writer = Unit {0} })

@@ -1,0 +1,3 @@
+pub mod Keywords
+pub mod Gaps
+pub mod Proper

@@ -1,0 +1,127 @@
+//! What stands in a text where a declaration may.
+
+ghost use Rattle.std.specs.Prelude.{◌≡◌, ◌<◌, ◌≤◌, ◌+◌, length, slice_get, Some, IfSome};
+ghost use Rattle.pg_form.specs.declared.decl.Role.{Role};
+ghost use Rattle.pg_value.specs.Fits.{IsClassIn};
+ghost use Rattle.pg_language.specs.Runs.{keyword};
+ghost use Rattle.pg_language.specs.Declarations.{declaration_at, digit_read, digit_value, keyword_read, symbol_read};
+ghost use Rattle.pg_declarations.specs.Views.{declaration_of, IsProper};
+
+use crate::keyword::{keyword, role_at};
+use crate::run::{past_run, run_at};
+use pg_form::{ClassExpression, OperatorsItem, Role};
+use pg_text::Text;
+use pg_value::Grammar;
+
+/// An operator that a text declares.
+#[derive(Clone, Copy)]
+pub struct Declared<'a> {
+    pub role: Role,
+    /// From 0 to 9, which binds tightest.
+    pub precedence: u8,
+    /// At least one character.
+    pub symbol: &'a [char],
+    /// Where the symbol begins.
+    pub place: usize,
+    /// The place after the declaration and its last gap.
+    pub end: usize,
+}
+
+/// What stands at a place, in characters from 0.
+#[derive(Clone, Copy)]
+pub enum Declaration<'a> {
+    /// No keyword.
+    NoKeyword,
+    /// A keyword, and then at this place no digit.
+    NoDigit(usize),
+    /// A keyword and a digit, and then at this place no symbol.
+    NoSymbol(usize),
+    /// An operator.
+    Declared(Declared<'a>),
+}
+
+/// What stands at the place of the text, where no character of the class may follow the keyword. The caller owes that the
+/// operators item and the class are the grammar's. It takes no memory.
+#[tactic(auto, using(crate::proofs::Gaps::gap_in, crate::proofs::Proper::is_proper))]
+pub fn declaration_at<'a>(
+    grammar: &Grammar,
+    text: &'a Text,
+    item: &OperatorsItem,
+    class: &ClassExpression,
+    place: usize,
+) -> Declaration<'a>
+    requires item { grammar.now.operators ≡ Some item.now }
+    requires class { IsClassIn grammar.now class.now }
+    ensures value { declaration_of result ≡ declaration_at grammar.now text.now item.now class.now place }
+    ensures proper { IsProper (declaration_of result) }
+{
+    match role_at(grammar, text, class, place) {
+        Some(role) => {
+            let digit = past_run(grammar, text, &item.gap, place + keyword(role).len());
+            from_digit(grammar, text, item, role, digit)
+        }
+        None => Declaration::NoKeyword,
+    }
+}
+
+/// What stands from the place of the digit on.
+#[tactic(auto, using(crate::proofs::Gaps::gap_in))]
+fn from_digit<'a>(
+    grammar: &Grammar,
+    text: &'a Text,
+    item: &OperatorsItem,
+    role: Role,
+    place: usize,
+) -> Declaration<'a>
+    requires { grammar.now.operators ≡ Some item.now }
+    ensures { declaration_of result ≡ digit_read grammar.now text.now item.now role place (digit_value (slice_get text.now place)) }
+{
+    match digit_at(text, place) {
+        Some(precedence) => {
+            let symbol = past_run(grammar, text, &item.gap, place + 1);
+            from_symbol(grammar, text, item, role, precedence, symbol)
+        }
+        None => Declaration::NoDigit(place),
+    }
+}
+
+/// What stands from the place of the symbol on.
+#[tactic(auto, using(crate::proofs::Gaps::gap_in, crate::proofs::Gaps::class_in))]
+fn from_symbol<'a>(
+    grammar: &Grammar,
+    text: &'a Text,
+    item: &OperatorsItem,
+    role: Role,
+    precedence: u8,
+    place: usize,
+) -> Declaration<'a>
+    requires item { grammar.now.operators ≡ Some item.now }
+    requires place { place ≤ length text.now }
+    ensures { declaration_of result ≡ symbol_read grammar.now text.now item.now role precedence place }
+{
+    let symbol = run_at(grammar, text, &item.class, place);
+    if symbol.is_empty() {
+        return Declaration::NoSymbol(place);
+    }
+    let end = past_run(grammar, text, &item.gap, place + symbol.len());
+    Declaration::Declared(Declared {
+        role,
+        precedence,
+        symbol,
+        place,
+        end,
+    })
+}
+
+/// What the digit at the place says, from 0 to 9, if one stands there.
+fn digit_at(text: &Text, place: usize) -> Option<u8>
+    ensures value { result ≡ digit_value (slice_get text.now place) }
+    ensures within { IfSome result (λ precedence. place < length text.now) }
+    ensures limit { length text.now ≤ 1048576 }
+{
+    let c = text.characters().get(place)?;
+    if !c.is_ascii_digit() {
+        return None;
+    }
+    Some((u32::from(*c) - 48) as u8)
+}

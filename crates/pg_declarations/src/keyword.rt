@@ -1,0 +1,88 @@
+//! The keywords with which declarations begin.
+
+ghost use Rattle.std.specs.Prelude.{◌≡◌, ◌<◌, ◌≤◌, ◌+◌, true, length, IfSome};
+ghost use Rattle.pg_value.specs.Fits.{IsClassIn};
+ghost use Rattle.pg_language.specs.Runs.{keyword, stands_at};
+ghost use Rattle.pg_language.specs.Declarations.{goes_on_with, has_keyword, role_at};
+
+use crate::run::after;
+use pg_form::{ClassExpression, Role};
+use pg_text::Text;
+use pg_value::Grammar;
+
+/// The role whose keyword stands at the place, with no character of the class and none of a to z after it.
+#[tactic(auto, using(crate::proofs::Keywords::role_within))]
+pub(crate) fn role_at(
+    grammar: &Grammar,
+    text: &Text,
+    class: &ClassExpression,
+    place: usize,
+) -> Option<Role>
+    requires { IsClassIn grammar.now class.now }
+    ensures value { result ≡ role_at grammar.now text.now class.now place }
+    ensures within { IfSome result (λ role. place + length (keyword role) ≤ length text.now) }
+    ensures limit { length text.now ≤ 1048576 }
+{
+    let _limit = text.len();
+    let roles = [
+        Role::InfixLeft,
+        Role::InfixRight,
+        Role::InfixNone,
+        Role::Prefix,
+        Role::Postfix,
+    ];
+    roles
+        .iter()
+        .copied()
+        .find(|role| has_keyword(grammar, text, class, place, *role))
+}
+
+/// Whether the keyword of the role stands there, and nothing that goes on with it.
+fn has_keyword(
+    grammar: &Grammar,
+    text: &Text,
+    class: &ClassExpression,
+    place: usize,
+    role: Role,
+) -> bool
+    requires { IsClassIn grammar.now class.now }
+    ensures { result ≡ has_keyword grammar.now text.now class.now place role }
+{
+    let word = keyword(role);
+    stands_at(text, place, word) && !goes_on_with(grammar, class, text.char_at(place + word.len()))
+}
+
+/// Whether these characters stand at the place.
+#[tactic(auto, using(crate::proofs::Keywords::stands_within))]
+fn stands_at(text: &Text, place: usize, word: &[char]) -> bool
+    ensures value { result ≡ stands_at text.now place word.now }
+    ensures within { result ≡ true → 0 < length word.now → place + length word.now ≤ length text.now }
+    ensures limit { length text.now ≤ 1048576 }
+{
+    after(text.characters(), place).starts_with(word)
+}
+
+/// Whether what comes next goes on with a keyword.
+fn goes_on_with(grammar: &Grammar, class: &ClassExpression, next: Option<char>) -> bool
+    requires { IsClassIn grammar.now class.now }
+    ensures { result ≡ goes_on_with grammar.now class.now next }
+{
+    match next {
+        Some(c) => grammar.has(class, c) || ('a'..='z').contains(&c),
+        None => false,
+    }
+}
+
+/// The keyword of the role, by its characters.
+pub(crate) fn keyword(role: Role) -> &'static [char]
+    ensures same { result.now ≡ keyword role }
+    ensures spelled { 0 < length result.now }
+{
+    match role {
+        Role::InfixLeft => &['i', 'n', 'f', 'i', 'x', 'l'],
+        Role::InfixRight => &['i', 'n', 'f', 'i', 'x', 'r'],
+        Role::InfixNone => &['i', 'n', 'f', 'i', 'x'],
+        Role::Prefix => &['p', 'r', 'e', 'f', 'i', 'x'],
+        Role::Postfix => &['p', 'o', 's', 't', 'f', 'i', 'x'],
+    }
+}

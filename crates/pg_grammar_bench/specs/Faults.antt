@@ -1,0 +1,149 @@
+-- The faults of a run: in which order they are judged, and with which the steps refuse that read no text, and why.
+use Rattle.std.specs.Prelude.{◌<◌, ℕ, List, length, Bool, true, false, ◌&&◌, nat_le}
+use Rattle.pg_message.specs.declared.error.ParseError as message
+use Rattle.pg_file.specs.declared.fault.FileFault.{FileFault}
+use Rattle.pg_value.specs.Grammar.{Grammar}
+use Rattle.pg_predict.specs.Findings.{AreFindings}
+use Rattle.pg_predict.specs.declared.finding.Finding.{Finding}
+use Rattle.pg_grammar_bench.specs.declared.fault.BenchFault.{BenchFault}
+use Rattle.pg_grammar_bench.specs.declared.fault.BenchFault.TheVariants.{File, NotRun, Refused, Reader, NotUtf8, TooLong, ParseError, Writer, Memory}
+
+-- ---- the order
+
+-- the step that judges a fault, the first one being 1; memory may run out at each
+abbrev pub step_of : BenchFault → ℕ
+step_of Memory = 0
+step_of (File fault) = 1
+step_of NotRun = 2
+step_of (Refused findings) = 3
+step_of Reader = 4
+step_of NotUtf8 = 5
+step_of TooLong = 6
+step_of (ParseError error) = 7
+step_of Writer = 8
+
+abbrev pub IsSo : Bool → Type 0
+IsSo true = Unit {0}
+IsSo false = ⊥
+
+-- a fault of the steps from the one to the other
+abbrev pub IsOfSteps : ℕ → ℕ → BenchFault → Type 0
+IsOfSteps first last fault = IsSo (nat_le first (step_of fault) && nat_le (step_of fault) last)
+
+-- a fault of the grammar file
+abbrev pub IsFileFault : BenchFault → Type 0
+IsFileFault = IsOfSteps 1 1
+
+-- a fault that is judged once the grammar file is read, and all of it can be run
+abbrev pub IsAfterFile : BenchFault → Type 0
+IsAfterFile = IsOfSteps 4 8
+
+-- a fault before the reader is asked for the first time, unless memory runs out
+abbrev pub IsBeforeReading : BenchFault → Type 0
+IsBeforeReading = IsOfSteps 1 3
+
+-- a fault that is judged once the text is read
+abbrev pub IsAfterReading : BenchFault → Type 0
+IsAfterReading = IsOfSteps 5 8
+
+-- a fault before the first byte is written, or want of memory
+abbrev pub IsBeforeWriting : BenchFault → Type 0
+IsBeforeWriting = IsOfSteps 0 7
+
+-- ---- what is claimed of faults
+
+-- a claim for each fault
+pub record Claims : Type 1 where
+  pub file : FileFault → Type 0
+  pub not_run : Type 0
+  pub refused : List Finding → Type 0
+  pub reader : Type 0
+  pub not_utf8 : Type 0
+  pub too_long : Type 0
+  pub parse_error : message.ParseError → Type 0
+  pub writer : Type 0
+  pub memory : Type 0
+
+-- the claim that is made of this one
+abbrev pub Claimed : Claims → BenchFault → Type 0
+Claimed of (File fault) = of.file fault
+Claimed of NotRun = of.not_run
+Claimed of (Refused findings) = of.refused findings.items
+Claimed of Reader = of.reader
+Claimed of NotUtf8 = of.not_utf8
+Claimed of TooLong = of.too_long
+Claimed of (ParseError error) = of.parse_error error
+Claimed of Writer = of.writer
+Claimed of Memory = of.memory
+
+-- no fault can be but want of memory
+abbrev pub memory_alone : Claims
+memory_alone =
+    record {
+      file = λ fault. ⊥;
+      not_run = ⊥;
+      refused = λ findings. ⊥;
+      reader = ⊥;
+      not_utf8 = ⊥;
+      too_long = ⊥;
+      parse_error = λ error. ⊥;
+      writer = ⊥;
+      memory = Unit {0};
+    }
+
+-- each may be
+abbrev pub any_fault : Claims
+any_fault =
+    record {
+      file = λ fault. Unit {0};
+      not_run = Unit {0};
+      refused = λ findings. Unit {0};
+      reader = Unit {0};
+      not_utf8 = Unit {0};
+      too_long = Unit {0};
+      parse_error = λ error. Unit {0};
+      writer = Unit {0};
+      memory = Unit {0};
+    }
+
+-- what is claimed of the file's fault, where there is one
+abbrev pub IfFile : (FileFault → Type 0) → BenchFault → Type 0
+IfFile Claim = Claimed (record any_fault { file = Claim })
+
+-- what is claimed of the findings, where the grammar is refused
+abbrev pub IfRefused : (List Finding → Type 0) → BenchFault → Type 0
+IfRefused Claim = Claimed (record any_fault { refused = Claim })
+
+-- what is claimed of the error, where the text doesn't parse
+abbrev pub IfParseError : (message.ParseError → Type 0) → BenchFault → Type 0
+IfParseError Claim = Claimed (record any_fault { parse_error = Claim })
+
+-- ---- which step refuses with which fault
+
+-- memory ran out
+abbrev pub IsMemory : BenchFault → Type 0
+IsMemory = Claimed memory_alone
+
+-- what reading the grammar file refuses with
+abbrev pub IsFileRefusal : BenchFault → Type 0
+IsFileRefusal = Claimed (record memory_alone { file = λ fault. Unit {0} })
+
+-- what reading the file of a grammar without operators refuses with
+abbrev pub IsPlainRefusal : BenchFault → Type 0
+IsPlainRefusal = Claimed (record memory_alone { file = λ fault. Unit {0}; not_run = Unit {0} })
+
+-- what checking a grammar refuses with, and why
+abbrev pub IsFindingRefusal : Grammar → BenchFault → Type 0
+IsFindingRefusal g = Claimed (record memory_alone { refused = λ findings. AreFindings g findings × (0 < length findings) })
+
+-- what reading the file of an accepted grammar refuses with
+abbrev pub IsGrammarRefusal : BenchFault → Type 0
+IsGrammarRefusal = Claimed (record memory_alone { file = λ fault. Unit {0}; not_run = Unit {0}; refused = λ findings. Unit {0} })
+
+-- what printing a grammar or its sets refuses with
+abbrev pub IsPrintRefusal : BenchFault → Type 0
+IsPrintRefusal = Claimed (record memory_alone { file = λ fault. Unit {0}; writer = Unit {0} })
+
+-- what checking the grammar of a file refuses with
+abbrev pub IsCheckRefusal : BenchFault → Type 0
+IsCheckRefusal = Claimed (record memory_alone { file = λ fault. Unit {0}; not_run = Unit {0}; writer = Unit {0} })

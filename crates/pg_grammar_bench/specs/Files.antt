@@ -1,0 +1,37 @@
+-- What a grammar file spells, with a registry that offers predicates and builders.
+use Rattle.std.specs.Prelude.{◌<◌, ℕ, List, length}
+use Rattle.pg_pred.specs.Offer.{Offer}
+use Rattle.pg_value.specs.Grammar.{Grammar}
+use Rattle.pg_making.specs.Spells.{SpellsWithinLimits}
+use Rattle.pg_predict.specs.Findings.{AreFindings}
+use Rattle.pg_predict.specs.Expressions.{HasNoExpressions}
+use Rattle.pg_predict.specs.declared.finding.Finding.{Finding}
+use Rattle.pg_file.specs.Refusals.{IsRefusalOf}
+use Rattle.pg_file.specs.declared.fault.FileFault.{FileFault}
+use Rattle.pg_file.specs.declared.fault.FileError.TheVariants.{Fault}
+
+-- the file spells no grammar, or not within the limits
+pub record SpellsNone (offer : Offer) (file : List ℕ) : Type 0 where
+  pub none : (g : Grammar) → SpellsWithinLimits offer file g → ⊥
+
+-- and this fault is what reading it answers
+pub record IsFaultOfFile (offer : Offer) (file : List ℕ) (fault : FileFault) : Type 0 where
+  pub spells : SpellsNone offer file
+  pub answered : IsRefusalOf file (Fault fault)
+
+-- the file spells some grammar of this kind
+abbrev pub SpellsSome : (Grammar → Type 0) → Offer → List ℕ → Type 0
+SpellsSome Is offer file = (g : Grammar) × SpellsWithinLimits offer file g × Is g
+
+-- the file spells some grammar that isn't of this kind
+abbrev pub SpellsOther : (Grammar → Type 0) → Offer → List ℕ → Type 0
+SpellsOther Is offer file = (g : Grammar) × SpellsWithinLimits offer file g × (Is g → ⊥)
+
+-- the file spells a grammar without operators that are read or declared, and these findings, at least one, are all that is
+-- wrong with it
+pub record AreFindingsOf (offer : Offer) (file : List ℕ) (findings : List Finding) : Type 0 where
+  pub grammar : Grammar
+  pub spelled : SpellsWithinLimits offer file grammar
+  pub plain : HasNoExpressions grammar
+  pub all : AreFindings grammar findings
+  pub some : 0 < length findings

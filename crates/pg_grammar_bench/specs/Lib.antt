@@ -1,0 +1,6 @@
+pub mod Files
+pub mod Faults
+pub mod Printing
+pub mod Texts
+pub mod Checking
+pub mod Showing

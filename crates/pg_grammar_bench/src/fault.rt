@@ -1,0 +1,61 @@
+//! Why a run of a grammar over a text gave no result.
+//!
+//! A `BenchFault` is all that a run can end with beside its result; what of it is printed, and with
+//! which status, is the report's matter. The labels are short so that scripts can tell the faults
+//! apart: F a grammar file's, X what can't be run or read, P the text's, W the writing.
+
+ghost use Rattle.std.specs.Prelude.{Some};
+ghost use Rattle.pg_grammar_bench.specs.Texts.{fault_text};
+
+use pg_file::FileFault;
+use pg_message::ParseError;
+use pg_predict::Finding;
+use std::error::Error;
+use std::fmt;
+
+/// Why a run ended without its result.
+///
+/// The faults are judged in the order of the variants from `File` to `Writer`, and the first that
+/// holds is the run's. Up to `ParseError` nothing has been written. `Memory` can come at any step, always
+/// before the first byte is written.
+#[derive(Debug, Drop)]
+pub enum BenchFault {
+    /// The grammar file is no grammar. The text's reader has not been asked yet.
+    File(FileFault),
+    /// The grammar file is read, and its grammar reads expressions, which isn't checked or run yet.
+    NotRun,
+    /// The grammar isn't accepted. These are all its findings, at least one. The text's reader has not been asked yet.
+    Refused(Vec<Finding>),
+    /// The text's reader answered an error, or gave over 4,194,304 bytes, more than the longest text can have.
+    Reader,
+    /// The text's bytes are not UTF-8. It comes before `TooLong` where both hold.
+    NotUtf8,
+    /// The text has over 1,048,576 characters.
+    TooLong,
+    /// The grammar doesn't derive the text; this is the error of its start rule, or of the end that was to come after it.
+    ParseError(ParseError),
+    /// The writer answered an error or took nothing. A prefix of the result may have been written.
+    Writer,
+    /// Memory ran out.
+    Memory,
+}
+
+impl fmt::Display for BenchFault {
+    ghost output = { λ fault. Some (fault_text fault) };
+
+    fn fmt<W: fmt::Write>(&self, f: &mut fmt::Formatter<W>) -> fmt::Result {
+        match self {
+            BenchFault::File(fault) => write!(f, "{fault}"),
+            BenchFault::NotRun => f.write_str("X2 not run yet"),
+            BenchFault::Refused(_) => f.write_str("not accepted"),
+            BenchFault::Reader => f.write_str("X1 cannot read"),
+            BenchFault::NotUtf8 => f.write_str("P1 not UTF-8"),
+            BenchFault::TooLong => f.write_str("P2 text too long"),
+            BenchFault::ParseError(_) => f.write_str("no parse"),
+            BenchFault::Writer => f.write_str("W1 cannot write"),
+            BenchFault::Memory => f.write_str("out of memory"),
+        }
+    }
+}
+
+impl Error for BenchFault {}

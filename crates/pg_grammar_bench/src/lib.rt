@@ -1,0 +1,20 @@
+//! From the bytes of a grammar file to what is said of its grammar, with no text.
+//!
+//! `check_bytes` writes whether a grammar is accepted, or all that is wrong with it, `print_bytes` writes it in canonical
+//! form, and `sets_bytes` its sets. Their contracts speak of the bytes of the file and of those that were written. Runs over
+//! texts, in the crate above, take their grammar from here, and end with the same faults (`BenchFault`).
+#![tactic(auto)]
+
+mod check;
+mod fault;
+mod grammar_file;
+mod output;
+mod print;
+mod sets;
+
+pub use check::check_bytes;
+pub use fault::BenchFault;
+pub use grammar_file::{checked_of, plain_grammar_of};
+pub use output::write_page;
+pub use print::print_bytes;
+pub use sets::sets_bytes;

@@ -1,0 +1,1 @@
+operators "+ " gap " "; start a; a = declare(letter);

@@ -1,0 +1,1 @@
+operators "+" gap " "; start a; a = seq(declare(letter), many(string(" ")));

@@ -1,0 +1,1 @@
+start a; a = many(local(satisfy(digit), string(";")));

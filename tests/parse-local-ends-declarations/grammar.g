@@ -1,0 +1,1 @@
+operators "+" gap " " max 1; start a; a = many(local(declare(letter), string(";")));

@@ -1,0 +1,1 @@
+operators "+" gap " "; start a; a = seq(local(declare(letter)), string(";"), declare(letter), string(";"), declare(letter));

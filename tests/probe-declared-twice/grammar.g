@@ -1,0 +1,1 @@
+operators "+*" gap " " max 2; start a; a = many(seq(declare(letter), string(";")));

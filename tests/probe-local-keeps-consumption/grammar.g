@@ -1,0 +1,1 @@
+start a; a = choice(local(string("a"), string("b")), string("ac"));

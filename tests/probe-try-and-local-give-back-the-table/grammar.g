@@ -1,0 +1,1 @@
+operators "+" gap " "; start a; a = seq(choice(try(local(declare(letter), string("!"))), local(declare(letter), string(";"))), declare(letter));

@@ -1,0 +1,1 @@
+operators "+*" gap " " max 2; start a; a = seq(option(try(declare(letter), string("!"))), declare(letter), string(";"));
