@@ -121,12 +121,26 @@ fn does_not_ask_the_reader_where_the_file_is_at_fault(rt: HostRuntime) -> Result
 }
 
 #[test]
-fn does_not_ask_the_reader_where_operators_are_declared(rt: HostRuntime) -> Result<(), Fail> {
-    let grammar = b"operators \"+\" gap \" \"; start a; a = declare(\"a\"..\"z\");";
-    let (outcome, calls, written) = asked(rt.alloc(), grammar)?;
-    assert!(rt; matches!(outcome, Err(BenchFault::NotRun)));
-    assert_eq!(rt; calls, 0);
-    assert!(rt; written.is_empty());
+fn does_not_ask_the_reader_where_expressions_are_read(rt: HostRuntime) -> Result<(), Fail> {
+    let alloc = rt.alloc();
+    let make = Box::new(
+        alloc,
+        |alloc: Global, symbol: &str, kids: Forest| Tree::node(alloc, symbol, kids),
+    )?;
+    let pair = Builder::new(String::from_str(alloc, "pair")?, Shape::Symbol, make);
+    let registry = Registry::new(Vec::new(alloc), vec![in alloc; pair]?)?;
+    let grammar = b"operators \"+\" gap \" \"; start a; a = expr(pair, pair, pair, eof);";
+    let mut reader = Meter::new(Drips {
+        calls: 0,
+        fails_at: 1,
+    });
+    let mut writer = Meter::new(Vec::<u8>::new(alloc));
+    match parse_bytes(alloc, grammar, &registry, &mut reader, &mut writer) {
+        Err(BenchFault::Memory) => Err(AllocError)?,
+        outcome => assert!(rt; matches!(outcome, Err(BenchFault::NotRun))),
+    }
+    assert_eq!(rt; reader.into_inner().calls, 0);
+    assert!(rt; writer.into_inner().is_empty());
     Ok(())
 }
 
