@@ -11,7 +11,7 @@ use pg_text::Text;
 use pg_value::Grammar;
 
 /// The characters of the class that stand at the place, one after another.
-pub(crate) fn run_at<'a>(
+pub fn run_at<'a>(
     grammar: &Grammar,
     text: &'a Text,
     class: &ClassExpression,
@@ -28,12 +28,7 @@ pub(crate) fn run_at<'a>(
 }
 
 /// The place after them.
-pub(crate) fn past_run(
-    grammar: &Grammar,
-    text: &Text,
-    class: &ClassExpression,
-    place: usize,
-) -> usize
+pub fn past_run(grammar: &Grammar, text: &Text, class: &ClassExpression, place: usize) -> usize
     requires class { IsClassIn grammar.now class.now }
     requires place { place ≤ length text.now }
     ensures value { result ≡ past_run grammar.now text.now class.now place }

@@ -13,6 +13,7 @@ pub mod Exists
 pub mod Predicted
 pub mod PredictiveExample
 pub mod WholeTexts
+pub mod NoEarlier
 pub mod ErrorPlaces
 pub mod Readings
 pub mod Least

@@ -1,5 +1,5 @@
 -- An ok answer that consumed nothing ends at the spot where it began.
-use Rattle.std.proofs.Common.{◌≡◌, ◌==◌, ℕ, suc, List, [], ◌∷◌, Bool, true, false, if◌then◌else◌, refl, ◌∙◌, subst, length, Option, Some, None, slice_get}
+use Rattle.std.proofs.Common.{◌≡◌, ◌==◌, ℕ, suc, List, [], ◌∷◌, ◌++◌, Bool, true, false, if◌then◌else◌, refl, ◌∙◌, subst, length, Option, Some, None, slice_get}
 use Rattle.std.specs.List.{list_any}
 use Rattle.std.specs.Str.{bytes_eq}
 use Rattle.pg_tree.specs.Trees.{Tree}
@@ -20,15 +20,21 @@ use Rattle.pg_form.specs.declared.operators_item.OperatorsItem.{OperatorsItem}
 use Rattle.pg_table.specs.Tables.{admit_fault}
 use Rattle.pg_table.specs.declared.fault.AdmitFault.{AdmitFault}
 use Rattle.pg_language.specs.Declarations.{Declaration, no_keyword, no_digit, no_symbol, declared, declaration_at, unless_refused, declaration_outcome, declare_outcome}
-use Rattle.pg_language.specs.Derives.{Spot}
+use Rattle.pg_language.specs.Derives.{Spot, applied}
 use Rattle.pg_language.specs.Runs.{run_at}
 use Rattle.pg_language.specs.Answers as answers
-use Rattle.pg_language.specs.Answers.{Given, Answers, entered, AnswersForm, nothing, seq, choice, many, rule, AnswersParts, part, AfterPart, part_last, part_failed, part_stuck, part_ok, AnswersAlternatives, no_alternative, alternative, AfterAlternative, alternative_consumed, alternative_stands, alternative_waits, alternative_commits, alternative_failed, alternative_stuck, AnswersRounds, round, AfterRound, round_ended, round_failed, round_empty, round_stuck, round_ok, AnswersChain, first_operand, AfterFirst, first_failed, first_stuck, first_ok, AnswersLinks, link, AfterSeparator, separator_failed, separator_stuck, separator_ok, AfterOperand, operand_failed, operand_stuck, operand_ok}
-use Rattle.pg_language.specs.Errors.{Error}
+use Rattle.pg_language.specs.Answers.{Given, Answers, entered, AnswersForm, nothing, seq, choice, many, rule, AnswersParts, part, AfterPart, part_last, part_failed, part_stuck, part_ok, AnswersAlternatives, no_alternative, alternative, AfterAlternative, alternative_consumed, alternative_stands, alternative_waits, alternative_commits, alternative_failed, alternative_stuck, AnswersRounds, round, AfterRound, round_ended, round_failed, round_empty, round_stuck, round_ok, AnswersChain, first_operand, AfterFirst, first_failed, first_stuck, first_ok, AnswersLinks, link, AfterSeparator, separator_failed, separator_stuck, separator_ok, AfterOperand, operand_failed, operand_stuck, operand_ok, AnswersRows, only_term, loosest_row, AnswersRowOperand, row_operand, AfterRowOperand, row_failed, row_stuck, row_ok, AnswersTail, row_tail, AfterRight, right_stands, right_commits, right_stuck, right_failed, AfterLeft, left_stands, left_commits, left_stuck, left_failed, AnswersRight, right_side, AfterRightOperator, right_unread, right_read, AnswersLeft, left_side, AfterLeftOperator, left_unread, left_read, AnswersNon, neither_side, AfterNonOperator, non_unread, non_read}
+use Rattle.pg_language.specs.Errors.{Error, merge}
 use Rattle.pg_language.specs.Leaves.{satisfy_next, word_read, word_next, not_followed_next, string_outcome, matched, end_outcome, word_outcome, some_word_outcome, some_declare_outcome, leaf_outcome}
 use Rattle.pg_language.specs.Outcomes.{Outcome, ok, failed, empty_round}
 use Rattle.pg_language.specs.Reactions.{then_rest, then_round, noted, after_failure, unless_consumed, surrounded, as_finished, unless_begun}
 use Rattle.pg_language.proofs.Onward.{left_still}
+use Rattle.pg_value.specs.declared.trail.Fixity.{Fixity}
+use Rattle.pg_value.specs.declared.trail.Fixity.TheVariants as fixity
+use Rattle.pg_form.specs.declared.used.OperatorBuilders.{OperatorBuilders}
+use Rattle.pg_expand.specs.declared.rows.Row.{Row}
+use Rattle.pg_language.specs.OperatorReads.{Read, read_at}
+use Rattle.pg_language.specs.RowReactions.{Setting, then_stretch, then_operand, as_applied, or_return, past_prefix, with_prefix, postfix_outcome, with_postfix, labelled_operator, ambiguous_right, ambiguous_left, ambiguous_non, or_ambiguous, with_last}
 
 -- where the outcome is ok and consumed nothing, its end is this spot
 abbrev pub Stays : Spot → Outcome → Type 0
@@ -145,6 +151,61 @@ stays_leaf g text (leaf.NotFollowedBy class) a o e = stays_this a _ o e (stays_n
 stays_leaf g text leaf.EndOfText a o e = stays_this a _ o e (stays_end text a)
 stays_leaf g text (leaf.Declare class) a o e = stays_some_declare g text class a g.operators o e
 
+-- ---- expressions
+
+stays_stretch : (a b : Spot) (c : Bool) (t : List TrailItem) (e : Error) (o : Outcome) → (c ≡ false → b ≡ a) → Stays b o → Stays a (then_stretch c t e o)
+stays_stretch a b true t e (ok d z w u f) h g = tt
+stays_stretch a b false t e (ok true z w u f) h g = tt
+stays_stretch a b false t e (ok false z w u f) h g = g ∙ h refl
+stays_stretch a b c t e (failed d f) h g = tt
+stays_stretch a b c t e empty_round h g = tt
+
+stays_then_operand : (a : Spot) (side : Fixity) (q : Read) (o : Outcome) → Stays a (then_operand side q o)
+stays_then_operand a side q (ok d z w u f) = tt
+stays_then_operand a side q (failed d f) = tt
+stays_then_operand a side q empty_round = tt
+
+stays_labelled : (a : Spot) (o : Outcome) → Stays a o → Stays a (labelled_operator o)
+stays_labelled a (ok true b v t e) h = tt
+stays_labelled a (ok false b v t e) h = h
+stays_labelled a (failed c e) h = tt
+stays_labelled a empty_round h = tt
+
+stays_return : (a : Spot) (v : List Tree) (o : Outcome) → Stays a o → Stays a (or_return a v o)
+stays_return a v (ok true b w t e) h = tt
+stays_return a v (ok false b w t e) h = h
+stays_return a v (failed c e) h = stays_begun c a v e
+stays_return a v empty_round h = tt
+
+stays_ambiguous : (a : Spot) (e : Error) (o : Outcome) → Stays a o → Stays a (or_ambiguous e o)
+stays_ambiguous a e (ok true b v t f) h = tt
+stays_ambiguous a e (ok false b v t f) h = h
+stays_ambiguous a e (failed true f) h = tt
+stays_ambiguous a e (failed false f) h = tt
+stays_ambiguous a e empty_round h = tt
+
+stays_prefix : (text : List ℕ) (builders : OperatorBuilders) (os : List Operator) (a : Spot) (w : Option Read) (o : Outcome) → Stays (past_prefix a w) o →
+    Stays a (with_prefix text builders os a w o)
+stays_prefix text builders os a None o h = stays_stretch a a false [] _ o (λ x. refl) h
+stays_prefix text builders os a (Some q) o h = stays_then_operand a fixity.Prefix q _
+
+stays_affix : (text : List ℕ) (builders : OperatorBuilders) (os : List Operator) (v : List Tree) (a : Spot) (w : Option Read) → Stays a (postfix_outcome text builders os v a w)
+stays_affix text builders os v a None = refl
+stays_affix text builders os v a (Some q) = tt
+
+stays_postfix : (g : Grammar) (text : List ℕ) (s : Setting) (os : List Operator) (a : Spot) (o : Outcome) → Stays a o → Stays a (with_postfix g text s os o)
+stays_postfix g text s os a (ok c b v t e) h = stays_stretch a b c t e _ (by_flag a b c v t e h) (stays_affix text s.builders os v b (read_at g text s.item os b.place))
+stays_postfix g text s os a (failed c e) h = tt
+stays_postfix g text s os a empty_round h = tt
+
+stays_last : (g : Grammar) (text : List ℕ) (s : Setting) (r : Row) (q : Read) (v : List Tree) (a : Spot) (o : Outcome) → Stays a o → Stays a (with_last g text s r q v o)
+stays_last g text s r q v a (ok c b w t e) h =
+    let f : Error = merge (ambiguous_right g text s.item r b.place) (merge (ambiguous_left g text s.item r b.place) (ambiguous_non g text s.item r b.place)) in
+    let x : List Tree = applied s.builders.infix q.operator (v ++ w) in
+    stays_stretch a b c t e (unless_begun false b x f) (by_flag a b c w t e h) (stays_begun false b x f)
+stays_last g text s r q v a (failed c e) h = tt
+stays_last g text s r q v a empty_round h = tt
+
 -- ---- the relation
 
 module _ (G : Given) where
@@ -216,3 +277,54 @@ module _ (G : Given) where
     stays_after_operand operand_stuck b h g = tt
     stays_after_operand (operand_ok {side = side} {shape = shape} {left = left} {v = v} {w = w} {a = a} {b = z} {c = c} {d = d} {t = t} {u = u} {e = e} {f = f} {o = o} x y) b h g =
         stays_rest a b c [] t e _ h (stays_rest b z d [] u f _ (by_flag b z d w u f g) (stays_finished z side shape left v o (stays_links y)))
+
+    stays_rows : {s : Setting} {rows : List Row} {a : Spot} {o : Outcome} {m : ℕ} → AnswersRows G s rows a o m → Stays a o
+    stays_rows (only_term {a = a} {o = o} d) = stays_noted a _ o (stays d)
+    stays_rows (loosest_row {a = a} d r) = stays_after_row r a (stays_row_operand d)
+
+    stays_row_operand : {s : Setting} {r : Row} {tighter : List Row} {a : Spot} {o : Outcome} {m : ℕ} → AnswersRowOperand G s r tighter a o m → Stays a o
+    stays_row_operand (row_operand {s = s} {r = r} {a = a} {x = x} d) =
+        stays_postfix G.grammar G.text s r.postfix a _ (stays_prefix G.text s.builders r.prefix a (read_at G.grammar G.text s.item r.prefix a.place) x (stays_rows d))
+
+    stays_after_row : {s : Setting} {r : Row} {tighter : List Row} {x o : Outcome} {m : ℕ} → AfterRowOperand G s r tighter x o m → (a : Spot) → Stays a x → Stays a o
+    stays_after_row row_failed a h = tt
+    stays_after_row row_stuck a h = tt
+    stays_after_row (row_ok {c = c} {b = b} {v = v} {t = t} {e = e} {o = o} d) a h = stays_stretch a b c t e (labelled_operator o) (by_flag a b c v t e h) (stays_labelled b o (stays_tail d))
+
+    stays_tail : {s : Setting} {r : Row} {tighter : List Row} {v : List Tree} {a : Spot} {o : Outcome} {m : ℕ} → AnswersTail G s r tighter v a o m → Stays a o
+    stays_tail (row_tail d r) = stays_after_right r (stays_right d)
+
+    stays_after_right : {s : Setting} {r : Row} {tighter : List Row} {v : List Tree} {a : Spot} {x o : Outcome} {m : ℕ} → AfterRight G s r tighter v a x o m → Stays a x → Stays a o
+    stays_after_right right_stands h = h
+    stays_after_right right_commits h = tt
+    stays_after_right right_stuck h = tt
+    stays_after_right (right_failed {a = a} {e = e} {o = o} d r) h = stays_failure a e o (stays_after_left r (stays_left d))
+
+    stays_after_left : {s : Setting} {r : Row} {tighter : List Row} {v : List Tree} {a : Spot} {x o : Outcome} {m : ℕ} → AfterLeft G s r tighter v a x o m → Stays a x → Stays a o
+    stays_after_left left_stands h = h
+    stays_after_left left_commits h = tt
+    stays_after_left left_stuck h = tt
+    stays_after_left (left_failed {v = v} {a = a} {e = e} {o = o} d) h = stays_failure a e (or_return a v o) (stays_return a v o (stays_non d))
+
+    stays_right : {s : Setting} {r : Row} {tighter : List Row} {v : List Tree} {a : Spot} {o : Outcome} {m : ℕ} → AnswersRight G s r tighter v a o m → Stays a o
+    stays_right (right_side {s = s} {r = r} {a = a} {o = o} d) =
+        stays_ambiguous a (merge (ambiguous_left G.grammar G.text s.item r a.place) (ambiguous_non G.grammar G.text s.item r a.place)) o (stays_after_right_operator d)
+
+    stays_after_right_operator : {s : Setting} {r : Row} {tighter : List Row} {v : List Tree} {a : Spot} {w : Option Read} {o : Outcome} {m : ℕ} → AfterRightOperator G s r tighter v a w o m → Stays a o
+    stays_after_right_operator right_unread = tt
+    stays_after_right_operator (right_read {s = s} {v = v} {a = a} {q = q} {o = o} d x) = stays_then_operand a fixity.Infix q (as_applied s.builders.infix q.operator v o)
+
+    stays_left : {s : Setting} {r : Row} {tighter : List Row} {v : List Tree} {a : Spot} {o : Outcome} {m : ℕ} → AnswersLeft G s r tighter v a o m → Stays a o
+    stays_left (left_side {s = s} {r = r} {a = a} {o = o} d) =
+        stays_ambiguous a (merge (ambiguous_right G.grammar G.text s.item r a.place) (ambiguous_non G.grammar G.text s.item r a.place)) o (stays_after_left_operator d)
+
+    stays_after_left_operator : {s : Setting} {r : Row} {tighter : List Row} {v : List Tree} {a : Spot} {w : Option Read} {o : Outcome} {m : ℕ} → AfterLeftOperator G s r tighter v a w o m → Stays a o
+    stays_after_left_operator left_unread = tt
+    stays_after_left_operator (left_read {a = a} {q = q} {o = o} d x) = stays_then_operand a fixity.Infix q o
+
+    stays_non : {s : Setting} {r : Row} {tighter : List Row} {v : List Tree} {a : Spot} {o : Outcome} {m : ℕ} → AnswersNon G s r tighter v a o m → Stays a o
+    stays_non (neither_side d) = stays_after_non_operator d
+
+    stays_after_non_operator : {s : Setting} {r : Row} {tighter : List Row} {v : List Tree} {a : Spot} {w : Option Read} {o : Outcome} {m : ℕ} → AfterNonOperator G s r tighter v a w o m → Stays a o
+    stays_after_non_operator non_unread = tt
+    stays_after_non_operator (non_read {s = s} {r = r} {v = v} {a = a} {q = q} {x = x} d) = stays_then_operand a fixity.Infix q (with_last G.grammar G.text s r q v x)

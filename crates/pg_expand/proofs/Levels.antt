@@ -63,13 +63,13 @@ digit (p ∷ os) o all (inr h) = digit os o all.1 h
 
 -- ---- the numbers of rows
 
-row_step : (os : List Operator) (p : ℕ) → p < 10 → row_of os p ≡ cond (holds os p) 1 0 + row_of os (suc p)
+pub row_step : (os : List Operator) (p : ℕ) → p < 10 → row_of os p ≡ cond (holds os p) 1 0 + row_of os (suc p)
 row_step os p h = let e : 10 - p ≡ suc (10 - suc p) = omega arith in ap (rows_from os p) e
 
-row_held : (os : List Operator) (p : ℕ) → p < 10 → holds os p ≡ true → row_of os p ≡ suc (row_of os (suc p))
+pub row_held : (os : List Operator) (p : ℕ) → p < 10 → holds os p ≡ true → row_of os p ≡ suc (row_of os (suc p))
 row_held os p h t = row_step os p h ∙ (ap (λ b. cond b 1 0 + row_of os (suc p)) t ∙ omega arith)
 
-row_free : (os : List Operator) (p : ℕ) → p < 10 → holds os p ≡ false → row_of os p ≡ row_of os (suc p)
+pub row_free : (os : List Operator) (p : ℕ) → p < 10 → holds os p ≡ false → row_of os p ≡ row_of os (suc p)
 row_free os p h t = row_step os p h ∙ (ap (λ b. cond b 1 0 + row_of os (suc p)) t ∙ omega arith)
 
 row_more : (os : List Operator) (p : ℕ) → p < 10 → row_of os (suc p) ≤ row_of os p
@@ -91,7 +91,7 @@ either_way : (p q : ℕ) → (p ≡ q) ⊎ ((p < q) ⊎ (q < p))
 either_way p q = grind arith
 
 -- two precedences that hold an operator are one where their rows are
-one_row : (os : List Operator) (p q : ℕ) → p ≤ 9 → q ≤ 9 → holds os p ≡ true → holds os q ≡ true → row_of os p ≡ row_of os q → p ≡ q
+pub one_row : (os : List Operator) (p q : ℕ) → p ≤ 9 → q ≤ 9 → holds os p ≡ true → holds os q ≡ true → row_of os p ≡ row_of os q → p ≡ q
 one_row os p q h k s t e = elim (either_way p q) [
   | inl same ↦ same
   | inr (inl l) ↦ (let up = row_held os p (omega arith) s in let rest = tighter os (suc p) q (omega arith) (omega arith) in absurd (omega arith))
@@ -100,35 +100,35 @@ one_row os p q h k s t e = elim (either_way p q) [
 
 -- ---- the operators of a row
 
-right_role : (r : Role) → is_right r ≡ true → r ≡ InfixRight
+pub right_role : (r : Role) → is_right r ≡ true → r ≡ InfixRight
 right_role InfixLeft e = absurd cc
 right_role InfixRight e = refl
 right_role InfixNone e = absurd cc
 right_role Prefix e = absurd cc
 right_role Postfix e = absurd cc
 
-left_role : (r : Role) → is_left r ≡ true → r ≡ InfixLeft
+pub left_role : (r : Role) → is_left r ≡ true → r ≡ InfixLeft
 left_role InfixLeft e = refl
 left_role InfixRight e = absurd cc
 left_role InfixNone e = absurd cc
 left_role Prefix e = absurd cc
 left_role Postfix e = absurd cc
 
-non_role : (r : Role) → is_non r ≡ true → r ≡ InfixNone
+pub non_role : (r : Role) → is_non r ≡ true → r ≡ InfixNone
 non_role InfixLeft e = absurd cc
 non_role InfixRight e = absurd cc
 non_role InfixNone e = refl
 non_role Prefix e = absurd cc
 non_role Postfix e = absurd cc
 
-prefix_role : (r : Role) → is_prefix r ≡ true → r ≡ Prefix
+pub prefix_role : (r : Role) → is_prefix r ≡ true → r ≡ Prefix
 prefix_role InfixLeft e = absurd cc
 prefix_role InfixRight e = absurd cc
 prefix_role InfixNone e = absurd cc
 prefix_role Prefix e = refl
 prefix_role Postfix e = absurd cc
 
-postfix_role : (r : Role) → is_postfix r ≡ true → r ≡ Postfix
+pub postfix_role : (r : Role) → is_postfix r ≡ true → r ≡ Postfix
 postfix_role InfixLeft e = absurd cc
 postfix_role InfixRight e = absurd cc
 postfix_role InfixNone e = absurd cc

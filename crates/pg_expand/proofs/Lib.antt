@@ -6,4 +6,7 @@ pub mod Levels
 pub mod Symbols
 pub mod Steps
 pub mod OperatorsRead
+pub mod Groups
+pub mod RowNumbers
+pub mod RowsFound
 pub mod Examples

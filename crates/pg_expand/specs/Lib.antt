@@ -1,4 +1,5 @@
 pub mod Readings
 pub mod Rows
 pub mod RowGrammar
+pub mod Lookups
 pub mod Laws

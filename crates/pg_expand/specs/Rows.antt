@@ -1,5 +1,5 @@
 -- The rows of a table, as the parser of an expression takes them: the tightest first, each row's operators by role.
-use Rattle.std.specs.Prelude.{ℕ, Bool, true, false, ◌==◌, List, filter, map}
+use Rattle.std.specs.Prelude.{ℕ, zero, suc, Bool, true, false, ◌==◌, List, [], filter, map, slice_get, unwrap_or}
 use Rattle.pg_form.specs.Operators.{Operator}
 use Rattle.pg_form.specs.declared.decl.Role.{Role}
 use Rattle.pg_form.specs.declared.decl.Role.TheVariants.{InfixLeft, InfixRight, InfixNone, Prefix, Postfix}
@@ -53,3 +53,24 @@ row_at operators p = by_role (filter (λ o. o.precedence == p) operators)
 -- the rows of a table
 abbrev pub rows_of : List Operator → List Row
 rows_of operators = map (row_at operators) (rows operators)
+
+-- whether the second role is the first
+abbrev pub is_role : Role → Role → Bool
+is_role InfixLeft = is_left
+is_role InfixRight = is_right
+is_role InfixNone = is_non
+is_role Prefix = is_prefix
+is_role Postfix = is_postfix
+
+-- a row's operators of a role
+abbrev pub of_role : Role → Row → List Operator
+of_role InfixLeft row = row.left
+of_role InfixRight row = row.right
+of_role InfixNone row = row.non
+of_role Prefix row = row.prefix
+of_role Postfix row = row.postfix
+
+-- the row with a number, from 1, the tightest; with any other number it has no operators
+abbrev pub row_numbered : List Operator → ℕ → Row
+row_numbered operators zero = by_role []
+row_numbered operators (suc k) = unwrap_or (slice_get (rows_of operators) k) (by_role [])

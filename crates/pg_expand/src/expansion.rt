@@ -33,7 +33,7 @@ pub fn expand(alloc: Global, table: &Table, term: NodeId) -> Result<Rows, AllocE
 }
 
 /// Whether one of the operators has the precedence.
-fn holds(operators: &[Decl], precedence: u8) -> bool
+pub(crate) fn holds(operators: &[Decl], precedence: u8) -> bool
     ensures { result ≡ holds operators.now precedence }
 {
     operators

@@ -3,6 +3,7 @@
 //! A law is a function that does nothing when it runs: its clause is the law, and whoever calls it has the clause.
 
 ghost use Rattle.pg_expand.specs.Laws.{RowsDeriveFittingTrees, OneTreePerReading, OneTreePerOperators};
+ghost use Rattle.pg_expand.specs.Lookups.{RowsAndLookupsAgree};
 
 /// The law that the rows of a table, read as a grammar, derive each tree that fits the table, with the tree's reading, and
 /// nothing else.
@@ -19,4 +20,10 @@ pub fn one_tree_per_reading()
 /// stand is told by the operators' sides.
 pub fn one_tree_per_operators()
     ensures { OneTreePerOperators }
+{}
+
+/// The law that rows and look-ups say the same: of each row and role, those of the table's operators with a symbol that are of
+/// that row and role are those of the row's list that have the symbol, in its order.
+pub fn rows_and_lookups_agree()
+    ensures { RowsAndLookupsAgree }
 {}

@@ -91,3 +91,22 @@ fn a_table_without_operators_has_no_row(rt: HostRuntime) -> Result<(), Fail> {
     assert_eq!(rt; shown(alloc, &rows)?.as_str(), "0");
     Ok(())
 }
+
+#[test]
+fn operators_are_found_by_their_symbol(rt: HostRuntime) -> Result<(), Fail> {
+    rows_and_lookups_agree();
+    let alloc = rt.alloc();
+    let declared = [
+        (Role::InfixLeft, 6, '-'),
+        (Role::InfixNone, 4, '<'),
+        (Role::Prefix, 8, '-'),
+        (Role::InfixLeft, 6, '+'),
+    ];
+    let lookup = Lookup::of(alloc, &table_of(alloc, &declared)?)?;
+    let found = lookup.find(&['-']);
+    assert_eq!(rt; found.len(), 2);
+    assert!(rt; found[0].is_of(2, Role::InfixLeft));
+    assert!(rt; found[1].is_of(1, Role::Prefix));
+    assert!(rt; lookup.find(&['-', '-']).is_empty());
+    Ok(())
+}

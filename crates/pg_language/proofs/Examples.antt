@@ -47,10 +47,10 @@ pairs = record { name = codes "pair"; shape = shape.Node (codes "pair") }
 abbrev symbols : BuilderUse
 symbols = record { name = codes "symbol"; shape = shape.Symbol }
 
-abbrev builders : OperatorBuilders
+abbrev pub builders : OperatorBuilders
 builders = record { «infix» = symbols; prefix = symbols; postfix = symbols }
 
-abbrev item : OperatorsItem
+abbrev pub item : OperatorsItem
 item = record { class = Literal (codes "+*-!=") ∷ []; gap = Literal (codes " ") ∷ []; reserved = codes "=" ∷ []; max = 4 }
 
 abbrev names : WordItem
@@ -64,23 +64,23 @@ nodes =
     form.Around kind.Try 17 ∷ form.Around (kind.Label (codes "digit")) 18 ∷ form.Rule 0 ∷ form.Around (kind.Build symbols (codes "n")) 20 ∷ form.Around kind.Text 1 ∷
     form.Around kind.Local 2 ∷ []
 
-abbrev g : Grammar
+abbrev pub g : Grammar
 g = record { classes = []; words = names ∷ []; operators = Some item; initials = []; nodes = nodes; rules = (record { name = codes "main"; body = 19 }) ∷ []; start = 0 }
 
 -- a place, and a table of these operators
-abbrev spot : ℕ → List Operator → Spot
+abbrev pub spot : ℕ → List Operator → Spot
 spot i operators = record { place = i; table = record { operators = operators; reserved = codes "=" ∷ []; most = 4 } }
 
-abbrev plus : Operator
+abbrev pub plus : Operator
 plus = record { role = InfixLeft; precedence = 6; symbol = codes "+" }
 
-abbrev times : Operator
+abbrev pub times : Operator
 times = record { role = InfixLeft; precedence = 7; symbol = codes "*" }
 
-abbrev minus : Operator
+abbrev pub minus : Operator
 minus = record { role = Prefix; precedence = 8; symbol = codes "-" }
 
-abbrev bang : Operator
+abbrev pub bang : Operator
 bang = record { role = Postfix; precedence = 9; symbol = codes "!" }
 
 some_same : (m n : ℕ) → Some m ≡ Some n → m ≡ n
@@ -99,7 +99,7 @@ abbrev sums : List Operator
 sums = plus ∷ times ∷ minus ∷ bang ∷ []
 
 -- the node of an operator's symbol
-abbrev named : List ℕ → List Tree → Tree
+abbrev pub named : List ℕ → List Tree → Tree
 named symbol kids = node (encode_utf8_all symbol) (kids_of kids)
 
 -- the tighter operator stands below, after each operator lies its gap

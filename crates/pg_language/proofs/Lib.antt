@@ -1,11 +1,15 @@
 pub mod Onward
 pub mod Examples
+pub mod ExpressionExamples
 pub mod Derived
 pub mod DeclarationsDerived
 pub mod KeywordsRead
 pub mod LeavesDerived
 pub mod ChainsDerived
+pub mod RowLevels
+pub mod RowsDerived
 pub mod Sound
 pub mod Unique
 pub mod Flags
+pub mod ReadOn
 pub mod Moves

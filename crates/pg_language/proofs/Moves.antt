@@ -1,5 +1,5 @@
 -- An ok answer tells whether it consumed.
-use Rattle.std.proofs.Common.{◌≡◌, ◌==◌, ◌+◌, ◌<◌, ◌≤◌, ℕ, suc, List, [], ◌∷◌, Bool, true, false, ◌||◌, if◌then◌else◌, refl, sym, ◌∙◌, ap, subst, length, Option, Some, None, slice_get, arith, le_refl, le_trans}
+use Rattle.std.proofs.Common.{◌≡◌, ◌==◌, ◌+◌, ◌<◌, ◌≤◌, ℕ, suc, List, [], ◌∷◌, ◌++◌, Bool, true, false, ◌||◌, if◌then◌else◌, refl, sym, ◌∙◌, ap, subst, length, Option, Some, None, slice_get, arith, le_refl, le_trans}
 use Rattle.std.specs.Prelude.{nat_lt}
 use Rattle.std.specs.List.{list_any}
 use Rattle.std.specs.Str.{bytes_eq}
@@ -12,25 +12,32 @@ use Rattle.pg_form.specs.Forms.{Node}
 use Rattle.pg_form.specs.declared.form.Form.TheVariants as form
 use Rattle.pg_form.specs.declared.form.Leaf.TheVariants as leaf
 use Rattle.pg_value.specs.declared.trail.TrailItem.{TrailItem}
+use Rattle.pg_value.specs.declared.trail.Fixity.{Fixity}
+use Rattle.pg_value.specs.declared.trail.Fixity.TheVariants as fixity
+use Rattle.pg_form.specs.declared.used.BuilderUse.{BuilderUse}
+use Rattle.pg_expand.specs.declared.rows.Row.{Row}
 use Rattle.pg_form.specs.declared.word_item.WordItem.{WordItem}
-use Rattle.pg_language.specs.Derives.{Spot}
+use Rattle.pg_language.specs.Derives.{Spot, at, applied}
 use Rattle.pg_language.specs.Runs.{run_at}
 use Rattle.pg_language.specs.Answers as answers
-use Rattle.pg_language.specs.Answers.{Given, Answers, entered, AnswersForm, nothing, seq, choice, many, rule, AnswersParts, part, AfterPart, part_last, part_failed, part_stuck, part_ok, AnswersAlternatives, no_alternative, alternative, AfterAlternative, alternative_consumed, alternative_stands, alternative_waits, alternative_commits, alternative_failed, alternative_stuck, AnswersRounds, round, AfterRound, round_ended, round_failed, round_empty, round_stuck, round_ok, AnswersChain, first_operand, AfterFirst, first_failed, first_stuck, first_ok, AnswersLinks, link, AfterSeparator, separator_failed, separator_stuck, separator_ok, AfterOperand, operand_failed, operand_stuck, operand_ok}
+use Rattle.pg_language.specs.Answers.{Given, Answers, entered, AnswersForm, nothing, seq, choice, many, rule, AnswersParts, part, AfterPart, part_last, part_failed, part_stuck, part_ok, AnswersAlternatives, no_alternative, alternative, AfterAlternative, alternative_consumed, alternative_stands, alternative_waits, alternative_commits, alternative_failed, alternative_stuck, AnswersRounds, round, AfterRound, round_ended, round_failed, round_empty, round_stuck, round_ok, AnswersChain, first_operand, AfterFirst, first_failed, first_stuck, first_ok, AnswersLinks, link, AfterSeparator, separator_failed, separator_stuck, separator_ok, AfterOperand, operand_failed, operand_stuck, operand_ok, AnswersRows, only_term, loosest_row, AnswersRowOperand, row_operand, AfterRowOperand, row_failed, row_stuck, row_ok, AnswersTail, row_tail, AfterRight, right_stands, right_commits, right_stuck, right_failed, AfterLeft, left_stands, left_commits, left_stuck, left_failed, AnswersRight, right_side, AfterRightOperator, right_unread, right_read, AfterRightOperand, right_operand_failed, right_operand_stuck, right_operand_ok, AnswersLeft, left_side, AfterLeftOperator, left_unread, left_read, AfterLeftOperand, left_operand_failed, left_operand_stuck, left_operand_ok, AnswersNon, neither_side, AfterNonOperator, non_unread, non_read}
 use Rattle.pg_form.specs.Operators.{Operator}
 use Rattle.pg_form.specs.declared.operators_item.OperatorsItem.{OperatorsItem}
 use Rattle.pg_table.specs.Tables.{admit_fault}
 use Rattle.pg_table.specs.declared.fault.AdmitFault.{AdmitFault}
 use Rattle.pg_language.specs.Declarations.{Declaration, no_keyword, no_digit, no_symbol, declared, declaration_at, unless_refused, declaration_outcome, declare_outcome}
-use Rattle.pg_language.specs.Errors.{Error}
+use Rattle.pg_language.specs.Errors.{Error, merge}
+use Rattle.pg_language.specs.OperatorReads.{Read, read_at}
 use Rattle.pg_language.specs.Leaves.{taken, satisfy_next, word_read, word_next, not_followed_next, string_outcome, matched, end_outcome, word_outcome, some_word_outcome, some_declare_outcome, leaf_outcome}
 use Rattle.pg_language.specs.Outcomes.{Outcome, ok, failed, empty_round}
 use Rattle.pg_language.specs.Reactions.{then_rest, then_round, noted, after_failure, unless_consumed, surrounded, as_finished, unless_begun}
+use Rattle.pg_language.specs.RowReactions.{Setting, then_stretch, then_operand, as_applied, or_return, past_prefix, with_prefix, postfix_outcome, with_postfix, labelled_operator, ambiguous_right, ambiguous_left, ambiguous_non, or_ambiguous, with_last}
 use Rattle.pg_form.specs.declared.side.Side.{Side}
 use Rattle.pg_form.specs.declared.form.Around.{Around}
 use Rattle.pg_form.specs.declared.form.Leaf.{Leaf}
 use Rattle.pg_language.proofs.DeclarationsDerived.{Stands, declaration_stands, declaration_moves}
 use Rattle.pg_language.proofs.Flags.{moved, stayed, both_moved}
+use Rattle.pg_language.proofs.ReadOn.{is_read, read_on}
 
 -- where the outcome is ok, its end isn't before its first place, and it says whether it lies after it
 abbrev pub Tells : Spot → Outcome → Type 0
@@ -145,6 +152,66 @@ tells_leaf g text (leaf.NotFollowedBy class) a o spelled e = tells_this a _ o e 
 tells_leaf g text leaf.EndOfText a o spelled e = tells_this a _ o e (tells_end text a)
 tells_leaf g text (leaf.Declare class) a o spelled e = tells_some_declare g text class a g.operators o e
 
+-- ---- expressions
+
+tells_stretch : (a b : Spot) (c : Bool) (t : List TrailItem) (e : Error) (o : Outcome) → c ≡ nat_lt a.place b.place → a.place ≤ b.place → Tells b o → Tells a (then_stretch c t e o)
+tells_stretch a b c t e (ok d z w u f) h l g =
+    let both = both_moved l g.1 in (ap (λ x. x || d) h ∙ ap (λ x. nat_lt a.place b.place || x) g.0 ∙ both, le_trans l g.1)
+tells_stretch a b c t e (failed d f) h l g = tt
+tells_stretch a b c t e empty_round h l g = tt
+
+tells_then_operand : (a : Spot) (side : Fixity) (q : Read) (o : Outcome) → a.place < q.end → Tells (at a q.end) o → Tells a (then_operand side q o)
+tells_then_operand a side q (ok d z w u f) l g =
+    let on = g.1 in
+    let far : a.place < z.place = omega arith in
+    (sym (moved far), omega arith)
+tells_then_operand a side q (failed d f) l g = tt
+tells_then_operand a side q empty_round l g = tt
+
+tells_applied : (a : Spot) (used : BuilderUse) (o : Operator) (v : List Tree) (x : Outcome) → Tells a x → Tells a (as_applied used o v x)
+tells_applied a used o v (ok c b w t e) h = h
+tells_applied a used o v (failed c e) h = tt
+tells_applied a used o v empty_round h = tt
+
+tells_labelled : (a : Spot) (o : Outcome) → Tells a o → Tells a (labelled_operator o)
+tells_labelled a (ok c b v t e) h = h
+tells_labelled a (failed c e) h = tt
+tells_labelled a empty_round h = tt
+
+tells_return : (a : Spot) (v : List Tree) (o : Outcome) → Tells a o → Tells a (or_return a v o)
+tells_return a v (ok c b w t e) h = h
+tells_return a v (failed c e) h = tells_begun c a v e
+tells_return a v empty_round h = tt
+
+tells_ambiguous : (a : Spot) (e : Error) (o : Outcome) → Tells a o → Tells a (or_ambiguous e o)
+tells_ambiguous a e (ok c b v t f) h = h
+tells_ambiguous a e (failed true f) h = tt
+tells_ambiguous a e (failed false f) h = tt
+tells_ambiguous a e empty_round h = tt
+
+tells_prefix : (g : Grammar) (text : List ℕ) (s : Setting) (os : List Operator) (a : Spot) (w : Option Read) (o : Outcome) → read_at g text s.item os a.place ≡ w → Tells (past_prefix a w) o →
+    Tells a (with_prefix text s.builders os a w o)
+tells_prefix g text s os a None o e h = tells_stretch a a false [] _ o (sym (stayed a.place)) (le_refl a.place) h
+tells_prefix g text s os a (Some q) o e h = tells_then_operand a fixity.Prefix q _ (is_read g text s.item os a.place q e).ahead (tells_applied (at a q.end) s.builders.prefix q.operator [] o h)
+
+tells_affix : (g : Grammar) (text : List ℕ) (s : Setting) (os : List Operator) (v : List Tree) (a : Spot) (w : Option Read) → read_at g text s.item os a.place ≡ w →
+    Tells a (postfix_outcome text s.builders os v a w)
+tells_affix g text s os v a None e = tells_stayed a
+tells_affix g text s os v a (Some q) e = (sym (moved (is_read g text s.item os a.place q e).ahead), read_on g text s.item os a.place q e)
+
+tells_postfix : (g : Grammar) (text : List ℕ) (s : Setting) (os : List Operator) (a : Spot) (o : Outcome) → Tells a o → Tells a (with_postfix g text s os o)
+tells_postfix g text s os a (ok c b v t e) h = tells_stretch a b c t e _ h.0 h.1 (tells_affix g text s os v b (read_at g text s.item os b.place) refl)
+tells_postfix g text s os a (failed c e) h = tt
+tells_postfix g text s os a empty_round h = tt
+
+tells_last : (g : Grammar) (text : List ℕ) (s : Setting) (r : Row) (q : Read) (v : List Tree) (a : Spot) (o : Outcome) → Tells a o → Tells a (with_last g text s r q v o)
+tells_last g text s r q v a (ok c b w t e) h =
+    let f : Error = merge (ambiguous_right g text s.item r b.place) (merge (ambiguous_left g text s.item r b.place) (ambiguous_non g text s.item r b.place)) in
+    let x : List Tree = applied s.builders.infix q.operator (v ++ w) in
+    tells_stretch a b c t e (unless_begun false b x f) h.0 h.1 (tells_begun false b x f)
+tells_last g text s r q v a (failed c e) h = tt
+tells_last g text s r q v a empty_round h = tt
+
 -- ---- the relation
 
 module _ (G : Given) (spelled : (p : ℕ) (s : List ℕ) → slice_get G.grammar.nodes p ≡ Some (form.Leaf (leaf.String s)) → 0 < length s) where
@@ -216,3 +283,73 @@ module _ (G : Given) (spelled : (p : ℕ) (s : List ℕ) → slice_get G.grammar
     tells_after_operand operand_stuck b h l g = tt
     tells_after_operand (operand_ok {side = side} {shape = shape} {left = left} {v = v} {a = a} {b = z} {c = c} {d = d} {t = t} {u = u} {e = e} {f = f} {o = o} x y) b h l g =
         tells_rest a b c [] t e _ h l (tells_rest b z d [] u f _ g.0 g.1 (tells_finished z side shape left v o (tells_links y)))
+
+    tells_rows : {s : Setting} {rows : List Row} {a : Spot} {o : Outcome} {m : ℕ} → AnswersRows G s rows a o m → Tells a o
+    tells_rows (only_term {a = a} {o = o} d) = tells_noted a _ o (tells d)
+    tells_rows (loosest_row {a = a} d r) = tells_after_row r a (tells_row_operand d)
+
+    tells_row_operand : {s : Setting} {r : Row} {tighter : List Row} {a : Spot} {o : Outcome} {m : ℕ} → AnswersRowOperand G s r tighter a o m → Tells a o
+    tells_row_operand (row_operand {s = s} {r = r} {a = a} {x = x} d) =
+        tells_postfix G.grammar G.text s r.postfix a _ (tells_prefix G.grammar G.text s r.prefix a (read_at G.grammar G.text s.item r.prefix a.place) x refl (tells_rows d))
+
+    tells_after_row : {s : Setting} {r : Row} {tighter : List Row} {x o : Outcome} {m : ℕ} → AfterRowOperand G s r tighter x o m → (a : Spot) → Tells a x → Tells a o
+    tells_after_row row_failed a h = tt
+    tells_after_row row_stuck a h = tt
+    tells_after_row (row_ok {c = c} {b = b} {t = t} {e = e} {o = o} d) a h = tells_stretch a b c t e (labelled_operator o) h.0 h.1 (tells_labelled b o (tells_tail d))
+
+    tells_tail : {s : Setting} {r : Row} {tighter : List Row} {v : List Tree} {a : Spot} {o : Outcome} {m : ℕ} → AnswersTail G s r tighter v a o m → Tells a o
+    tells_tail (row_tail d r) = tells_after_right r (tells_right d)
+
+    tells_after_right : {s : Setting} {r : Row} {tighter : List Row} {v : List Tree} {a : Spot} {x o : Outcome} {m : ℕ} → AfterRight G s r tighter v a x o m → Tells a x → Tells a o
+    tells_after_right right_stands h = h
+    tells_after_right right_commits h = tt
+    tells_after_right right_stuck h = tt
+    tells_after_right (right_failed {a = a} {e = e} {o = o} d r) h = tells_failure a e o (tells_after_left r (tells_left d))
+
+    tells_after_left : {s : Setting} {r : Row} {tighter : List Row} {v : List Tree} {a : Spot} {x o : Outcome} {m : ℕ} → AfterLeft G s r tighter v a x o m → Tells a x → Tells a o
+    tells_after_left left_stands h = h
+    tells_after_left left_commits h = tt
+    tells_after_left left_stuck h = tt
+    tells_after_left (left_failed {v = v} {a = a} {e = e} {o = o} d) h = tells_failure a e (or_return a v o) (tells_return a v o (tells_non d))
+
+    tells_right : {s : Setting} {r : Row} {tighter : List Row} {v : List Tree} {a : Spot} {o : Outcome} {m : ℕ} → AnswersRight G s r tighter v a o m → Tells a o
+    tells_right (right_side {s = s} {r = r} {a = a} {o = o} d) =
+        tells_ambiguous a (merge (ambiguous_left G.grammar G.text s.item r a.place) (ambiguous_non G.grammar G.text s.item r a.place)) o (tells_after_right_operator d refl)
+
+    tells_after_right_operator : {s : Setting} {r : Row} {tighter : List Row} {v : List Tree} {a : Spot} {w : Option Read} {o : Outcome} {m : ℕ} → AfterRightOperator G s r tighter v a w o m →
+        read_at G.grammar G.text s.item r.right a.place ≡ w → Tells a o
+    tells_after_right_operator right_unread e = tt
+    tells_after_right_operator (right_read {s = s} {r = r} {v = v} {a = a} {q = q} {o = o} d x) e =
+        tells_then_operand a fixity.Infix q (as_applied s.builders.infix q.operator v o) (is_read G.grammar G.text s.item r.right a.place q e).ahead
+        (tells_applied (at a q.end) s.builders.infix q.operator v o (tells_after_right_operand x (at a q.end) (tells_row_operand d)))
+
+    tells_after_right_operand : {s : Setting} {r : Row} {tighter : List Row} {x o : Outcome} {m : ℕ} → AfterRightOperand G s r tighter x o m → (a : Spot) → Tells a x → Tells a o
+    tells_after_right_operand right_operand_failed a h = tt
+    tells_after_right_operand right_operand_stuck a h = tt
+    tells_after_right_operand (right_operand_ok {c = c} {b = b} {w = w} {t = t} {e = e} {o = o} d) a h = tells_stretch a b c t e (or_return b w o) h.0 h.1 (tells_return b w o (tells_right d))
+
+    tells_left : {s : Setting} {r : Row} {tighter : List Row} {v : List Tree} {a : Spot} {o : Outcome} {m : ℕ} → AnswersLeft G s r tighter v a o m → Tells a o
+    tells_left (left_side {s = s} {r = r} {a = a} {o = o} d) =
+        tells_ambiguous a (merge (ambiguous_right G.grammar G.text s.item r a.place) (ambiguous_non G.grammar G.text s.item r a.place)) o (tells_after_left_operator d refl)
+
+    tells_after_left_operator : {s : Setting} {r : Row} {tighter : List Row} {v : List Tree} {a : Spot} {w : Option Read} {o : Outcome} {m : ℕ} → AfterLeftOperator G s r tighter v a w o m →
+        read_at G.grammar G.text s.item r.left a.place ≡ w → Tells a o
+    tells_after_left_operator left_unread e = tt
+    tells_after_left_operator (left_read {s = s} {r = r} {a = a} {q = q} {o = o} d x) e =
+        tells_then_operand a fixity.Infix q o (is_read G.grammar G.text s.item r.left a.place q e).ahead (tells_after_left_operand x (at a q.end) (tells_row_operand d))
+
+    tells_after_left_operand : {s : Setting} {r : Row} {tighter : List Row} {v : List Tree} {q : Read} {x o : Outcome} {m : ℕ} → AfterLeftOperand G s r tighter v q x o m → (a : Spot) → Tells a x → Tells a o
+    tells_after_left_operand left_operand_failed a h = tt
+    tells_after_left_operand left_operand_stuck a h = tt
+    tells_after_left_operand (left_operand_ok {s = s} {v = v} {w = w} {q = q} {c = c} {b = b} {t = t} {e = e} {o = o} d) a h =
+        let x : List Tree = applied s.builders.infix q.operator (v ++ w) in
+        tells_stretch a b c t e (or_return b x o) h.0 h.1 (tells_return b x o (tells_left d))
+
+    tells_non : {s : Setting} {r : Row} {tighter : List Row} {v : List Tree} {a : Spot} {o : Outcome} {m : ℕ} → AnswersNon G s r tighter v a o m → Tells a o
+    tells_non (neither_side d) = tells_after_non_operator d refl
+
+    tells_after_non_operator : {s : Setting} {r : Row} {tighter : List Row} {v : List Tree} {a : Spot} {w : Option Read} {o : Outcome} {m : ℕ} → AfterNonOperator G s r tighter v a w o m →
+        read_at G.grammar G.text s.item r.non a.place ≡ w → Tells a o
+    tells_after_non_operator non_unread e = tt
+    tells_after_non_operator (non_read {s = s} {r = r} {v = v} {a = a} {q = q} {x = x} d) e =
+        tells_then_operand a fixity.Infix q (with_last G.grammar G.text s r q v x) (is_read G.grammar G.text s.item r.non a.place q e).ahead (tells_last G.grammar G.text s r q v (at a q.end) x (tells_row_operand d))

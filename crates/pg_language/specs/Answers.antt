@@ -1,5 +1,5 @@
 -- How the nodes of a grammar answer: each runs its parts in order and reacts to what they answer.
-use Rattle.std.specs.Prelude.{◌≡◌, ◌+◌, ℕ, zero, suc, List, [], ◌∷◌, Bool, true, false, ◌||◌, Some, slice_get}
+use Rattle.std.specs.Prelude.{◌≡◌, ◌+◌, ℕ, zero, suc, List, [], ◌∷◌, ◌++◌, Bool, true, false, ◌||◌, Option, Some, None, slice_get}
 use Rattle.pg_tree.specs.Trees.{Tree}
 use Rattle.pg_tree.specs.declared.shape.Shape.{Shape}
 use Rattle.pg_value.specs.Grammar.{Grammar}
@@ -10,28 +10,30 @@ use Rattle.pg_form.specs.declared.form.Around.{Around}
 use Rattle.pg_form.specs.declared.side.Side.{Side}
 use Rattle.pg_value.specs.declared.grammar.Rule as declared
 use Rattle.pg_form.specs.declared.used.BuilderUse.{BuilderUse}
-use Rattle.pg_language.specs.Derives.{Spot, carried}
+use Rattle.pg_language.specs.Derives.{Spot, at, applied, carried}
 use Rattle.pg_table.specs.Tables.{Table}
 use Rattle.pg_value.specs.declared.trail.TrailItem.{TrailItem}
-use Rattle.pg_value.specs.declared.trail.TrailItem.TheVariants.{Alt, Rounds}
-use Rattle.pg_language.specs.Errors.{Error, no_messages_at}
+use Rattle.pg_value.specs.declared.trail.TrailItem.TheVariants.{Alt, Rounds, Ops}
+use Rattle.pg_value.specs.declared.trail.Fixity.TheVariants as fixity
+use Rattle.pg_expand.specs.declared.rows.Row.{Row}
+use Rattle.pg_language.specs.Errors.{Error, no_messages_at, merge}
 use Rattle.pg_language.specs.Leaves.{leaf_outcome}
+use Rattle.pg_language.specs.OperatorReads.{Read, read_at, unread}
 use Rattle.pg_language.specs.Outcomes.{Outcome, ok, failed, empty_round}
 use Rattle.pg_language.specs.Reactions.{then_rest, then_round, noted, after_failure, unless_consumed, surrounded, as_finished, unless_begun, error_after}
+use Rattle.pg_language.specs.RowReactions.{Setting, then_stretch, then_operand, as_applied, or_return, past_prefix, as_operand, labelled_operator, ambiguous_right, ambiguous_left, ambiguous_non, or_ambiguous, with_last}
 use Rattle.pg_language.specs.declared.reading.Reading.{Reading}
 use Rattle.pg_language.specs.declared.reading.Reading.TheVariants.{Library, Report}
 
--- what stays the same in a run: the reading of choice, what a turn inside an expression that enters no node counts, the
--- grammar and the text
+-- what stays the same in a run: the reading of choice, the grammar and the text
 pub record Given : Type 0 where
   pub reading : Reading
-  pub weight : ℕ
   pub grammar : Grammar
   pub text : List ℕ
 
--- a run of a grammar over a text, in a reading; turns inside an expression count nothing
+-- a run of a grammar over a text, in a reading
 abbrev pub given : Reading → Grammar → List ℕ → Given
-given reading g text = record { reading = reading; weight = 0; grammar = g; text = text }
+given reading g text = record { reading = reading; grammar = g; text = text }
 
 mutual
   -- the node, run at the spot, has this outcome, with so many nodes entered
@@ -133,6 +135,110 @@ mutual
         (c || d) ≡ true → AnswersLinks G side shape p s (carried side shape left v w) k b o m →
         AfterOperand G side shape p s left (suc k) a c v t e (ok d b w u f)
         (then_rest c [] t e (then_rest d [] u f (as_finished side shape left v o))) m
+
+  -- ---- expressions: these rows, the loosest first, over the term; the parsers of rows enter no node, and count nothing
+  pub data AnswersRows (G : Given) : Setting → List Row → Spot → Outcome → ℕ → Type 0 where
+    only_term : {s : Setting} {m : ℕ} {a : Spot} {o : Outcome} → Answers G s.term a o m → AnswersRows G s [] a (noted (Ops []) o) m
+    loosest_row : {s : Setting} {r : Row} {tighter : List Row} {m n : ℕ} {a : Spot} {x o : Outcome} → AnswersRowOperand G s r tighter a x m →
+        AfterRowOperand G s r tighter x o n → AnswersRows G s (r ∷ tighter) a o (m + n)
+
+  -- an operand of a row: the tighter rows, with a prefix of the row before them or none, and a postfix after them or none
+  pub data AnswersRowOperand (G : Given) : Setting → Row → List Row → Spot → Outcome → ℕ → Type 0 where
+    row_operand : {s : Setting} {r : Row} {tighter : List Row} {m : ℕ} {a : Spot} {x : Outcome} →
+        AnswersRows G s tighter (past_prefix a (read_at G.grammar G.text s.item r.prefix a.place)) x m →
+        AnswersRowOperand G s r tighter a (as_operand G.grammar G.text s r a x) m
+
+  -- what becomes of the outcome of a row's first operand
+  pub data AfterRowOperand (G : Given) : Setting → Row → List Row → Outcome → Outcome → ℕ → Type 0 where
+    row_failed : {s : Setting} {r : Row} {tighter : List Row} {c : Bool} {e : Error} → AfterRowOperand G s r tighter (failed c e) (failed c e) zero
+    row_stuck : {s : Setting} {r : Row} {tighter : List Row} → AfterRowOperand G s r tighter empty_round empty_round zero
+    row_ok : {s : Setting} {r : Row} {tighter : List Row} {m : ℕ} {c : Bool} {b : Spot} {v : List Tree} {t : List TrailItem} {e : Error} {o : Outcome} →
+        AnswersTail G s r tighter v b o m → AfterRowOperand G s r tighter (ok c b v t e) (then_stretch c t e (labelled_operator o)) m
+
+  -- after an operand with this forest: right-associative operators, or else left-associative ones, or else one that is not
+  -- associative, or else nothing
+  pub data AnswersTail (G : Given) : Setting → Row → List Row → List Tree → Spot → Outcome → ℕ → Type 0 where
+    row_tail : {s : Setting} {r : Row} {tighter : List Row} {m n : ℕ} {v : List Tree} {a : Spot} {x o : Outcome} → AnswersRight G s r tighter v a x m →
+        AfterRight G s r tighter v a x o n → AnswersTail G s r tighter v a o (m + n)
+
+  -- what becomes of the outcome of the right-associative operators
+  pub data AfterRight (G : Given) : Setting → Row → List Row → List Tree → Spot → Outcome → Outcome → ℕ → Type 0 where
+    right_stands : {s : Setting} {r : Row} {tighter : List Row} {v w : List Tree} {a b : Spot} {c : Bool} {t : List TrailItem} {e : Error} →
+        AfterRight G s r tighter v a (ok c b w t e) (ok c b w t e) zero
+    right_commits : {s : Setting} {r : Row} {tighter : List Row} {v : List Tree} {a : Spot} {e : Error} →
+        AfterRight G s r tighter v a (failed true e) (failed true e) zero
+    right_stuck : {s : Setting} {r : Row} {tighter : List Row} {v : List Tree} {a : Spot} → AfterRight G s r tighter v a empty_round empty_round zero
+    right_failed : {s : Setting} {r : Row} {tighter : List Row} {m n : ℕ} {v : List Tree} {a : Spot} {e : Error} {x o : Outcome} →
+        AnswersLeft G s r tighter v a x m → AfterLeft G s r tighter v a x o n → AfterRight G s r tighter v a (failed false e) (after_failure e o) (m + n)
+
+  -- what becomes of the outcome of the left-associative operators
+  pub data AfterLeft (G : Given) : Setting → Row → List Row → List Tree → Spot → Outcome → Outcome → ℕ → Type 0 where
+    left_stands : {s : Setting} {r : Row} {tighter : List Row} {v w : List Tree} {a b : Spot} {c : Bool} {t : List TrailItem} {e : Error} →
+        AfterLeft G s r tighter v a (ok c b w t e) (ok c b w t e) zero
+    left_commits : {s : Setting} {r : Row} {tighter : List Row} {v : List Tree} {a : Spot} {e : Error} →
+        AfterLeft G s r tighter v a (failed true e) (failed true e) zero
+    left_stuck : {s : Setting} {r : Row} {tighter : List Row} {v : List Tree} {a : Spot} → AfterLeft G s r tighter v a empty_round empty_round zero
+    left_failed : {s : Setting} {r : Row} {tighter : List Row} {m : ℕ} {v : List Tree} {a : Spot} {e : Error} {o : Outcome} →
+        AnswersNon G s r tighter v a o m → AfterLeft G s r tighter v a (failed false e) (after_failure e (or_return a v o)) m
+
+  -- ---- right-associative operators: one, an operand, and what is right of that
+  pub data AnswersRight (G : Given) : Setting → Row → List Row → List Tree → Spot → Outcome → ℕ → Type 0 where
+    right_side : {s : Setting} {r : Row} {tighter : List Row} {m : ℕ} {v : List Tree} {a : Spot} {o : Outcome} →
+        AfterRightOperator G s r tighter v a (read_at G.grammar G.text s.item r.right a.place) o m →
+        AnswersRight G s r tighter v a
+        (or_ambiguous (merge (ambiguous_left G.grammar G.text s.item r a.place) (ambiguous_non G.grammar G.text s.item r a.place)) o) m
+
+  -- after the operator, if there is one
+  pub data AfterRightOperator (G : Given) : Setting → Row → List Row → List Tree → Spot → Option Read → Outcome → ℕ → Type 0 where
+    right_unread : {s : Setting} {r : Row} {tighter : List Row} {v : List Tree} {a : Spot} →
+        AfterRightOperator G s r tighter v a None (failed false (unread G.text r.right a.place)) zero
+    right_read : {s : Setting} {r : Row} {tighter : List Row} {m n : ℕ} {v : List Tree} {a : Spot} {q : Read} {x o : Outcome} →
+        AnswersRowOperand G s r tighter (at a q.end) x m → AfterRightOperand G s r tighter x o n →
+        AfterRightOperator G s r tighter v a (Some q) (then_operand fixity.Infix q (as_applied s.builders.infix q.operator v o)) (m + n)
+
+  -- what becomes of the outcome of the operand: the same may follow it
+  pub data AfterRightOperand (G : Given) : Setting → Row → List Row → Outcome → Outcome → ℕ → Type 0 where
+    right_operand_failed : {s : Setting} {r : Row} {tighter : List Row} {c : Bool} {e : Error} → AfterRightOperand G s r tighter (failed c e) (failed c e) zero
+    right_operand_stuck : {s : Setting} {r : Row} {tighter : List Row} → AfterRightOperand G s r tighter empty_round empty_round zero
+    right_operand_ok : {s : Setting} {r : Row} {tighter : List Row} {m : ℕ} {c : Bool} {b : Spot} {w : List Tree} {t : List TrailItem} {e : Error} {o : Outcome} →
+        AnswersRight G s r tighter w b o m → AfterRightOperand G s r tighter (ok c b w t e) (then_stretch c t e (or_return b w o)) m
+
+  -- ---- left-associative operators: one, an operand, and what follows the tree of the three
+  pub data AnswersLeft (G : Given) : Setting → Row → List Row → List Tree → Spot → Outcome → ℕ → Type 0 where
+    left_side : {s : Setting} {r : Row} {tighter : List Row} {m : ℕ} {v : List Tree} {a : Spot} {o : Outcome} →
+        AfterLeftOperator G s r tighter v a (read_at G.grammar G.text s.item r.left a.place) o m →
+        AnswersLeft G s r tighter v a
+        (or_ambiguous (merge (ambiguous_right G.grammar G.text s.item r a.place) (ambiguous_non G.grammar G.text s.item r a.place)) o) m
+
+  -- after the operator, if there is one
+  pub data AfterLeftOperator (G : Given) : Setting → Row → List Row → List Tree → Spot → Option Read → Outcome → ℕ → Type 0 where
+    left_unread : {s : Setting} {r : Row} {tighter : List Row} {v : List Tree} {a : Spot} →
+        AfterLeftOperator G s r tighter v a None (failed false (unread G.text r.left a.place)) zero
+    left_read : {s : Setting} {r : Row} {tighter : List Row} {m n : ℕ} {v : List Tree} {a : Spot} {q : Read} {x o : Outcome} →
+        AnswersRowOperand G s r tighter (at a q.end) x m → AfterLeftOperand G s r tighter v q x o n →
+        AfterLeftOperator G s r tighter v a (Some q) (then_operand fixity.Infix q o) (m + n)
+
+  -- what becomes of the outcome of the operand: the operator is applied at once, and the same may follow
+  pub data AfterLeftOperand (G : Given) : Setting → Row → List Row → List Tree → Read → Outcome → Outcome → ℕ → Type 0 where
+    left_operand_failed : {s : Setting} {r : Row} {tighter : List Row} {v : List Tree} {q : Read} {c : Bool} {e : Error} →
+        AfterLeftOperand G s r tighter v q (failed c e) (failed c e) zero
+    left_operand_stuck : {s : Setting} {r : Row} {tighter : List Row} {v : List Tree} {q : Read} → AfterLeftOperand G s r tighter v q empty_round empty_round zero
+    left_operand_ok : {s : Setting} {r : Row} {tighter : List Row} {m : ℕ} {v w : List Tree} {q : Read} {c : Bool} {b : Spot} {t : List TrailItem} {e : Error} {o : Outcome} →
+        AnswersLeft G s r tighter (applied s.builders.infix q.operator (v ++ w)) b o m →
+        AfterLeftOperand G s r tighter v q (ok c b w t e) (then_stretch c t e (or_return b (applied s.builders.infix q.operator (v ++ w)) o)) m
+
+  -- ---- operators that are not associative: one and an operand, after which no infix operator of the row may follow
+  pub data AnswersNon (G : Given) : Setting → Row → List Row → List Tree → Spot → Outcome → ℕ → Type 0 where
+    neither_side : {s : Setting} {r : Row} {tighter : List Row} {m : ℕ} {v : List Tree} {a : Spot} {o : Outcome} →
+        AfterNonOperator G s r tighter v a (read_at G.grammar G.text s.item r.non a.place) o m → AnswersNon G s r tighter v a o m
+
+  -- after the operator, if there is one
+  pub data AfterNonOperator (G : Given) : Setting → Row → List Row → List Tree → Spot → Option Read → Outcome → ℕ → Type 0 where
+    non_unread : {s : Setting} {r : Row} {tighter : List Row} {v : List Tree} {a : Spot} →
+        AfterNonOperator G s r tighter v a None (failed false (unread G.text r.non a.place)) zero
+    non_read : {s : Setting} {r : Row} {tighter : List Row} {m : ℕ} {v : List Tree} {a : Spot} {q : Read} {x : Outcome} →
+        AnswersRowOperand G s r tighter (at a q.end) x m →
+        AfterNonOperator G s r tighter v a (Some q) (then_operand fixity.Infix q (with_last G.grammar G.text s r q v x)) m
 
 -- the start rule, run at the start of the text under a table, has this outcome
 pub record AnswersStart (G : Given) (table : Table) (o : Outcome) (m : ℕ) : Type 0 where

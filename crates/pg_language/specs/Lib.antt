@@ -6,5 +6,7 @@ pub mod Outcomes
 pub mod Declarations
 pub mod Leaves
 pub mod Reactions
+pub mod OperatorReads
+pub mod RowReactions
 pub mod Answers
 pub mod WholeTexts

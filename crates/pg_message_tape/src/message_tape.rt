@@ -61,6 +61,7 @@ impl<'a> MessageTape<'a> {
     }
 
     /// How many messages there are.
+    #[inline(always)]
     pub fn len(&self) -> usize
         ensures { result ≡ length self.now }
     {
@@ -68,6 +69,7 @@ impl<'a> MessageTape<'a> {
     }
 
     /// Puts a message at the end. The only error is that memory ran out.
+    #[inline(always)]
     pub fn push(&mut self, message: Message<'a>) -> Result<(), AllocError>
         ensures { OnOk result (self.new ≡ self.old ++ tape_message_of message.entry ∷ []) }
     {
@@ -76,6 +78,7 @@ impl<'a> MessageTape<'a> {
     }
 
     /// Drops all but so many of the first messages, or none where there are fewer.
+    #[inline(always)]
     pub fn cut(&mut self, count: usize)
         ensures { self.new ≡ take count self.old }
     {
@@ -83,6 +86,7 @@ impl<'a> MessageTape<'a> {
     }
 
     /// The error of the last answer, to be merged with later ones.
+    #[inline(always)]
     pub fn kept(&self, error: TapeError) -> KeptError
         ensures { result ≡ kept_at (length self.now) error }
     {

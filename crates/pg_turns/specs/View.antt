@@ -18,7 +18,7 @@ use Rattle.pg_turns.specs.RunTrees.{RunTrees}
 abbrev pub tried_of : Tried → OnTried
 tried_of tried.Nothing = no_tried
 tried_of (tried.Failure kept) = tried_failure kept
-tried_of (tried.EmptyOk ok kept) = tried_empty_ok ok.value.end ok.value.forest ok.value.hidden ok.value.trail.items kept
+tried_of (tried.EmptyOk ok) = tried_empty_ok ok.value.end ok.value.forest ok.value.hidden ok.value.trail.items ok.value.kept
 
 abbrev pub chain_of : ChainFrame → OnChain
 chain_of c = record { side = c.side; used = c.used.now; operand = c.operand; separator = c.separator }

@@ -22,6 +22,7 @@ use std::alloc::{AllocError, Global};
 
 impl<'a> Machine<'a> {
     /// An answer of the part, which began at the place, with so many trees and operators before it.
+    #[inline(always)]
     pub(crate) fn hand_to_around(
         &mut self,
         alloc: Global,
@@ -55,6 +56,7 @@ impl<'a> Machine<'a> {
 
 /// What a form that begins does with the trees: one that takes those of its part together opens a stretch of them, and one
 /// that throws them away has none made.
+#[inline(always)]
 pub(crate) fn begin(
     alloc: Global,
     around: &Around,
@@ -73,6 +75,7 @@ pub(crate) fn begin(
 }
 
 /// The form's answer.
+#[inline(always)]
 pub(crate) fn answer(around: &Around, reply: Reply) -> Reply
     ensures { result ≡ reply_around around.now reply }
 {
@@ -95,6 +98,7 @@ pub(crate) fn answer(around: &Around, reply: Reply) -> Reply
 }
 
 /// Whether the form's failure counts as consumed, where the part's does so or not.
+#[inline(always)]
 fn counted(around: &Around, consumed: bool) -> bool
     ensures { result ≡ counted_by around.now consumed }
 {
@@ -106,6 +110,7 @@ fn counted(around: &Around, consumed: bool) -> bool
 }
 
 /// What the form says in place of the part.
+#[inline(always)]
 fn say<'a>(
     messages: &mut MessageTape<'a>,
     around: &'a Around,
@@ -120,6 +125,7 @@ fn say<'a>(
 }
 
 /// The name is what was expected where nothing was consumed, but not in an ok answer without messages.
+#[inline(always)]
 fn label<'a>(
     messages: &mut MessageTape<'a>,
     name: &'a Characters,
@@ -149,6 +155,7 @@ fn label<'a>(
 }
 
 /// What the form makes of the trees after the first, where the part is ok.
+#[inline(always)]
 fn make(
     alloc: Global,
     registry: &Registry,
@@ -174,6 +181,7 @@ fn make(
 }
 
 /// What the form leaves of the trees after the first, where the part failed.
+#[inline(always)]
 fn give_up(around: &Around, count: usize, forest: &mut RunForest) -> Result<(), AllocError>
     ensures { OnOk result (forest.new ≡ forest_left around.now count forest.old) }
 {
@@ -187,6 +195,7 @@ fn give_up(around: &Around, count: usize, forest: &mut RunForest) -> Result<(), 
 }
 
 /// Only the first trees stay, and trees are kept again as before the form.
+#[inline(always)]
 fn show_first(count: usize, forest: &mut RunForest) -> Result<(), AllocError>
     ensures ok { OnOk result (forest.new ≡ without_hiding (first_trees count forest.old)) }
 {
@@ -196,6 +205,7 @@ fn show_first(count: usize, forest: &mut RunForest) -> Result<(), AllocError>
 }
 
 /// The same of a part that took the text from the one place to the other.
+#[inline(never)]
 fn remake(
     alloc: Global,
     registry: &Registry,
@@ -221,6 +231,7 @@ fn remake(
 }
 
 /// What the form leaves of the table, where the part is ok.
+#[inline(always)]
 fn leave(table: &mut Table, around: &Around, count: usize, reply: Reply)
     ensures { table.new ≡ table_around around.now count reply table.old }
 {
@@ -231,6 +242,7 @@ fn leave(table: &mut Table, around: &Around, count: usize, reply: Reply)
 }
 
 /// What was declared in `local` ends with it: the first operators stay.
+#[inline(always)]
 fn give_back(table: &mut Table, around: &Around, count: usize)
     ensures { table.new ≡ left_table around.now count table.old }
 {

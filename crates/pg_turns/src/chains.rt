@@ -24,6 +24,7 @@ use std::alloc::{AllocError, Global};
 
 impl<'a> Machine<'a> {
     /// An answer of a chain's first operand: after an ok one the first separator runs.
+    #[inline(always)]
     pub(crate) fn hand_to_first(
         &mut self,
         alloc: Global,
@@ -40,7 +41,7 @@ impl<'a> Machine<'a> {
                 error,
             } => {
                 let kept = self.messages.kept(error);
-                let marks = self.marks();
+                let marks = self.marks()?;
                 let ChainFrame {
                     side,
                     used,
@@ -79,6 +80,7 @@ impl<'a> Machine<'a> {
     }
 
     /// An answer of a separator: after an ok one an operand has to come.
+    #[inline(always)]
     pub(crate) fn hand_to_separator(
         &mut self,
         alloc: Global,
@@ -112,6 +114,7 @@ impl<'a> Machine<'a> {
 
     /// An answer of an operand after a separator: after an ok one the next separator runs, unless the link has consumed
     /// nothing.
+    #[inline(always)]
     pub(crate) fn hand_to_operand(
         &mut self,
         alloc: Global,
@@ -163,6 +166,7 @@ impl<'a> Machine<'a> {
     }
 
     /// A link more, whose operand's trees begin after so many: the next separator runs.
+    #[inline(never)]
     fn add_link(
         &mut self,
         alloc: Global,
@@ -182,13 +186,14 @@ impl<'a> Machine<'a> {
     {
         fold(alloc, registry, &mut links, trees, &mut self.forest)?;
         let kept = self.messages.kept(error);
-        count_link(&mut links, kept, end, self.marks());
+        count_link(&mut links, kept, end, self.marks()?);
         let separator = links.chain.separator;
         self.push(Frame::Separator(links))?;
         Ok(Mode::At(separator, end))
     }
 
     /// A link failed, and the chain is over; what its links lay in serves the next chain.
+    #[inline(never)]
     fn end_links(
         &mut self,
         alloc: Global,

@@ -9,7 +9,7 @@ ghost use Rattle.pg_message_tape.specs.TapeErrors.{tape_error, merged_tape_error
 ghost use Rattle.pg_turns.specs.declared.frame.Reply.TheVariants.{Succeeded};
 
 use crate::frame::{ChoiceFrame, EmptyOk, Frame, Marks, Mode, Reply, Tried};
-use crate::machine::Machine;
+use crate::machine::{Machine, counted};
 use pg_form::NodeId;
 use pg_language::Reading;
 use pg_message_tape::{KeptError, TapeError};
@@ -19,6 +19,7 @@ use std::alloc::{AllocError, Global};
 impl<'a> Machine<'a> {
     /// An answer of an alternative: only after one that consumed nothing the next one runs, and after one that was ok
     /// only in the report's reading.
+    #[inline(always)]
     pub(crate) fn hand_to_choice(
         &mut self,
         alloc: Global,
@@ -45,7 +46,12 @@ impl<'a> Machine<'a> {
                     Reading::Report => {
                         let kept = self.tried_error(&choice.tried, error)?;
                         let tried = self.keep_ok(alloc, choice.tried, kept, choice.marks, end)?;
-                        self.next_alternative(choice.which + 1, choice.rest, choice.start, tried)
+                        self.next_alternative(
+                            choice.which as usize + 1,
+                            choice.rest,
+                            choice.start,
+                            tried,
+                        )
                     }
                 }
             }
@@ -56,13 +62,14 @@ impl<'a> Machine<'a> {
                 self.cut(choice.marks);
                 let kept = self.tried_error(&choice.tried, error)?;
                 let tried = keep_failure(choice.tried, kept);
-                self.next_alternative(choice.which + 1, choice.rest, choice.start, tried)
+                self.next_alternative(choice.which as usize + 1, choice.rest, choice.start, tried)
             }
             Reply::EmptyRound => Ok(Mode::With(Reply::EmptyRound)),
         }
     }
 
     /// The next alternative runs, or the choice fails where none is left.
+    #[inline(always)]
     pub(crate) fn next_alternative(
         &mut self,
         which: usize,
@@ -73,15 +80,15 @@ impl<'a> Machine<'a> {
         ensures { IfOk result (λ mode. tape_of mode self.new ≡
             on_lists (tape_next_alternative which rest.now start (tried_of tried)) self.old) }
     {
-        let marks = self.marks();
+        let marks = self.marks()?;
         match rest.split_first() {
             Some((part, rest)) => {
                 self.push(Frame::Choice(ChoiceFrame {
-                    which,
                     rest,
                     start,
-                    marks,
                     tried,
+                    marks,
+                    which: counted(which)?,
                 }))?;
                 self.trail.push(TrailItem::Alt(which))?;
                 Ok(Mode::At(*part, start))
@@ -95,6 +102,7 @@ impl<'a> Machine<'a> {
     }
 
     /// The last answer of the alternatives, after what those before it came to.
+    #[inline(always)]
     fn settled(&mut self, tried: Tried, marks: Marks, reply: Reply) -> Result<Mode, AllocError>
         ensures { IfOk result (λ mode. tape_of mode self.new ≡
             on_lists (tape_settled (tried_of tried) marks.forest marks.trail marks.operators reply) self.old) }
@@ -102,16 +110,12 @@ impl<'a> Machine<'a> {
         match tried {
             Tried::Nothing => Ok(Mode::With(reply)),
             Tried::Failure(kept) => self.past_failure(kept, reply),
-            Tried::EmptyOk(ok, kept) => self.after_empty_ok(
-                Box::into_inner(ok),
-                kept,
-                marks,
-                reply,
-            ),
+            Tried::EmptyOk(ok) => self.after_empty_ok(Box::into_inner(ok), marks, reply),
         }
     }
 
     /// An answer after alternatives that failed.
+    #[inline(always)]
     fn past_failure(&mut self, kept: KeptError, reply: Reply) -> Result<Mode, AllocError>
         ensures { IfOk result (λ mode. tape_of mode self.new ≡
             on_lists (tape_settled (tried_failure kept) 0 0 0 reply) self.old) }
@@ -138,15 +142,15 @@ impl<'a> Machine<'a> {
     }
 
     /// An answer after an alternative that was ok and empty: that one stands, unless this one consumed.
+    #[inline(always)]
     fn after_empty_ok(
         &mut self,
         ok: EmptyOk,
-        kept: KeptError,
         marks: Marks,
         reply: Reply,
     ) -> Result<Mode, AllocError>
         ensures { IfOk result (λ mode. tape_of mode self.new ≡
-            on_lists (tape_settled (tried_empty_ok ok.end ok.forest ok.hidden ok.trail.items kept) marks.forest marks.trail marks.operators reply) self.old) }
+            on_lists (tape_settled (tried_empty_ok ok.end ok.forest ok.hidden ok.trail.items ok.kept) marks.forest marks.trail marks.operators reply) self.old) }
     {
         match reply {
             Reply::Succeeded {
@@ -157,38 +161,35 @@ impl<'a> Machine<'a> {
                 if consumed {
                     return Ok(Mode::With(reply));
                 }
-                self.restore(ok, kept, marks, error)
+                self.restore(ok, marks, error)
             }
             Reply::Failed { consumed, error } => {
                 if consumed {
                     return Ok(Mode::With(reply));
                 }
-                self.restore(ok, kept, marks, error)
+                self.restore(ok, marks, error)
             }
             Reply::EmptyRound => Ok(Mode::With(Reply::EmptyRound)),
         }
     }
 
     /// The alternative that was ok and empty stands, with its error merged with the last one.
-    fn restore(
-        &mut self,
-        ok: EmptyOk,
-        kept: KeptError,
-        marks: Marks,
-        error: TapeError,
-    ) -> Result<Mode, AllocError>
+    #[cold]
+    #[inline(never)]
+    fn restore(&mut self, ok: EmptyOk, marks: Marks, error: TapeError) -> Result<Mode, AllocError>
         ensures { IfOk result (λ mode. tape_of mode self.new ≡
-            tape_with (Succeeded false ok.end (merged_tape_error kept error self.old.messages)) (stack_of self.old.frames.items)
-            (rejoined ok.forest ok.hidden (first_trees marks.forest self.old.forest)) (take marks.trail self.old.trail.items ++ ok.trail.items) (merged_messages kept error self.old.messages)
+            tape_with (Succeeded false ok.end (merged_tape_error ok.kept error self.old.messages)) (stack_of self.old.frames.items)
+            (rejoined ok.forest ok.hidden (first_trees marks.forest self.old.forest)) (take marks.trail self.old.trail.items ++ ok.trail.items) (merged_messages ok.kept error self.old.messages)
             (first_operators marks.operators self.old.table)) }
     {
-        let error = self.messages.merge(kept, error)?;
+        let error = self.messages.merge(ok.kept, error)?;
         self.cut(marks);
         let EmptyOk {
             end,
             forest,
             hidden,
             mut trail,
+            ..
         } = ok;
         self.forest.rejoin(forest, hidden)?;
         self.trail.append(&mut trail)?;
@@ -201,6 +202,7 @@ impl<'a> Machine<'a> {
     }
 
     /// The error that is kept from now on, after one more alternative that consumed nothing.
+    #[inline(always)]
     fn tried_error(&mut self, tried: &Tried, error: TapeError) -> Result<KeptError, AllocError>
         ensures kept { IfOk result (λ kept. kept ≡ tried_kept (tried_of tried.now) error self.old.messages) }
         ensures frames { OnOk result (self.new.frames ≡ self.old.frames) }
@@ -211,14 +213,20 @@ impl<'a> Machine<'a> {
     {
         match tried {
             Tried::Nothing => Ok(self.messages.kept(error)),
-            Tried::Failure(kept) | Tried::EmptyOk(_, kept) => {
+            Tried::Failure(kept) => {
                 let error = self.messages.merge(*kept, error)?;
+                Ok(self.messages.kept(error))
+            }
+            Tried::EmptyOk(ok) => {
+                let error = self.messages.merge(ok.kept, error)?;
                 Ok(self.messages.kept(error))
             }
         }
     }
 
     /// What is kept after one more alternative that was ok and empty, whose trees and items go from the lists.
+    #[cold]
+    #[inline(never)]
     fn keep_ok(
         &mut self,
         alloc: Global,
@@ -237,20 +245,30 @@ impl<'a> Machine<'a> {
     {
         match tried {
             Tried::Nothing | Tried::Failure(_) => {
-                let ok = self.taken_off(alloc, marks, end)?;
-                Ok(Tried::EmptyOk(Box::new(alloc, ok)?, kept))
+                let ok = self.taken_off(alloc, marks, end, kept)?;
+                Ok(Tried::EmptyOk(Box::new(alloc, ok)?))
             }
-            Tried::EmptyOk(ok, _) => {
+            Tried::EmptyOk(mut ok) => {
                 self.cut(marks);
-                Ok(Tried::EmptyOk(ok, kept))
+                ok.kept = kept;
+                Ok(Tried::EmptyOk(ok))
             }
         }
     }
 
     /// The trees and items after the marks leave the lists; operators after them, which an answer that consumed nothing
     /// has none of, are dropped.
-    fn taken_off(&mut self, alloc: Global, marks: Marks, end: usize) -> Result<EmptyOk, AllocError>
+    #[cold]
+    #[inline(never)]
+    fn taken_off(
+        &mut self,
+        alloc: Global,
+        marks: Marks,
+        end: usize,
+        kept: KeptError,
+    ) -> Result<EmptyOk, AllocError>
         ensures end { IfOk result (λ ok. ok.end ≡ end) }
+        ensures kept { IfOk result (λ ok. ok.kept ≡ kept) }
         ensures tried_forest { IfOk result (λ ok. ok.forest ≡ drop marks.forest self.old.forest.kept) }
         ensures tried_hidden { IfOk result (λ ok. ok.hidden ≡ hidden_after marks.forest self.old.forest) }
         ensures tried_trail { IfOk result (λ ok. ok.trail.items ≡ drop marks.trail self.old.trail.items) }
@@ -260,26 +278,32 @@ impl<'a> Machine<'a> {
         ensures messages { OnOk result (self.new.messages ≡ self.old.messages) }
         ensures table { OnOk result (self.new.table ≡ first_operators marks.operators self.old.table) }
     {
-        let hidden = self.forest.hidden_after(marks.forest);
-        let forest = self.forest_after(alloc, marks.forest)?;
-        let from = marks.trail.min(self.trail.len());
+        let count = marks.forest;
+        let hidden = self.forest.hidden_after(count);
+        let forest = self.forest_after(alloc, count)?;
+        let from = (marks.trail as usize).min(self.trail.len());
         let trail = self.trail.split_off(from)?;
-        self.table.cut(marks.operators);
+        self.table.cut(marks.operators as usize);
         Ok(EmptyOk {
             end,
             forest,
             hidden,
             trail,
+            kept,
         })
     }
 }
 
 /// What is kept after one more alternative that failed, with the error that is kept from now on.
+#[inline(always)]
 fn keep_failure(tried: Tried, kept: KeptError) -> Tried
     ensures { tried_of result ≡ tried_with_failure (tried_of tried) kept }
 {
     match tried {
         Tried::Nothing | Tried::Failure(_) => Tried::Failure(kept),
-        Tried::EmptyOk(ok, _) => Tried::EmptyOk(ok, kept),
+        Tried::EmptyOk(mut ok) => {
+            ok.kept = kept;
+            Tried::EmptyOk(ok)
+        }
     }
 }

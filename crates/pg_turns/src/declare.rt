@@ -24,6 +24,7 @@ use std::alloc::{AllocError, Global};
 
 impl<'a> Machine<'a> {
     /// A declaration by the operators item, if there is one.
+    #[inline(never)]
     pub(crate) fn declare(
         &mut self,
         alloc: Global,

@@ -22,6 +22,7 @@ use std::alloc::{AllocError, Global};
 
 impl<'a> Machine<'a> {
     /// Enters the node at the place.
+    #[inline(always)]
     pub(crate) fn enter(
         &mut self,
         alloc: Global,
@@ -42,6 +43,7 @@ impl<'a> Machine<'a> {
     }
 
     /// Enters a form at the place.
+    #[inline(always)]
     fn enter_form(
         &mut self,
         alloc: Global,
@@ -78,6 +80,7 @@ impl<'a> Machine<'a> {
     }
 
     /// A leaf answers at once.
+    #[inline(always)]
     #[tactic(auto, using(crate::proofs::Declared::declare_class_in))]
     fn enter_leaf(
         &mut self,
@@ -107,6 +110,7 @@ impl<'a> Machine<'a> {
     }
 
     /// A form around a part runs it.
+    #[inline(always)]
     fn enter_around(
         &mut self,
         alloc: Global,
@@ -132,6 +136,7 @@ impl<'a> Machine<'a> {
     }
 
     /// A part runs, and the frame waits for it.
+    #[inline(always)]
     fn enter_part(
         &mut self,
         frame: Frame<'a>,
@@ -147,6 +152,7 @@ impl<'a> Machine<'a> {
     }
 
     /// A sequence runs its first part; without parts it is ok.
+    #[inline(always)]
     fn enter_parts(&mut self, parts: &'a [NodeId], place: usize) -> Result<Mode, AllocError>
         ensures { IfOk result (λ mode. tape_of mode self.new ≡
             on_lists (tape_seq parts.now place) self.old) }
@@ -169,13 +175,14 @@ impl<'a> Machine<'a> {
     }
 
     /// A repetition runs its first round.
+    #[inline(always)]
     fn enter_rounds(&mut self, part: NodeId, place: usize) -> Result<Mode, AllocError>
         ensures { IfOk result (λ mode. tape_of mode self.new ≡
             on_lists (tape_many part place) self.old) }
     {
         let slot = self.trail.len();
         self.trail.push(TrailItem::Rounds(0))?;
-        let marks = self.marks();
+        let marks = self.marks()?;
         let messages = self.messages.len();
         let rounds = RoundsFrame {
             part,
@@ -190,6 +197,7 @@ impl<'a> Machine<'a> {
     }
 
     /// A chain runs its first operand.
+    #[inline(always)]
     fn enter_chain(
         &mut self,
         alloc: Global,
@@ -217,6 +225,7 @@ impl<'a> Machine<'a> {
     }
 
     /// A rule runs its body.
+    #[inline(always)]
     fn enter_rule(
         &mut self,
         grammar: &'a Grammar,
@@ -233,6 +242,7 @@ impl<'a> Machine<'a> {
     }
 
     /// A word of the item that the leaf names.
+    #[inline(always)]
     fn enter_word(
         &mut self,
         grammar: &'a Grammar,

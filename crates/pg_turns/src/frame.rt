@@ -39,12 +39,13 @@ pub enum Mode {
     Endless,
 }
 
-/// How many trees, items and operators there were.
+/// How many trees, items and operators there were. Items and operators lie in memory, so that 32 bits count them; trees may only
+/// be counted.
 #[derive(Clone, Copy)]
 pub struct Marks {
     pub forest: usize,
-    pub trail: usize,
-    pub operators: usize,
+    pub trail: u32,
+    pub operators: u32,
 }
 
 /// What the parts of a sequence before the one that runs came to.
@@ -72,6 +73,8 @@ pub struct EmptyOk {
     /// How many more trees it had.
     pub hidden: usize,
     pub trail: Vec<TrailItem>,
+    /// The error that is kept, which those of the alternatives after it are merged with.
+    pub kept: KeptError,
 }
 
 /// What the alternatives of a choice before the one that runs came to.
@@ -82,22 +85,22 @@ pub enum Tried {
     /// They failed.
     Failure(KeptError),
     /// One of them was ok and empty, the first of these being kept.
-    EmptyOk(Box<EmptyOk>, KeptError),
+    EmptyOk(Box<EmptyOk>),
 }
 
 /// An alternative of a choice runs.
 #[derive(Drop)]
 pub struct ChoiceFrame<'a> {
-    /// Its number, from 1.
-    pub which: usize,
     /// The alternatives after it.
     pub rest: &'a [NodeId],
     /// The place where they begin.
     pub start: usize,
-    /// What there was before them.
-    pub marks: Marks,
     /// What those before it came to.
     pub tried: Tried,
+    /// What there was before them.
+    pub marks: Marks,
+    /// Its number, from 1.
+    pub which: u32,
 }
 
 /// A round of a repetition runs.
@@ -106,16 +109,16 @@ pub struct RoundsFrame {
     pub part: NodeId,
     /// How many rounds there were before.
     pub count: usize,
-    /// Whether they consumed: whether there were any.
-    pub consumed: bool,
     /// The place where this one begins.
     pub start: usize,
     /// Where the trail has the item of the repetition.
     pub slot: usize,
-    /// What there was before this round.
-    pub marks: Marks,
     /// How many messages there were before the repetition.
     pub messages: usize,
+    /// What there was before this round.
+    pub marks: Marks,
+    /// Whether the rounds before consumed: whether there were any.
+    pub consumed: bool,
 }
 
 /// A chain whose first operand runs.

@@ -23,6 +23,7 @@ use std::alloc::AllocError;
 
 impl<'a> Machine<'a> {
     /// One character of the class of the node.
+    #[inline(always)]
     pub(crate) fn satisfy(
         &mut self,
         grammar: &Grammar,
@@ -49,6 +50,7 @@ impl<'a> Machine<'a> {
     }
 
     /// The characters, all of them.
+    #[inline(always)]
     pub(crate) fn string(
         &mut self,
         text: &'a Text,
@@ -73,6 +75,7 @@ impl<'a> Machine<'a> {
     }
 
     /// A word of the item: it is read whole and then judged.
+    #[inline(always)]
     pub(crate) fn word(
         &mut self,
         grammar: &Grammar,
@@ -102,6 +105,7 @@ impl<'a> Machine<'a> {
     }
 
     /// The word that stands at the place, unless it is reserved.
+    #[inline(always)]
     fn read_word(
         &mut self,
         item: &WordItem,
@@ -119,6 +123,7 @@ impl<'a> Machine<'a> {
     }
 
     /// No character of the class comes next.
+    #[inline(always)]
     pub(crate) fn not_followed_by(
         &mut self,
         grammar: &Grammar,
@@ -145,6 +150,7 @@ impl<'a> Machine<'a> {
     }
 
     /// The end of the text.
+    #[inline(always)]
     pub(crate) fn end_of_text(&mut self, text: &Text, place: usize) -> Result<Mode, AllocError>
         ensures { IfOk result (λ mode. tape_of mode self.new ≡
             on_lists (tape_leaf (end_outcome text.now (spot_at self.old.table place))) self.old) }
@@ -157,6 +163,7 @@ impl<'a> Machine<'a> {
     }
 
     /// An ok answer that consumed these characters, as one leaf.
+    #[inline(always)]
     fn take(&mut self, characters: &[char], place: usize, end: usize) -> Result<Mode, AllocError>
         requires { end ≡ place + length characters.now }
         ensures { IfOk result (λ mode. tape_of mode self.new ≡
@@ -173,6 +180,7 @@ impl<'a> Machine<'a> {
     }
 
     /// An error answer, and what is said of it.
+    #[inline(always)]
     pub(crate) fn fail(
         &mut self,
         consumed: bool,
@@ -190,6 +198,7 @@ impl<'a> Machine<'a> {
     }
 
     /// The same, and what was expected.
+    #[inline(always)]
     pub(crate) fn fail_wanting(
         &mut self,
         consumed: bool,
@@ -209,6 +218,7 @@ impl<'a> Machine<'a> {
     }
 
     /// An ok answer that consumed nothing, and what is said of it.
+    #[inline(always)]
     fn stay(&mut self, place: usize, message: Message<'a>) -> Result<Mode, AllocError>
         ensures { IfOk result (λ mode. tape_of mode self.new ≡
             tape_with (Succeeded false place (tape_error place (length self.old.messages)))
@@ -226,6 +236,7 @@ impl<'a> Machine<'a> {
     }
 
     /// The same, and what was expected.
+    #[inline(always)]
     fn stay_wanting(
         &mut self,
         place: usize,

@@ -56,24 +56,27 @@ impl<'a> Machine<'a> {
         ensures messages { OnOk result (self.new.messages ≡ self.old.messages) }
         ensures table { OnOk result (self.new.table ≡ self.old.table) }
     {
-        self.frames.push(frame)?;
+        self.frames.reserve(1)?;
+        self.frames.push_reserved(frame);
         Ok(())
     }
 
-    /// How many trees, items and operators there are.
-    pub(crate) fn marks(&self) -> Marks
-        ensures forest { result.forest ≡ tree_count self.now.forest }
-        ensures trail { result.trail ≡ length self.now.trail.items }
-        ensures operators { result.operators ≡ length self.now.table.operators }
+    /// How many trees, items and operators there are. The only error is that items are too many to be counted.
+    #[inline(always)]
+    pub(crate) fn marks(&self) -> Result<Marks, AllocError>
+        ensures forest { IfOk result (λ marks. marks.forest ≡ tree_count self.now.forest) }
+        ensures trail { IfOk result (λ marks. marks.trail ≡ length self.now.trail.items) }
+        ensures operators { IfOk result (λ marks. marks.operators ≡ length self.now.table.operators) }
     {
-        Marks {
+        Ok(Marks {
             forest: self.forest.len(),
-            trail: self.trail.len(),
-            operators: self.table.operators().len(),
-        }
+            trail: counted(self.trail.len())?,
+            operators: counted(self.table.operators().len())?,
+        })
     }
 
     /// Cuts trees, items and operators back to the marks.
+    #[inline(always)]
     pub(crate) fn cut(&mut self, marks: Marks)
         ensures frames { self.new.frames ≡ self.old.frames }
         ensures forest { self.new.forest ≡ first_trees marks.forest self.old.forest }
@@ -82,11 +85,12 @@ impl<'a> Machine<'a> {
         ensures table { self.new.table ≡ first_operators marks.operators self.old.table }
     {
         self.cut_forest(marks.forest);
-        self.trail.truncate(marks.trail);
-        self.table.cut(marks.operators);
+        self.trail.truncate(marks.trail as usize);
+        self.table.cut(marks.operators as usize);
     }
 
     /// Cuts trees.
+    #[inline(always)]
     pub(crate) fn cut_forest(&mut self, count: usize)
         ensures frames { self.new.frames ≡ self.old.frames }
         ensures forest { self.new.forest ≡ first_trees count self.old.forest }
@@ -111,6 +115,7 @@ impl<'a> Machine<'a> {
     }
 
     /// The error without messages at the place.
+    #[inline(always)]
     pub(crate) fn no_messages_at(&self, place: usize) -> TapeError
         ensures { result ≡ tape_error place (length self.now.messages) }
     {
@@ -121,6 +126,7 @@ impl<'a> Machine<'a> {
     }
 
     /// Replaces the item of a repetition or a chain.
+    #[inline(always)]
     pub(crate) fn note(&mut self, slot: usize, item: TrailItem)
         ensures frames { self.new.frames ≡ self.old.frames }
         ensures forest { self.new.forest ≡ self.old.forest }
@@ -134,6 +140,7 @@ impl<'a> Machine<'a> {
     }
 
     /// The error after one that is kept, of an answer that consumed or not.
+    #[inline(always)]
     pub(crate) fn error_after(
         &mut self,
         kept: KeptError,
@@ -152,5 +159,16 @@ impl<'a> Machine<'a> {
         }
         let merged = self.messages.merge(kept, error)?;
         Ok(merged)
+    }
+}
+
+/// The number in 32 bits. The only error is that it doesn't fit: so many items have no place in memory.
+#[inline(always)]
+pub(crate) fn counted(number: usize) -> Result<u32, AllocError>
+    ensures { IfOk result (λ count. count ≡ number) }
+{
+    match u32::try_from(number) {
+        Ok(count) => Ok(count),
+        Err(_) => Err(AllocError),
     }
 }

@@ -12,6 +12,7 @@ use std::alloc::AllocError;
 
 impl<'a> Machine<'a> {
     /// An answer of a part: after an ok one the next part runs, and the last one's stands for the whole.
+    #[inline(always)]
     pub(crate) fn hand_to_parts(
         &mut self,
         parts: PartsFrame<'a>,
@@ -39,6 +40,7 @@ impl<'a> Machine<'a> {
     }
 
     /// The next part runs, or the sequence ends.
+    #[inline(always)]
     fn next_part(
         &mut self,
         rest: &'a [NodeId],
@@ -65,6 +67,7 @@ impl<'a> Machine<'a> {
     }
 
     /// The error after that of the parts before.
+    #[inline(always)]
     fn joined(
         &mut self,
         before: Option<Before>,

@@ -12,6 +12,7 @@ use std::alloc::AllocError;
 impl<'a> Machine<'a> {
     /// An answer of a round: after one that consumed the next one runs, and one that failed empty ends the repetition
     /// with its error alone.
+    #[inline(always)]
     pub(crate) fn hand_to_rounds(
         &mut self,
         rounds: RoundsFrame,
@@ -32,7 +33,7 @@ impl<'a> Machine<'a> {
                     return Ok(Mode::With(Reply::EmptyRound));
                 }
                 self.messages.cut(rounds.messages);
-                let marks = self.marks();
+                let marks = self.marks()?;
                 self.push(Frame::Rounds(RoundsFrame {
                     part: rounds.part,
                     count: rounds.count + 1,

@@ -49,6 +49,7 @@ impl RunForest {
     }
 
     /// How many trees there are, with those that are only counted. It takes no memory.
+    #[inline(always)]
     pub(crate) fn len(&self) -> usize
         ensures { result ≡ tree_count self.now }
     {
@@ -63,6 +64,7 @@ impl RunForest {
     }
 
     /// Puts a leaf with these characters at the end. The only error is that memory ran out.
+    #[inline(always)]
     pub(crate) fn push_leaf(&mut self, characters: &[char]) -> Result<(), AllocError>
         ensures { OnOk result (self.new ≡ with_trees (leaf_of characters.now ∷ []) self.old) }
     {
@@ -150,6 +152,7 @@ impl RunForest {
     }
 
     /// Drops the trees after the first, if there are more. It takes no memory.
+    #[inline(always)]
     pub(crate) fn cut(&mut self, count: usize)
         ensures { self.new ≡ first_trees count self.old }
     {

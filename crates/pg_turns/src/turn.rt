@@ -51,6 +51,7 @@ impl<'a> Machine<'a> {
     }
 
     /// Hands an answer to a frame.
+    #[inline(always)]
     fn hand_to(
         &mut self,
         alloc: Global,
@@ -86,6 +87,7 @@ impl<'a> Machine<'a> {
     }
 
     /// Whether no turn is left: an answer is at hand and no frame waits for it, or the run has no end.
+    #[inline(always)]
     pub fn is_over(&self, mode: &Mode) -> bool
         ensures { result ≡ tape_is_last (tape_of mode.now self.now) }
     {

@@ -1,0 +1,10 @@
+//! Operators read in texts.
+//!
+//! [`standing_at`] reads once what stands at a place where an operator may: the run of operator characters, which it looks up
+//! once, and the gap after it. A [`Standing`] is then asked by each row what is read there of the row's operators, which is what
+//! reading them one after another gives (`specs/Standings.antt`).
+#![tactic(auto)]
+
+mod standing;
+
+pub use standing::{Read, Standing, standing_at};
