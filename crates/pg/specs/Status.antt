@@ -6,7 +6,7 @@ use Rattle.pg_pred.specs.Offer.{Offer}
 use Rattle.pg_language.specs.declared.reading.Reading.{Reading}
 use Rattle.pg_predict.specs.declared.finding.Finding.{Finding}
 use Rattle.pg_grammar_bench.specs.Checking.{IsJudgedFile}
-use Rattle.pg_grammar_bench.specs.Files.{AreFindingsOf, SpellsSome}
+use Rattle.pg_grammar_bench.specs.Files.{AreFindingsOf, SpellsAny}
 use Rattle.pg_bench.specs.Parsed.{IsForestOf, IsErrorOf}
 use Rattle.pg_bench.specs.Probing.{IsShown}
 use Rattle.pg_grammar_bench.specs.declared.fault.BenchFault.{BenchFault}
@@ -65,4 +65,4 @@ IsProbeStatus offer file reader name most reading =
 
 -- of what prints a grammar or its sets: that the file spells one
 abbrev pub IsPrintStatus : Offer → List ℕ → ℕ → Type 0
-IsPrintStatus offer file = IsStatus (SpellsSome (λ g. Unit {0}) offer file) ⊥
+IsPrintStatus offer file = IsStatus (SpellsAny offer file) ⊥

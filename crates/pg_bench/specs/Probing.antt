@@ -22,7 +22,6 @@ use Rattle.pg_making.specs.Spells.{SpellsWithinLimits}
 use Rattle.pg_machine.specs.declared.answer.Success.{Success}
 use Rattle.pg_machine.specs.declared.answer.Outcome as ended
 use Rattle.pg_machine.specs.declared.answer.Outcome.TheVariants.{Answered, StepsUsed, EmptyRound}
-use Rattle.pg_predict.specs.Expressions.{HasNoExpressions}
 
 abbrev pub consumption : Bool → List ℕ
 consumption true = codes "consumed"
@@ -66,13 +65,11 @@ pub record IsShownOf (g : Grammar) (name : List ℕ) (most : ℕ) (reading : Rea
   pub is_table : initial g ≡ whole table
   pub shows : Shows (given reading g (chars bytes)) table name most accepted said
 
--- the file spells a grammar without operators that are read or declared, and this is printed of its run on the reader's
--- whole bytes
+-- the file spells a grammar, and this is printed of its run on the reader's whole bytes
 pub record IsShown (offer : Offer) (file : List ℕ) (reader left : Option (List ℕ)) (name : List ℕ) (most : ℕ) (reading : Reading) (accepted : Bool)
     (said : List ℕ) : Type 0 where
   pub grammar : Grammar
   pub spelled : SpellsWithinLimits offer file grammar
-  pub plain : HasNoExpressions grammar
   pub bytes : List ℕ
   pub read : Consumes reader left bytes
   pub end : IsAtEnd left

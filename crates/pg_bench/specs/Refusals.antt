@@ -72,14 +72,14 @@ IsProbeFault before after reader left =
       too_long = IsWell before after × ReadsText reader left (λ bytes. IsUtf8 bytes × (LIMIT < length (chars bytes)));
     })
 
--- what a run refuses with before it writes, by a grammar of this kind that a file spells: with findings or with an error only
--- where this is claimed of them
-abbrev pub IsFilesRefusal : {R : Type 0} → (Grammar → Type 0) → (List Finding → Type 0) → (message.ParseError → Type 0) → Offer → List ℕ
+-- what a run refuses with before it writes, by a grammar of this kind that a file spells: as not run, with findings or with an
+-- error only where this is claimed of it
+abbrev pub IsFilesRefusal : {R : Type 0} → (Grammar → Type 0) → Type 0 → (List Finding → Type 0) → (message.ParseError → Type 0) → Offer → List ℕ
     → Metered R → Metered R → Option (List ℕ) → Option (List ℕ) → BenchFault → Type 0
-IsFilesRefusal Is Finds Errs offer file before after reader left =
+IsFilesRefusal Is Unrun Finds Errs offer file before after reader left =
     Claimed (record memory_alone {
       file = λ fault. IsFaultOfFile offer file fault × (after ≡ before);
-      not_run = SpellsOther HasNoExpressions offer file × (after ≡ before);
+      not_run = Unrun × (after ≡ before);
       refused = λ findings. Finds findings × (after ≡ before);
       reader = SpellsSome Is offer file × IsUnread before after;
       not_utf8 = SpellsSome Is offer file × IsWell before after × ReadsText reader left (λ bytes. ¬ (IsUtf8 bytes));
@@ -90,11 +90,12 @@ IsFilesRefusal Is Finds Errs offer file before after reader left =
 -- parsing does so
 abbrev pub IsForestRefusal : {R : Type 0} → Offer → List ℕ → Metered R → Metered R → Option (List ℕ) → Option (List ℕ) → BenchFault → Type 0
 IsForestRefusal offer file before after reader left =
-    IsFilesRefusal IsAccepted (AreFindingsOf offer file) (IsErrorOf offer file reader left) offer file before after reader left
+    IsFilesRefusal IsAccepted (SpellsOther HasNoExpressions offer file) (AreFindingsOf offer file) (IsErrorOf offer file reader left) offer file before
+    after reader left
 
--- and probing
+-- and probing, whatever the grammar
 abbrev pub IsProbeRefusal : {R : Type 0} → Offer → List ℕ → Metered R → Metered R → Option (List ℕ) → Option (List ℕ) → BenchFault → Type 0
-IsProbeRefusal = IsFilesRefusal HasNoExpressions (λ findings. ⊥) (λ error. ⊥)
+IsProbeRefusal = IsFilesRefusal (λ g. Unit {0}) ⊥ (λ findings. ⊥) (λ error. ⊥)
 
 -- what writing refuses with
 abbrev pub IsWriteRefusal : BenchFault → Type 0

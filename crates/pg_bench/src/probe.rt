@@ -9,17 +9,16 @@ ghost use Rattle.pg_making.specs.Spells.{HasInitialTable};
 ghost use Rattle.pg_table.specs.Tables.{initial, whole};
 ghost use Rattle.pg_tree.specs.Bytes.{AppendsPrefix};
 ghost use Rattle.pg_tree.specs.Meter.{saturating_sum};
-ghost use Rattle.pg_predict.specs.Expressions.{HasNoExpressions};
-ghost use Rattle.pg_grammar_bench.specs.Files.{IsFaultOfFile, SpellsSome, SpellsOther};
+ghost use Rattle.pg_grammar_bench.specs.Files.{IsFaultOfFile, SpellsAny};
 ghost use Rattle.pg_bench.specs.Parsed.{ReadsText};
-ghost use Rattle.pg_grammar_bench.specs.Faults.{IsAfterFile, IsAfterReading, IsFileFault, IfFile, IfParseError, IfRefused, IsMemory, IsBeforeWriting};
+ghost use Rattle.pg_grammar_bench.specs.Faults.{IsAfterFile, IsAfterReading, IsFileFault, IfFile, IfNotRun, IfParseError, IfRefused, IsMemory, IsBeforeWriting};
 ghost use Rattle.pg_bench.specs.Refusals.{IsTextRefusal, IsProbeFault, IsProbeRefusal, IsWell};
 ghost use Rattle.pg_bench.specs.Probing.{IsProbed, IsPartlyProbed, IsShown, IsShownOf, IsShownOfText, is_ok_outcome, outcome_text};
 
 use crate::initial::initial_table;
 use crate::input::{read_text, text_of};
 use crate::page::{is_ok, page_of};
-use pg_grammar_bench::{BenchFault, plain_grammar_of, write_page};
+use pg_grammar_bench::{BenchFault, grammar_of, write_page};
 use pg_language::Reading;
 use pg_machine::{Outcome, probe};
 use pg_pred::Registry;
@@ -37,9 +36,9 @@ use std::io::{Read, Write};
 /// comes within `max_steps` turns, or `P6 empty repetition`, each on lines of its own. The registry has the predicates and
 /// builders that the file may name.
 ///
-/// Both meters have to be fresh of failures. The faults come in the order of [`BenchFault`], without `Refused` and `ParseError`: a fault of the
-/// file, and `NotRun` where its grammar reads expressions, before the reader is asked at all; then the reader's,
-/// then those of its bytes, and the writer's. Before the last, and where memory runs out, nothing is written.
+/// Both meters have to be fresh of failures. Any grammar is run. The faults come in the order of [`BenchFault`], without
+/// `NotRun`, `Refused` and `ParseError`: a fault of the file before the reader is asked at all; then the reader's, then those of
+/// its bytes, and the writer's. Before the last, and where memory runs out, nothing is written.
 pub fn probe_bytes<R: Read, W: Write>(
     alloc: Global,
     grammar: &[u8],
@@ -57,26 +56,26 @@ pub fn probe_bytes<R: Read, W: Write>(
     ensures ok { IfOk result (IsProbed (offer_of registry.now) grammar.now (R.remaining reader.old.inner) (R.remaining reader.new.inner)
         name.now max_steps reading (W.contents writer.old.inner) (W.contents writer.new.inner)) }
 
-    // A fault of the file comes first, and every other one only where the file spells a grammar that is run.
+    // A fault of the file comes first, and every other one only where the file spells a grammar.
     ensures file { IfErr result (IfFile (IsFaultOfFile (offer_of registry.now) grammar.now)) }
     ensures unread { IfErr result (λ fault. IsFileFault fault → reader.new ≡ reader.old) }
-    ensures runnable { IfErr result (λ fault. IsAfterFile fault → SpellsSome HasNoExpressions (offer_of registry.now) grammar.now) }
-
-    // The file spells a grammar that reads expressions.
-    ensures not_run { IsErrOf result BenchFault.NotRun → SpellsOther HasNoExpressions (offer_of registry.now) grammar.now }
-    ensures unasked { IsErrOf result BenchFault.NotRun → reader.new ≡ reader.old }
+    ensures runnable { IfErr result (λ fault. IsAfterFile fault → SpellsAny (offer_of registry.now) grammar.now) }
 
     // The reader failed, or gave more than the limit.
     ensures reader { IsErrOf result BenchFault.Reader →
         (reader.new.failed ≡ true) ⊎ (saturating_sum reader.old.bytes (4 * LIMIT + 1) ≤ reader.new.bytes) }
 
-    // What is wrong with the bytes that the reader gave, in this order. That a parser answers an error is no fault.
+    // What is wrong with the bytes that the reader gave, in this order.
     ensures not_utf8 { IsErrOf result BenchFault.NotUtf8 →
         ReadsText (R.remaining reader.old.inner) (R.remaining reader.new.inner) (λ bytes. ¬ (IsUtf8 bytes)) }
     ensures too_long { IsErrOf result BenchFault.TooLong →
         ReadsText (R.remaining reader.old.inner) (R.remaining reader.new.inner) (λ bytes. IsUtf8 bytes × (LIMIT < length (chars bytes))) }
-    ensures parsed { IfErr result (IfParseError (λ error. ⊥)) }
+
+    // No grammar is refused, whether it is accepted and whether it reads expressions, and that a parser answers an error is no
+    // fault.
+    ensures run { IfErr result (IfNotRun ⊥) }
     ensures unchecked { IfErr result (IfRefused (λ findings. ⊥)) }
+    ensures parsed { IfErr result (IfParseError (λ error. ⊥)) }
 
     // In every other case the reader didn't fail, and didn't give more.
     ensures reader_stays { OnOk result (reader.new.failed ≡ false) }
@@ -123,7 +122,7 @@ fn write_shown<W: Write>(shown: &Shown, writer: &mut Meter<W>) -> Result<bool, B
 }
 
 /// What is printed of the run of a file's start rule on the text that a reader gives.
-#[tactic(auto, using(crate::proofs::Probed::plain_refused, crate::proofs::Probed::probe_refused, crate::proofs::Probed::shown_file))]
+#[tactic(auto, using(crate::proofs::Probed::file_refused, crate::proofs::Probed::probe_refused, crate::proofs::Probed::shown_file))]
 fn shown_of_files<R: Read>(
     alloc: Global,
     grammar: &[u8],
@@ -141,7 +140,7 @@ fn shown_of_files<R: Read>(
         (R.remaining reader.old.inner) (R.remaining reader.new.inner)) }
     ensures asked { reader.new.calls ≤ saturating_sum reader.old.calls (4 * LIMIT + 1) }
 {
-    let grammar = plain_grammar_of(alloc, grammar, registry)?;
+    let grammar = grammar_of(alloc, grammar, registry)?;
     match shown_of_reader(alloc, &grammar, registry, name, reader, max_steps, reading) {
         Ok(shown) => Ok(shown),
         Err(fault) => Err(fault),

@@ -31,6 +31,7 @@ module _ (G : Given) where
     no_earlier_form (many {a = a} {o = o} d) = no_earlier_noted a.place _ o (no_earlier_rounds d)
     no_earlier_form (answers.chain {a = a} {o = o} d) = no_earlier_noted a.place _ o (no_earlier_chain d)
     no_earlier_form (rule x d) = no_earlier d
+    no_earlier_form (answers.expression x d) = no_earlier_rows d
     no_earlier_form (answers.around {k = k} {a = a} {o = o} d) = no_earlier_surrounded a.place k G.text a o (no_earlier d)
 
     no_earlier_parts : {p : ℕ} {ps : List ℕ} {a : Spot} {o : Outcome} {m : ℕ} → AnswersParts G p ps a o m → NoEarlier a.place o

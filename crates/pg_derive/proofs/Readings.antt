@@ -69,6 +69,7 @@ module _ (G : Given) (scalars : all_scalars G.text ≡ true) (whole : IsWhole G.
     report_form (many d) p f = many (report_rounds d)
     report_form (answers.chain d) p f = answers.chain (report_chain d)
     report_form (rule e d) p f = rule e (report d)
+    report_form (answers.expression x d) p f = absurd f
     report_form (answers.around d) p f = answers.around (report d)
 
     report_parts : {p : ℕ} {ps : List ℕ} {a : Spot} {o : Outcome} {m : ℕ} → AnswersParts L p ps a o m → AnswersParts R p ps a o m

@@ -221,6 +221,7 @@ module _ (G : Given) where
     stays_form (many {a = a} {o = o} d) = stays_noted a _ o (stays_rounds d)
     stays_form (answers.chain {a = a} {o = o} d) = stays_noted a _ o (stays_chain d)
     stays_form (rule x d) = stays d
+    stays_form (answers.expression x d) = stays_rows d
     stays_form (answers.around {k = k} {a = a} {o = o} d) = stays_surrounded a k G.text o (stays d)
 
     stays_parts : {p : ℕ} {ps : List ℕ} {a : Spot} {o : Outcome} {m : ℕ} → AnswersParts G p ps a o m → Stays a o

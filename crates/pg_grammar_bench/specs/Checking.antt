@@ -25,7 +25,7 @@ pub data IsJudged (g : Grammar) : Bool → List ℕ → Type 0 where
   is_accepted : IsFaultless g → IsJudged g true (codes "accepted\n")
   is_refused : {findings : List Finding} → AreFindings g findings → 0 < length findings → IsJudged g false (lines_of findings)
 
--- the file spells a grammar without operators that are read or declared, and this is printed of it
+-- the file spells a grammar that reads no expressions, and this is printed of it
 pub record IsJudgedFile (offer : Offer) (file : List ℕ) (accepted : Bool) (said : List ℕ) : Type 0 where
   pub grammar : Grammar
   pub spelled : SpellsWithinLimits offer file grammar

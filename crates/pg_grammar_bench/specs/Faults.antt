@@ -110,6 +110,10 @@ any_fault =
 abbrev pub IfFile : (FileFault → Type 0) → BenchFault → Type 0
 IfFile Claim = Claimed (record any_fault { file = Claim })
 
+-- what is claimed where the grammar isn't run
+abbrev pub IfNotRun : Type 0 → BenchFault → Type 0
+IfNotRun Claim = Claimed (record any_fault { not_run = Claim })
+
 -- what is claimed of the findings, where the grammar is refused
 abbrev pub IfRefused : (List Finding → Type 0) → BenchFault → Type 0
 IfRefused Claim = Claimed (record any_fault { refused = Claim })
@@ -128,7 +132,7 @@ IsMemory = Claimed memory_alone
 abbrev pub IsFileRefusal : BenchFault → Type 0
 IsFileRefusal = Claimed (record memory_alone { file = λ fault. Unit {0} })
 
--- what reading the file of a grammar without operators refuses with
+-- what reading the file of a grammar that reads no expressions refuses with
 abbrev pub IsPlainRefusal : BenchFault → Type 0
 IsPlainRefusal = Claimed (record memory_alone { file = λ fault. Unit {0}; not_run = Unit {0} })
 

@@ -23,12 +23,15 @@ pub record IsFaultOfFile (offer : Offer) (file : List ℕ) (fault : FileFault) :
 abbrev pub SpellsSome : (Grammar → Type 0) → Offer → List ℕ → Type 0
 SpellsSome Is offer file = (g : Grammar) × SpellsWithinLimits offer file g × Is g
 
+-- the file spells some grammar, whatever its kind
+abbrev pub SpellsAny : Offer → List ℕ → Type 0
+SpellsAny = SpellsSome (λ g. Unit {0})
+
 -- the file spells some grammar that isn't of this kind
 abbrev pub SpellsOther : (Grammar → Type 0) → Offer → List ℕ → Type 0
 SpellsOther Is offer file = (g : Grammar) × SpellsWithinLimits offer file g × (Is g → ⊥)
 
--- the file spells a grammar without operators that are read or declared, and these findings, at least one, are all that is
--- wrong with it
+-- the file spells a grammar that reads no expressions, and these findings, at least one, are all that is wrong with it
 pub record AreFindingsOf (offer : Offer) (file : List ℕ) (findings : List Finding) : Type 0 where
   pub grammar : Grammar
   pub spelled : SpellsWithinLimits offer file grammar

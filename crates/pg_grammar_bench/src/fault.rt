@@ -22,7 +22,8 @@ use std::fmt;
 pub enum BenchFault {
     /// The grammar file is no grammar. The text's reader has not been asked yet.
     File(FileFault),
-    /// The grammar file is read, and its grammar reads expressions, which isn't checked or run yet.
+    /// The grammar file is read, and its grammar reads expressions, which aren't checked or parsed by yet. A probe runs them.
+    /// The text's reader has not been asked yet.
     NotRun,
     /// The grammar isn't accepted. These are all its findings, at least one. The text's reader has not been asked yet.
     Refused(Vec<Finding>),

@@ -1,5 +1,5 @@
 -- Worked answers of expressions over small texts: the definitions read by hand.
-use Rattle.std.proofs.Common.{◌≡◌, ℕ, List, [], ◌∷◌, true, false, None, refl}
+use Rattle.std.proofs.Common.{◌≡◌, ℕ, suc, List, [], ◌∷◌, true, false, None, refl}
 use Rattle.std.specs.Prelude.{codes, reverse}
 use Rattle.pg_tree.specs.Trees.{Tree}
 use Rattle.pg_form.specs.Operators.{Operator}
@@ -10,7 +10,7 @@ use Rattle.pg_table.specs.Trails as trails
 use Rattle.pg_expand.specs.Rows.{rows_of}
 use Rattle.pg_message.specs.Messages.{no_messages}
 use Rattle.pg_language.specs.Derives.{leaf_of}
-use Rattle.pg_language.specs.Answers.{given, entered, leaf, AnswersRows, only_term, loosest_row, row_operand, row_ok, row_tail, right_stands, right_failed, left_stands, left_commits, left_failed, right_side, right_unread, right_read, right_operand_ok, left_side, left_unread, left_read, left_operand_failed, left_operand_ok, neither_side, non_unread, non_read}
+use Rattle.pg_language.specs.Answers.{Answers, given, entered, leaf, expression, AnswersRows, only_term, loosest_row, row_operand, row_ok, row_tail, right_stands, right_failed, left_stands, left_commits, left_failed, right_side, right_unread, right_read, right_operand_ok, left_side, left_unread, left_read, left_operand_failed, left_operand_ok, neither_side, non_unread, non_read}
 use Rattle.pg_language.specs.Errors.{quote, no_messages_at, stopped_by, stopped_before, told}
 use Rattle.pg_language.specs.OperatorReads.{read_at}
 use Rattle.pg_language.specs.Outcomes.{Outcome, ok, failed}
@@ -24,6 +24,10 @@ setting = record { item = item; builders = builders; term = 1 }
 -- the expression over digits answers so at the start of the text, under a table of these operators
 abbrev Comes : List ℕ → List Operator → Outcome → ℕ → Type 0
 Comes text operators = AnswersRows (given Library g text) setting (reverse (rows_of operators)) (spot 0 operators)
+
+-- so the expression's node answers, which is one node more
+of_node : (text : List ℕ) (operators : List Operator) (o : Outcome) (m : ℕ) → Comes text operators o m → Answers (given Library g text) 0 (spot 0 operators) o (suc m)
+of_node text operators o m d = entered refl (expression refl d)
 
 abbrev raised : Operator
 raised = record { role = InfixRight; precedence = 8; symbol = codes "**" }

@@ -227,6 +227,7 @@ module _ (G : Given) (spelled : (p : ℕ) (s : List ℕ) → slice_get G.grammar
     tells_form (many {a = a} {o = o} d) p e = tells_noted a _ o (tells_rounds d)
     tells_form (answers.chain {a = a} {o = o} d) p e = tells_noted a _ o (tells_chain d)
     tells_form (rule x d) p e = tells d
+    tells_form (answers.expression x d) p e = tells_rows d
     tells_form (answers.around {k = k} {a = a} {o = o} d) p e = tells_surrounded a k G.text o (tells d)
 
     tells_parts : {p : ℕ} {ps : List ℕ} {a : Spot} {o : Outcome} {m : ℕ} → AnswersParts G p ps a o m → Tells a o

@@ -5,7 +5,9 @@ use Rattle.pg_tree.specs.Trees.{Tree}
 use Rattle.pg_tree.specs.declared.shape.Shape.{Shape}
 use Rattle.pg_form.specs.Forms.{Node}
 use Rattle.pg_form.specs.declared.form.Form.TheVariants as form
+use Rattle.pg_form.specs.declared.operators_item.OperatorsItem.{OperatorsItem}
 use Rattle.pg_form.specs.declared.used.BuilderUse.{BuilderUse}
+use Rattle.pg_form.specs.declared.used.OperatorBuilders.{OperatorBuilders}
 use Rattle.pg_language.specs.Derives as derives
 use Rattle.pg_language.specs.Derives.{Spot, at, applied, carried, finished, Derives, DerivesForm, DerivesParts, DerivesRounds, DerivesLinks}
 use Rattle.pg_value.specs.declared.trail.TrailItem.{TrailItem}
@@ -22,11 +24,11 @@ use Rattle.pg_language.specs.OperatorReads.{Read, read_at}
 use Rattle.pg_form.specs.declared.side.Side.{Side}
 use Rattle.pg_language.specs.Outcomes.{Outcome}
 use Rattle.pg_language.specs.Reactions.{then_rest, as_finished}
-use Rattle.pg_language.specs.RowReactions.{Setting, joined_trail, noted_operator, as_applied, or_return, labelled_operator, ambiguous_right, ambiguous_left, ambiguous_non}
+use Rattle.pg_language.specs.RowReactions.{Setting, items_of, joined_trail, noted_operator, as_applied, or_return, labelled_operator, ambiguous_right, ambiguous_left, ambiguous_non}
 use Rattle.pg_language.proofs.Derived.{WhereOk, ok_map, ok_rest, ok_round, ok_noted, ok_failure, ok_unless, ok_surrounded, ok_finished}
 use Rattle.pg_language.proofs.LeavesDerived.{leaf_derived}
 use Rattle.pg_language.proofs.ChainsDerived.{DerivesAfter, DerivesChain, none_after}
-use Rattle.pg_language.proofs.RowLevels.{IsRowOf, AreLevels, no_level, level}
+use Rattle.pg_language.proofs.RowLevels.{IsRowOf, AreLevels, no_level, level, levels}
 use Rattle.pg_language.proofs.RowsDerived.{StandsInRow, stands_in_row, IsUpTo, IsOperandOf, IsSideOf, Spread, ok_stretch, ok_operand, ok_return, ok_applied, ok_ambiguous, ok_labelled, of_kind, with_nothing, regrouped, of_term, right_spread, left_spread, operand_ok_spread, last_ok, operand_up_to, joined_up_to}
 
 -- one of these alternatives, the first of which has this number
@@ -74,6 +76,13 @@ whole_chain G side used p s k a b v t h =
     (subst (λ t. DerivesForm G.grammar G.text (form.Chain side used p s) a b (derives.folded side used.shape h.first h.after.links) (Rounds k ∷ t)) (sym h.noted)
     (derives.chain h.operand h.after.derived))
 
+-- the tree of a whole expression
+spread_derived : (G : Given) (item : OperatorsItem) (builders : OperatorBuilders) (p k : ℕ) (a b : Spot) (v : List Tree) (t : List TrailItem) → G.grammar.operators ≡ Some item →
+    Spread G (record { item = item; builders = builders; term = p }) a.table.operators (IsUpTo a.table.operators k) a b v t → DerivesForm G.grammar G.text (form.Expression builders p) a b v t
+spread_derived G item builders p k a b v t there h =
+    subst (λ t. DerivesForm G.grammar G.text (form.Expression builders p) a b v t) h.whole
+    (subst (λ os. DerivesForm G.grammar G.text (form.Expression builders p) a b v (Ops os ∷ items_of t)) (sym h.read) (derives.expression there h.fits h.derived))
+
 mutual
   pub sound : {G : Given} {p : ℕ} {a : Spot} {o : Outcome} {m : ℕ} → Answers G p a o m → WhereOk (Derives G.grammar G.text p a) o
   sound (entered {o = o} e d) = ok_map _ _ o (λ b v t h. derives.at_node e h) (sound_form d)
@@ -87,6 +96,8 @@ mutual
   sound_form {G = G} (answers.chain {side = side} {used = used} {p = p} {s = s} {k = k} {a = a} {o = o} d) =
       ok_noted _ _ (Rounds k) o (whole_chain G side used p s k a) (sound_chain d)
   sound_form (rule {o = o} e d) = ok_map _ _ o (λ b v t h. derives.rule e h) (sound d)
+  sound_form {G = G} (answers.expression {item = item} {builders = builders} {p = p} {a = a} {o = o} e d) =
+      ok_map _ _ o (λ b v t h. spread_derived G item builders p _ a b v t e h) (sound_rows d (levels a.table.operators))
   sound_form {G = G} (answers.around {k = k} {a = a} {o = o} d) = ok_surrounded _ _ k G.text a o (λ b v t h. derives.around h) (sound d)
 
   sound_parts : {G : Given} {p : ℕ} {ps : List ℕ} {a : Spot} {o : Outcome} {m : ℕ} → AnswersParts G p ps a o m → WhereOk (DerivesParts G.grammar G.text (p ∷ ps) a) o

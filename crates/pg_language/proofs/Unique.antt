@@ -1,6 +1,7 @@
 -- There is at most one outcome, and one number of nodes: two runs are compared step by step. A second run's reaction is
 -- to the outcome that the first run met, so that both react by one case.
 use Rattle.std.proofs.Common.{◌≡◌, ℕ, suc, List, [], ◌∷◌, ◌++◌, Bool, Option, refl, sym, ap, subst}
+use Rattle.std.specs.Prelude.{reverse}
 use Rattle.pg_tree.specs.Trees.{Tree}
 use Rattle.pg_tree.specs.declared.shape.Shape.{Shape}
 use Rattle.pg_form.specs.Forms.{Node}
@@ -9,6 +10,8 @@ use Rattle.pg_language.specs.Derives.{Spot, applied}
 use Rattle.pg_value.specs.declared.trail.TrailItem.{TrailItem}
 use Rattle.pg_value.specs.declared.trail.TrailItem.TheVariants.{Alt, Ops}
 use Rattle.pg_value.specs.declared.trail.Fixity.TheVariants as fixity
+use Rattle.pg_form.specs.declared.operators_item.OperatorsItem.{OperatorsItem}
+use Rattle.pg_expand.specs.Rows.{rows_of}
 use Rattle.pg_expand.specs.declared.rows.Row.{Row}
 use Rattle.pg_language.specs.Answers as answers
 use Rattle.pg_language.specs.Answers.{Given, Answers, entered, AnswersForm, nothing, seq, choice, many, rule, AnswersParts, part, AfterPart, part_last, part_failed, part_stuck, part_ok, AnswersAlternatives, no_alternative, alternative, AfterAlternative, alternative_consumed, alternative_stands, alternative_waits, alternative_commits, alternative_failed, alternative_stuck, AnswersRounds, round, AfterRound, round_ended, round_failed, round_empty, round_stuck, round_ok, AnswersChain, first_operand, AfterFirst, first_failed, first_stuck, first_ok, AnswersLinks, link, AfterSeparator, separator_failed, separator_stuck, separator_ok, AfterOperand, operand_failed, operand_stuck, operand_ok, AnswersRows, only_term, loosest_row, AnswersRowOperand, row_operand, AfterRowOperand, row_failed, row_stuck, row_ok, AnswersTail, row_tail, AfterRight, right_stands, right_commits, right_stuck, right_failed, AfterLeft, left_stands, left_commits, left_stuck, left_failed, AnswersRight, right_side, AfterRightOperator, right_unread, right_read, AfterRightOperand, right_operand_failed, right_operand_stuck, right_operand_ok, AnswersLeft, left_side, AfterLeftOperator, left_unread, left_read, AfterLeftOperand, left_operand_failed, left_operand_stuck, left_operand_ok, AnswersNon, neither_side, AfterNonOperator, non_unread, non_read}
@@ -47,6 +50,9 @@ mutual
   same_form {G = G} (rule {named = named} {a = a} e d) (rule {m = n} {named = other} {o = q} h r) =
       let one : other ≡ named = cc in
       same d (subst (λ (named : declared.Rule). Answers G named.body a q n) one r)
+  same_form {G = G} (answers.expression {item = item} {builders = builders} {p = p} {a = a} e d) (answers.expression {item = other} {m = n} {o = q} h r) =
+      let one : other ≡ item = cc in
+      same_rows d (subst (λ (i : OperatorsItem). AnswersRows G (record { item = i; builders = builders; term = p }) (reverse (rows_of a.table.operators)) a q n) one r)
   same_form {G = G} (answers.around {k = k} {a = a} d) (answers.around r) =
       let s = same d r in record { outcome = ap (surrounded k G.text a) s.outcome; count = s.count }
 

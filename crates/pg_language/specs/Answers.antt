@@ -1,5 +1,5 @@
 -- How the nodes of a grammar answer: each runs its parts in order and reacts to what they answer.
-use Rattle.std.specs.Prelude.{◌≡◌, ◌+◌, ℕ, zero, suc, List, [], ◌∷◌, ◌++◌, Bool, true, false, ◌||◌, Option, Some, None, slice_get}
+use Rattle.std.specs.Prelude.{◌≡◌, ◌+◌, ℕ, zero, suc, List, [], ◌∷◌, ◌++◌, reverse, Bool, true, false, ◌||◌, Option, Some, None, slice_get}
 use Rattle.pg_tree.specs.Trees.{Tree}
 use Rattle.pg_tree.specs.declared.shape.Shape.{Shape}
 use Rattle.pg_value.specs.Grammar.{Grammar}
@@ -9,12 +9,15 @@ use Rattle.pg_form.specs.declared.form.Leaf.{Leaf}
 use Rattle.pg_form.specs.declared.form.Around.{Around}
 use Rattle.pg_form.specs.declared.side.Side.{Side}
 use Rattle.pg_value.specs.declared.grammar.Rule as declared
+use Rattle.pg_form.specs.declared.operators_item.OperatorsItem.{OperatorsItem}
 use Rattle.pg_form.specs.declared.used.BuilderUse.{BuilderUse}
+use Rattle.pg_form.specs.declared.used.OperatorBuilders.{OperatorBuilders}
 use Rattle.pg_language.specs.Derives.{Spot, at, applied, carried}
 use Rattle.pg_table.specs.Tables.{Table}
 use Rattle.pg_value.specs.declared.trail.TrailItem.{TrailItem}
 use Rattle.pg_value.specs.declared.trail.TrailItem.TheVariants.{Alt, Rounds, Ops}
 use Rattle.pg_value.specs.declared.trail.Fixity.TheVariants as fixity
+use Rattle.pg_expand.specs.Rows.{rows_of}
 use Rattle.pg_expand.specs.declared.rows.Row.{Row}
 use Rattle.pg_language.specs.Errors.{Error, no_messages_at, merge}
 use Rattle.pg_language.specs.Leaves.{leaf_outcome}
@@ -53,6 +56,10 @@ mutual
         AnswersForm G (form.Chain side used p s) a (noted (Rounds k) o) m
     rule : {r m : ℕ} {named : declared.Rule} {a : Spot} {o : Outcome} → slice_get G.grammar.rules r ≡ Some named →
         Answers G named.body a o m → AnswersForm G (form.Rule r) a o m
+    -- the rows of the table in force, over the term
+    expression : {item : OperatorsItem} {builders : OperatorBuilders} {p m : ℕ} {a : Spot} {o : Outcome} → G.grammar.operators ≡ Some item →
+        AnswersRows G (record { item = item; builders = builders; term = p }) (reverse (rows_of a.table.operators)) a o m →
+        AnswersForm G (form.Expression builders p) a o m
     around : {k : Around} {p m : ℕ} {a : Spot} {o : Outcome} → Answers G p a o m → AnswersForm G (form.Around k p) a (surrounded k G.text a o) m
 
   -- ---- sequences: a part, and those after it

@@ -24,11 +24,12 @@ use Rattle.pg_machine.specs.CheckedRuns.{HasAcceptedGrammar, IsStartAnswer}
 use Rattle.pg_machine.specs.Halting.{tape_before, IsLastAfter, Halts, turns_left}
 use Rattle.pg_message_tape.specs.Messages.{TapeMessage}
 use Rattle.pg_machine.specs.Outcomes.{outcome_of, Ends}
+use Rattle.pg_turns.specs.Spots.{spot_at}
 use Rattle.pg_turns.specs.Ready.{IsTapeReady}
-use Rattle.pg_turns.specs.RunTrees.{RunTrees, no_run_trees}
+use Rattle.pg_lists.specs.RunTrees.{RunTrees, no_run_trees}
 use Rattle.pg_turns.specs.Shows.{Shows, shows_at, no_frames}
 use Rattle.pg_turns.proofs.Hiding.{none_mean}
-use Rattle.pg_turns.specs.Tape.{spot_at, OnFrame, Tape, tape_at, tape_turn, tape_is_last}
+use Rattle.pg_turns.specs.Tape.{OnFrame, Tape, tape_at, tape_turn, tape_is_last}
 use Rattle.pg_turns.specs.Turns.{State, at_node, turn, is_last}
 use Rattle.pg_machine.specs.declared.answer.Outcome as ended
 use Rattle.pg_machine.specs.declared.answer.Outcome.TheVariants.{Answered, StepsUsed, EmptyRound}
@@ -82,7 +83,7 @@ last_or G x true e later = (zero, e)
 last_or G x false e later = let r = later e in (suc r.0, (e, r.1))
 
 -- no run is longer than twice the nodes of its outcome
-ends_within : (G : Given) (p : ℕ) (a : Spot) (o : Outcome) (m : ℕ) → Answers G p a o m → (fuel n : ℕ) (st : State) (x : Tape) → Shows st x → Run G p a n st → 2 * m < n + fuel →
+ends_within : (G : Given) (p : ℕ) (a : Spot) (o : Outcome) (m : ℕ) → Answers G p a o m → (fuel n : ℕ) (st : State) (x : Tape) → Shows G st x → Run G p a n st → 2 * m < n + fuel →
     (k : ℕ) × IsLastAfter G k x
 ends_within G p a o m d zero n st x s r l = let short = run_short G p a n st r o m d in absurd (omega arith)
 ends_within G p a o m d (suc fuel) n st x s r l =
@@ -171,8 +172,8 @@ halting_turn offer G T most n m x y fits few r going e next =
       last = subst (IsLastAfter G less.0) (sym e) less.2;
     }
 
-pub halting_ready : (offer : Offer) (G : Given) (T : Table) (most n : ℕ) (x : Tape) → length G.text ≤ 1048576 → IsHalting offer G T most n x → IsTapeReady offer (2 ^ 64 - 1) x
-halting_ready offer G T most n x short r = tape_roomy (length G.text) 8192 offer (suc r.turns) (2 ^ 64 - 1) (omega arith) (omega arith) x r.placed r.running.ready
+pub halting_ready : (offer : Offer) (G : Given) (T : Table) (most n : ℕ) (x : Tape) → length G.text ≤ 1048576 → IsHalting offer G T most n x → IsTapeReady offer G.grammar (2 ^ 64 - 1) x
+halting_ready offer G T most n x short r = tape_roomy (length G.text) 8192 offer G.grammar (suc r.turns) (2 ^ 64 - 1) (omega arith) (omega arith) x r.placed r.running.ready
 
 left_is : (G : Given) (most k : ℕ) (x : Tape) → k ≤ most → IsLastAfter G k x → turns_left G most x ≡ k
 left_is G zero zero x l h = refl

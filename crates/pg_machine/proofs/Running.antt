@@ -13,13 +13,14 @@ use Rattle.pg_language.specs.Errors.{Error}
 use Rattle.pg_language.specs.Outcomes as outcome
 use Rattle.pg_language.specs.Outcomes.{Outcome}
 use Rattle.pg_language.proofs.Sound.{sound}
+use Rattle.pg_turns.specs.Spots.{spot_at}
 use Rattle.pg_turns.specs.Frames.{Frame}
 use Rattle.pg_message_tape.specs.Messages.{TapeMessage, error_of}
 use Rattle.pg_machine.specs.Outcomes.{outcome_of, IsDerived, IsOutcome, outcome_on, Ends}
 use Rattle.pg_turns.specs.Shows.{no_frames, stands_parts, Shows, shows_at, shows_succeeded, shows_failed, shows_stuck, shows_endless}
-use Rattle.pg_turns.specs.Tape.{spot_at, OnFrame, Tape, tape_at, tape_turn, tape_is_last}
+use Rattle.pg_turns.specs.Tape.{OnFrame, Tape, tape_at, tape_turn, tape_is_last}
 use Rattle.pg_turns.specs.Ready.{IsTapeReady}
-use Rattle.pg_turns.specs.RunTrees.{RunTrees, no_run_trees}
+use Rattle.pg_lists.specs.RunTrees.{RunTrees, no_run_trees}
 use Rattle.pg_turns.specs.Turns.{State, at_node, with_outcome, endless, turn, is_last}
 use Rattle.pg_message_tape.specs.TapeErrors.{Says, says}
 use Rattle.pg_machine.specs.declared.answer.Outcome as ended
@@ -36,9 +37,9 @@ pub record Running (offer : Offer) (G : Given) (T : Table) (most steps : ℕ) (x
   pub rule : declared.Rule
   pub is_start : slice_get G.grammar.rules G.grammar.start ≡ Some rule
   pub state : State
-  pub shows : Shows state x
+  pub shows : Shows G state x
   pub run : Run G rule.body (spot_at T 0) steps state
-  pub ready : IsTapeReady offer (suc steps) x
+  pub ready : IsTapeReady offer G.grammar (suc steps) x
   pub within : steps ≤ most
 
 pub running_start : (offer : Offer) (G : Given) (T : Table) (most : ℕ) (rule : declared.Rule) (fs : List OnFrame) (v : RunTrees) (t : List TrailItem) (x : List TapeMessage) (U : Table) → slice_get G.grammar.rules G.grammar.start ≡ Some rule →
@@ -74,13 +75,13 @@ running_turn offer G T most n x y fits r l f e =
       state = turn G r.state;
       shows = turn_shown G r.shows going;
       run = run_turn G r.rule.body (spot_at T 0) n r.state going r.run;
-      ready = turn_ready offer (suc n) G x fits positive r.ready;
+      ready = turn_ready offer G.grammar (suc n) G x refl fits positive r.ready;
       within = more;
     } in
     subst (λ k. Running offer G T most k y) one (subst (Running offer G T most (suc n)) (sym e) next)
 
-pub running_ready : (offer : Offer) (G : Given) (T : Table) (most n : ℕ) (x : Tape) → Running offer G T most n x → n ≤ 2 ^ 64 - 2 → IsTapeReady offer (2 ^ 64 - 1) x
-running_ready offer G T most n x r l = let m : suc n ≤ 2 ^ 64 - 1 = omega arith in tape_more offer (suc n) (2 ^ 64 - 1) m x r.ready
+pub running_ready : (offer : Offer) (G : Given) (T : Table) (most n : ℕ) (x : Tape) → Running offer G T most n x → n ≤ 2 ^ 64 - 2 → IsTapeReady offer G.grammar (2 ^ 64 - 1) x
+running_ready offer G T most n x r l = let m : suc n ≤ 2 ^ 64 - 1 = omega arith in tape_more offer G.grammar (suc n) (2 ^ 64 - 1) m x r.ready
 
 -- ---- how it ends
 
@@ -96,7 +97,7 @@ no_answer : {o : Outcome} → None ≡ Some o → ⊥
 no_answer e = absurd cc
 
 -- an outcome on the tape is that of the state
-pub outcome_shown : {st : State} {x : Tape} {o : Outcome} → Shows st x → outcome_on x ≡ Some o → st ≡ with_outcome o []
+pub outcome_shown : {G : Given} {st : State} {x : Tape} {o : Outcome} → Shows G st x → outcome_on x ≡ Some o → st ≡ with_outcome o []
 outcome_shown (shows_at h g) e = absurd (no_answer e)
 outcome_shown {o = o} (shows_succeeded {w = w} {u = u} {U = U} {c = c} {j = j} no_frames k s d) e =
     let f = messages_are_there s in
@@ -118,7 +119,7 @@ outcome_shown (shows_stuck {gs = g ∷ gs} same) e = absurd (no_answer e)
 outcome_shown shows_endless e = absurd (no_answer e)
 
 -- the last tape without an outcome is the one without an end
-pub endless_shown : {st : State} {x : Tape} → Shows st x → outcome_on x ≡ None → tape_is_last x ≡ true → st ≡ endless
+pub endless_shown : {G : Given} {st : State} {x : Tape} → Shows G st x → outcome_on x ≡ None → tape_is_last x ≡ true → st ≡ endless
 endless_shown (shows_at h m) e l = cc
 endless_shown (shows_succeeded no_frames m s d) e l = absurd (no_answer (sym e))
 endless_shown (shows_failed w u no_frames m s d) e l = absurd (no_answer (sym e))

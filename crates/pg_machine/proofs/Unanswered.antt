@@ -1,7 +1,7 @@
 -- An answer that isn't the last one: some frame still waits for it.
 use Rattle.std.proofs.Common.{◌≡◌, List, length, false, sym, subst, refl}
 use Rattle.std.specs.Prelude.{◌==◌, None}
-use Rattle.pg_turns.specs.RunTrees.{RunTrees}
+use Rattle.pg_lists.specs.RunTrees.{RunTrees}
 use Rattle.pg_value.specs.declared.trail.TrailItem.{TrailItem}
 use Rattle.pg_table.specs.Tables.{Table}
 use Rattle.pg_message_tape.specs.Messages.{TapeMessage}

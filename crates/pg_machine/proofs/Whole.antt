@@ -1,4 +1,5 @@
 -- What an answer to a whole text says of its derivations.
+use Rattle.pg_turns.specs.Spots.{spot_at}
 use Rattle.std.proofs.Common.{◌≡◌, ◌<◌, ◌-◌, ◌*◌, ◌^◌, ◌∙◌, ℕ, min, arith, Bool, sym, subst}
 use Rattle.std.specs.Prelude.{Option, Some, None, IfSome, IfNone, Result, Ok, Err, IfOk}
 use Rattle.pg_text.specs.Position.{position_of}
@@ -12,7 +13,6 @@ use Rattle.pg_derive.proofs.AcceptedTexts.{refuses_rightly, derives_once}
 use Rattle.pg_derive.proofs.WholeTexts.{answered_derived}
 use Rattle.pg_machine.specs.CheckedRuns.{HasAcceptedGrammar, IsTextAnswer, IsStartAnswer, steps_to_end, IsOnlyDerivation, IsUnderivable}
 use Rattle.pg_machine.specs.Outcomes.{outcome_of, outcome_with}
-use Rattle.pg_turns.specs.Tape.{spot_at}
 use Rattle.pg_machine.specs.declared.answer.Answer.{Answer}
 use Rattle.pg_machine.specs.declared.answer.Success.{Success}
 

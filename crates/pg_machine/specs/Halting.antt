@@ -7,7 +7,7 @@ use Rattle.pg_value.specs.declared.grammar.Rule as declared
 use Rattle.pg_table.specs.Tables.{Table}
 use Rattle.pg_language.specs.Answers.{Given}
 use Rattle.pg_turns.specs.Tape.{Tape, tape_at, tape_endless, tape_turn, tape_is_last}
-use Rattle.pg_turns.specs.RunTrees.{no_run_trees}
+use Rattle.pg_lists.specs.RunTrees.{no_run_trees}
 
 -- a rule's body is to be entered at the start of the text, under the table, with empty lists
 abbrev pub tape_before : Table → Option declared.Rule → Tape

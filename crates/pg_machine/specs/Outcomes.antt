@@ -8,7 +8,8 @@ use Rattle.pg_language.specs.Errors.{Error, without_position}
 use Rattle.pg_language.specs.Outcomes as outcome
 use Rattle.pg_language.specs.Outcomes.{Outcome}
 use Rattle.pg_message_tape.specs.Messages.{error_of}
-use Rattle.pg_turns.specs.Tape.{Tape, tape_at, tape_with, tape_endless, spot_at}
+use Rattle.pg_turns.specs.Spots.{spot_at}
+use Rattle.pg_turns.specs.Tape.{Tape, tape_at, tape_with, tape_endless}
 use Rattle.pg_machine.specs.declared.answer.Answer.{Answer}
 use Rattle.pg_machine.specs.declared.answer.Success.{Success}
 use Rattle.pg_machine.specs.declared.answer.Outcome as ended

@@ -12,6 +12,7 @@ use crate::answer::{Answer, Outcome, Success};
 use pg_class_tables::ClassTables;
 use pg_form::NodeId;
 use pg_language::Reading;
+use pg_lists::Lists;
 use pg_pred::Registry;
 use pg_table::Table;
 use pg_text::Text;
@@ -21,9 +22,8 @@ use std::alloc::{AllocError, Global};
 
 /// Runs the start rule at the beginning of the text, under the table, in at most so many turns: each enters a node or
 /// hands an answer on, so that `m` nodes take `2m - 1`. The answer has the table in a copy. P5 is answered exactly where
-/// what the start rule comes to, an answer or P6, takes more turns, or where it comes to nothing: rules go round, a chain goes
-/// on without an end, or an operator form is met. The caller owes that the registry fits. The only error is that memory ran
-/// out.
+/// what the start rule comes to, an answer or P6, takes more turns, or where it comes to nothing: rules go round, or a chain
+/// goes on without an end. The caller owes that the registry fits. The only error is that memory ran out.
 pub fn probe<'a>(
     alloc: Global,
     grammar: &'a Grammar,
@@ -106,15 +106,11 @@ pub(crate) fn ended(
 fn success(machine: Machine<'_>, end: usize) -> Result<Success, AllocError>
     ensures place { IfOk result (λ success. success.place ≡ end) }
     ensures table { IfOk result (λ success. success.table ≡ machine.entry.table) }
-    ensures forest { IfOk result (λ success. success.forest ≡ machine.entry.forest.kept) }
-    ensures trail { IfOk result (λ success. success.trail ≡ machine.entry.trail.items) }
+    ensures forest { IfOk result (λ success. success.forest ≡ machine.entry.lists.forest.kept) }
+    ensures trail { IfOk result (λ success. success.trail ≡ machine.entry.lists.trail.items) }
 {
-    let Machine {
-        forest,
-        trail,
-        table,
-        ..
-    } = machine;
+    let Machine { lists, table, .. } = machine;
+    let Lists { forest, trail, .. } = lists;
     Ok(Success {
         place: end,
         table,

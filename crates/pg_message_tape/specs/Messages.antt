@@ -7,7 +7,10 @@ use Rattle.pg_message.specs.declared.kind.MessageKind.TheVariants.{SystemUnexpec
 use Rattle.pg_language.specs.Declarations.{not_admitted}
 use Rattle.pg_language.specs.Errors.{Error, quote, next_text, seen_at, stopped_before, refused_before}
 use Rattle.pg_message_tape.specs.declared.message.Message.{Message}
-use Rattle.pg_message_tape.specs.declared.message.Message.TheVariants.{Stopped, Refused, Reserved, Wanted, WantedEnd, Named, WantedDeclaration, WantedPrecedence, WantedSymbol, NotAdmitted}
+use Rattle.pg_message_tape.specs.declared.message.Message.TheVariants.{Stopped, Refused, Reserved, Wanted, WantedEnd, Named, WantedDeclaration, WantedPrecedence, WantedSymbol, NotAdmitted, WantedNameless, WantedOperator, Ambiguous}
+use Rattle.pg_message_tape.specs.declared.message.Sided.{Sided}
+use Rattle.pg_message_tape.specs.declared.message.Sided.TheVariants as sided
+use Rattle.pg_language.specs.OperatorReads.{ambiguous_words}
 
 -- a message's kind and text
 pub record TapeMessage : Type 0 where
@@ -25,6 +28,15 @@ message_kind WantedDeclaration = Expected
 message_kind WantedPrecedence = Expected
 message_kind WantedSymbol = Expected
 message_kind (NotAdmitted symbol fault) = Plain
+message_kind WantedNameless = Expected
+message_kind WantedOperator = Expected
+message_kind (Ambiguous side) = Plain
+
+-- how a side is said
+abbrev pub side_words : Sided → List ℕ
+side_words sided.Left = codes "left"
+side_words sided.Right = codes "right"
+side_words sided.Neither = codes "non"
 
 abbrev pub message_text : Message → Text
 message_text (Stopped next) = next_text next
@@ -37,6 +49,9 @@ message_text WantedDeclaration = codes "declaration"
 message_text WantedPrecedence = codes "precedence"
 message_text WantedSymbol = codes "operator symbol"
 message_text (NotAdmitted symbol fault) = not_admitted symbol.now fault
+message_text WantedNameless = []
+message_text WantedOperator = codes "operator"
+message_text (Ambiguous side) = ambiguous_words (side_words side)
 
 abbrev pub tape_message_of : Message → TapeMessage
 tape_message_of message = record { kind = message_kind message; text = message_text message }

@@ -10,5 +10,5 @@
 mod message;
 mod message_tape;
 
-pub use message::Message;
+pub use message::{Message, Sided, utf8};
 pub use message_tape::{KeptError, MessageTape, TapeError, told};

@@ -7,7 +7,8 @@ ghost use Rattle.std.specs.Prelude.{◌≡◌, ◌++◌, codes, string_bytes, If
 ghost use Rattle.std.specs.Str.{encode_utf8_all};
 ghost use Rattle.pg_language.specs.Declarations.{not_admitted};
 ghost use Rattle.pg_language.specs.Errors.{quote, next_text};
-ghost use Rattle.pg_message_tape.specs.Messages.{message_kind, message_text, is_expected};
+ghost use Rattle.pg_language.specs.OperatorReads.{ambiguous_words};
+ghost use Rattle.pg_message_tape.specs.Messages.{message_kind, message_text, is_expected, side_words};
 
 use pg_message::MessageKind;
 use pg_table::AdmitFault;
@@ -37,6 +38,20 @@ pub enum Message<'a> {
     WantedSymbol,
     /// The table doesn't admit an operator with this symbol, for this reason.
     NotAdmitted(&'a [char], AdmitFault),
+    /// Something without a name would have been taken: an operator before or after an operand.
+    WantedNameless,
+    /// An operator between two operands would have been taken.
+    WantedOperator,
+    /// An operator that associates to this side has no one meaning here.
+    Ambiguous(Sided),
+}
+
+/// To which side an operator between two operands associates.
+#[derive(Clone, Copy)]
+pub enum Sided {
+    Left,
+    Right,
+    Neither,
 }
 
 impl Message<'_> {
@@ -55,6 +70,9 @@ impl Message<'_> {
             Message::WantedPrecedence => MessageKind::Expected,
             Message::WantedSymbol => MessageKind::Expected,
             Message::NotAdmitted(_, _) => MessageKind::Plain,
+            Message::WantedNameless => MessageKind::Expected,
+            Message::WantedOperator => MessageKind::Expected,
+            Message::Ambiguous(_) => MessageKind::Plain,
         }
     }
 
@@ -66,13 +84,16 @@ impl Message<'_> {
             Message::Stopped(_)
             | Message::Refused(_)
             | Message::Reserved(_)
-            | Message::NotAdmitted(_, _) => false,
+            | Message::NotAdmitted(_, _)
+            | Message::Ambiguous(_) => false,
             Message::Wanted(_)
             | Message::WantedEnd
             | Message::Named(_)
             | Message::WantedDeclaration
             | Message::WantedPrecedence
-            | Message::WantedSymbol => true,
+            | Message::WantedSymbol
+            | Message::WantedNameless
+            | Message::WantedOperator => true,
         }
     }
 
@@ -91,12 +112,26 @@ impl Message<'_> {
             Message::WantedPrecedence => String::from_str(alloc, "precedence"),
             Message::WantedSymbol => String::from_str(alloc, "operator symbol"),
             Message::NotAdmitted(symbol, fault) => not_admitted(alloc, symbol, *fault),
+            Message::WantedNameless => Ok(String::new(alloc)),
+            Message::WantedOperator => String::from_str(alloc, "operator"),
+            Message::Ambiguous(side) => String::from_str(alloc, ambiguous(*side)),
         }
     }
 }
 
-/// The text with these characters.
-fn utf8(alloc: Global, characters: &[char]) -> Result<String, AllocError>
+/// What is said of an ambiguous use.
+fn ambiguous(side: Sided) -> &'static str
+    ensures { result.now ≡ ambiguous_words (side_words side) }
+{
+    match side {
+        Sided::Left => "ambiguous use of a left associative operator",
+        Sided::Right => "ambiguous use of a right associative operator",
+        Sided::Neither => "ambiguous use of a non associative operator",
+    }
+}
+
+/// The text with these characters. The only error is that memory ran out.
+pub fn utf8(alloc: Global, characters: &[char]) -> Result<String, AllocError>
     ensures { IfOk result (λ text. string_bytes text ≡ encode_utf8_all characters.now) }
 {
     let mut text = String::new(alloc);

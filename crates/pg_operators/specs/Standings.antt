@@ -25,8 +25,9 @@ read_up_to j (Some f) = Some (record { operator = f.operator; end = j })
 abbrev pub reads : Standing → ℕ → Role → Option language.Read
 reads s number role = read_up_to s.end (find (is_of number role) s.found.now)
 
--- what stands at the place: of each row and role that is read which is read of the row's operators of the role, and whatever is
--- read ends after the place, in the text
+-- what stands at the place: of each row and role that is read which is read of the row's operators of the role, whatever is
+-- read ends after the place, in the text, and its symbol is the run
 pub record Stands (g : Grammar) (text : List ℕ) (item : OperatorsItem) (operators : List Operator) (i : ℕ) (s : Standing) : Type 0 where
   pub by_row : (k : ℕ) (role : Role) → reads s (suc k) role ≡ read_at g text item (of_role role (row_numbered operators (suc k))) i
   pub ahead : (number : ℕ) (role : Role) (r : language.Read) → reads s number role ≡ Some r → (i < r.end) × (r.end ≤ length text)
+  pub spelled : (number : ℕ) (role : Role) (r : language.Read) → reads s number role ≡ Some r → r.operator.symbol ≡ s.run.now

@@ -14,12 +14,15 @@ use Rattle.pg_language.specs.Outcomes.{ok, failed}
 use Rattle.pg_language.specs.Reactions.{error_after, noted, then_rest, unless_begun, as_finished}
 use Rattle.pg_form.specs.declared.side.Side.{Side}
 use Rattle.pg_form.specs.declared.side.Side.TheVariants.{Left, Right}
+use Rattle.pg_language.specs.Answers.{Given}
+use Rattle.pg_turns.specs.Spots.{spot_at}
+use Rattle.pg_turns.specs.Extends.{Extends}
 use Rattle.pg_turns.specs.Frames.{Chain, Linked, folded, Frame}
 use Rattle.pg_message_tape.specs.Messages.{TapeMessage}
-use Rattle.pg_turns.specs.Shows.{thrown_from, Means, Extends, plain, Waits, none_wait, from_left, from_right, ShowsLinks, links, Stands, stands_separator, stands_operand, Shows, shows_at, shows_succeeded, shows_failed, shows_endless}
-use Rattle.pg_turns.specs.Tape.{spot_at, OnChain, OnLinks, OnFrame, tape_at, tape_with, all_built, tape_to_first, tape_ended, tape_to_separator, link_forest, link_waiting, link_left, tape_linked, tape_to_operand}
-use Rattle.pg_turns.specs.RunTrees.{tree_count, first_trees, built_after}
-use Rattle.pg_turns.specs.RunTrees.{RunTrees}
+use Rattle.pg_turns.specs.Shows.{thrown_from, Means, plain, Waits, none_wait, from_left, from_right, ShowsLinks, links, Stands, stands_separator, stands_operand, Shows, shows_at, shows_succeeded, shows_failed, shows_endless}
+use Rattle.pg_turns.specs.Tape.{OnChain, OnLinks, OnFrame, tape_at, tape_with, all_built, tape_to_first, tape_ended, tape_to_separator, link_forest, link_waiting, link_left, tape_linked, tape_to_operand}
+use Rattle.pg_lists.specs.RunTrees.{tree_count, first_trees, built_after}
+use Rattle.pg_lists.specs.RunTrees.{RunTrees}
 use Rattle.pg_turns.proofs.Hiding.{Under, under, under_longer, wait_longer, first_means, built_means, relisted, means_count, framed}
 use Rattle.pg_turns.specs.Turns.{at_node, with_outcome, ended, with_link, hand_to_first, hand_to_separator, next_link, hand_to_operand}
 use Rattle.pg_message_tape.specs.TapeErrors.{kept_at, Says, Holds}
@@ -79,38 +82,38 @@ wait_after {v = v} (from_left h) = record { more = []; lists = sym (append-nil v
 wait_after {v = v} (from_right {a = a} {s = s} h w) =
     let b = wait_after w in record { more = b.more ++ a ++ s; lists = ap (λ z. z ++ a ++ s) b.lists ∙ ap (λ z. z ++ s) (append_assoc v b.more a) ∙ append_assoc v (b.more ++ a) s }
 
-module _ {T : Table} where
+module _ {G : Given} {T : Table} where
   pub first_succeeded : {fs : List Frame} {gs : List OnFrame} {v : List Tree} {g : RunTrees} {t : List TrailItem} {x z : List TapeMessage} {U : Table} {error : TapeError} {f : Error} (ch : OnChain)
-      (item : TrailItem) (c : Bool) (j : ℕ) (s : List Tree) (r : List TrailItem) → Stands fs gs v t x T → Means gs g (v ++ s) → Says x error f z → Extends c T U →
-      Shows (hand_to_first (plain ch) (ok c (spot_at U j) s r f) fs) (tape_to_first ch (length t) (length v) (Succeeded c j error) gs g (t ++ item ∷ [] ++ r) z U)
+      (item : TrailItem) (c : Bool) (j : ℕ) (s : List Tree) (r : List TrailItem) → Stands G fs gs v t x T → Means gs g (v ++ s) → Says x error f z → Extends c T U →
+      Shows G (hand_to_first (plain ch) (ok c (spot_at U j) s r f) fs) (tape_to_first ch (length t) (length v) (Succeeded c j error) gs g (t ++ item ∷ [] ++ r) z U)
   first_succeeded {t = t} ch item c j s r h g o m =
       let n = means_count g in
       let d : t ++ (item ∷ r) ≡ t ++ item ∷ [] ++ r = sym (append_assoc t (item ∷ []) r) in
       moved (shows_at (stands_separator h (links {ch = ch} item none_wait (hold o) m)) (framed refl refl g)) cc
 
   pub first_failed : {fs : List Frame} {gs : List OnFrame} {v : List Tree} {g : RunTrees} {t : List TrailItem} {x z : List TapeMessage} {U : Table} {error : TapeError} {f : Error} (ch : OnChain)
-      (item : TrailItem) (c : Bool) (s : List Tree) (r : List TrailItem) → Stands fs gs v t x T → Means gs g (v ++ s) → Says x error f z → Extends true T U →
-      Shows (hand_to_first (plain ch) (failed c f) fs) (tape_to_first ch (length t) (length v) (Failed c error) gs g (t ++ item ∷ [] ++ r) z U)
+      (item : TrailItem) (c : Bool) (s : List Tree) (r : List TrailItem) → Stands G fs gs v t x T → Means gs g (v ++ s) → Says x error f z → Extends true T U →
+      Shows G (hand_to_first (plain ch) (failed c f) fs) (tape_to_first ch (length t) (length v) (Failed c error) gs g (t ++ item ∷ [] ++ r) z U)
   first_failed {t = t} ch item c s r h g o m =
       let d : t ++ (item ∷ r) ≡ t ++ item ∷ [] ++ r = sym (append_assoc t (item ∷ []) r) in
       moved (shows_failed s (item ∷ r) h g o m) cc
 
   -- a link failed, having consumed
   failed_link : {fs : List Frame} {gs : List OnFrame} {v y : List Tree} {g : RunTrees} {t : List TrailItem} {x z : List TapeMessage} {W : Table} {error : TapeError} {f : Error} (w : List Tree) (u : List TrailItem) (ch : Chain) (waiting : List (List Tree × List Tree)) (n : ℕ) (b : Bool) (e : Error) (item : TrailItem)
-      (s : List Tree) (r : List TrailItem) → Stands fs gs v t x T → Means gs g (y ++ w ++ s) → Says x error f z → Extends true T W → (a : List Tree) → y ≡ v ++ a →
-      Shows (with_outcome (noted (Rounds n) (then_rest b [] u e (folded ch waiting (failed true f)))) fs) (tape_with (Failed true error) gs g (t ++ item ∷ u ++ r) z W)
+      (s : List Tree) (r : List TrailItem) → Stands G fs gs v t x T → Means gs g (y ++ w ++ s) → Says x error f z → Extends true T W → (a : List Tree) → y ≡ v ++ a →
+      Shows G (with_outcome (noted (Rounds n) (then_rest b [] u e (folded ch waiting (failed true f)))) fs) (tape_with (Failed true error) gs g (t ++ item ∷ u ++ r) z W)
   failed_link {fs = fs} {gs = gs} {v = v} {y = y} {g = g} {t = t} {z = z} {W = W} {error = error} {f = f} w u ch waiting n b e item s r h trees o m a is =
       let lists : v ++ (a ++ w ++ s) ≡ y ++ w ++ s = three v (a ++ w) s ∙ ap (λ q. q ++ s) (three v a w) ∙ ap (λ q. q ++ w ++ s) (sym is) in
       let d : t ++ (item ∷ (u ++ r)) ≡ t ++ item ∷ u ++ r = three t (item ∷ u) r in
       let same : failed true f ≡ noted (Rounds n) (then_rest b [] u e (folded ch waiting (failed true f))) =
       ap (λ c. failed c f) (sym (or-true b)) ∙ ap (λ o. noted (Rounds n) (then_rest b [] u e o)) (sym (folded_failed ch waiting true f)) in
-      let shown : Shows (with_outcome (failed true f) fs) (tape_with (Failed true error) gs g (t ++ item ∷ u ++ r) z W) = moved (shows_failed (a ++ w ++ s) (item ∷ (u ++ r)) h (relisted (sym lists) trees) o m) cc in
+      let shown : Shows G (with_outcome (failed true f) fs) (tape_with (Failed true error) gs g (t ++ item ∷ u ++ r) z W) = moved (shows_failed (a ++ w ++ s) (item ∷ (u ++ r)) h (relisted (sym lists) trees) o m) cc in
       turned shown (ap (λ o. with_outcome o fs) same)
 
   -- a link failed empty: the chain ends before it
   ended_link : {fs : List Frame} {gs : List OnFrame} {v y : List Tree} {g : RunTrees} {t : List TrailItem} {x z : List TapeMessage} {U W : Table} {error : TapeError} {ch : OnChain} {waiting : List (List Tree × List Tree)} {ns : List ℕ}
-      (w : List Tree) (u : List TrailItem) (e f : Error) (n i : ℕ) (b : Bool) (item : TrailItem) (s : List Tree) (r : List TrailItem) → Stands fs gs v t x T → Waits ch v waiting ns y → Extends b T U → Means gs g (y ++ w ++ s) → Says x error (merge e (merge f (no_messages_at i))) z → Extends true U W →
-      Shows (with_outcome (noted (Rounds n) (then_rest b [] u e (folded (plain ch) waiting (ok false (spot_at U i) w [] (merge f (no_messages_at i)))))) fs)
+      (w : List Tree) (u : List TrailItem) (e f : Error) (n i : ℕ) (b : Bool) (item : TrailItem) (s : List Tree) (r : List TrailItem) → Stands G fs gs v t x T → Waits ch v waiting ns y → Extends b T U → Means gs g (y ++ w ++ s) → Says x error (merge e (merge f (no_messages_at i))) z → Extends true U W →
+      Shows G (with_outcome (noted (Rounds n) (then_rest b [] u e (folded (plain ch) waiting (ok false (spot_at U i) w [] (merge f (no_messages_at i)))))) fs)
       (tape_with (Succeeded b i error) gs (all_built ch.used.shape ns (first_trees (length (y ++ w)) g)) (slice_set (take (length (t ++ item ∷ u)) (t ++ item ∷ u ++ r)) (length t) (Rounds n)) z (first_operators (length U.operators) W))
   ended_link {fs = fs} {gs = gs} {v = v} {y = y} {g = g} {t = t} {z = z} {U = U} {W = W} {error = error} {ch = ch} {waiting = waiting} {ns = ns} w u e f n i b item s r h k l means o m =
       let back = given_back m in
@@ -126,27 +129,27 @@ module _ {T : Table} where
       ap (λ c. ok c (spot_at U i) all.forest (Rounds n ∷ u) (merge e (merge f (no_messages_at i)))) (sym empty)
       ∙ ap (λ q. ok (b || false) (spot_at U i) all.forest (Rounds n ∷ q) (merge e (merge f (no_messages_at i)))) (sym none)
       ∙ ap (λ o. noted (Rounds n) (then_rest b [] u e o)) (sym (all.in_outcome false (spot_at U i) [] (merge f (no_messages_at i)))) in
-      let shown : Shows (with_outcome (ok b (spot_at U i) all.forest (Rounds n ∷ u) (merge e (merge f (no_messages_at i)))) fs)
+      let shown : Shows G (with_outcome (ok b (spot_at U i) all.forest (Rounds n ∷ u) (merge e (merge f (no_messages_at i)))) fs)
       (tape_with (Succeeded b i error) gs (all_built ch.used.shape ns (first_trees (length (y ++ w)) g)) (slice_set (take (length (t ++ item ∷ u)) (t ++ item ∷ u ++ r)) (length t) (Rounds n)) z (first_operators (length U.operators) W)) = moved (shows_succeeded h trees o l) cc in
       turned shown (ap (λ o. with_outcome o fs) same)
 
   pub ended_shown : {fs : List Frame} {gs : List OnFrame} {v w : List Tree} {g : RunTrees} {t u : List TrailItem} {x y z : List TapeMessage} {U W : Table} {error : TapeError} {f : Error} {linked : Linked} {i : ℕ} {l : OnLinks}
-      (c : Bool) (s : List Tree) (r : List TrailItem) → Stands fs gs v t x T → ShowsLinks v t x T linked i l w u y U → Means gs g (w ++ s) → Says y error f z → Extends true U W →
-      Shows (with_outcome (ended (plain l.chain) linked (unless_begun c (spot_at U i) linked.left f)) fs) (tape_ended l c error gs g (u ++ r) z W)
+      (c : Bool) (s : List Tree) (r : List TrailItem) → Stands G fs gs v t x T → ShowsLinks v t x T linked i l w u y U → Means gs g (w ++ s) → Says y error f z → Extends true U W →
+      Shows G (with_outcome (ended (plain l.chain) linked (unless_begun c (spot_at U i) linked.left f)) fs) (tape_ended l c error gs g (u ++ r) z W)
   ended_shown true s r h (links {ch = ch} {w = w} {u = u} {waiting = waiting} {n = n} {c = b} {e = e} item k kept d) g o m =
       let a = wait_after k in failed_link w u (plain ch) waiting n b e item s r h g (alone kept o) (extends_both true true (extends_any d) m) a.more a.lists
   ended_shown {z = z} {f = f} false s r h (links {w = w} {u = u} {n = n} {i = i} {c = b} {e = e} item k kept d) g o m =
       ended_link w u e f n i b item s r h k d g (merge_says kept (merge_says (hold o) (nothing_says z i))) m
 
   pub separator_succeeded : {fs : List Frame} {gs : List OnFrame} {v w : List Tree} {g : RunTrees} {t u : List TrailItem} {x y z : List TapeMessage} {U W : Table} {error : TapeError} {f : Error} {linked : Linked} {i : ℕ} {l : OnLinks}
-      (c : Bool) (j : ℕ) (s : List Tree) (r : List TrailItem) → Stands fs gs v t x T → ShowsLinks v t x T linked i l w u y U → Means gs g (w ++ s) → Says y error f z → Extends c U W →
-      Shows (hand_to_separator (plain l.chain) linked (spot_at U i) (ok c (spot_at W j) s r f) fs) (tape_to_separator l (Succeeded c j error) gs g (u ++ r) z W)
+      (c : Bool) (j : ℕ) (s : List Tree) (r : List TrailItem) → Stands G fs gs v t x T → ShowsLinks v t x T linked i l w u y U → Means gs g (w ++ s) → Says y error f z → Extends c U W →
+      Shows G (hand_to_separator (plain l.chain) linked (spot_at U i) (ok c (spot_at W j) s r f) fs) (tape_to_separator l (Succeeded c j error) gs g (u ++ r) z W)
   separator_succeeded c j s r h k g o m = let n = means_count g in moved (shows_at (stands_operand h k (hold o) m) (framed refl refl g)) cc
 
   -- the next separator runs
   more_shown : {fs : List Frame} {gs : List OnFrame} {v y : List Tree} {g : RunTrees} {t : List TrailItem} {x z : List TapeMessage} {W : Table} {error : TapeError} {f : Error} (w a : List Tree) (u q : List TrailItem) {waiting : List (List Tree × List Tree)} {ns : List ℕ} (side : Side) (ch : OnChain)
-      (n i j : ℕ) (b : Bool) (kept : KeptError) (item : TrailItem) (s : List Tree) (r : List TrailItem) → ch.side ≡ side → Stands fs gs v t x T → Waits ch v waiting ns y → Means gs g (y ++ w ++ a ++ s) → Says x error f z → Extends true T W →
-      Shows (at_node ch.separator (spot_at W j) (in_separator (plain ch)
+      (n i j : ℕ) (b : Bool) (kept : KeptError) (item : TrailItem) (s : List Tree) (r : List TrailItem) → ch.side ≡ side → Stands G fs gs v t x T → Waits ch v waiting ns y → Means gs g (y ++ w ++ a ++ s) → Says x error f z → Extends true T W →
+      Shows G (at_node ch.separator (spot_at W j) (in_separator (plain ch)
       (record { count = suc n; consumed = true; trail = u ++ (q ++ r); error = f; waiting = (w, a) ∷ waiting; left = carried side ch.used.shape w a s }) (spot_at W j) ∷ fs))
       (tape_at ch.separator j (on_separator (record {
         chain = ch;
@@ -174,23 +177,23 @@ module _ {T : Table} where
       moved (shows_at (stands_separator h (links item (from_right is k) (hold o) m)) (framed refl refl g)) cc
 
   linked_shown : {fs : List Frame} {gs : List OnFrame} {v w : List Tree} {g : RunTrees} {t u : List TrailItem} {x y z : List TapeMessage} {U W : Table} {error : TapeError} (a : List Tree) (q : List TrailItem) (f : Error) {linked : Linked} {i : ℕ} {l : OnLinks}
-      (b c d : Bool) (j : ℕ) (e : Error) (s : List Tree) (r : List TrailItem) → Stands fs gs v t x T → ShowsLinks v t x T linked i l w u y U → Means gs g (w ++ a ++ s) → Says y error (error_after d e f) z → Extends true U W →
-      Shows (next_link b (plain l.chain) (with_link (plain l.chain) linked a q e d s r f) (spot_at W j) fs)
+      (b c d : Bool) (j : ℕ) (e : Error) (s : List Tree) (r : List TrailItem) → Stands G fs gs v t x T → ShowsLinks v t x T linked i l w u y U → Means gs g (w ++ a ++ s) → Says y error (error_after d e f) z → Extends true U W →
+      Shows G (next_link b (plain l.chain) (with_link (plain l.chain) linked a q e d s r f) (spot_at W j) fs)
       (tape_linked b l j (length (w ++ a)) (kept_at (length z) error) gs (link_forest l.chain.side l.chain.used.shape l.left g) (u ++ q ++ r) z W)
   linked_shown a q f true c d j e s r h (links {ch = ch} {w = w} {u = u} {n = n} {i = i} {c = b} {kept = kept} item k o l) g m p =
       more_shown w a u q ch.side ch n i j b kept item s r refl h k g (alone o m) (extends_both true true (extends_any l) p)
   linked_shown a q f false c d j e s r h k g m p = shows_endless
 
   pub operand_succeeded : {fs : List Frame} {gs : List OnFrame} {v w : List Tree} {g : RunTrees} {t u : List TrailItem} {x y z zs : List TapeMessage} {U V W : Table} {error : TapeError} {e f : Error} {linked : Linked} {i : ℕ} {l : OnLinks} {kept : KeptError}
-      (a : List Tree) (q : List TrailItem) (c d : Bool) (j : ℕ) (s : List Tree) (r : List TrailItem) → Stands fs gs v t x T → ShowsLinks v t x T linked i l w u y U → Holds y kept e z → Extends c U V → Means gs g (w ++ a ++ s) → Says z error f zs → Extends d V W →
-      Shows (hand_to_operand (plain l.chain) linked (spot_at U i) c a q e (ok d (spot_at W j) s r f) fs)
+      (a : List Tree) (q : List TrailItem) (c d : Bool) (j : ℕ) (s : List Tree) (r : List TrailItem) → Stands G fs gs v t x T → ShowsLinks v t x T linked i l w u y U → Holds y kept e z → Extends c U V → Means gs g (w ++ a ++ s) → Says z error f zs → Extends d V W →
+      Shows G (hand_to_operand (plain l.chain) linked (spot_at U i) c a q e (ok d (spot_at W j) s r f) fs)
       (tape_to_operand l (record { consumed = c; kept = kept }) (length (w ++ a)) (Succeeded d j error) gs g (u ++ q ++ r) zs W)
   operand_succeeded {e = e} {f = f} a q c d j s r h k o l g m n =
       linked_shown a q f (c || d) c d j e s r h k g (after_says d o m) (extends_any (extends_both c d l n))
 
   pub operand_failed : {fs : List Frame} {gs : List OnFrame} {v w : List Tree} {g : RunTrees} {t u : List TrailItem} {x y z zs : List TapeMessage} {U V W : Table} {error : TapeError} {e f : Error} {linked : Linked} {i : ℕ} {l : OnLinks} {kept : KeptError}
-      (a : List Tree) (q : List TrailItem) (c d : Bool) (s : List Tree) (r : List TrailItem) → Stands fs gs v t x T → ShowsLinks v t x T linked i l w u y U → Holds y kept e z → Extends c U V → Means gs g (w ++ a ++ s) → Says z error f zs → Extends true V W →
-      Shows (hand_to_operand (plain l.chain) linked (spot_at U i) c a q e (failed d f) fs)
+      (a : List Tree) (q : List TrailItem) (c d : Bool) (s : List Tree) (r : List TrailItem) → Stands G fs gs v t x T → ShowsLinks v t x T linked i l w u y U → Holds y kept e z → Extends c U V → Means gs g (w ++ a ++ s) → Says z error f zs → Extends true V W →
+      Shows G (hand_to_operand (plain l.chain) linked (spot_at U i) c a q e (failed d f) fs)
       (tape_to_operand l (record { consumed = c; kept = kept }) (length (w ++ a)) (Failed d error) gs g (u ++ q ++ r) zs W)
   operand_failed {w = w} {u = u} a q c d s r h k o l g m n =
       let y = three u q r in

@@ -1,8 +1,10 @@
 -- Completeness of a turn: what the machine comes to before a turn it comes to after it.
 use Rattle.std.proofs.Common.{◌≡◌, ℕ, zero, suc, ◌+◌, List, [], ◌∷◌, ◌++◌, Bool, true, false, refl, subst, sym, ap, ◌∙◌, arith}
-use Rattle.std.specs.Prelude.{Option, slice_get, ◌||◌}
+use Rattle.std.specs.Prelude.{Option, slice_get, reverse, ◌||◌}
 use Rattle.pg_tree.specs.Trees.{Tree}
 use Rattle.pg_form.specs.Forms.{Node}
+use Rattle.pg_form.specs.declared.operators_item.OperatorsItem.{OperatorsItem}
+use Rattle.pg_expand.specs.Rows.{rows_of}
 use Rattle.pg_value.specs.declared.grammar.Rule as declared
 use Rattle.pg_value.specs.declared.trail.TrailItem.{TrailItem}
 use Rattle.pg_value.specs.declared.trail.TrailItem.TheVariants.{Alt, Rounds}
@@ -14,9 +16,10 @@ use Rattle.pg_language.specs.Outcomes.{Outcome, ok, failed, empty_round}
 use Rattle.pg_language.specs.Reactions.{then_rest, noted, as_finished}
 use Rattle.pg_language.specs.declared.reading.Reading.{Reading}
 use Rattle.pg_language.specs.declared.reading.Reading.TheVariants.{Library, Report}
-use Rattle.pg_turns.specs.Frames.{Before, none_before, after_parts, with_part, Tried, none_tried, after_tried, with_failure, with_empty_ok, after_rounds, Chain, Linked, after_links, Frame, in_parts, in_choice, in_rounds, in_first, in_separator, in_operand, in_rule, in_around}
-use Rattle.pg_turns.specs.Turns.{at_node, with_outcome, next_alternative, told, enter_rule, enter_form, enter_node, hand_empty_ok, hand_to_choice, hand_to_parts, hand_to_rounds, ended, first_linked, with_link, hand_to_first, hand_to_separator, next_link, hand_to_operand, hand}
-use Rattle.pg_turns.specs.Finishes.{Gives, gives_parts, gives_choice, gives_rounds, gives_first, gives_separator, gives_operand, gives_rule, gives_around, Returns, over, Finishes, entering, handing}
+use Rattle.pg_turns.specs.Frames.{Before, none_before, after_parts, with_part, Tried, none_tried, after_tried, with_failure, with_empty_ok, after_rounds, Chain, Linked, after_links, Frame, in_parts, in_choice, in_rounds, in_first, in_separator, in_operand, in_rule, in_around, in_expression}
+use Rattle.pg_turns.specs.Turns.{at_node, with_outcome, next_alternative, told, enter_rule, enter_form, enter_node, hand_empty_ok, hand_to_choice, hand_to_parts, hand_to_rounds, ended, first_linked, with_link, hand_to_first, hand_to_separator, next_link, hand_to_operand, hand, enter_expression}
+use Rattle.pg_turns.specs.Finishes.{Gives, gives_parts, gives_choice, gives_rounds, gives_first, gives_separator, gives_operand, gives_rule, gives_around, gives_expression, no_level, Returns, over, Finishes, entering, handing}
+use Rattle.pg_turns.proofs.LevelsComplete.{rows_run, climb_complete}
 use Rattle.pg_turns.proofs.Joined.{after_part, stuck_parts, past_failure, after_empty_ok, stuck_tried, after_round, no_round, round_failed_so, rounds_none, after_link, stuck_links, noted_more}
 
 last_count : (ch : Chain) (linked : Linked) (o : Outcome) → noted (Rounds (linked.count + 0)) (after_links ch linked o) ≡ ended ch linked o
@@ -148,6 +151,7 @@ module _ {G : Given} where
   hand_complete (in_operand ch linked a c v t e) x fs out n (over (gives_operand _ g) r) = operand_complete ch linked n g r refl
   hand_complete in_rule x fs out n (over gives_rule r) = on n refl refl r
   hand_complete (in_around around a) x fs out n (over gives_around r) = on n refl refl r
+  hand_complete (in_expression s levels) x fs out n (over (gives_expression g) r) = climb_complete levels g r n refl
 
   -- ---- a node is entered
 
@@ -168,6 +172,9 @@ module _ {G : Given} where
   form_complete {a = a} {fs = fs} {out = out} n (answers.rule {named = named} there d) r e =
       subst (λ (o : Option declared.Rule). Finishes G (enter_rule o a fs) out n) (sym there) (part_complete n d gives_rule r e)
   form_complete n (answers.around d) r e = part_complete n d gives_around r e
+  form_complete {a = a} {fs = fs} {out = out} {m = m} {l = l} n (answers.expression {builders = builders} {p = p} there d) r e =
+      let z : n ≡ m + zero + l = omega arith in
+      subst (λ (item : Option OperatorsItem). Finishes G (enter_expression G builders p a fs item) out n) (sym there) (rows_run (reverse (rows_of a.table.operators)) n d no_level r z)
 
   pub node_complete : (p : ℕ) (a : Spot) (fs : List Frame) (out : Outcome) (n : ℕ) → Finishes G (at_node p a fs) out n → Entered G p a fs out n
   node_complete p a fs out n (entering {n = l} (entered {m = m} {n = f} there d) r) = record {

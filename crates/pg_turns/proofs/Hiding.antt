@@ -13,11 +13,12 @@ use Rattle.pg_form.specs.declared.form.Around.TheVariants as kind
 use Rattle.pg_language.specs.Derives.{leaf_of, span, made_by}
 use Rattle.pg_message_tape.specs.Messages.{TapeMessage}
 use Rattle.pg_message_tape.proofs.Merged.{take_seam, drop_seam}
+use Rattle.pg_language.specs.Answers.{Given}
 use Rattle.pg_turns.specs.Frames.{Frame}
-use Rattle.pg_turns.specs.RunTrees.{no_run_trees, tree_count, rejoined, with_trees, first_trees, hidden_after, built_after, with_hiding, without_hiding}
-use Rattle.pg_turns.specs.Shows.{lower, thrown_from, one_if, hiding_in, Keeps, Means, IsPart, KeepsPart, Waits, none_wait, from_left, from_right, ShowsLinks, links, Stands, no_frames, stands_parts, stands_choice, stands_rounds, stands_first, stands_separator, stands_operand, stands_rule, stands_around}
-use Rattle.pg_turns.specs.Tape.{OnChain, OnFrame, on_parts, on_choice, on_rounds, on_first, on_separator, on_operand, on_rule, on_around, hides, forest_in, forest_made, forest_left}
-use Rattle.pg_turns.specs.RunTrees.{RunTrees}
+use Rattle.pg_lists.specs.RunTrees.{no_run_trees, tree_count, rejoined, with_trees, first_trees, hidden_after, built_after, with_hiding, without_hiding}
+use Rattle.pg_turns.specs.Shows.{lower, thrown_from, one_if, hiding_in, Keeps, Means, IsPart, KeepsPart, Waits, none_wait, from_left, from_right, ShowsLinks, links, Stands, no_frames, stands_parts, stands_choice, stands_rounds, stands_first, stands_separator, stands_operand, stands_rule, stands_around, stands_expression}
+use Rattle.pg_turns.specs.Tape.{OnChain, OnFrame, on_parts, on_choice, on_rounds, on_first, on_separator, on_operand, on_rule, on_around, on_expression, hides, forest_in, forest_made, forest_left}
+use Rattle.pg_lists.specs.RunTrees.{RunTrees}
 
 -- ---- trees more
 
@@ -126,6 +127,7 @@ hides_as (on_first chain slot n ∷ gs) = hides_as gs
 hides_as (on_separator l ∷ gs) = hides_as gs
 hides_as (on_operand l b n ∷ gs) = hides_as gs
 hides_as (on_rule ∷ gs) = hides_as gs
+hides_as (on_expression e levels ∷ gs) = hides_as gs
 hides_as (on_around around i n o ∷ gs) = lower_hides (thrown_from gs) (hides around) n (hiding_in gs) (hides_as gs)
 
 keeps_shown : (b : Option ℕ) (k : ℕ) (f : RunTrees) (v w : List Tree) → HidesAs b k → f.hiding ≡ k + 1 → Under b (length v)
@@ -158,7 +160,7 @@ under_lower None false k u = tt
 under_lower (Some n) h k u = u
 
 -- trees are thrown away only after those that stand below
-pub under : {fs : List Frame} {gs : List OnFrame} {v : List Tree} {t : List TrailItem} {x : List TapeMessage} {T : Table} → Stands fs gs v t x T
+pub under : {G : Given} {fs : List Frame} {gs : List OnFrame} {v : List Tree} {t : List TrailItem} {x : List TapeMessage} {T : Table} → Stands G fs gs v t x T
     → Under (thrown_from gs) (length v)
 under no_frames = tt
 under (stands_parts {v = v} {w = w} h k) = under_longer _ (length v) (length (v ++ w)) (omega (arith, length-append v w)) (under h)
@@ -168,6 +170,7 @@ under (stands_first item h) = under h
 under (stands_separator {v = v} {w = w} h k) = under_longer _ (length v) (length w) (links_longer k) (under h)
 under (stands_operand {v = v} {w = w} {s = s} h k l m) = under_longer _ (length v) (length (w ++ s)) (omega (arith, links_longer k, length-append w s)) (under h)
 under (stands_rule h) = under h
+under (stands_expression {v = v} {w = w} h e k) = under_longer _ (length v) (length (v ++ w)) (omega (arith, length-append v w)) (under h)
 under (stands_around {v = v} {around = around} h) = under_lower _ (hides around) (length v) (under h)
 
 hiding_stays : (w : List Tree) (f : RunTrees) → (with_trees w f).hiding ≡ f.hiding
@@ -223,15 +226,15 @@ module _ {gs : List OnFrame} {v : List Tree} {f : RunTrees} where
     trees = subst (λ b. Keeps (lower (thrown_from gs) b (length v)) (with_hiding f) v) (sym is) (keeps_hidden (thrown_from gs) f v m.trees);
   }
 
-module _ {fs : List Frame} {gs : List OnFrame} {v : List Tree} {t : List TrailItem} {x : List TapeMessage} {T : Table} where
-  pub means_first : {f : RunTrees} (w : List Tree) → Stands fs gs v t x T → Means gs f (v ++ w) → Means gs (first_trees (length v) f) v
+module _ {G : Given} {fs : List Frame} {gs : List OnFrame} {v : List Tree} {t : List TrailItem} {x : List TapeMessage} {T : Table} where
+  pub means_first : {f : RunTrees} (w : List Tree) → Stands G fs gs v t x T → Means gs f (v ++ w) → Means gs (first_trees (length v) f) v
   means_first w h m = first_means w (under h) m
 
-  pub means_part : {f : RunTrees} (w : List Tree) → Stands fs gs v t x T → Means gs f (v ++ w)
+  pub means_part : {f : RunTrees} (w : List Tree) → Stands G fs gs v t x T → Means gs f (v ++ w)
       → KeepsPart (thrown_from gs) (drop (length v) f.kept) (hidden_after (length v) f) w
   means_part {f = f} w h m = record { is = keeps_part (thrown_from gs) f v w (under h) m.trees }
 
-  pub means_shown : {f : RunTrees} {o : ℕ} (around : Around) (i : ℕ) (w : List Tree) → hides around ≡ true → Stands fs gs v t x T → Means (on_around around i (length v) o ∷ gs) f (v ++ w)
+  pub means_shown : {f : RunTrees} {o : ℕ} (around : Around) (i : ℕ) (w : List Tree) → hides around ≡ true → Stands G fs gs v t x T → Means (on_around around i (length v) o ∷ gs) f (v ++ w)
       → Means gs (without_hiding (first_trees (length v) f)) v
   means_shown {f = f} around i w is h m =
       let one : f.hiding ≡ hiding_in gs + 1 = m.count ∙ ap (λ b. hiding_in gs + one_if b) is in
@@ -241,8 +244,8 @@ module _ {fs : List Frame} {gs : List OnFrame} {v : List Tree} {t : List TrailIt
       }
 
 -- trees after those of a frame are cut
-pub means_cut : {fs : List Frame} {g : OnFrame} {gs : List OnFrame} {v : List Tree} {t : List TrailItem} {x : List TapeMessage} {T : Table} {f : RunTrees} (w : List Tree)
-    → thrown_from (g ∷ gs) ≡ thrown_from gs → Stands fs (g ∷ gs) v t x T → Means gs f (v ++ w) → Means gs (first_trees (length v) f) v
+pub means_cut : {G : Given} {fs : List Frame} {g : OnFrame} {gs : List OnFrame} {v : List Tree} {t : List TrailItem} {x : List TapeMessage} {T : Table} {f : RunTrees} (w : List Tree)
+    → thrown_from (g ∷ gs) ≡ thrown_from gs → Stands G fs (g ∷ gs) v t x T → Means gs f (v ++ w) → Means gs (first_trees (length v) f) v
 means_cut {v = v} w same h m = first_means w (subst (λ b. Under b (length v)) same (under h)) m
 
 -- ---- forms around a part
@@ -278,9 +281,9 @@ pub record Failing (gs : List OnFrame) (v : List Tree) (g : RunTrees) : Type 0 w
   pub others : List Tree
   pub means : Means gs g (v ++ others)
 
-module _ {fs : List Frame} {gs : List OnFrame} {v : List Tree} {t : List TrailItem} {x : List TapeMessage} {T : Table} where
+module _ {G : Given} {fs : List Frame} {gs : List OnFrame} {v : List Tree} {t : List TrailItem} {x : List TapeMessage} {T : Table} where
   -- a form's part was ok
-  pub means_made : {f : RunTrees} {o : ℕ} (around : Around) (text : List ℕ) (i j : ℕ) (s : List Tree) → Stands fs gs v t x T → Means (on_around around i (length v) o ∷ gs) f (v ++ s)
+  pub means_made : {f : RunTrees} {o : ℕ} (around : Around) (text : List ℕ) (i j : ℕ) (s : List Tree) → Stands G fs gs v t x T → Means (on_around around i (length v) o ∷ gs) f (v ++ s)
       → Means gs (forest_made around text i j (length v) f) (v ++ made_by around text i j s)
   means_made kind.Try text i j s h m = means_within kind.Try i (length v) refl m
   means_made kind.Text text i j s h m = means_more (leaf_of (span text i j) ∷ []) (means_shown kind.Text i s refl h m)
@@ -290,7 +293,7 @@ module _ {fs : List Frame} {gs : List OnFrame} {v : List Tree} {t : List TrailIt
   means_made kind.Local text i j s h m = means_within kind.Local i (length v) refl m
 
   -- it failed
-  pub means_failed : {f : RunTrees} {o : ℕ} (around : Around) (i : ℕ) (s : List Tree) → Stands fs gs v t x T → Means (on_around around i (length v) o ∷ gs) f (v ++ s)
+  pub means_failed : {f : RunTrees} {o : ℕ} (around : Around) (i : ℕ) (s : List Tree) → Stands G fs gs v t x T → Means (on_around around i (length v) o ∷ gs) f (v ++ s)
       → Failing gs v (forest_left around (length v) f)
   means_failed kind.Try i s h m = record { others = s; means = means_within kind.Try i (length v) refl m }
   means_failed kind.Text i s h m = record { others = []; means = relisted (sym (append-nil v)) (means_shown kind.Text i s refl h m) }

@@ -5,7 +5,8 @@ use Rattle.std.proofs.lemmas.Option.{slice_get_within}
 use Rattle.std.specs.Prelude.{Option, Some, slice_get}
 use Rattle.std.specs.List.{list_any, common_prefix_len}
 use Rattle.std.specs.Str.{bytes_eq}
-use Rattle.pg_turns.specs.RunTrees.{RunTrees}
+use Rattle.pg_turns.specs.Spots.{spot_at}
+use Rattle.pg_lists.specs.RunTrees.{RunTrees}
 use Rattle.pg_form.specs.ClassItems.{has_character}
 use Rattle.pg_value.specs.Grammar.{Grammar}
 use Rattle.pg_form.specs.declared.class.ClassPart.{ClassPart}
@@ -17,7 +18,7 @@ use Rattle.pg_language.specs.Errors.{quote, next_text, seen_at, stopped_before}
 use Rattle.pg_language.specs.Leaves.{taken, satisfy_outcome, string_outcome, word_outcome, word_read, matched}
 use Rattle.pg_language.specs.Outcomes.{failed}
 use Rattle.pg_message_tape.specs.Messages.{TapeMessage}
-use Rattle.pg_turns.specs.Tape.{OnFrame, Tape, spot_at, tape_leaf}
+use Rattle.pg_turns.specs.Tape.{OnFrame, Tape, tape_leaf}
 
 pub other_length : (n m : ℕ) → (n ≡ m → ⊥) → (n == m) ≡ false
 other_length n m h = grind (arith, nat_tests)

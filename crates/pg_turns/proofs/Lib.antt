@@ -1,7 +1,11 @@
 pub mod Stack
+pub mod ExpressionSteps
 pub mod Characters
 pub mod LeavesRead
 pub mod Joined
+pub mod Stretches
+pub mod LevelsSound
+pub mod LevelsComplete
 pub mod SoundTurns
 pub mod CompleteTurns
 pub mod Runs
@@ -9,7 +13,15 @@ pub mod Shown
 pub mod ChainsShown
 pub mod Labels
 pub mod Declared
+pub mod LevelsLie
+pub mod OperatorErrors
+pub mod OperandsLie
+pub mod RowsShown
+pub mod LevelsShown
+pub mod LevelsFailed
 pub mod Turned
 pub mod Ready
+pub mod Goes
+pub mod LevelsPlaced
 pub mod Places
 pub mod Hiding

@@ -1,5 +1,5 @@
 -- Where frames stand in the text. What they count is bounded by that: rounds and links consume, and alternatives are nodes.
-use Rattle.std.proofs.Common.{◌≡◌, ℕ, suc, ◌+◌, ◌<◌, ◌≤◌, List, [], ◌∷◌, Bool, true, false, arith, length, take, drop, refl, sym, subst, ◌∙◌}
+use Rattle.std.proofs.Common.{◌≡◌, ℕ, suc, ◌+◌, ◌<◌, ◌≤◌, List, [], ◌∷◌, ◌++◌, Bool, true, false, arith, length, take, drop, refl, sym, subst, ◌∙◌}
 use Rattle.std.proofs.lemmas.Bool.Decides.{nat_tests}
 use Rattle.std.specs.Prelude.{Option, Some, None, slice_get, ◌||◌, nat_lt}
 use Rattle.pg_tree.specs.Trees.{Tree}
@@ -10,8 +10,12 @@ use Rattle.pg_form.specs.declared.form.Form.TheVariants as form
 use Rattle.pg_form.specs.declared.form.Leaf.{Leaf}
 use Rattle.pg_form.specs.declared.form.Leaf.TheVariants as leaf
 use Rattle.pg_form.specs.declared.form.Around.{Around}
+use Rattle.pg_form.specs.declared.operators_item.OperatorsItem.{OperatorsItem}
+use Rattle.pg_form.specs.declared.used.OperatorBuilders.{OperatorBuilders}
 use Rattle.pg_value.specs.declared.grammar.Rule as declared
 use Rattle.pg_value.specs.declared.trail.TrailItem.{TrailItem}
+use Rattle.pg_value.specs.declared.trail.TrailItem.TheVariants.{Ops}
+use Rattle.pg_table.specs.Rows.{rows}
 use Rattle.pg_table.specs.Tables.{Table, first_operators}
 use Rattle.pg_language.specs.Answers as answers
 use Rattle.pg_language.specs.Answers.{Given, Answers, entered}
@@ -24,9 +28,13 @@ use Rattle.pg_language.specs.Outcomes.{Outcome}
 use Rattle.pg_language.specs.declared.reading.Reading.{Reading}
 use Rattle.pg_language.specs.declared.reading.Reading.TheVariants.{Library, Report}
 use Rattle.pg_message_tape.specs.Messages.{TapeMessage}
-use Rattle.pg_turns.specs.Tape.{OnTried, no_tried, tried_failure, tried_empty_ok, OnChain, OnLinks, OnFrame, on_parts, on_choice, on_rounds, on_first, on_separator, on_operand, on_rule, on_around, Tape, tape_at, tape_with, tape_endless, spot_at, tape_leaf, joined_consumed, joined_tape_error, joined_messages, tape_next_part, tape_to_parts, tape_settled, tape_next_alternative, tried_with_failure, tried_with_empty_ok, tried_kept, tried_messages, tape_empty_ok, tape_to_choice, tape_to_rounds, tape_to_first, tape_ended, tape_to_separator, link_forest, tape_linked, tape_to_operand, reply_around, tape_hand, tape_seq, tape_rule, tape_told, tape_enter, tape_enter_at, tape_turn}
-use Rattle.pg_turns.specs.RunTrees.{tree_count, first_trees, hidden_after}
-use Rattle.pg_turns.specs.RunTrees.{RunTrees}
+use Rattle.pg_turns.specs.Spots.{spot_at}
+use Rattle.pg_lists.specs.TapeLevels.{OnLevel, OnSetting, OnStretch, OnClimbed, on_ended, on_again, on_climb}
+use Rattle.pg_turns.proofs.Goes.{Goes, goes_nowhere, goes_empty, goes_on}
+use Rattle.pg_turns.proofs.LevelsPlaced.{reads, IsClimbedPlaced, down_placed, climb_placed}
+use Rattle.pg_turns.specs.Tape.{OnTried, no_tried, tried_failure, tried_empty_ok, OnChain, OnLinks, OnFrame, on_parts, on_choice, on_rounds, on_first, on_separator, on_operand, on_rule, on_around, on_expression, Tape, tape_at, tape_with, tape_endless, tape_leaf, joined_consumed, joined_tape_error, joined_messages, tape_next_part, tape_to_parts, tape_settled, tape_next_alternative, tried_with_failure, tried_with_empty_ok, tried_kept, tried_messages, tape_empty_ok, tape_to_choice, tape_to_rounds, tape_to_first, tape_ended, tape_to_separator, link_forest, tape_linked, tape_to_operand, reply_around, tape_climbed, tape_to_expression, tape_expression, tape_hand, tape_seq, tape_rule, tape_told, tape_enter, tape_enter_at, tape_turn}
+use Rattle.pg_lists.specs.RunTrees.{tree_count, first_trees, hidden_after}
+use Rattle.pg_lists.specs.RunTrees.{RunTrees}
 use Rattle.pg_turns.specs.Ready.{IsReady, AreReady, IsTapeReady}
 use Rattle.pg_message_tape.specs.TapeErrors.{tape_error, kept_at, tape_error_after, messages_after}
 use Rattle.pg_turns.specs.declared.frame.Before as before
@@ -34,21 +42,6 @@ use Rattle.pg_turns.specs.declared.frame.Reply.{Reply}
 use Rattle.pg_turns.specs.declared.frame.Reply.TheVariants.{Succeeded, Failed, EmptyRound}
 use Rattle.pg_message_tape.specs.declared.message_tape.KeptError.{KeptError}
 use Rattle.pg_message_tape.specs.declared.message_tape.TapeError.{TapeError}
-
--- from the first place to the second, consuming or not
-pub record Goes (c : Bool) (i j : ℕ) : Type 0 where
-  pub onward : i ≤ j
-  pub consumes : c ≡ true → i < j
-
-goes_nowhere : (i : ℕ) → Goes false i i
-goes_nowhere i = record { onward = omega arith; consumes = λ e. cc }
-
-goes_empty : (i j : ℕ) → i ≤ j → Goes false i j
-goes_empty i j l = record { onward = l; consumes = λ e. cc }
-
-goes_on : (b c : Bool) (h i j : ℕ) → Goes b h i → Goes c i j → Goes (b || c) h j
-goes_on true c h i j one two = let l = one.consumes refl in let m = two.onward in record { onward = omega arith; consumes = λ e. omega arith }
-goes_on false c h i j one two = let l = one.onward in let m = two.onward in record { onward = omega arith; consumes = λ e. let k = two.consumes e in omega arith }
 
 abbrev pub consumed_before : Option before.Before → Bool
 consumed_before None = false
@@ -75,6 +68,7 @@ module _ (far most : ℕ) where
   IsPlaced (on_operand links b n) h i = Goes b.consumed links.start i × (links.count ≤ links.start) × Goes links.consumed h links.start
   IsPlaced on_rule h i = h ≡ i
   IsPlaced (on_around around s n o) h i = h ≡ i
+  IsPlaced (on_expression e levels) h i = Goes (reads levels) h i
 
   -- the frames below a node that began at the place
   abbrev pub ArePlaced : List OnFrame → ℕ → Type 0
@@ -197,21 +191,34 @@ module _ (far most : ℕ) where
   around_placed around h (Failed c error) a = a
   around_placed around h EmptyRound a = a
 
-  hand_placed : (G : Given) (f : OnFrame) (h i : ℕ) (reply : Reply) (fs : List OnFrame) (v : RunTrees) (t : List TrailItem) (x : List TapeMessage) (T : Table) → IsPlaced f h i → ArePlaced fs h → IsReplyFrom i reply →
+  climbed_placed : (G : Given) (e : OnSetting) (h : ℕ) (y : OnClimbed) (fs : List OnFrame) (T : Table) → far ≡ length G.text → ArePlaced fs h → IsClimbedPlaced G e h y → IsTapePlaced (tape_climbed G e y fs T)
+  climbed_placed G e h (on_ended z) fs T is r a = (h, (a.0, omega (arith, is, a.1)), r)
+  climbed_placed G e h (on_again d) fs T is r a = (omega (arith, is, a.1), (h, a.0, r))
+
+  expression_placed : (G : Given) (e : OnSetting) (levels : List OnLevel) (h i : ℕ) (reply : Reply) (fs : List OnFrame) (v : RunTrees) (t : List TrailItem) (x : List TapeMessage) (T : Table) → far ≡ length G.text →
+      Goes (reads levels) h i → ArePlaced fs h → IsReplyFrom i reply → IsTapePlaced (tape_to_expression G e levels reply fs v t x T)
+  expression_placed G e levels h i (Succeeded c j error) fs v t x T is g r a =
+      let z : OnStretch = record { consumed = c; place = j; error = error; lists = record { v = v; t = t; x = x } } in
+      climbed_placed G e h (on_climb G e levels z) fs T is r (climb_placed G e h levels z (goes_on (reads levels) c h i j g a.0, omega (arith, is, a.1)))
+  expression_placed G e levels h i (Failed c error) fs v t x T is g r a = let l = g.onward in (h, omega arith, r)
+  expression_placed G e levels h i EmptyRound fs v t x T is g r a = let l = g.onward in (h, omega arith, r)
+
+  hand_placed : (G : Given) (f : OnFrame) (h i : ℕ) (reply : Reply) (fs : List OnFrame) (v : RunTrees) (t : List TrailItem) (x : List TapeMessage) (T : Table) → far ≡ length G.text → IsPlaced f h i → ArePlaced fs h → IsReplyFrom i reply →
       IsTapePlaced (tape_hand G f reply fs v t x T)
-  hand_placed G (on_parts rest b) h i reply fs v t x T f r a = parts_placed rest b h i reply fs v t x T f r a
-  hand_placed G (on_choice k ps s tried n m o) h i reply fs v t x T f r a =
+  hand_placed G (on_parts rest b) h i reply fs v t x T is f r a = parts_placed rest b h i reply fs v t x T f r a
+  hand_placed G (on_choice k ps s tried n m o) h i reply fs v t x T is f r a =
       subst (λ (j : ℕ). IsTapePlaced (tape_to_choice G.reading k ps j tried n m o reply fs v t x T)) (sym f.0)
       (choice_placed G.reading k ps h tried n m o reply fs v t x T f.2 f.3 r (subst (λ (j : ℕ). IsReplyFrom j reply) (sym f.1) a))
-  hand_placed G (on_rounds p k c s slot n m o y) h i reply fs v t x T f r a =
+  hand_placed G (on_rounds p k c s slot n m o y) h i reply fs v t x T is f r a =
       subst (λ (j : ℕ). IsTapePlaced (tape_to_rounds p k c j slot n m o y reply fs v t x T)) (sym f.0) (rounds_placed p k c i slot n m o y h reply fs v t x T f.1 f.2 r a)
-  hand_placed G (on_first ch slot n) h i reply fs v t x T f r a = first_placed ch slot n h reply fs v t x T r (subst (λ (j : ℕ). IsReplyFrom j reply) (sym f) a)
-  hand_placed G (on_separator links) h i reply fs v t x T f r a =
+  hand_placed G (on_first ch slot n) h i reply fs v t x T is f r a = first_placed ch slot n h reply fs v t x T r (subst (λ (j : ℕ). IsReplyFrom j reply) (sym f) a)
+  hand_placed G (on_separator links) h i reply fs v t x T is f r a =
       let e = f.0 in let l = f.1 in
       separator_placed links h reply fs v t x T (omega arith) (subst (Goes links.consumed h) (sym e) f.2) r (subst (λ (j : ℕ). IsReplyFrom j reply) (sym e) a)
-  hand_placed G (on_operand links b n) h i reply fs v t x T f r a = operand_placed links b n h i reply fs v t x T f.0 f.1 f.2 r a
-  hand_placed G on_rule h i reply fs v t x T f r a = (h, subst (λ (j : ℕ). IsReplyFrom j reply) (sym f) a, r)
-  hand_placed G (on_around around s n o) h i reply fs v t x T f r a = (h, around_placed around h reply (subst (λ (j : ℕ). IsReplyFrom j reply) (sym f) a), r)
+  hand_placed G (on_operand links b n) h i reply fs v t x T is f r a = operand_placed links b n h i reply fs v t x T f.0 f.1 f.2 r a
+  hand_placed G on_rule h i reply fs v t x T is f r a = (h, subst (λ (j : ℕ). IsReplyFrom j reply) (sym f) a, r)
+  hand_placed G (on_around around s n o) h i reply fs v t x T is f r a = (h, around_placed around h reply (subst (λ (j : ℕ). IsReplyFrom j reply) (sym f) a), r)
+  hand_placed G (on_expression e levels) h i reply fs v t x T is f r a = expression_placed G e levels h i reply fs v t x T is f r a
 
   -- ---- a node is entered
 
@@ -227,20 +234,21 @@ module _ (far most : ℕ) where
 
   -- ---- room for the counts
 
-  frame_roomy : (offer : Offer) (n room h i : ℕ) → far < room → most < room → i ≤ far → (f : OnFrame) → IsPlaced f h i → IsReady offer n f → IsReady offer room f × (h ≤ far)
-  frame_roomy offer n room h i a b l (on_parts rest q) f r = let m = f.onward in (tt, omega arith)
-  frame_roomy offer n room h i a b l (on_choice k ps s tried x y z) f r = let e = f.1 in let m = f.2 in (omega arith, omega arith)
-  frame_roomy offer n room h i a b l (on_rounds p k c s slot w x y z) f r = let e = f.1 in let m = f.2.onward in (omega arith, omega arith)
-  frame_roomy offer n room h i a b l (on_first ch slot x) f r = (r, omega arith)
-  frame_roomy offer n room h i a b l (on_separator links) f r = let e = f.1 in let m = f.2.onward in ((omega arith, r.1), omega arith)
-  frame_roomy offer n room h i a b l (on_operand links q x) f r = let d = f.0.onward in let e = f.1 in let m = f.2.onward in ((omega arith, r.1), omega arith)
-  frame_roomy offer n room h i a b l on_rule f r = (tt, omega arith)
-  frame_roomy offer n room h i a b l (on_around around s x y) f r = (r, omega arith)
+  frame_roomy : (offer : Offer) (g : Grammar) (n room h i : ℕ) → far < room → most < room → i ≤ far → (f : OnFrame) → IsPlaced f h i → IsReady offer g n f → IsReady offer g room f × (h ≤ far)
+  frame_roomy offer g n room h i a b l (on_parts rest q) f r = let m = f.onward in (tt, omega arith)
+  frame_roomy offer g n room h i a b l (on_choice k ps s tried x y z) f r = let e = f.1 in let m = f.2 in (omega arith, omega arith)
+  frame_roomy offer g n room h i a b l (on_rounds p k c s slot w x y z) f r = let e = f.1 in let m = f.2.onward in (omega arith, omega arith)
+  frame_roomy offer g n room h i a b l (on_first ch slot x) f r = (r, omega arith)
+  frame_roomy offer g n room h i a b l (on_separator links) f r = let e = f.1 in let m = f.2.onward in ((omega arith, r.1), omega arith)
+  frame_roomy offer g n room h i a b l (on_operand links q x) f r = let d = f.0.onward in let e = f.1 in let m = f.2.onward in ((omega arith, r.1), omega arith)
+  frame_roomy offer g n room h i a b l on_rule f r = (tt, omega arith)
+  frame_roomy offer g n room h i a b l (on_around around s x y) f r = (r, omega arith)
+  frame_roomy offer g n room h i a b l (on_expression e levels) f r = let m = f.onward in (r, omega arith)
 
-  frames_roomy : (offer : Offer) (n room i : ℕ) → far < room → most < room → i ≤ far → (fs : List OnFrame) → ArePlaced fs i → AreReady offer n fs → AreReady offer room fs
-  frames_roomy offer n room i a b l [] p r = tt
-  frames_roomy offer n room i a b l (f ∷ fs) p r =
-      let one = frame_roomy offer n room p.0 i a b l f p.1 r.0 in (one.0, frames_roomy offer n room p.0 a b one.1 fs p.2 r.1)
+  frames_roomy : (offer : Offer) (g : Grammar) (n room i : ℕ) → far < room → most < room → i ≤ far → (fs : List OnFrame) → ArePlaced fs i → AreReady offer g n fs → AreReady offer g room fs
+  frames_roomy offer g n room i a b l [] p r = tt
+  frames_roomy offer g n room i a b l (f ∷ fs) p r =
+      let one = frame_roomy offer g n room p.0 i a b l f p.1 r.0 in (one.0, frames_roomy offer g n room p.0 a b one.1 fs p.2 r.1)
 
   -- a reply's node began within the text
   reply_within : (h : ℕ) (reply : Reply) → IsReplyFrom h reply → h ≤ far
@@ -248,10 +256,10 @@ module _ (far most : ℕ) where
   reply_within h (Failed c error) a = a
   reply_within h EmptyRound a = a
 
-  pub tape_roomy : (offer : Offer) (n room : ℕ) → far < room → most < room → (x : Tape) → IsTapePlaced x → IsTapeReady offer n x → IsTapeReady offer room x
-  tape_roomy offer n room a b (tape_at p i fs v t x T) h r = frames_roomy offer n room i a b h.0 fs h.1 r
-  tape_roomy offer n room a b (tape_with reply fs v t x T) h r = frames_roomy offer n room h.0 a b (reply_within h.0 reply h.1) fs h.2 r
-  tape_roomy offer n room a b tape_endless h r = tt
+  pub tape_roomy : (offer : Offer) (g : Grammar) (n room : ℕ) → far < room → most < room → (x : Tape) → IsTapePlaced x → IsTapeReady offer g n x → IsTapeReady offer g room x
+  tape_roomy offer g n room a b (tape_at p i fs v t x T) h r = frames_roomy offer g n room i a b h.0 fs h.1 r
+  tape_roomy offer g n room a b (tape_with reply fs v t x T) h r = frames_roomy offer g n room h.0 a b (reply_within h.0 reply h.1) fs h.2 r
+  tape_roomy offer g n room a b tape_endless h r = tt
 
 -- ---- turns
 
@@ -287,6 +295,13 @@ module _ (G : Given) (most : ℕ) (bounded : IsBounded G.grammar most) where
     seq_placed [] = (i, (goes_nowhere i, within), placed)
     seq_placed (p ∷ ps) = (within, (i, goes_nowhere i, placed))
 
+    rows_placed : (builders : OperatorBuilders) (p : ℕ) (item : Option OperatorsItem) → Placed (tape_expression G builders p i fs v t x T item)
+    rows_placed builders p None = tt
+    rows_placed builders p (Some item) =
+        let e : OnSetting = record { parts = record { item = item; builders = builders; term = p }; operators = T.operators; slot = length t } in
+        let d = down_placed G e i (length (rows T.operators)) i [] (record { v = v; t = t ++ Ops [] ∷ []; x = x }) (goes_nowhere i) within in
+        (d.1, (i, d.0, placed))
+
     form_placed : (p : ℕ) (f : Node) → slice_get G.grammar.nodes p ≡ Some f → Placed (tape_enter G f i fs v t x T)
     form_placed p (form.Leaf l) e = told_placed p l (leaf_outcome G.grammar G.text l (spot_at T i)) e refl
     form_placed p (form.Seq ps) e = seq_placed ps
@@ -294,7 +309,7 @@ module _ (G : Given) (most : ℕ) (bounded : IsBounded G.grammar most) where
     form_placed p (form.Many q) e = (within, (i, (refl, omega arith, goes_nowhere i), placed))
     form_placed p (form.Chain side used q s) e = (within, (i, refl, placed))
     form_placed p (form.Rule r) e = rule_placed (slice_get G.grammar.rules r)
-    form_placed p (form.Expression builders q) e = tt
+    form_placed p (form.Expression builders q) e = rows_placed builders q G.grammar.operators
     form_placed p (form.Around around q) e = (within, (i, refl, placed))
 
     node_placed : (p : ℕ) (f : Option Node) → slice_get G.grammar.nodes p ≡ f → Placed (tape_enter_at G f i fs v t x T)
@@ -304,5 +319,5 @@ module _ (G : Given) (most : ℕ) (bounded : IsBounded G.grammar most) where
   pub turn_placed : (x : Tape) → IsTapePlaced (length G.text) most x → IsTapePlaced (length G.text) most (tape_turn G x)
   turn_placed (tape_at p i fs v t x T) h = node_placed i fs v t x T h.0 h.1 p (slice_get G.grammar.nodes p) refl
   turn_placed (tape_with reply [] v t x T) h = h
-  turn_placed (tape_with reply (f ∷ fs) v t x T) h = hand_placed (length G.text) most G f h.2.0 h.0 reply fs v t x T h.2.1 h.2.2 h.1
+  turn_placed (tape_with reply (f ∷ fs) v t x T) h = hand_placed (length G.text) most G f h.2.0 h.0 reply fs v t x T refl h.2.1 h.2.2 h.1
   turn_placed tape_endless h = tt

@@ -1,22 +1,30 @@
 -- A run so far: what it comes to is what the machine's state comes to, and the turns are counted.
 use Rattle.std.proofs.Common.{◌≡◌, ◌<◌, ◌≤◌, ◌+◌, ◌*◌, ℕ, zero, suc, List, [], ◌∷◌, length, Bool, true, false, refl, subst, arith}
-use Rattle.std.specs.Prelude.{Option, Some, None, slice_get, ◌||◌}
+use Rattle.std.specs.Prelude.{Option, Some, None, slice_get, reverse, ◌++◌, ◌||◌}
 use Rattle.pg_tree.specs.Trees.{Tree}
 use Rattle.pg_form.specs.Forms.{Node}
 use Rattle.pg_form.specs.declared.form.Form.TheVariants as form
 use Rattle.pg_value.specs.declared.grammar.Rule as declared
 use Rattle.pg_value.specs.declared.trail.TrailItem.{TrailItem}
-use Rattle.pg_value.specs.declared.trail.TrailItem.TheVariants.{Alt}
+use Rattle.pg_value.specs.declared.trail.TrailItem.TheVariants.{Alt, Ops}
+use Rattle.pg_form.specs.declared.operators_item.OperatorsItem.{OperatorsItem}
+use Rattle.pg_form.specs.declared.used.OperatorBuilders.{OperatorBuilders}
+use Rattle.pg_expand.specs.Rows.{rows_of}
+use Rattle.pg_expand.specs.declared.rows.Row.{Row}
 use Rattle.pg_language.specs.Derives.{Spot}
 use Rattle.pg_language.specs.Answers as answers
 use Rattle.pg_language.specs.Answers.{Given, Answers}
 use Rattle.pg_language.specs.Errors.{Error}
 use Rattle.pg_language.specs.Leaves.{leaf_outcome}
+use Rattle.pg_language.specs.OperatorReads.{read_at}
 use Rattle.pg_language.specs.Outcomes.{Outcome, ok, failed, empty_round}
+use Rattle.pg_language.specs.Reactions.{noted}
+use Rattle.pg_language.specs.RowReactions.{Setting, past_prefix}
+use Rattle.pg_turns.specs.Levels.{none_precedes, Level, row_level, Followed, hands_on, operand_runs, follows}
 use Rattle.pg_language.specs.declared.reading.Reading.{Reading}
 use Rattle.pg_language.specs.declared.reading.Reading.TheVariants.{Library, Report}
-use Rattle.pg_turns.specs.Frames.{Before, Tried, none_tried, with_failure, with_empty_ok, Chain, Linked, Frame, in_parts, in_choice, in_rounds, in_first, in_separator, in_operand, in_rule, in_around}
-use Rattle.pg_turns.specs.Turns.{State, at_node, with_outcome, endless, next_alternative, told, enter_rule, enter_node, hand_empty_ok, hand_to_choice, hand_to_parts, hand_to_rounds, with_link, hand_to_first, hand_to_separator, next_link, hand_to_operand, hand, turn, is_last}
+use Rattle.pg_turns.specs.Frames.{Before, Tried, none_tried, with_failure, with_empty_ok, Chain, Linked, Frame, in_parts, in_choice, in_rounds, in_first, in_separator, in_operand, in_rule, in_around, in_expression}
+use Rattle.pg_turns.specs.Turns.{State, at_node, with_outcome, endless, next_alternative, told, enter_rule, enter_node, hand_empty_ok, hand_to_choice, hand_to_parts, hand_to_rounds, with_link, hand_to_first, hand_to_separator, next_link, hand_to_operand, hand, descend, enter_expression, followed, climb, turn, is_last}
 use Rattle.pg_turns.specs.Finishes.{returned, Finishes, entering, handing}
 use Rattle.pg_turns.proofs.SoundTurns.{node_sound, hand_sound}
 use Rattle.pg_turns.proofs.CompleteTurns.{node_complete, hand_complete}
@@ -39,6 +47,25 @@ rule_pending : (named : Option declared.Rule) (a : Spot) (fs : List Frame) → H
 rule_pending None a fs = tt
 rule_pending (Some named) a fs = refl
 
+descend_pending : (G : Given) (s : Setting) (rows : List Row) (a : Spot) (levels : List Level) (fs : List Frame) → HasPending (descend G s rows a levels fs) (suc (length fs))
+descend_pending G s [] a levels fs = refl
+descend_pending G s (r ∷ ts) a levels fs = descend_pending G s ts (past_prefix a (read_at G.grammar G.text s.item r.prefix a.place)) (row_level r ts a none_precedes ∷ levels) fs
+
+expression_pending : (G : Given) (builders : OperatorBuilders) (p : ℕ) (a : Spot) (fs : List Frame) (item : Option OperatorsItem) → HasPending (enter_expression G builders p a fs item) (suc (length fs))
+expression_pending G builders p a fs None = tt
+expression_pending G builders p a fs (Some item) =
+    descend_pending G (record { item = item; builders = builders; term = p }) (reverse (rows_of a.table.operators)) a [] fs
+
+followed_pending : (G : Given) (s : Setting) (levels : List Level) (fs : List Frame) (f : Followed) → ((y : Outcome) → HasPending (climb G s levels y fs) (suc (length fs))) →
+    HasPending (followed G s (λ y. climb G s levels y fs) levels fs f) (suc (length fs))
+followed_pending G s levels fs (hands_on y) ih = ih y
+followed_pending G s levels fs (operand_runs r ts a before between) ih =
+    descend_pending G s ts (past_prefix a (read_at G.grammar G.text s.item r.prefix a.place)) (row_level r ts a before ∷ between ++ levels) fs
+
+climb_pending : (G : Given) (s : Setting) (levels : List Level) (x : Outcome) (fs : List Frame) → HasPending (climb G s levels x fs) (suc (length fs))
+climb_pending G s [] x fs = refl
+climb_pending G s (l ∷ levels) x fs = followed_pending G s levels fs (follows G s l x) (λ y. climb_pending G s levels y fs)
+
 enter_pending : (G : Given) (n : Option Node) (a : Spot) (fs : List Frame) → HasPending (enter_node G n a fs) (suc (length fs))
 enter_pending G None a fs = tt
 enter_pending G (Some (form.Leaf l)) a fs = told_pending (leaf_outcome G.grammar G.text l a) fs
@@ -48,7 +75,7 @@ enter_pending G (Some (form.Choice ps)) a fs = alternative_pending (suc zero) ps
 enter_pending G (Some (form.Many p)) a fs = refl
 enter_pending G (Some (form.Chain side used p s)) a fs = refl
 enter_pending G (Some (form.Rule r)) a fs = rule_pending (slice_get G.grammar.rules r) a fs
-enter_pending G (Some (form.Expression builders p)) a fs = tt
+enter_pending G (Some (form.Expression builders p)) a fs = expression_pending G builders p a fs G.grammar.operators
 enter_pending G (Some (form.Around around p)) a fs = refl
 
 parts_pending : (ps : List ℕ) (done : Before) (o : Outcome) (fs : List Frame) → HasPending (hand_to_parts ps done o fs) (suc (length fs))
@@ -105,6 +132,7 @@ hand_pending G (in_separator ch linked a) o fs = separator_pending ch linked a o
 hand_pending G (in_operand ch linked a c v t e) o fs = operand_pending ch linked a c v t e o fs
 hand_pending G in_rule o fs = refl
 hand_pending G (in_around around a) o fs = refl
+hand_pending G (in_expression s levels) o fs = climb_pending G s levels (noted (Ops []) o) fs
 
 -- so many nodes more, and then the state comes to the outcome
 pub record Still (G : Given) (st : State) (out : Outcome) (entered m : ℕ) : Type 0 where

@@ -14,12 +14,15 @@ use Rattle.pg_language.specs.Errors.{Error}
 use Rattle.pg_language.specs.Outcomes.{ok, failed}
 use Rattle.pg_language.specs.declared.reading.Reading.{Reading}
 use Rattle.pg_language.specs.declared.reading.Reading.TheVariants.{Library, Report}
+use Rattle.pg_language.specs.Answers.{Given}
+use Rattle.pg_turns.specs.Spots.{spot_at}
+use Rattle.pg_turns.specs.Extends.{with_operators, Extends, same_table, more_operators}
 use Rattle.pg_turns.specs.Frames.{Before, Tried, after_tried, with_failure, with_empty_ok, Frame}
 use Rattle.pg_message_tape.specs.Messages.{TapeMessage}
-use Rattle.pg_turns.specs.Shows.{with_operators, Extends, same_table, more_operators, ShowsBefore, no_parts, some_parts, ShowsTried, nothing_tried, a_failure, an_empty_ok, thrown_from, Means, KeepsPart, Stands, no_frames, stands_parts, stands_choice, stands_rounds, stands_first, stands_separator, stands_operand, stands_rule, stands_around, Shows, shows_at, shows_succeeded, shows_failed, shows_stuck}
-use Rattle.pg_turns.specs.RunTrees.{RunTrees}
+use Rattle.pg_turns.specs.Shows.{ShowsBefore, no_parts, some_parts, ShowsTried, nothing_tried, a_failure, an_empty_ok, thrown_from, Means, KeepsPart, Stands, no_frames, stands_parts, stands_choice, stands_rounds, stands_first, stands_separator, stands_operand, stands_rule, stands_expression, stands_around, Shows, shows_at, shows_succeeded, shows_failed, shows_stuck}
+use Rattle.pg_lists.specs.RunTrees.{RunTrees}
 use Rattle.pg_turns.proofs.Hiding.{relisted, means_first, means_rejoined, means_part, means_count, means_cut, framed}
-use Rattle.pg_turns.specs.Tape.{spot_at, OnTried, OnFrame, Tape, left_table, tape_to_parts, tape_settled, tape_next_alternative, tried_messages, tried_with_failure, tried_with_empty_ok, tried_kept, tape_empty_ok, tape_to_choice, tape_to_rounds}
+use Rattle.pg_turns.specs.Tape.{OnTried, OnFrame, Tape, left_table, tape_to_parts, tape_settled, tape_next_alternative, tried_messages, tried_with_failure, tried_with_empty_ok, tried_kept, tape_empty_ok, tape_to_choice, tape_to_rounds}
 use Rattle.pg_turns.specs.Turns.{State, with_outcome, next_alternative, hand_empty_ok, hand_to_choice, hand_to_parts, hand_to_rounds}
 use Rattle.pg_message_tape.specs.TapeErrors.{Says}
 use Rattle.pg_turns.specs.declared.frame.Before as declared
@@ -29,14 +32,14 @@ use Rattle.pg_message_tape.proofs.Merged.{drop_seam, take_seam, hold, nothing_sa
 
 -- ---- the same lists in another form
 
-pub moved : {st : State} {a b : Tape} → Shows st a → a ≡ b → Shows st b
-moved {st = st} s e = subst (Shows st) e s
+pub moved : {G : Given} {st : State} {a b : Tape} → Shows G st a → a ≡ b → Shows G st b
+moved {G = G} {st = st} s e = subst (Shows G st) e s
 
-pub turned : {st up : State} {a : Tape} → Shows st a → st ≡ up → Shows up a
-turned {a = a} s e = subst (λ (st : State). Shows st a) e s
+pub turned : {G : Given} {st up : State} {a : Tape} → Shows G st a → st ≡ up → Shows G up a
+turned {G = G} {a = a} s e = subst (λ (st : State). Shows G st a) e s
 
 -- there are as many frames
-stands_length : {fs : List Frame} {gs : List OnFrame} {v : List Tree} {t : List TrailItem} {x : List TapeMessage} {T : Table} → Stands fs gs v t x T → length fs ≡ length gs
+stands_length : {G : Given} {fs : List Frame} {gs : List OnFrame} {v : List Tree} {t : List TrailItem} {x : List TapeMessage} {T : Table} → Stands G fs gs v t x T → length fs ≡ length gs
 stands_length no_frames = refl
 stands_length (stands_parts h k) = ap suc (stands_length h)
 stands_length (stands_choice h k) = ap suc (stands_length h)
@@ -45,6 +48,7 @@ stands_length (stands_first item h) = ap suc (stands_length h)
 stands_length (stands_separator h k) = ap suc (stands_length h)
 stands_length (stands_operand h k l m) = ap suc (stands_length h)
 stands_length (stands_rule h) = ap suc (stands_length h)
+stands_length (stands_expression h e k) = ap suc (stands_length h)
 stands_length (stands_around h) = ap suc (stands_length h)
 
 -- the last of three lists
@@ -90,59 +94,6 @@ table_left kind.Local e = given_back e
 table_left _ e = refl
 
 module _ {T : Table} where
-  -- ---- sequences
-
-  pub parts_succeeded : {fs : List Frame} {gs : List OnFrame} {v w : List Tree} {g : RunTrees} {t u : List TrailItem} {x y z : List TapeMessage} {U W : Table} {done : Before} {b : Option declared.Before} {error : TapeError} {f : Error}
-      (ps : List ℕ) (c : Bool) (j : ℕ) (s : List Tree) (r : List TrailItem) → Stands fs gs v t x T → ShowsBefore x T done w u b y U → Means gs g (v ++ w ++ s) → Says y error f z → Extends c U W →
-      Shows (hand_to_parts ps done (ok c (spot_at W j) s r f) fs) (tape_to_parts ps b (Succeeded c j error) gs g (t ++ u ++ r) z W)
-  parts_succeeded {v = v} {t = t} [] c j s r h no_parts g q m =
-      let d = append-nil t in moved (shows_succeeded h (relisted (ap (λ k. k ++ s) (append-nil v)) g) q m) cc
-  parts_succeeded {v = v} {t = t} (p ∷ ps) c j s r h no_parts g q m =
-      let d = append-nil t in moved (shows_at (stands_parts h (some_parts (hold q) m)) (framed refl refl (relisted (ap (λ k. k ++ s) (append-nil v)) g))) cc
-  parts_succeeded {v = v} {w = w} {t = t} {u = u} [] c j s r h (some_parts {c = b} k l) g q m =
-      let d = three t u r in moved (shows_succeeded h (relisted (sym (three v w s)) g) (after_says c k q) (extends_both b c l m)) cc
-  parts_succeeded {v = v} {w = w} {t = t} {u = u} (p ∷ ps) c j s r h (some_parts {c = b} k l) g q m =
-      let d = three t u r in moved (shows_at (stands_parts h (some_parts (hold (after_says c k q)) (extends_both b c l m))) (framed refl refl (relisted (sym (three v w s)) g))) cc
-
-  pub parts_failed : {fs : List Frame} {gs : List OnFrame} {v w : List Tree} {g : RunTrees} {t u : List TrailItem} {x y z : List TapeMessage} {U W : Table} {done : Before} {b : Option declared.Before} {error : TapeError} {f : Error}
-      (ps : List ℕ) (c : Bool) (s : List Tree) (r : List TrailItem) → Stands fs gs v t x T → ShowsBefore x T done w u b y U → Means gs g (v ++ w ++ s) → Says y error f z → Extends true U W →
-      Shows (hand_to_parts ps done (failed c f) fs) (tape_to_parts ps b (Failed c error) gs g (t ++ u ++ r) z W)
-  parts_failed {v = v} {t = t} [] c s r h no_parts g q m =
-      let d = append-nil t in moved (shows_failed s r h (relisted (ap (λ k. k ++ s) (append-nil v)) g) q m) cc
-  parts_failed {v = v} {t = t} (p ∷ ps) c s r h no_parts g q m =
-      let d = append-nil t in moved (shows_failed s r h (relisted (ap (λ k. k ++ s) (append-nil v)) g) q m) cc
-  parts_failed {v = v} {w = w} {t = t} {u = u} [] c s r h (some_parts k l) g q m =
-      let d = three t u r in moved (shows_failed (w ++ s) (u ++ r) h (relisted (sym (three v w s)) g) (after_says c k q) (extends_both true true (extends_any l) m)) cc
-  parts_failed {v = v} {w = w} {t = t} {u = u} (p ∷ ps) c s r h (some_parts k l) g q m =
-      let d = three t u r in moved (shows_failed (w ++ s) (u ++ r) h (relisted (sym (three v w s)) g) (after_says c k q) (extends_both true true (extends_any l) m)) cc
-
-  -- ---- choices
-
-  settled_succeeded : {fs : List Frame} {gs : List OnFrame} {v : List Tree} {g : RunTrees} {t : List TrailItem} {x y z : List TapeMessage} {U : Table} {tried : Tried} {q : OnTried} {error : TapeError} {f : Error}
-      (c : Bool) (j : ℕ) (s : List Tree) (r : List TrailItem) → Stands fs gs v t x T → ShowsTried (thrown_from gs) T x tried q y → Means gs g (v ++ s) → Says y error f z → Extends c T U →
-      Shows (with_outcome (after_tried tried (ok c (spot_at U j) s r f)) fs) (tape_settled q (length v) (length t) (length T.operators) (Succeeded c j error) gs g (t ++ r) z U)
-  settled_succeeded c j s r h nothing_tried g o m = shows_succeeded h g o m
-  settled_succeeded c j s r h (a_failure k) g o m = shows_succeeded h g (after_says c k o) m
-  settled_succeeded true j s r h (an_empty_ok k p) g o m = shows_succeeded h g (alone k o) m
-  settled_succeeded {v = v} {t = t} false j s r h (an_empty_ok k p) g o m =
-      let d = take_seam t r in let back = given_back m in moved (shows_succeeded h (means_rejoined (means_first s h g) p) (merge_says k o) same_table) cc
-
-  settled_failed : {fs : List Frame} {gs : List OnFrame} {v : List Tree} {g : RunTrees} {t : List TrailItem} {x y z : List TapeMessage} {U : Table} {tried : Tried} {q : OnTried} {error : TapeError} {f : Error}
-      (c : Bool) (s : List Tree) (r : List TrailItem) → Stands fs gs v t x T → ShowsTried (thrown_from gs) T x tried q y → Means gs g (v ++ s) → Says y error f z → Extends true T U →
-      Shows (with_outcome (after_tried tried (failed c f)) fs) (tape_settled q (length v) (length t) (length T.operators) (Failed c error) gs g (t ++ r) z U)
-  settled_failed c s r h nothing_tried g o m = shows_failed s r h g o m
-  settled_failed c s r h (a_failure k) g o m = shows_failed s r h g (after_says c k o) m
-  settled_failed true s r h (an_empty_ok k p) g o m = shows_failed s r h g (alone k o) m
-  settled_failed {v = v} {t = t} false s r h (an_empty_ok k p) g o m =
-      let d = take_seam t r in let back = given_back m in moved (shows_succeeded h (means_rejoined (means_first s h g) p) (merge_says k o) same_table) cc
-
-  pub next_shown : {fs : List Frame} {gs : List OnFrame} {v : List Tree} {g : RunTrees} {t : List TrailItem} {x y : List TapeMessage} {tried : Tried} {q : OnTried}
-      (k : ℕ) (ps : List ℕ) (i : ℕ) → Stands fs gs v t x T → ShowsTried (thrown_from gs) T x tried q y → Means gs g v →
-      Shows (next_alternative k ps (spot_at T i) tried fs) (tape_next_alternative k ps i q gs g t y T)
-  next_shown {v = v} {t = t} {y = y} k [] i h o g =
-      let d = append-nil t in let n = means_count g in moved (settled_failed false [] [] h o (relisted (sym (append-nil v)) g) (nothing_says y i) same_table) cc
-  next_shown k (p ∷ ps) i h o g = let n = means_count g in moved (shows_at (stands_choice h o) (framed refl refl g)) cc
-
   one_failed : {thrown : Option ℕ} {x y z : List TapeMessage} {tried : Tried} {q : OnTried} {error : TapeError} {f : Error} → ShowsTried thrown T x tried q y → Says y error f z →
       ShowsTried thrown T x (with_failure tried f) (tried_with_failure q (tried_kept q error z)) (tried_messages q error z)
   one_failed nothing_tried o = a_failure (hold o)
@@ -155,9 +106,63 @@ module _ {T : Table} where
   one_empty_ok j s r (a_failure k) o p = an_empty_ok (hold (merge_says k o)) p
   one_empty_ok j s r (an_empty_ok k own) o p = an_empty_ok (hold (merge_says k o)) own
 
+module _ {G : Given} {T : Table} where
+  -- ---- sequences
+
+  pub parts_succeeded : {fs : List Frame} {gs : List OnFrame} {v w : List Tree} {g : RunTrees} {t u : List TrailItem} {x y z : List TapeMessage} {U W : Table} {done : Before} {b : Option declared.Before} {error : TapeError} {f : Error}
+      (ps : List ℕ) (c : Bool) (j : ℕ) (s : List Tree) (r : List TrailItem) → Stands G fs gs v t x T → ShowsBefore x T done w u b y U → Means gs g (v ++ w ++ s) → Says y error f z → Extends c U W →
+      Shows G (hand_to_parts ps done (ok c (spot_at W j) s r f) fs) (tape_to_parts ps b (Succeeded c j error) gs g (t ++ u ++ r) z W)
+  parts_succeeded {v = v} {t = t} [] c j s r h no_parts g q m =
+      let d = append-nil t in moved (shows_succeeded h (relisted (ap (λ k. k ++ s) (append-nil v)) g) q m) cc
+  parts_succeeded {v = v} {t = t} (p ∷ ps) c j s r h no_parts g q m =
+      let d = append-nil t in moved (shows_at (stands_parts h (some_parts (hold q) m)) (framed refl refl (relisted (ap (λ k. k ++ s) (append-nil v)) g))) cc
+  parts_succeeded {v = v} {w = w} {t = t} {u = u} [] c j s r h (some_parts {c = b} k l) g q m =
+      let d = three t u r in moved (shows_succeeded h (relisted (sym (three v w s)) g) (after_says c k q) (extends_both b c l m)) cc
+  parts_succeeded {v = v} {w = w} {t = t} {u = u} (p ∷ ps) c j s r h (some_parts {c = b} k l) g q m =
+      let d = three t u r in moved (shows_at (stands_parts h (some_parts (hold (after_says c k q)) (extends_both b c l m))) (framed refl refl (relisted (sym (three v w s)) g))) cc
+
+  pub parts_failed : {fs : List Frame} {gs : List OnFrame} {v w : List Tree} {g : RunTrees} {t u : List TrailItem} {x y z : List TapeMessage} {U W : Table} {done : Before} {b : Option declared.Before} {error : TapeError} {f : Error}
+      (ps : List ℕ) (c : Bool) (s : List Tree) (r : List TrailItem) → Stands G fs gs v t x T → ShowsBefore x T done w u b y U → Means gs g (v ++ w ++ s) → Says y error f z → Extends true U W →
+      Shows G (hand_to_parts ps done (failed c f) fs) (tape_to_parts ps b (Failed c error) gs g (t ++ u ++ r) z W)
+  parts_failed {v = v} {t = t} [] c s r h no_parts g q m =
+      let d = append-nil t in moved (shows_failed s r h (relisted (ap (λ k. k ++ s) (append-nil v)) g) q m) cc
+  parts_failed {v = v} {t = t} (p ∷ ps) c s r h no_parts g q m =
+      let d = append-nil t in moved (shows_failed s r h (relisted (ap (λ k. k ++ s) (append-nil v)) g) q m) cc
+  parts_failed {v = v} {w = w} {t = t} {u = u} [] c s r h (some_parts k l) g q m =
+      let d = three t u r in moved (shows_failed (w ++ s) (u ++ r) h (relisted (sym (three v w s)) g) (after_says c k q) (extends_both true true (extends_any l) m)) cc
+  parts_failed {v = v} {w = w} {t = t} {u = u} (p ∷ ps) c s r h (some_parts k l) g q m =
+      let d = three t u r in moved (shows_failed (w ++ s) (u ++ r) h (relisted (sym (three v w s)) g) (after_says c k q) (extends_both true true (extends_any l) m)) cc
+
+  -- ---- choices
+
+  settled_succeeded : {fs : List Frame} {gs : List OnFrame} {v : List Tree} {g : RunTrees} {t : List TrailItem} {x y z : List TapeMessage} {U : Table} {tried : Tried} {q : OnTried} {error : TapeError} {f : Error}
+      (c : Bool) (j : ℕ) (s : List Tree) (r : List TrailItem) → Stands G fs gs v t x T → ShowsTried (thrown_from gs) T x tried q y → Means gs g (v ++ s) → Says y error f z → Extends c T U →
+      Shows G (with_outcome (after_tried tried (ok c (spot_at U j) s r f)) fs) (tape_settled q (length v) (length t) (length T.operators) (Succeeded c j error) gs g (t ++ r) z U)
+  settled_succeeded c j s r h nothing_tried g o m = shows_succeeded h g o m
+  settled_succeeded c j s r h (a_failure k) g o m = shows_succeeded h g (after_says c k o) m
+  settled_succeeded true j s r h (an_empty_ok k p) g o m = shows_succeeded h g (alone k o) m
+  settled_succeeded {v = v} {t = t} false j s r h (an_empty_ok k p) g o m =
+      let d = take_seam t r in let back = given_back m in moved (shows_succeeded h (means_rejoined (means_first s h g) p) (merge_says k o) same_table) cc
+
+  settled_failed : {fs : List Frame} {gs : List OnFrame} {v : List Tree} {g : RunTrees} {t : List TrailItem} {x y z : List TapeMessage} {U : Table} {tried : Tried} {q : OnTried} {error : TapeError} {f : Error}
+      (c : Bool) (s : List Tree) (r : List TrailItem) → Stands G fs gs v t x T → ShowsTried (thrown_from gs) T x tried q y → Means gs g (v ++ s) → Says y error f z → Extends true T U →
+      Shows G (with_outcome (after_tried tried (failed c f)) fs) (tape_settled q (length v) (length t) (length T.operators) (Failed c error) gs g (t ++ r) z U)
+  settled_failed c s r h nothing_tried g o m = shows_failed s r h g o m
+  settled_failed c s r h (a_failure k) g o m = shows_failed s r h g (after_says c k o) m
+  settled_failed true s r h (an_empty_ok k p) g o m = shows_failed s r h g (alone k o) m
+  settled_failed {v = v} {t = t} false s r h (an_empty_ok k p) g o m =
+      let d = take_seam t r in let back = given_back m in moved (shows_succeeded h (means_rejoined (means_first s h g) p) (merge_says k o) same_table) cc
+
+  pub next_shown : {fs : List Frame} {gs : List OnFrame} {v : List Tree} {g : RunTrees} {t : List TrailItem} {x y : List TapeMessage} {tried : Tried} {q : OnTried}
+      (k : ℕ) (ps : List ℕ) (i : ℕ) → Stands G fs gs v t x T → ShowsTried (thrown_from gs) T x tried q y → Means gs g v →
+      Shows G (next_alternative k ps (spot_at T i) tried fs) (tape_next_alternative k ps i q gs g t y T)
+  next_shown {v = v} {t = t} {y = y} k [] i h o g =
+      let d = append-nil t in let n = means_count g in moved (settled_failed false [] [] h o (relisted (sym (append-nil v)) g) (nothing_says y i) same_table) cc
+  next_shown k (p ∷ ps) i h o g = let n = means_count g in moved (shows_at (stands_choice h o) (framed refl refl g)) cc
+
   empty_ok_shown : {fs : List Frame} {gs : List OnFrame} {v : List Tree} {g : RunTrees} {t : List TrailItem} {x y z : List TapeMessage} {U : Table} {tried : Tried} {q : OnTried} {error : TapeError} {f : Error}
-      (reading : Reading) (k : ℕ) (ps : List ℕ) (i j : ℕ) (s : List Tree) (r : List TrailItem) → Stands fs gs v t x T → ShowsTried (thrown_from gs) T x tried q y → Means gs g (v ++ s) → Says y error f z → Extends false T U →
-      Shows (hand_empty_ok reading k ps (spot_at T i) tried (spot_at U j) s r f fs) (tape_empty_ok reading k ps i q (length v) (length t) (length T.operators) j error gs g (t ++ Alt k ∷ [] ++ r) z U)
+      (reading : Reading) (k : ℕ) (ps : List ℕ) (i j : ℕ) (s : List Tree) (r : List TrailItem) → Stands G fs gs v t x T → ShowsTried (thrown_from gs) T x tried q y → Means gs g (v ++ s) → Says y error f z → Extends false T U →
+      Shows G (hand_empty_ok reading k ps (spot_at T i) tried (spot_at U j) s r f fs) (tape_empty_ok reading k ps i q (length v) (length t) (length T.operators) j error gs g (t ++ Alt k ∷ [] ++ r) z U)
   empty_ok_shown {v = v} {t = t} Library k ps i j s r h o g e m = let d = item_seam t (Alt k) r in moved (settled_succeeded false j s (Alt k ∷ r) h o g e m) cc
   empty_ok_shown {v = v} {t = t} Report k ps i j s r h o g e same_table =
       let d = item_seam t (Alt k) r in
@@ -167,14 +172,14 @@ module _ {T : Table} where
       moved (next_shown (suc k) ps i h (one_empty_ok j s (Alt k ∷ r) o e (means_part s h g)) (means_first s h g)) cc
 
   pub choice_succeeded : {fs : List Frame} {gs : List OnFrame} {v : List Tree} {g : RunTrees} {t : List TrailItem} {x y z : List TapeMessage} {U : Table} {tried : Tried} {q : OnTried} {error : TapeError} {f : Error}
-      (reading : Reading) (k : ℕ) (ps : List ℕ) (i : ℕ) (c : Bool) (j : ℕ) (s : List Tree) (r : List TrailItem) → Stands fs gs v t x T → ShowsTried (thrown_from gs) T x tried q y → Means gs g (v ++ s) → Says y error f z → Extends c T U →
-      Shows (hand_to_choice reading k ps (spot_at T i) tried (ok c (spot_at U j) s r f) fs) (tape_to_choice reading k ps i q (length v) (length t) (length T.operators) (Succeeded c j error) gs g (t ++ Alt k ∷ [] ++ r) z U)
+      (reading : Reading) (k : ℕ) (ps : List ℕ) (i : ℕ) (c : Bool) (j : ℕ) (s : List Tree) (r : List TrailItem) → Stands G fs gs v t x T → ShowsTried (thrown_from gs) T x tried q y → Means gs g (v ++ s) → Says y error f z → Extends c T U →
+      Shows G (hand_to_choice reading k ps (spot_at T i) tried (ok c (spot_at U j) s r f) fs) (tape_to_choice reading k ps i q (length v) (length t) (length T.operators) (Succeeded c j error) gs g (t ++ Alt k ∷ [] ++ r) z U)
   choice_succeeded {t = t} reading k ps i true j s r h o g e m = let d = item_seam t (Alt k) r in moved (settled_succeeded true j s (Alt k ∷ r) h o g e m) cc
   choice_succeeded reading k ps i false j s r h o g e m = empty_ok_shown reading k ps i j s r h o g e m
 
   pub choice_failed : {fs : List Frame} {gs : List OnFrame} {v : List Tree} {g : RunTrees} {t : List TrailItem} {x y z : List TapeMessage} {U : Table} {tried : Tried} {q : OnTried} {error : TapeError} {f : Error}
-      (reading : Reading) (k : ℕ) (ps : List ℕ) (i : ℕ) (c : Bool) (s : List Tree) (r : List TrailItem) → Stands fs gs v t x T → ShowsTried (thrown_from gs) T x tried q y → Means gs g (v ++ s) → Says y error f z → Extends true T U →
-      Shows (hand_to_choice reading k ps (spot_at T i) tried (failed c f) fs) (tape_to_choice reading k ps i q (length v) (length t) (length T.operators) (Failed c error) gs g (t ++ Alt k ∷ [] ++ r) z U)
+      (reading : Reading) (k : ℕ) (ps : List ℕ) (i : ℕ) (c : Bool) (s : List Tree) (r : List TrailItem) → Stands G fs gs v t x T → ShowsTried (thrown_from gs) T x tried q y → Means gs g (v ++ s) → Says y error f z → Extends true T U →
+      Shows G (hand_to_choice reading k ps (spot_at T i) tried (failed c f) fs) (tape_to_choice reading k ps i q (length v) (length t) (length T.operators) (Failed c error) gs g (t ++ Alt k ∷ [] ++ r) z U)
   choice_failed {t = t} reading k ps i true s r h o g e m = let d = item_seam t (Alt k) r in moved (settled_failed true s (Alt k ∷ r) h o g e m) cc
   choice_failed {v = v} {t = t} reading k ps i false s r h o g e m =
       let back = given_back m in
@@ -185,8 +190,8 @@ module _ {T : Table} where
   -- ---- repetitions
 
   pub rounds_succeeded : {fs : List Frame} {gs : List OnFrame} {v : List Tree} {g : RunTrees} {t : List TrailItem} {x z : List TapeMessage} {U W : Table} {error : TapeError} {f : Error} (w : List Tree) (u : List TrailItem)
-      (p k : ℕ) (b : Bool) (i : ℕ) (item : TrailItem) (c : Bool) (j : ℕ) (s : List Tree) (r : List TrailItem) → Stands fs gs v t x T → Extends b T U → Means gs g (v ++ w ++ s) → Says x error f z → Extends c U W →
-      Shows (hand_to_rounds p k b (spot_at U i) w u (ok c (spot_at W j) s r f) fs)
+      (p k : ℕ) (b : Bool) (i : ℕ) (item : TrailItem) (c : Bool) (j : ℕ) (s : List Tree) (r : List TrailItem) → Stands G fs gs v t x T → Extends b T U → Means gs g (v ++ w ++ s) → Says x error f z → Extends c U W →
+      Shows G (hand_to_rounds p k b (spot_at U i) w u (ok c (spot_at W j) s r f) fs)
       (tape_to_rounds p k b i (length t) (length (v ++ w)) (length (t ++ item ∷ u)) (length U.operators) (length x) (Succeeded c j error) gs g (t ++ item ∷ u ++ r) z W)
   rounds_succeeded {v = v} {t = t} {x = x} w u p k b i item true j s r h l g o m =
       let n = means_count g in
@@ -197,8 +202,8 @@ module _ {T : Table} where
   rounds_succeeded w u p k b i item false j s r h l g o m = shows_stuck (stands_length h)
 
   pub rounds_failed : {fs : List Frame} {gs : List OnFrame} {v : List Tree} {g : RunTrees} {t : List TrailItem} {x z : List TapeMessage} {U W : Table} {error : TapeError} {f : Error} (w : List Tree) (u : List TrailItem)
-      (p k : ℕ) (b : Bool) (i : ℕ) (item : TrailItem) (c : Bool) (s : List Tree) (r : List TrailItem) → Stands fs gs v t x T → Extends b T U → Means gs g (v ++ w ++ s) → Says x error f z → Extends true U W →
-      Shows (hand_to_rounds p k b (spot_at U i) w u (failed c f) fs)
+      (p k : ℕ) (b : Bool) (i : ℕ) (item : TrailItem) (c : Bool) (s : List Tree) (r : List TrailItem) → Stands G fs gs v t x T → Extends b T U → Means gs g (v ++ w ++ s) → Says x error f z → Extends true U W →
+      Shows G (hand_to_rounds p k b (spot_at U i) w u (failed c f) fs)
       (tape_to_rounds p k b i (length t) (length (v ++ w)) (length (t ++ item ∷ u)) (length U.operators) (length x) (Failed c error) gs g (t ++ item ∷ u ++ r) z W)
   rounds_failed {v = v} {t = t} w u p k b i item true s r h l g o m =
       let d : t ++ (item ∷ (u ++ r)) ≡ t ++ item ∷ u ++ r = three t (item ∷ u) r in

@@ -1,6 +1,6 @@
 -- Soundness of a turn: what the machine comes to after a turn it comes to before it.
 use Rattle.std.proofs.Common.{◌≡◌, ℕ, zero, suc, ◌+◌, List, [], ◌∷◌, Bool, true, false, refl, subst, sym, ap, ◌∙◌, arith}
-use Rattle.std.specs.Prelude.{Option, Some, None, slice_get, ◌||◌}
+use Rattle.std.specs.Prelude.{Option, Some, None, slice_get, reverse, ◌||◌}
 use Rattle.pg_tree.specs.Trees.{Tree}
 use Rattle.pg_form.specs.Forms.{Node}
 use Rattle.pg_form.specs.declared.form.Form.TheVariants as form
@@ -8,9 +8,12 @@ use Rattle.pg_form.specs.declared.form.Around.{Around}
 use Rattle.pg_form.specs.declared.form.Leaf.{Leaf}
 use Rattle.pg_value.specs.declared.grammar.Rule as declared
 use Rattle.pg_form.specs.declared.side.Side.{Side}
+use Rattle.pg_form.specs.declared.operators_item.OperatorsItem.{OperatorsItem}
 use Rattle.pg_form.specs.declared.used.BuilderUse.{BuilderUse}
+use Rattle.pg_form.specs.declared.used.OperatorBuilders.{OperatorBuilders}
+use Rattle.pg_expand.specs.Rows.{rows_of}
 use Rattle.pg_value.specs.declared.trail.TrailItem.{TrailItem}
-use Rattle.pg_value.specs.declared.trail.TrailItem.TheVariants.{Alt, Rounds}
+use Rattle.pg_value.specs.declared.trail.TrailItem.TheVariants.{Alt, Rounds, Ops}
 use Rattle.pg_language.specs.Derives.{Spot}
 use Rattle.pg_language.specs.Answers as answers
 use Rattle.pg_language.specs.Answers.{Given, entered, AnswersForm, AnswersParts, part, part_last, part_failed, part_stuck, part_ok, AnswersAlternatives, no_alternative, alternative, alternative_consumed, alternative_stands, alternative_waits, alternative_commits, alternative_failed, alternative_stuck, AnswersRounds, round, round_ended, round_failed, round_empty, round_stuck, round_ok, AnswersChain, first_operand, first_failed, first_stuck, first_ok, AnswersLinks, link, separator_failed, separator_stuck, separator_ok, operand_failed, operand_stuck, operand_ok}
@@ -20,9 +23,11 @@ use Rattle.pg_language.specs.Reactions.{then_rest, noted}
 use Rattle.pg_language.specs.Leaves.{leaf_outcome}
 use Rattle.pg_language.specs.declared.reading.Reading.{Reading}
 use Rattle.pg_language.specs.declared.reading.Reading.TheVariants.{Library, Report}
-use Rattle.pg_turns.specs.Frames.{Before, none_before, after_parts, Tried, none_tried, after_tried, with_failure, with_empty_ok, after_rounds, Chain, Linked, after_links, Frame, in_parts, in_choice, in_rounds, in_first, in_separator, in_operand, in_rule, in_around}
-use Rattle.pg_turns.specs.Turns.{at_node, with_outcome, next_alternative, told, enter_rule, enter_form, enter_node, hand_empty_ok, hand_to_choice, hand_to_parts, hand_to_rounds, ended, with_link, hand_to_first, hand_to_separator, next_link, hand_to_operand, hand}
-use Rattle.pg_turns.specs.Finishes.{Gives, gives_parts, gives_choice, gives_rounds, gives_first, gives_separator, gives_operand, gives_rule, gives_around, Returns, over, Finishes, entering, handing, HandedOn}
+use Rattle.pg_turns.specs.Frames.{Before, none_before, after_parts, Tried, none_tried, after_tried, with_failure, with_empty_ok, after_rounds, Chain, Linked, after_links, Frame, in_parts, in_choice, in_rounds, in_first, in_separator, in_operand, in_rule, in_around, in_expression}
+use Rattle.pg_turns.specs.Turns.{at_node, with_outcome, next_alternative, told, enter_rule, enter_form, enter_node, hand_empty_ok, hand_to_choice, hand_to_parts, hand_to_rounds, ended, with_link, hand_to_first, hand_to_separator, next_link, hand_to_operand, hand, enter_expression}
+use Rattle.pg_turns.specs.Finishes.{Gives, gives_parts, gives_choice, gives_rounds, gives_first, gives_separator, gives_operand, gives_rule, gives_around, gives_expression, LevelsGive, no_level, Returns, over, Finishes, entering, handing, HandedOn}
+use Rattle.pg_language.specs.RowReactions.{Setting}
+use Rattle.pg_turns.proofs.LevelsSound.{descend_sound, climb_sound}
 use Rattle.pg_turns.proofs.Joined.{after_part, stuck_parts, past_failure, after_empty_ok, stuck_tried, after_round, no_round, round_failed_so, rounds_none, after_link, stuck_links, noted_more}
 
 -- so many rounds and their outcome
@@ -190,6 +195,8 @@ module _ {G : Given} where
   hand_sound (in_operand ch linked a c v t e) x fs out n h = operand_sound ch linked a c v t e x fs out n h
   hand_sound in_rule x fs out n (handing r) = over_none gives_rule r
   hand_sound (in_around around a) x fs out n (handing r) = over_none gives_around r
+  hand_sound (in_expression s levels) x fs out n h =
+      let d = climb_sound levels (noted (Ops []) x) fs out n h in over_same n (gives_expression d.gives) refl d.returns d.count
 
   -- ---- a node is entered
 
@@ -248,6 +255,20 @@ module _ {G : Given} where
   rule_entered p r None a fs out n there e h = elim h [ ]
   rule_entered p r (Some named) a fs out n there e h = body_entered n there e h
 
+  -- no level stands over the loosest row
+  none_over : {s : Setting} {x o : Outcome} {k : ℕ} → LevelsGive G s [] x o k → (x ≡ o) × (k ≡ zero)
+  none_over no_level = (refl, refl)
+
+  expression_entered : (p q : ℕ) (builders : OperatorBuilders) (item : Option OperatorsItem) (a : Spot) (fs : List Frame) (out : Outcome) (n : ℕ) →
+      slice_get G.grammar.nodes p ≡ Some (form.Expression builders q) → G.grammar.operators ≡ item → Finishes G (enter_expression G builders q a fs item) out n → Finishes G (at_node p a fs) out (suc n)
+  expression_entered p q builders None a fs out n there e h = elim h [ ]
+  expression_entered p q builders (Some item) a fs out n there e h =
+      let d = descend_sound (reverse (rows_of a.table.operators)) a [] fs out n h in
+      let same = none_over d.gives in
+      let none = same.1 in
+      let count = d.count in
+      form_entered n there (answers.expression e d.answers) (same.0) d.returns (omega arith)
+
   form_sound : (p : ℕ) (f : Node) (a : Spot) (fs : List Frame) (out : Outcome) (n : ℕ) → slice_get G.grammar.nodes p ≡ Some f → Finishes G (enter_form G f a fs) out n →
       Finishes G (at_node p a fs) out (suc n)
   form_sound p (form.Leaf l) a fs out n there h = leaf_entered p l (leaf_outcome G.grammar G.text l a) a fs out n there refl h
@@ -257,7 +278,7 @@ module _ {G : Given} where
   form_sound p (form.Many q) a fs out n there h = many_entered p q a fs out n there h
   form_sound p (form.Chain side used q s) a fs out n there h = chain_entered p q s side used a fs out n there h
   form_sound p (form.Rule r) a fs out n there h = rule_entered p r (slice_get G.grammar.rules r) a fs out n there refl h
-  form_sound p (form.Expression builders q) a fs out n there h = elim h [ ]
+  form_sound p (form.Expression builders q) a fs out n there h = expression_entered p q builders G.grammar.operators a fs out n there refl h
   form_sound p (form.Around around q) a fs out n there h = around_entered n there h
 
   pub node_sound : (p : ℕ) (f : Option Node) (a : Spot) (fs : List Frame) (out : Outcome) (n : ℕ) → slice_get G.grammar.nodes p ≡ f → Finishes G (enter_node G f a fs) out n →

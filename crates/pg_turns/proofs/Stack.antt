@@ -2,7 +2,7 @@
 use Rattle.std.proofs.Common.{◌≡◌, List, [], ◌∷◌, ◌++◌, length, false, refl, sym, ap, ◌∙◌}
 use Rattle.std.proofs.Math.Dec.{eqb-suc-zero}
 use Rattle.std.specs.Prelude.{◌==◌}
-use Rattle.pg_turns.specs.RunTrees.{RunTrees}
+use Rattle.pg_lists.specs.RunTrees.{RunTrees}
 use Rattle.pg_value.specs.declared.trail.TrailItem.{TrailItem}
 use Rattle.pg_table.specs.Tables.{Table}
 use Rattle.pg_message_tape.specs.Messages.{TapeMessage}

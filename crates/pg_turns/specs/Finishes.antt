@@ -3,14 +3,39 @@ use Rattle.std.specs.Prelude.{◌≡◌, ℕ, zero, ◌+◌, List, [], ◌∷◌
 use Rattle.pg_tree.specs.Trees.{Tree}
 use Rattle.pg_form.specs.declared.form.Around.{Around}
 use Rattle.pg_value.specs.declared.trail.TrailItem.{TrailItem}
-use Rattle.pg_value.specs.declared.trail.TrailItem.TheVariants.{Rounds}
+use Rattle.pg_value.specs.declared.trail.TrailItem.TheVariants.{Rounds, Ops}
+use Rattle.pg_expand.specs.declared.rows.Row.{Row}
 use Rattle.pg_language.specs.Derives.{Spot}
-use Rattle.pg_language.specs.Answers.{Given, Answers, AfterPart, AfterAlternative, AfterRound, AfterFirst, AfterSeparator, AfterOperand}
+use Rattle.pg_language.specs.Answers.{Given, Answers, AfterPart, AfterAlternative, AfterRound, AfterFirst, AfterSeparator, AfterOperand, AfterRowOperand, AfterRightOperand, AfterLeftOperand}
 use Rattle.pg_language.specs.Errors.{Error}
+use Rattle.pg_language.specs.OperatorReads.{Read}
 use Rattle.pg_language.specs.Outcomes.{Outcome}
 use Rattle.pg_language.specs.Reactions.{noted, surrounded}
-use Rattle.pg_turns.specs.Frames.{Before, after_parts, Tried, after_tried, after_rounds, Chain, Linked, after_links, Frame, in_parts, in_choice, in_rounds, in_first, in_separator, in_operand, in_rule, in_around}
+use Rattle.pg_language.specs.RowReactions.{Setting, as_applied, as_operand, with_last}
+use Rattle.pg_turns.specs.Levels.{none_precedes, right_precedes, left_precedes, non_precedes, Level, row_level, right_level, after_operator}
+use Rattle.pg_turns.specs.Frames.{Before, after_parts, Tried, after_tried, after_rounds, Chain, Linked, after_links, Frame, in_parts, in_choice, in_rounds, in_first, in_separator, in_operand, in_rule, in_around, in_expression}
 use Rattle.pg_turns.specs.Turns.{State, at_node, with_outcome}
+
+-- the levels of an expression, handed the first outcome, come to the second after so many nodes
+pub data LevelsGive (G : Given) (s : Setting) : List Level → Outcome → Outcome → ℕ → Type 0 where
+  no_level : {x : Outcome} → LevelsGive G s [] x x zero
+  first_gives : {r : Row} {ts : List Row} {a : Spot} {levels : List Level} {x y o : Outcome} {m n : ℕ} →
+      AfterRowOperand G s r ts (as_operand G.grammar G.text s r a x) y m → LevelsGive G s levels y o n →
+      LevelsGive G s (row_level r ts a none_precedes ∷ levels) x o (m + n)
+  right_gives : {r : Row} {ts : List Row} {a : Spot} {v : List Tree} {q : Read} {t : List TrailItem} {levels : List Level} {x y o : Outcome} {m n : ℕ} →
+      AfterRightOperand G s r ts (as_operand G.grammar G.text s r a x) y m →
+      LevelsGive G s levels (after_operator q t (as_applied s.builders.infix q.operator v y)) o n →
+      LevelsGive G s (row_level r ts a (right_precedes v q t) ∷ levels) x o (m + n)
+  left_gives : {r : Row} {ts : List Row} {a : Spot} {v : List Tree} {q : Read} {t : List TrailItem} {levels : List Level} {x y o : Outcome} {m n : ℕ} →
+      AfterLeftOperand G s r ts v q (as_operand G.grammar G.text s r a x) y m → LevelsGive G s levels (after_operator q t y) o n →
+      LevelsGive G s (row_level r ts a (left_precedes v q t) ∷ levels) x o (m + n)
+  non_gives : {r : Row} {ts : List Row} {a : Spot} {v : List Tree} {q : Read} {t : List TrailItem} {levels : List Level} {x o : Outcome} {n : ℕ} →
+      LevelsGive G s levels (after_operator q t (with_last G.grammar G.text s r q v (as_operand G.grammar G.text s r a x))) o n →
+      LevelsGive G s (row_level r ts a (non_precedes v q t) ∷ levels) x o n
+  -- what is right of a right-associative operator has come to the first outcome
+  right_side_gives : {v : List Tree} {q : Read} {t : List TrailItem} {levels : List Level} {x o : Outcome} {n : ℕ} →
+      LevelsGive G s levels (after_operator q t (as_applied s.builders.infix q.operator v x)) o n →
+      LevelsGive G s (right_level v q t ∷ levels) x o n
 
 -- the frame, handed the first outcome, comes to the second after so many nodes
 pub data Gives (G : Given) : Frame → Outcome → Outcome → ℕ → Type 0 where
@@ -31,6 +56,8 @@ pub data Gives (G : Given) : Frame → Outcome → Outcome → ℕ → Type 0 wh
       Gives G (in_operand chain linked a c v t e) x (noted (Rounds (linked.count + k)) (after_links chain linked o)) n
   gives_rule : {x : Outcome} → Gives G in_rule x x zero
   gives_around : {around : Around} {a : Spot} {x : Outcome} → Gives G (in_around around a) x (surrounded around G.text a x) zero
+  gives_expression : {s : Setting} {levels : List Level} {x o : Outcome} {n : ℕ} → LevelsGive G s levels (noted (Ops []) x) o n →
+      Gives G (in_expression s levels) x o n
 
 -- the frames, handed the first outcome, come to the second after so many nodes
 pub data Returns (G : Given) : List Frame → Outcome → Outcome → ℕ → Type 0 where

@@ -9,6 +9,8 @@ use Rattle.pg_language.specs.Derives.{Spot}
 use Rattle.pg_language.specs.Errors.{Error, merge}
 use Rattle.pg_language.specs.Outcomes.{Outcome, ok, failed, empty_round}
 use Rattle.pg_language.specs.Reactions.{error_after, then_rest, after_failure, unless_consumed, as_finished}
+use Rattle.pg_language.specs.RowReactions.{Setting}
+use Rattle.pg_turns.specs.Levels.{Level}
 
 -- ---- sequences
 
@@ -108,3 +110,5 @@ pub data Frame : Type 0 where
   in_rule : Frame
   -- the part of a form around it runs, from this spot
   in_around : (around : Around) (start : Spot) → Frame
+  -- the term of an expression runs, over these levels
+  in_expression : (s : Setting) (levels : List Level) → Frame

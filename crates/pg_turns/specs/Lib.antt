@@ -1,8 +1,12 @@
+pub mod Levels
 pub mod Frames
 pub mod Turns
 pub mod Finishes
+pub mod Spots
+pub mod Extends
+pub mod Listed
 pub mod Tape
 pub mod Ready
+pub mod ShowsLevels
 pub mod Shows
 pub mod View
-pub mod RunTrees

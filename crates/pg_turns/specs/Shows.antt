@@ -3,7 +3,6 @@
 -- the machine stands: the first operators of it, as many as a frame kept, are those of the frame's spot.
 use Rattle.std.specs.Prelude.{◌≡◌, ◌≤◌, ◌+◌, ◌-◌, ℕ, Bool, List, [], ◌∷◌, ◌++◌, true, false, length, take, Option, Some, None}
 use Rattle.pg_tree.specs.Trees.{Tree}
-use Rattle.pg_form.specs.Operators.{Operator}
 use Rattle.pg_form.specs.declared.form.Around.{Around}
 use Rattle.pg_form.specs.declared.side.Side.TheVariants.{Left, Right}
 use Rattle.pg_value.specs.declared.trail.TrailItem.{TrailItem}
@@ -11,25 +10,22 @@ use Rattle.pg_value.specs.declared.trail.TrailItem.TheVariants.{Alt}
 use Rattle.pg_table.specs.Tables.{Table}
 use Rattle.pg_language.specs.Errors.{Error}
 use Rattle.pg_language.specs.Outcomes.{ok, failed, empty_round}
-use Rattle.pg_turns.specs.Frames.{Before, none_before, before, Tried, none_tried, failed_tried, ok_tried, Chain, Linked, Frame, in_parts, in_choice, in_rounds, in_first, in_separator, in_operand, in_rule, in_around}
+use Rattle.pg_turns.specs.Frames.{Before, none_before, before, Tried, none_tried, failed_tried, ok_tried, Chain, Linked, Frame, in_parts, in_choice, in_rounds, in_first, in_separator, in_operand, in_rule, in_around, in_expression}
 use Rattle.pg_message_tape.specs.Messages.{TapeMessage}
-use Rattle.pg_turns.specs.Tape.{spot_at, OnTried, no_tried, tried_failure, tried_empty_ok, OnChain, OnLinks, OnFrame, on_parts, on_choice, on_rounds, on_first, on_separator, on_operand, on_rule, on_around, Tape, tape_at, tape_with, tape_endless, hides}
-use Rattle.pg_turns.specs.RunTrees.{RunTrees}
+use Rattle.pg_turns.specs.Tape.{OnTried, no_tried, tried_failure, tried_empty_ok, OnChain, OnLinks, OnFrame, on_parts, on_choice, on_rounds, on_first, on_separator, on_operand, on_rule, on_around, on_expression, Tape, tape_at, tape_with, tape_endless, hides}
+use Rattle.pg_language.specs.Answers.{Given}
+use Rattle.pg_turns.specs.Extends.{Extends}
+use Rattle.pg_turns.specs.Spots.{spot_at}
+use Rattle.pg_lists.specs.TapeLevels.{OnLevel, OnSetting}
+use Rattle.pg_turns.specs.Levels.{Level}
+use Rattle.pg_turns.specs.ShowsLevels.{ShowsLevels, opened}
+use Rattle.pg_lists.specs.RunTrees.{RunTrees}
 use Rattle.pg_turns.specs.Turns.{State, at_node, with_outcome, endless}
 use Rattle.pg_message_tape.specs.TapeErrors.{Says, Holds}
 use Rattle.pg_turns.specs.declared.frame.Before as declared
 use Rattle.pg_turns.specs.declared.frame.Reply.TheVariants.{Succeeded, Failed, EmptyRound}
 use Rattle.pg_message_tape.specs.declared.message_tape.KeptError.{KeptError}
 use Rattle.pg_message_tape.specs.declared.message_tape.TapeError.{TapeError}
-
--- the table with these operators more, at the end
-abbrev pub with_operators : Table → List Operator → Table
-with_operators T ds = record { operators = T.operators ++ ds; reserved = T.reserved; most = T.most }
-
--- from the first table to the second by what consumed or not: operators came at the end, and none where nothing was consumed
-pub data Extends : Bool → Table → Table → Type 0 where
-  same_table : {c : Bool} {T : Table} → Extends c T T
-  more_operators : {T : Table} (ds : List Operator) → Extends true T (with_operators T ds)
 
 -- a chain as the definitions have it
 abbrev pub plain : OnChain → Chain
@@ -58,6 +54,7 @@ thrown_from (on_first chain slot n ∷ gs) = thrown_from gs
 thrown_from (on_separator l ∷ gs) = thrown_from gs
 thrown_from (on_operand l b n ∷ gs) = thrown_from gs
 thrown_from (on_rule ∷ gs) = thrown_from gs
+thrown_from (on_expression e levels ∷ gs) = thrown_from gs
 thrown_from (on_around around i n o ∷ gs) = lower (thrown_from gs) (hides around) n
 
 abbrev pub one_if : Bool → ℕ
@@ -74,6 +71,7 @@ hiding_in (on_first chain slot n ∷ gs) = hiding_in gs
 hiding_in (on_separator l ∷ gs) = hiding_in gs
 hiding_in (on_operand l b n ∷ gs) = hiding_in gs
 hiding_in (on_rule ∷ gs) = hiding_in gs
+hiding_in (on_expression e levels ∷ gs) = hiding_in gs
 hiding_in (on_around around i n o ∷ gs) = hiding_in gs + one_if (hides around)
 
 -- these trees, all kept, or only those before the ones that will be thrown away
@@ -131,53 +129,57 @@ pub data ShowsLinks : List Tree → List TrailItem → List TapeMessage → Tabl
       (y ++ w) (t ++ item ∷ u) z U
 
 -- the frames of the one, over these lists and under this table, are those of the other with what they own
-pub data Stands : List Frame → List OnFrame → List Tree → List TrailItem → List TapeMessage → Table → Type 0 where
-  no_frames : {T : Table} → Stands [] [] [] [] [] T
+pub data Stands (G : Given) : List Frame → List OnFrame → List Tree → List TrailItem → List TapeMessage → Table → Type 0 where
+  no_frames : {T : Table} → Stands G [] [] [] [] [] T
   stands_parts : {fs : List Frame} {gs : List OnFrame} {v w : List Tree} {t u : List TrailItem} {x y : List TapeMessage} {T U : Table}
       {ps : List ℕ} {done : Before} {b : Option declared.Before} →
-      Stands fs gs v t x T → ShowsBefore x T done w u b y U →
-      Stands (in_parts ps done ∷ fs) (on_parts ps b ∷ gs) (v ++ w) (t ++ u) y U
+      Stands G fs gs v t x T → ShowsBefore x T done w u b y U →
+      Stands G (in_parts ps done ∷ fs) (on_parts ps b ∷ gs) (v ++ w) (t ++ u) y U
   stands_choice : {fs : List Frame} {gs : List OnFrame} {v : List Tree} {t : List TrailItem} {x y : List TapeMessage} {T : Table}
       {ps : List ℕ} {k i : ℕ} {tried : Tried} {q : OnTried} →
-      Stands fs gs v t x T → ShowsTried (thrown_from gs) T x tried q y →
-      Stands (in_choice k ps (spot_at T i) tried ∷ fs) (on_choice k ps i q (length v) (length t) (length T.operators) ∷ gs) v
+      Stands G fs gs v t x T → ShowsTried (thrown_from gs) T x tried q y →
+      Stands G (in_choice k ps (spot_at T i) tried ∷ fs) (on_choice k ps i q (length v) (length t) (length T.operators) ∷ gs) v
       (t ++ Alt k ∷ []) y T
   stands_rounds : {fs : List Frame} {gs : List OnFrame} {v w : List Tree} {t u : List TrailItem} {x : List TapeMessage} {T U : Table}
       {p k i : ℕ} {c : Bool} (item : TrailItem) →
-      Stands fs gs v t x T → Extends c T U →
-      Stands (in_rounds p k c (spot_at U i) w u ∷ fs) (on_rounds p k c i (length t) (length (v ++ w)) (length (t ++ item ∷ u))
+      Stands G fs gs v t x T → Extends c T U →
+      Stands G (in_rounds p k c (spot_at U i) w u ∷ fs) (on_rounds p k c i (length t) (length (v ++ w)) (length (t ++ item ∷ u))
       (length U.operators) (length x) ∷ gs) (v ++ w) (t ++ item ∷ u) x U
   stands_first : {fs : List Frame} {gs : List OnFrame} {v : List Tree} {t : List TrailItem} {x : List TapeMessage} {T : Table}
       {ch : OnChain} (item : TrailItem) →
-      Stands fs gs v t x T → Stands (in_first (plain ch) ∷ fs) (on_first ch (length t) (length v) ∷ gs) v (t ++ item ∷ []) x T
+      Stands G fs gs v t x T → Stands G (in_first (plain ch) ∷ fs) (on_first ch (length t) (length v) ∷ gs) v (t ++ item ∷ []) x T
   stands_separator : {fs : List Frame} {gs : List OnFrame} {v w : List Tree} {t u : List TrailItem} {x y : List TapeMessage} {T U : Table}
       {linked : Linked} {i : ℕ} {l : OnLinks} →
-      Stands fs gs v t x T → ShowsLinks v t x T linked i l w u y U →
-      Stands (in_separator (plain l.chain) linked (spot_at U i) ∷ fs) (on_separator l ∷ gs) w u y U
+      Stands G fs gs v t x T → ShowsLinks v t x T linked i l w u y U →
+      Stands G (in_separator (plain l.chain) linked (spot_at U i) ∷ fs) (on_separator l ∷ gs) w u y U
   stands_operand : {fs : List Frame} {gs : List OnFrame} {v w s : List Tree} {t u r : List TrailItem} {x y z : List TapeMessage}
       {T U W : Table} {linked : Linked} {i : ℕ} {l : OnLinks} {c : Bool} {kept : KeptError} {e : Error} →
-      Stands fs gs v t x T → ShowsLinks v t x T linked i l w u y U → Holds y kept e z → Extends c U W →
-      Stands (in_operand (plain l.chain) linked (spot_at U i) c s r e ∷ fs) (on_operand l (record { consumed = c; kept = kept })
+      Stands G fs gs v t x T → ShowsLinks v t x T linked i l w u y U → Holds y kept e z → Extends c U W →
+      Stands G (in_operand (plain l.chain) linked (spot_at U i) c s r e ∷ fs) (on_operand l (record { consumed = c; kept = kept })
       (length (w ++ s)) ∷ gs) (w ++ s) (u ++ r) z W
   stands_rule : {fs : List Frame} {gs : List OnFrame} {v : List Tree} {t : List TrailItem} {x : List TapeMessage} {T : Table} →
-      Stands fs gs v t x T → Stands (in_rule ∷ fs) (on_rule ∷ gs) v t x T
+      Stands G fs gs v t x T → Stands G (in_rule ∷ fs) (on_rule ∷ gs) v t x T
+  stands_expression : {fs : List Frame} {gs : List OnFrame} {v w : List Tree} {t u : List TrailItem} {x y : List TapeMessage} {T U : Table}
+      {e : OnSetting} {ls : List Level} {ms : List OnLevel} →
+      Stands G fs gs v t x T → e.slot ≡ length t → ShowsLevels G e v x T ls ms w u y U →
+      Stands G (in_expression e.parts ls ∷ fs) (on_expression e ms ∷ gs) (v ++ w) (t ++ opened u) y U
   stands_around : {fs : List Frame} {gs : List OnFrame} {v : List Tree} {t : List TrailItem} {x : List TapeMessage} {T : Table}
       {around : Around} {i : ℕ} →
-      Stands fs gs v t x T → Stands (in_around around (spot_at T i) ∷ fs) (on_around around i (length v) (length T.operators) ∷ gs) v t x T
+      Stands G fs gs v t x T → Stands G (in_around around (spot_at T i) ∷ fs) (on_around around i (length v) (length T.operators) ∷ gs) v t x T
 
 -- the state of the one is the tape of the other: an ok outcome's trees, items, messages and operators stand last, after a
 -- failed one others may, and what lies there after an empty round doesn't matter
-pub data Shows : State → Tape → Type 0 where
+pub data Shows (G : Given) : State → Tape → Type 0 where
   shows_at : {fs : List Frame} {gs : List OnFrame} {v : List Tree} {f : RunTrees} {t : List TrailItem} {x : List TapeMessage} {T : Table} {p i : ℕ} →
-      Stands fs gs v t x T → Means gs f v → Shows (at_node p (spot_at T i) fs) (tape_at p i gs f t x T)
+      Stands G fs gs v t x T → Means gs f v → Shows G (at_node p (spot_at T i) fs) (tape_at p i gs f t x T)
   shows_succeeded : {fs : List Frame} {gs : List OnFrame} {v w : List Tree} {f : RunTrees} {t u : List TrailItem} {x y : List TapeMessage}
       {T U : Table} {c : Bool} {j : ℕ} {error : TapeError} {e : Error} →
-      Stands fs gs v t x T → Means gs f (v ++ w) → Says x error e y → Extends c T U →
-      Shows (with_outcome (ok c (spot_at U j) w u e) fs) (tape_with (Succeeded c j error) gs f (t ++ u) y U)
+      Stands G fs gs v t x T → Means gs f (v ++ w) → Says x error e y → Extends c T U →
+      Shows G (with_outcome (ok c (spot_at U j) w u e) fs) (tape_with (Succeeded c j error) gs f (t ++ u) y U)
   shows_failed : {fs : List Frame} {gs : List OnFrame} {v : List Tree} {f : RunTrees} {t : List TrailItem} {x y : List TapeMessage} {T U : Table}
       {c : Bool} {error : TapeError} {e : Error} (w : List Tree) (u : List TrailItem) →
-      Stands fs gs v t x T → Means gs f (v ++ w) → Says x error e y → Extends true T U →
-      Shows (with_outcome (failed c e) fs) (tape_with (Failed c error) gs f (t ++ u) y U)
+      Stands G fs gs v t x T → Means gs f (v ++ w) → Says x error e y → Extends true T U →
+      Shows G (with_outcome (failed c e) fs) (tape_with (Failed c error) gs f (t ++ u) y U)
   shows_stuck : {fs : List Frame} {gs : List OnFrame} {f : RunTrees} {t : List TrailItem} {x : List TapeMessage} {T : Table} →
-      length fs ≡ length gs → Shows (with_outcome empty_round fs) (tape_with EmptyRound gs f t x T)
-  shows_endless : Shows endless tape_endless
+      length fs ≡ length gs → Shows G (with_outcome empty_round fs) (tape_with EmptyRound gs f t x T)
+  shows_endless : Shows G endless tape_endless

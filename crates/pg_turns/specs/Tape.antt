@@ -1,11 +1,8 @@
 -- The machine over one forest, one trail, one list of messages and one table: frames keep how long these lists, and that of the
 -- table's operators, were.
-use Rattle.std.specs.Prelude.{ℕ, suc, zero, ◌==◌, List, [], ◌∷◌, ◌++◌, length, take, drop, map, Option, Some, None, Bool, true, false, ◌||◌, slice_get, slice_set, if◌then◌else◌}
+use Rattle.std.specs.Prelude.{ℕ, suc, zero, ◌==◌, List, [], ◌∷◌, ◌++◌, length, take, drop, Option, Some, None, Bool, true, false, ◌||◌, slice_get, slice_set, if◌then◌else◌}
 use Rattle.pg_tree.specs.Trees.{Tree}
 use Rattle.pg_tree.specs.declared.shape.Shape.{Shape}
-use Rattle.pg_message.specs.Messages.{Text, Messages}
-use Rattle.pg_message.specs.declared.kind.MessageKind.{MessageKind}
-use Rattle.pg_message.specs.declared.kind.MessageKind.TheVariants.{SystemUnexpected, Unexpected, Expected, Plain}
 use Rattle.pg_form.specs.Forms.{Node}
 use Rattle.pg_form.specs.declared.form.Form.TheVariants as form
 use Rattle.pg_form.specs.declared.form.Around.{Around}
@@ -14,9 +11,12 @@ use Rattle.pg_form.specs.declared.side.Side.{Side}
 use Rattle.pg_form.specs.declared.side.Side.TheVariants.{Left, Right}
 use Rattle.pg_value.specs.declared.grammar.Rule as declared
 use Rattle.pg_value.specs.declared.trail.TrailItem.{TrailItem}
-use Rattle.pg_value.specs.declared.trail.TrailItem.TheVariants.{Alt, Rounds}
+use Rattle.pg_value.specs.declared.trail.TrailItem.TheVariants.{Alt, Rounds, Ops}
+use Rattle.pg_form.specs.declared.operators_item.OperatorsItem.{OperatorsItem}
 use Rattle.pg_form.specs.declared.used.BuilderUse.{BuilderUse}
-use Rattle.pg_language.specs.Derives.{Spot, leaf_of, span}
+use Rattle.pg_form.specs.declared.used.OperatorBuilders.{OperatorBuilders}
+use Rattle.pg_table.specs.Rows.{rows}
+use Rattle.pg_language.specs.Derives.{leaf_of, span}
 use Rattle.pg_table.specs.Tables.{Table, first_operators}
 use Rattle.pg_language.specs.Answers.{Given}
 use Rattle.pg_language.specs.Leaves.{leaf_outcome}
@@ -27,17 +27,16 @@ use Rattle.pg_language.specs.declared.reading.Reading.{Reading}
 use Rattle.pg_language.specs.declared.reading.Reading.TheVariants.{Library, Report}
 use Rattle.pg_message_tape.specs.Messages.{TapeMessage, relabelled}
 use Rattle.pg_message_tape.specs.TapeErrors.{tape_error, kept_at, merged_tape_error, merged_messages, tape_error_after, messages_after}
-use Rattle.pg_turns.specs.RunTrees.{tree_count, rejoined, with_trees, first_trees, hidden_after, built_after, with_hiding, without_hiding}
-use Rattle.pg_turns.specs.RunTrees.{RunTrees}
+use Rattle.pg_turns.specs.Listed.{listed}
+use Rattle.pg_turns.specs.Spots.{spot_at}
+use Rattle.pg_lists.specs.TapeLevels.{OnLevel, OnSetting, Down, down, OnClimbed, on_ended, on_again, on_climb, OnFailure, on_failed}
+use Rattle.pg_lists.specs.RunTrees.{tree_count, rejoined, with_trees, first_trees, hidden_after, built_after, with_hiding, without_hiding}
+use Rattle.pg_lists.specs.RunTrees.{RunTrees}
 use Rattle.pg_turns.specs.declared.frame.Before.{Before}
 use Rattle.pg_turns.specs.declared.frame.Reply.{Reply}
 use Rattle.pg_turns.specs.declared.frame.Reply.TheVariants.{Succeeded, Failed, EmptyRound}
 use Rattle.pg_message_tape.specs.declared.message_tape.KeptError.{KeptError}
 use Rattle.pg_message_tape.specs.declared.message_tape.TapeError.{TapeError}
-
--- the place, under a table
-abbrev pub spot_at : Table → ℕ → Spot
-spot_at table place = record { place = place; table = table }
 
 -- ---- frames, as the code has them
 
@@ -83,6 +82,7 @@ pub data OnFrame : Type 0 where
   on_rule : OnFrame
   -- with how long the forest was, and how many operators there were
   on_around : (around : Around) (start forest operators : ℕ) → OnFrame
+  on_expression : OnSetting → List OnLevel → OnFrame
 
 -- the topmost frame first, the forest, the trail, the messages, and the table in force
 pub data Tape : Type 0 where
@@ -91,14 +91,6 @@ pub data Tape : Type 0 where
   tape_endless : Tape
 
 -- ---- leaves
-
-abbrev pub listed_kind : MessageKind → List Text → List TapeMessage
-listed_kind kind texts = map (λ (text : Text). let said : TapeMessage = record { kind = kind; text = text } in said) texts
-
--- messages one after another
-abbrev pub listed : Messages → List TapeMessage
-listed m = listed_kind SystemUnexpected m.system_unexpected ++ (listed_kind Unexpected m.unexpected ++ (listed_kind Expected m.expected
-    ++ listed_kind Plain m.plain))
 
 -- what a leaf came to is put on the lists
 abbrev pub tape_leaf : Outcome → List OnFrame → RunTrees → List TrailItem → List TapeMessage → Table → Tape
@@ -396,6 +388,26 @@ tape_to_around text around i n o reply fs v t x T =
     tape_with (reply_around around reply) fs (forest_around around text i n reply v) t (messages_around around reply x)
     (table_around around o reply T)
 
+-- ---- expressions
+
+-- the term runs, over these levels
+abbrev pub tape_down : Given → OnSetting → Down → List OnFrame → Table → Tape
+tape_down G e d fs T = tape_at e.parts.term d.place (on_expression e d.levels ∷ fs) d.lists.v d.lists.t d.lists.x T
+
+abbrev pub tape_climbed : Given → OnSetting → OnClimbed → List OnFrame → Table → Tape
+tape_climbed G e (on_ended z) fs T = tape_with (Succeeded z.consumed z.place z.error) fs z.lists.v z.lists.t z.lists.x T
+tape_climbed G e (on_again d) fs T = tape_down G e d fs T
+
+abbrev pub tape_failed : OnFailure → List OnFrame → RunTrees → List TrailItem → Table → Tape
+tape_failed f fs v t T = tape_with (Failed f.consumed f.error) fs v t f.messages T
+
+abbrev pub tape_to_expression : Given → OnSetting → List OnLevel → Reply → List OnFrame → RunTrees → List TrailItem → List TapeMessage → Table → Tape
+tape_to_expression G e levels (Succeeded c j error) fs v t x T =
+    tape_climbed G e (on_climb G e levels (record { consumed = c; place = j; error = error; lists = record { v = v; t = t; x = x } })) fs T
+tape_to_expression G e levels (Failed c error) fs v t x T =
+    tape_failed (on_failed levels (record { consumed = c; error = error; messages = x })) fs v t T
+tape_to_expression G e levels EmptyRound fs v t x T = tape_with EmptyRound fs v t x T
+
 -- ---- turns
 
 abbrev pub tape_hand : Given → OnFrame → Reply → List OnFrame → RunTrees → List TrailItem → List TapeMessage → Table → Tape
@@ -407,6 +419,7 @@ tape_hand G (on_separator links) reply fs v t x T = tape_to_separator links repl
 tape_hand G (on_operand links before n) reply fs v t x T = tape_to_operand links before n reply fs v t x T
 tape_hand G on_rule reply fs v t x T = tape_with reply fs v t x T
 tape_hand G (on_around around i n o) reply fs v t x T = tape_to_around G.text around i n o reply fs v t x T
+tape_hand G (on_expression e levels) reply fs v t x T = tape_to_expression G e levels reply fs v t x T
 
 abbrev pub tape_seq : List ℕ → ℕ → List OnFrame → RunTrees → List TrailItem → List TapeMessage → Table → Tape
 tape_seq [] i fs v t x T = tape_with (Succeeded false i (tape_error i (length x))) fs v t x T
@@ -431,7 +444,13 @@ abbrev pub tape_told : Option Outcome → List OnFrame → RunTrees → List Tra
 tape_told None fs v t x T = tape_endless
 tape_told (Some o) fs v t x T = tape_leaf o fs v t x T
 
--- the table matters to no form that is run yet
+-- the rows of the table in force begin, from the loosest on, and then the term, with an item whose operators aren't known yet
+abbrev pub tape_expression : Given → OperatorBuilders → ℕ → ℕ → List OnFrame → RunTrees → List TrailItem → List TapeMessage → Table → Option OperatorsItem → Tape
+tape_expression G builders p i fs v t x T None = tape_endless
+tape_expression G builders p i fs v t x T (Some item) =
+    let e : OnSetting = record { parts = record { item = item; builders = builders; term = p }; operators = T.operators; slot = length t } in
+    tape_down G e (down G e (length (rows T.operators)) i [] (record { v = v; t = t ++ Ops [] ∷ []; x = x })) fs T
+
 abbrev pub tape_enter : Given → Node → ℕ → List OnFrame → RunTrees → List TrailItem → List TapeMessage → Table → Tape
 tape_enter G (form.Leaf l) i fs v t x T = tape_told (leaf_outcome G.grammar G.text l (spot_at T i)) fs v t x T
 tape_enter G (form.Seq ps) i fs v t x T = tape_seq ps i fs v t x T
@@ -439,7 +458,7 @@ tape_enter G (form.Choice ps) i fs v t x T = tape_next_alternative 1 ps i no_tri
 tape_enter G (form.Many p) i fs v t x T = tape_many p i fs v t x T
 tape_enter G (form.Chain side used p s) i fs v t x T = tape_chain (record { side = side; used = used; operand = p; separator = s }) i fs v t x T
 tape_enter G (form.Rule r) i fs v t x T = tape_rule (slice_get G.grammar.rules r) i fs v t x T
-tape_enter G (form.Expression builders p) i fs v t x T = tape_endless
+tape_enter G (form.Expression builders p) i fs v t x T = tape_expression G builders p i fs v t x T G.grammar.operators
 tape_enter G (form.Around around p) i fs v t x T = tape_at p i (on_around around i (tree_count v) (length T.operators) ∷ fs) (forest_in around v) t x T
 
 abbrev pub tape_enter_at : Given → Option Node → ℕ → List OnFrame → RunTrees → List TrailItem → List TapeMessage → Table → Tape

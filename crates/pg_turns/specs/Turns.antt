@@ -1,20 +1,27 @@
 -- The machine on plain values: one turn enters a node, or hands an outcome to the topmost frame.
-use Rattle.std.specs.Prelude.{ℕ, zero, suc, List, [], ◌∷◌, ◌++◌, Bool, true, false, ◌||◌, Option, Some, None, slice_get}
+use Rattle.std.specs.Prelude.{ℕ, zero, suc, List, [], ◌∷◌, ◌++◌, reverse, Bool, true, false, ◌||◌, Option, Some, None, slice_get}
 use Rattle.pg_tree.specs.Trees.{Tree}
 use Rattle.pg_form.specs.Forms.{Node}
 use Rattle.pg_form.specs.declared.form.Form.TheVariants as form
+use Rattle.pg_form.specs.declared.operators_item.OperatorsItem.{OperatorsItem}
+use Rattle.pg_form.specs.declared.used.OperatorBuilders.{OperatorBuilders}
 use Rattle.pg_value.specs.declared.grammar.Rule as declared
 use Rattle.pg_value.specs.declared.trail.TrailItem.{TrailItem}
-use Rattle.pg_value.specs.declared.trail.TrailItem.TheVariants.{Alt, Rounds}
+use Rattle.pg_value.specs.declared.trail.TrailItem.TheVariants.{Alt, Rounds, Ops}
 use Rattle.pg_language.specs.Derives.{Spot, carried}
 use Rattle.pg_language.specs.Answers.{Given}
 use Rattle.pg_language.specs.Errors.{Error, no_messages_at}
 use Rattle.pg_language.specs.Leaves.{leaf_outcome}
+use Rattle.pg_expand.specs.declared.rows.Row.{Row}
+use Rattle.pg_expand.specs.Rows.{rows_of}
+use Rattle.pg_language.specs.OperatorReads.{read_at}
 use Rattle.pg_language.specs.Outcomes.{Outcome, ok, failed, empty_round}
 use Rattle.pg_language.specs.Reactions.{noted, error_after, unless_begun, surrounded}
 use Rattle.pg_language.specs.declared.reading.Reading.{Reading}
 use Rattle.pg_language.specs.declared.reading.Reading.TheVariants.{Library, Report}
-use Rattle.pg_turns.specs.Frames.{Before, none_before, after_parts, with_part, Tried, none_tried, after_tried, with_failure, with_empty_ok, Chain, Linked, after_links, Frame, in_parts, in_choice, in_rounds, in_first, in_separator, in_operand, in_rule, in_around}
+use Rattle.pg_language.specs.RowReactions.{Setting, past_prefix}
+use Rattle.pg_turns.specs.Levels.{Preceding, none_precedes, Level, row_level, Followed, hands_on, operand_runs, follows}
+use Rattle.pg_turns.specs.Frames.{Before, none_before, after_parts, with_part, Tried, none_tried, after_tried, with_failure, with_empty_ok, Chain, Linked, after_links, Frame, in_parts, in_choice, in_rounds, in_first, in_separator, in_operand, in_rule, in_around, in_expression}
 
 -- a node is to be entered, or an outcome to be handed to the topmost frame, or there is no outcome: a chain goes on without
 -- an end, or the node has no form that is run
@@ -38,6 +45,37 @@ abbrev pub enter_rule : Option declared.Rule → Spot → List Frame → State
 enter_rule None a fs = endless
 enter_rule (Some named) a fs = at_node named.body a (in_rule ∷ fs)
 
+-- ---- expressions
+
+-- the rows, the loosest first, run from the spot, over these levels: each reads a prefix, if one stands there
+abbrev pub descend : Given → Setting → List Row → Spot → List Level → List Frame → State
+descend G s [] a levels fs = at_node s.term a (in_expression s levels ∷ fs)
+descend G s (r ∷ ts) a levels fs =
+    descend G s ts (past_prefix a (read_at G.grammar G.text s.item r.prefix a.place)) (row_level r ts a none_precedes ∷ levels) fs
+
+-- an operand of a row runs from the spot, after what the row came to before it
+abbrev pub row_operand_at : Given → Setting → Row → List Row → Spot → Preceding → List Level → List Frame → State
+row_operand_at G s r ts a before levels fs =
+    descend G s ts (past_prefix a (read_at G.grammar G.text s.item r.prefix a.place)) (row_level r ts a before ∷ levels) fs
+
+-- the rows of the table in force run over the term
+abbrev pub enter_expression : Given → OperatorBuilders → ℕ → Spot → List Frame → Option OperatorsItem → State
+enter_expression G builders p a fs None = endless
+enter_expression G builders p a fs (Some item) =
+    descend G (record { item = item; builders = builders; term = p }) (reverse (rows_of a.table.operators)) a [] fs
+
+-- what is done next where a level comes to this
+abbrev pub followed : Given → Setting → (Outcome → State) → List Level → List Frame → Followed → State
+followed G s next levels fs (hands_on y) = next y
+followed G s next levels fs (operand_runs r ts a before between) = row_operand_at G s r ts a before (between ++ levels) fs
+
+-- the levels are handed an outcome, one after the other
+abbrev pub climb : Given → Setting → List Level → Outcome → List Frame → State
+climb G s [] x fs = with_outcome x fs
+climb G s (l ∷ levels) x fs = followed G s (λ y. climb G s levels y fs) levels fs (follows G s l x)
+
+-- ---- forms
+
 abbrev pub enter_form : Given → Node → Spot → List Frame → State
 enter_form G (form.Leaf l) a fs = told (leaf_outcome G.grammar G.text l a) fs
 enter_form G (form.Seq []) a fs = with_outcome (ok false a [] [] (no_messages_at a.place)) fs
@@ -51,7 +89,7 @@ enter_form G (form.Chain side used p s) a fs = at_node p a (in_first (record {
   separator = s;
 }) ∷ fs)
 enter_form G (form.Rule r) a fs = enter_rule (slice_get G.grammar.rules r) a fs
-enter_form G (form.Expression builders p) a fs = endless
+enter_form G (form.Expression builders p) a fs = enter_expression G builders p a fs G.grammar.operators
 enter_form G (form.Around around p) a fs = at_node p a (in_around around a ∷ fs)
 
 abbrev pub enter_node : Given → Option Node → Spot → List Frame → State
@@ -134,6 +172,7 @@ hand G (in_separator chain linked a) o fs = hand_to_separator chain linked a o f
 hand G (in_operand chain linked a c v t e) o fs = hand_to_operand chain linked a c v t e o fs
 hand G in_rule o fs = with_outcome o fs
 hand G (in_around around a) o fs = with_outcome (surrounded around G.text a o) fs
+hand G (in_expression s levels) o fs = climb G s levels (noted (Ops []) o) fs
 
 -- ---- one turn
 

@@ -3,7 +3,7 @@ use Rattle.std.specs.Prelude.{List, [], ◌∷◌, reverse}
 use Rattle.pg_value.specs.declared.trail.TrailItem.{TrailItem}
 use Rattle.pg_table.specs.Tables.{Table}
 use Rattle.pg_message_tape.specs.Messages.{TapeMessage}
-use Rattle.pg_turns.specs.Tape.{OnTried, no_tried, tried_failure, tried_empty_ok, OnChain, OnLinks, OnFrame, on_parts, on_choice, on_rounds, on_first, on_separator, on_operand, on_rule, on_around, Tape, tape_at, tape_with, tape_endless}
+use Rattle.pg_turns.specs.Tape.{OnTried, no_tried, tried_failure, tried_empty_ok, OnChain, OnLinks, OnFrame, on_parts, on_choice, on_rounds, on_first, on_separator, on_operand, on_rule, on_around, on_expression, Tape, tape_at, tape_with, tape_endless}
 use Rattle.pg_turns.specs.declared.frame.ChainFrame.{ChainFrame}
 use Rattle.pg_turns.specs.declared.frame.LinksFrame.{LinksFrame}
 use Rattle.pg_turns.specs.declared.frame.Tried.{Tried}
@@ -13,7 +13,8 @@ use Rattle.pg_turns.specs.declared.frame.Frame.TheVariants as frame
 use Rattle.pg_turns.specs.declared.frame.Mode.{Mode}
 use Rattle.pg_turns.specs.declared.frame.Mode.TheVariants as mode
 use Rattle.pg_turns.specs.declared.machine.Machine.{Machine}
-use Rattle.pg_turns.specs.RunTrees.{RunTrees}
+use Rattle.pg_lists.specs.RunTrees.{RunTrees}
+use Rattle.pg_lists.specs.ViewLevels.{setting_of, levels_of}
 
 abbrev pub tried_of : Tried → OnTried
 tried_of tried.Nothing = no_tried
@@ -48,6 +49,7 @@ frame_of (frame.Separator l) = on_separator (links_of l.value)
 frame_of (frame.Operand l before trees) = on_operand (links_of l.value) before trees
 frame_of frame.Rule = on_rule
 frame_of (frame.Around around start forest operators) = on_around around.now start forest operators
+frame_of (frame.Expression f) = on_expression (setting_of f.value.setting) (levels_of f.value.levels.items)
 
 -- the topmost frame stands last in the machine
 abbrev pub stack_on : List OnFrame → List Frame → List OnFrame
@@ -58,10 +60,10 @@ abbrev pub stack_of : List Frame → List OnFrame
 stack_of fs = stack_on [] fs
 
 abbrev pub tape_of : Mode → Machine → Tape
-tape_of (mode.At node place) m = tape_at node place (stack_of m.frames.items) m.forest m.trail.items m.messages m.table
-tape_of (mode.With reply) m = tape_with reply (stack_of m.frames.items) m.forest m.trail.items m.messages m.table
+tape_of (mode.At node place) m = tape_at node place (stack_of m.frames.items) m.lists.forest m.lists.trail.items m.lists.messages m.table
+tape_of (mode.With reply) m = tape_with reply (stack_of m.frames.items) m.lists.forest m.lists.trail.items m.lists.messages m.table
 tape_of mode.Endless m = tape_endless
 
 -- the tape of a turn that goes by the machine's lists and table
 abbrev pub on_lists : (List OnFrame → RunTrees → List TrailItem → List TapeMessage → Table → Tape) → Machine → Tape
-on_lists made m = made (stack_of m.frames.items) m.forest m.trail.items m.messages m.table
+on_lists made m = made (stack_of m.frames.items) m.lists.forest m.lists.trail.items m.lists.messages m.table

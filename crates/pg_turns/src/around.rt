@@ -5,15 +5,14 @@ ghost use Rattle.pg_language.specs.Derives.{leaf_of, span};
 ghost use Rattle.pg_language.specs.Reactions.{counted_by};
 ghost use Rattle.pg_pred.specs.Offer.{offer_of};
 ghost use Rattle.pg_turns.specs.Ready.{AroundFits};
-ghost use Rattle.pg_turns.specs.RunTrees.{first_trees, with_trees, without_hiding};
+ghost use Rattle.pg_lists.specs.RunTrees.{first_trees, with_trees, without_hiding};
 ghost use Rattle.pg_turns.specs.Tape.{forest_around, forest_in, forest_left, forest_made, labelled_messages, left_table, messages_around, reply_around, table_around, tape_to_around};
 ghost use Rattle.pg_turns.specs.View.{on_lists, tape_of};
 
-use crate::chains::build_after;
 use crate::frame::{Mode, Reply};
 use crate::machine::Machine;
-use crate::run_forest::RunForest;
 use pg_form::Around;
+use pg_lists::{RunForest, build_after};
 use pg_message_tape::MessageTape;
 use pg_pred::Registry;
 use pg_table::Table;
@@ -46,9 +45,9 @@ impl<'a> Machine<'a> {
             start,
             count,
             reply,
-            &mut self.forest,
+            &mut self.lists.forest,
         )?;
-        say(&mut self.messages, around, reply)?;
+        say(&mut self.lists.messages, around, reply)?;
         leave(&mut self.table, around, operators, reply);
         Ok(Mode::With(answer(around, reply)))
     }

@@ -7,18 +7,16 @@
 ghost use Rattle.std.specs.Prelude.{◌≡◌, ◌<◌, ◌+◌, ◌-◌, ◌^◌, true, [], length, take, reverse, IfOk, OnOk, Some};
 ghost use Rattle.pg_pred.specs.Offer.{offer_of, builder_shape};
 ghost use Rattle.pg_turns.specs.Tape.{tape_to_first, tape_to_separator, tape_to_operand, tape_ended, tape_linked, all_built, link_forest, link_waiting, link_left, end_tape_error, end_messages, more_links};
-ghost use Rattle.pg_tree.specs.Built.{built};
-ghost use Rattle.pg_turns.specs.RunTrees.{built_after};
+ghost use Rattle.pg_lists.specs.RunTrees.{built_after};
 ghost use Rattle.pg_turns.specs.View.{chain_of, links_of, on_lists, stack_of, tape_of};
 ghost use Rattle.pg_message_tape.specs.TapeErrors.{tape_error, kept_at, merged_tape_error};
 
 use crate::frame::{Before, ChainFrame, Frame, LinksFrame, Marks, Mode, Reply};
 use crate::machine::Machine;
-use crate::run_forest::RunForest;
 use pg_form::{BuilderUse, Side};
+use pg_lists::{RunForest, made};
 use pg_message_tape::{KeptError, TapeError};
 use pg_pred::Registry;
-use pg_tree::{Forest, Tree};
 use pg_value::TrailItem;
 use std::alloc::{AllocError, Global};
 
@@ -40,7 +38,7 @@ impl<'a> Machine<'a> {
                 end,
                 error,
             } => {
-                let kept = self.messages.kept(error);
+                let kept = self.lists.messages.kept(error);
                 let marks = self.marks()?;
                 let ChainFrame {
                     side,
@@ -72,7 +70,7 @@ impl<'a> Machine<'a> {
                 Ok(Mode::At(separator, end))
             }
             Reply::Failed { consumed, error } => {
-                self.forest.close(chain.forest)?;
+                self.lists.forest.close(chain.forest)?;
                 Ok(Mode::With(Reply::Failed { consumed, error }))
             }
             Reply::EmptyRound => Ok(Mode::With(Reply::EmptyRound)),
@@ -98,8 +96,8 @@ impl<'a> Machine<'a> {
                 end,
                 error,
             } => {
-                let kept = self.messages.kept(error);
-                let trees = self.forest.len();
+                let kept = self.lists.messages.kept(error);
+                let trees = self.lists.forest.len();
                 self.open_operand(alloc, links.chain.side)?;
                 let operand = links.chain.operand;
                 self.push(Frame::Operand(links, Before { consumed, kept }, trees))?;
@@ -135,7 +133,7 @@ impl<'a> Machine<'a> {
                 end,
                 error,
             } => {
-                let error = self.error_after(before.kept, consumed, error)?;
+                let error = self.lists.error_after(before.kept, consumed, error)?;
                 if before.consumed || consumed {
                     self.add_link(alloc, registry, links, trees, end, error)
                 } else {
@@ -143,7 +141,7 @@ impl<'a> Machine<'a> {
                 }
             }
             Reply::Failed { consumed, error } => {
-                let error = self.error_after(before.kept, consumed, error)?;
+                let error = self.lists.error_after(before.kept, consumed, error)?;
                 let consumed = before.consumed || consumed;
                 self.end_links(alloc, registry, links, consumed, error)
             }
@@ -154,14 +152,14 @@ impl<'a> Machine<'a> {
     /// From the right the trees of an operand are taken with what comes before them, but only after all that comes after.
     fn open_operand(&mut self, alloc: Global, side: Side) -> Result<(), AllocError>
         ensures frames { OnOk result (self.new.frames ≡ self.old.frames) }
-        ensures forest { OnOk result (self.new.forest ≡ self.old.forest) }
-        ensures trail { OnOk result (self.new.trail ≡ self.old.trail) }
-        ensures messages { OnOk result (self.new.messages ≡ self.old.messages) }
+        ensures forest { OnOk result (self.new.lists.forest ≡ self.old.lists.forest) }
+        ensures trail { OnOk result (self.new.lists.trail ≡ self.old.lists.trail) }
+        ensures messages { OnOk result (self.new.lists.messages ≡ self.old.lists.messages) }
         ensures table { OnOk result (self.new.table ≡ self.old.table) }
     {
         match side {
             Side::Left => Ok(()),
-            Side::Right => self.forest.open(alloc),
+            Side::Right => self.lists.forest.open(alloc),
         }
     }
 
@@ -179,13 +177,13 @@ impl<'a> Machine<'a> {
         requires room { links.value.count < 2 ^ 64 - 1 }
         requires offered { builder_shape (offer_of registry.now) links.value.chain.used.now.name ≡ Some links.value.chain.used.now.shape }
         ensures { IfOk result (λ mode. tape_of mode self.new ≡
-            tape_linked true (links_of links.entry.value) end trees (kept_at (length self.old.messages) error)
+            tape_linked true (links_of links.entry.value) end trees (kept_at (length self.old.lists.messages) error)
             (stack_of self.old.frames.items)
-            (link_forest links.entry.value.chain.side links.entry.value.chain.used.now.shape links.entry.value.left self.old.forest)
-            self.old.trail.items self.old.messages self.old.table) }
+            (link_forest links.entry.value.chain.side links.entry.value.chain.used.now.shape links.entry.value.left self.old.lists.forest)
+            self.old.lists.trail.items self.old.lists.messages self.old.table) }
     {
-        fold(alloc, registry, &mut links, trees, &mut self.forest)?;
-        let kept = self.messages.kept(error);
+        fold(alloc, registry, &mut links, trees, &mut self.lists.forest)?;
+        let kept = self.lists.messages.kept(error);
         count_link(&mut links, kept, end, self.marks()?);
         let separator = links.chain.separator;
         self.push(Frame::Separator(links))?;
@@ -225,18 +223,25 @@ impl<'a> Machine<'a> {
             on_lists (tape_ended (links_of links.old) consumed error) self.old) }
     {
         if consumed {
-            self.forest.close(links.chain.forest)?;
+            self.lists.forest.close(links.chain.forest)?;
             return Ok(Mode::With(Reply::Failed { consumed, error }));
         }
-        let failed = self.messages.kept(error);
-        let nothing = self.no_messages_at(links.start);
-        let error = self.messages.merge(failed, nothing)?;
-        let error = self.messages.merge(links.kept, error)?;
+        let failed = self.lists.messages.kept(error);
+        let nothing = self.lists.no_messages_at(links.start);
+        let error = self.lists.messages.merge(failed, nothing)?;
+        let error = self.lists.messages.merge(links.kept, error)?;
         self.cut(links.marks);
         let used = links.chain.used;
-        build_waiting(alloc, registry, used, &mut links.waiting, &mut self.forest)?;
-        self.forest.close(links.chain.forest)?;
-        self.note(links.chain.slot, TrailItem::Rounds(links.count));
+        build_waiting(
+            alloc,
+            registry,
+            used,
+            &mut links.waiting,
+            &mut self.lists.forest,
+        )?;
+        self.lists.forest.close(links.chain.forest)?;
+        self.lists
+            .note(links.chain.slot, TrailItem::Rounds(links.count));
         Ok(Mode::With(Reply::Succeeded {
             consumed: links.consumed,
             end: links.start,
@@ -327,25 +332,6 @@ fn build_link(
     forest.push(made(alloc, registry, used, "", kids)?)
 }
 
-/// Makes the trees after the first into one, if trees are kept, by the builder with the symbol.
-pub(crate) fn build_after(
-    alloc: Global,
-    registry: &Registry,
-    used: &BuilderUse,
-    symbol: &str,
-    count: usize,
-    forest: &mut RunForest,
-) -> Result<(), AllocError>
-    requires { builder_shape (offer_of registry.now) used.now.name ≡ Some used.now.shape }
-    ensures { OnOk result (forest.new ≡ built_after used.now.shape symbol.now count forest.old) }
-{
-    if !forest.keeps() {
-        return forest.count_as_one(count);
-    }
-    let kids = forest.split_off(alloc, count)?;
-    forest.push(made(alloc, registry, used, symbol, kids)?)
-}
-
 /// Makes the trees after each of these places into one, from the last place on.
 fn build_waiting(
     alloc: Global,
@@ -361,21 +347,4 @@ fn build_waiting(
         build_link(alloc, registry, used, place, forest)?;
     }
     Ok(())
-}
-
-/// The tree that the registry's builder makes.
-fn made(
-    alloc: Global,
-    registry: &Registry,
-    used: &BuilderUse,
-    symbol: &str,
-    kids: Forest,
-) -> Result<Tree, AllocError>
-    requires { builder_shape (offer_of registry.now) used.now.name ≡ Some used.now.shape }
-    ensures { IfOk result (λ tree. tree ≡ built used.now.shape symbol.now kids) }
-{
-    match registry.builder(used.name.as_str()) {
-        Some(builder) => builder.make(alloc, symbol, kids),
-        None => unreachable!(),
-    }
 }

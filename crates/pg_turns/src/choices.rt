@@ -3,7 +3,7 @@
 ghost use Rattle.std.specs.Prelude.{◌≡◌, ◌<◌, ◌-◌, ◌^◌, ◌++◌, false, drop, take, length, IfOk, OnOk};
 ghost use Rattle.pg_table.specs.Tables.{first_operators};
 ghost use Rattle.pg_turns.specs.Tape.{tape_with, tried_failure, tried_empty_ok, tape_to_choice, tape_next_alternative, tape_settled, tape_empty_ok, tried_kept, tried_messages, tried_with_failure, tried_with_empty_ok};
-ghost use Rattle.pg_turns.specs.RunTrees.{first_trees, hidden_after, rejoined};
+ghost use Rattle.pg_lists.specs.RunTrees.{first_trees, hidden_after, rejoined};
 ghost use Rattle.pg_turns.specs.View.{tried_of, on_lists, stack_of, tape_of};
 ghost use Rattle.pg_message_tape.specs.TapeErrors.{tape_error, merged_tape_error, merged_messages, tape_error_after, messages_after};
 ghost use Rattle.pg_turns.specs.declared.frame.Reply.TheVariants.{Succeeded};
@@ -90,11 +90,11 @@ impl<'a> Machine<'a> {
                     marks,
                     which: counted(which)?,
                 }))?;
-                self.trail.push(TrailItem::Alt(which))?;
+                self.lists.trail.push(TrailItem::Alt(which))?;
                 Ok(Mode::At(*part, start))
             }
             None => {
-                let error = self.no_messages_at(start);
+                let error = self.lists.no_messages_at(start);
                 let consumed = false;
                 self.settled(tried, marks, Reply::Failed { consumed, error })
             }
@@ -126,7 +126,7 @@ impl<'a> Machine<'a> {
                 end,
                 error,
             } => {
-                let error = self.error_after(kept, consumed, error)?;
+                let error = self.lists.error_after(kept, consumed, error)?;
                 Ok(Mode::With(Reply::Succeeded {
                     consumed,
                     end,
@@ -134,7 +134,7 @@ impl<'a> Machine<'a> {
                 }))
             }
             Reply::Failed { consumed, error } => {
-                let error = self.error_after(kept, consumed, error)?;
+                let error = self.lists.error_after(kept, consumed, error)?;
                 Ok(Mode::With(Reply::Failed { consumed, error }))
             }
             Reply::EmptyRound => Ok(Mode::With(Reply::EmptyRound)),
@@ -178,11 +178,11 @@ impl<'a> Machine<'a> {
     #[inline(never)]
     fn restore(&mut self, ok: EmptyOk, marks: Marks, error: TapeError) -> Result<Mode, AllocError>
         ensures { IfOk result (λ mode. tape_of mode self.new ≡
-            tape_with (Succeeded false ok.end (merged_tape_error ok.kept error self.old.messages)) (stack_of self.old.frames.items)
-            (rejoined ok.forest ok.hidden (first_trees marks.forest self.old.forest)) (take marks.trail self.old.trail.items ++ ok.trail.items) (merged_messages ok.kept error self.old.messages)
+            tape_with (Succeeded false ok.end (merged_tape_error ok.kept error self.old.lists.messages)) (stack_of self.old.frames.items)
+            (rejoined ok.forest ok.hidden (first_trees marks.forest self.old.lists.forest)) (take marks.trail self.old.lists.trail.items ++ ok.trail.items) (merged_messages ok.kept error self.old.lists.messages)
             (first_operators marks.operators self.old.table)) }
     {
-        let error = self.messages.merge(ok.kept, error)?;
+        let error = self.lists.messages.merge(ok.kept, error)?;
         self.cut(marks);
         let EmptyOk {
             end,
@@ -191,8 +191,8 @@ impl<'a> Machine<'a> {
             mut trail,
             ..
         } = ok;
-        self.forest.rejoin(forest, hidden)?;
-        self.trail.append(&mut trail)?;
+        self.lists.forest.rejoin(forest, hidden)?;
+        self.lists.trail.append(&mut trail)?;
         let consumed = false;
         Ok(Mode::With(Reply::Succeeded {
             consumed,
@@ -204,22 +204,22 @@ impl<'a> Machine<'a> {
     /// The error that is kept from now on, after one more alternative that consumed nothing.
     #[inline(always)]
     fn tried_error(&mut self, tried: &Tried, error: TapeError) -> Result<KeptError, AllocError>
-        ensures kept { IfOk result (λ kept. kept ≡ tried_kept (tried_of tried.now) error self.old.messages) }
+        ensures kept { IfOk result (λ kept. kept ≡ tried_kept (tried_of tried.now) error self.old.lists.messages) }
         ensures frames { OnOk result (self.new.frames ≡ self.old.frames) }
-        ensures forest { OnOk result (self.new.forest ≡ self.old.forest) }
-        ensures trail { OnOk result (self.new.trail ≡ self.old.trail) }
-        ensures messages { OnOk result (self.new.messages ≡ tried_messages (tried_of tried.now) error self.old.messages) }
+        ensures forest { OnOk result (self.new.lists.forest ≡ self.old.lists.forest) }
+        ensures trail { OnOk result (self.new.lists.trail ≡ self.old.lists.trail) }
+        ensures messages { OnOk result (self.new.lists.messages ≡ tried_messages (tried_of tried.now) error self.old.lists.messages) }
         ensures table { OnOk result (self.new.table ≡ self.old.table) }
     {
         match tried {
-            Tried::Nothing => Ok(self.messages.kept(error)),
+            Tried::Nothing => Ok(self.lists.messages.kept(error)),
             Tried::Failure(kept) => {
-                let error = self.messages.merge(*kept, error)?;
-                Ok(self.messages.kept(error))
+                let error = self.lists.messages.merge(*kept, error)?;
+                Ok(self.lists.messages.kept(error))
             }
             Tried::EmptyOk(ok) => {
-                let error = self.messages.merge(ok.kept, error)?;
-                Ok(self.messages.kept(error))
+                let error = self.lists.messages.merge(ok.kept, error)?;
+                Ok(self.lists.messages.kept(error))
             }
         }
     }
@@ -236,11 +236,11 @@ impl<'a> Machine<'a> {
         end: usize,
     ) -> Result<Tried, AllocError>
         ensures tried { IfOk result (λ after. tried_of after ≡
-            tried_with_empty_ok (tried_of tried) end (drop marks.forest self.old.forest.kept) (hidden_after marks.forest self.old.forest) (drop marks.trail self.old.trail.items) kept) }
+            tried_with_empty_ok (tried_of tried) end (drop marks.forest self.old.lists.forest.kept) (hidden_after marks.forest self.old.lists.forest) (drop marks.trail self.old.lists.trail.items) kept) }
         ensures frames { OnOk result (self.new.frames ≡ self.old.frames) }
-        ensures forest { OnOk result (self.new.forest ≡ first_trees marks.forest self.old.forest) }
-        ensures trail { OnOk result (self.new.trail.items ≡ take marks.trail self.old.trail.items) }
-        ensures messages { OnOk result (self.new.messages ≡ self.old.messages) }
+        ensures forest { OnOk result (self.new.lists.forest ≡ first_trees marks.forest self.old.lists.forest) }
+        ensures trail { OnOk result (self.new.lists.trail.items ≡ take marks.trail self.old.lists.trail.items) }
+        ensures messages { OnOk result (self.new.lists.messages ≡ self.old.lists.messages) }
         ensures table { OnOk result (self.new.table ≡ first_operators marks.operators self.old.table) }
     {
         match tried {
@@ -269,20 +269,20 @@ impl<'a> Machine<'a> {
     ) -> Result<EmptyOk, AllocError>
         ensures end { IfOk result (λ ok. ok.end ≡ end) }
         ensures kept { IfOk result (λ ok. ok.kept ≡ kept) }
-        ensures tried_forest { IfOk result (λ ok. ok.forest ≡ drop marks.forest self.old.forest.kept) }
-        ensures tried_hidden { IfOk result (λ ok. ok.hidden ≡ hidden_after marks.forest self.old.forest) }
-        ensures tried_trail { IfOk result (λ ok. ok.trail.items ≡ drop marks.trail self.old.trail.items) }
+        ensures tried_forest { IfOk result (λ ok. ok.forest ≡ drop marks.forest self.old.lists.forest.kept) }
+        ensures tried_hidden { IfOk result (λ ok. ok.hidden ≡ hidden_after marks.forest self.old.lists.forest) }
+        ensures tried_trail { IfOk result (λ ok. ok.trail.items ≡ drop marks.trail self.old.lists.trail.items) }
         ensures frames { OnOk result (self.new.frames ≡ self.old.frames) }
-        ensures forest { OnOk result (self.new.forest ≡ first_trees marks.forest self.old.forest) }
-        ensures trail { OnOk result (self.new.trail.items ≡ take marks.trail self.old.trail.items) }
-        ensures messages { OnOk result (self.new.messages ≡ self.old.messages) }
+        ensures forest { OnOk result (self.new.lists.forest ≡ first_trees marks.forest self.old.lists.forest) }
+        ensures trail { OnOk result (self.new.lists.trail.items ≡ take marks.trail self.old.lists.trail.items) }
+        ensures messages { OnOk result (self.new.lists.messages ≡ self.old.lists.messages) }
         ensures table { OnOk result (self.new.table ≡ first_operators marks.operators self.old.table) }
     {
         let count = marks.forest;
-        let hidden = self.forest.hidden_after(count);
-        let forest = self.forest_after(alloc, count)?;
-        let from = (marks.trail as usize).min(self.trail.len());
-        let trail = self.trail.split_off(from)?;
+        let hidden = self.lists.forest.hidden_after(count);
+        let forest = self.lists.forest_after(alloc, count)?;
+        let from = (marks.trail as usize).min(self.lists.trail.len());
+        let trail = self.lists.trail.split_off(from)?;
         self.table.cut(marks.operators as usize);
         Ok(EmptyOk {
             end,

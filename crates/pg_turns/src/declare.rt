@@ -8,15 +8,16 @@ ghost use Rattle.pg_language.specs.Declarations.{declare_outcome, unless_refused
 ghost use Rattle.pg_language.specs.Leaves.{some_declare_outcome};
 ghost use Rattle.pg_declarations.specs.Views.{operator_of};
 ghost use Rattle.pg_language.specs.Derives.{declaration_tree};
-ghost use Rattle.pg_turns.specs.RunTrees.{with_trees};
-ghost use Rattle.pg_turns.specs.Tape.{spot_at, tape_leaf, tape_told};
+ghost use Rattle.pg_lists.specs.RunTrees.{with_trees};
+ghost use Rattle.pg_turns.specs.Spots.{spot_at};
+ghost use Rattle.pg_turns.specs.Tape.{tape_leaf, tape_told};
 ghost use Rattle.pg_turns.specs.View.{on_lists, tape_of};
 
 use crate::frame::{Mode, Reply};
 use crate::machine::Machine;
-use crate::run_forest::RunForest;
 use pg_declarations::{Declaration, Declared, declaration_at};
 use pg_form::{ClassExpression, OperatorsItem};
+use pg_lists::RunForest;
 use pg_message_tape::Message;
 use pg_text::Text;
 use pg_value::Grammar;
@@ -97,10 +98,10 @@ impl<'a> Machine<'a> {
             let message = Message::NotAdmitted(declared.symbol, fault);
             return self.fail(true, declared.place, message);
         }
-        put_tree(alloc, &declared, &mut self.forest)?;
+        put_tree(alloc, &declared, &mut self.lists.forest)?;
         self.table.extend(operator)?;
         let (consumed, end) = (true, declared.end);
-        let error = self.no_messages_at(end);
+        let error = self.lists.no_messages_at(end);
         Ok(Mode::With(Reply::Succeeded {
             consumed,
             end,

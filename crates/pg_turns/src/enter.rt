@@ -6,16 +6,18 @@ ghost use Rattle.pg_form.specs.declared.form.Form.TheVariants as form;
 ghost use Rattle.pg_form.specs.declared.form.Leaf.TheVariants as leaf;
 ghost use Rattle.pg_language.specs.Answers.{given};
 ghost use Rattle.pg_language.specs.Leaves.{leaf_outcome};
-ghost use Rattle.pg_turns.specs.Tape.{tape_at, tape_enter_at, tape_enter, tape_seq, tape_many, tape_chain, tape_rule, tape_told, spot_at, on_around, forest_in};
-ghost use Rattle.pg_turns.specs.RunTrees.{tree_count};
+ghost use Rattle.pg_turns.specs.Tape.{tape_at, tape_enter_at, tape_enter, tape_seq, tape_many, tape_chain, tape_rule, tape_told, on_around, forest_in};
+ghost use Rattle.pg_turns.specs.Spots.{spot_at};
+ghost use Rattle.pg_lists.specs.RunTrees.{tree_count};
 ghost use Rattle.pg_turns.specs.View.{frame_of, on_lists, stack_of, tape_of};
-ghost use Rattle.pg_language.specs.declared.reading.Reading.{Reading};
 
 use crate::around::begin;
 use crate::frame::{ChainFrame, Frame, Mode, PartsFrame, Reply, RoundsFrame, Tried};
 use crate::machine::Machine;
 use pg_class_tables::ClassTables;
 use pg_form::{Around, BuilderUse, Form, Leaf, Node, NodeId, RuleId, Side, WordId, WordItem};
+use pg_language::Reading;
+use pg_lists::Given;
 use pg_text::Text;
 use pg_value::{Grammar, TrailItem};
 use std::alloc::{AllocError, Global};
@@ -29,15 +31,18 @@ impl<'a> Machine<'a> {
         grammar: &'a Grammar,
         tables: &ClassTables,
         text: &'a Text,
+        reading: Reading,
         node: NodeId,
         place: usize,
     ) -> Result<Mode, AllocError>
         requires { AreTablesOf grammar.now tables.now }
-        ensures { IfOk result (λ mode. (reading : Reading) → tape_of mode self.new ≡
+        ensures { IfOk result (λ mode. tape_of mode self.new ≡
             on_lists (tape_enter_at (given reading grammar.now text.now) (slice_get grammar.now.nodes node) place) self.old) }
     {
         match node_at(grammar.nodes(), node.index()) {
-            Some(form) => self.enter_form(alloc, grammar, tables, text, node, form, place),
+            Some(form) => {
+                self.enter_form(alloc, grammar, tables, text, reading, node, form, place)
+            }
             None => Ok(Mode::Endless),
         }
     }
@@ -50,13 +55,14 @@ impl<'a> Machine<'a> {
         grammar: &'a Grammar,
         tables: &ClassTables,
         text: &'a Text,
+        reading: Reading,
         node: NodeId,
         form: &'a Node,
         place: usize,
     ) -> Result<Mode, AllocError>
         requires tables { AreTablesOf grammar.now tables.now }
         requires node { slice_get grammar.now.nodes node ≡ Some form.now }
-        ensures { IfOk result (λ mode. (reading : Reading) → tape_of mode self.new ≡
+        ensures { IfOk result (λ mode. tape_of mode self.new ≡
             on_lists (tape_enter (given reading grammar.now text.now) form.now place) self.old) }
     {
         match form {
@@ -73,8 +79,14 @@ impl<'a> Machine<'a> {
                 self.enter_chain(alloc, *side, used, *operand, *separator, place)
             }
             Form::Rule(rule) => self.enter_rule(grammar, *rule, place),
-            // It has no case in the relation yet.
-            Form::Expression(_, _) => Ok(Mode::Endless),
+            Form::Expression(builders, term) => {
+                let given = Given {
+                    reading,
+                    grammar,
+                    text,
+                };
+                self.enter_expression(alloc, given, builders, *term, place)
+            }
             Form::Around(around, part) => self.enter_around(alloc, around, *part, place),
         }
     }
@@ -119,13 +131,13 @@ impl<'a> Machine<'a> {
         place: usize,
     ) -> Result<Mode, AllocError>
         ensures { IfOk result (λ mode. tape_of mode self.new ≡
-            tape_at part place (on_around around.now place (tree_count self.old.forest) (length self.old.table.operators)
+            tape_at part place (on_around around.now place (tree_count self.old.lists.forest) (length self.old.table.operators)
             ∷ stack_of self.old.frames.items)
-            (forest_in around.now self.old.forest) self.old.trail.items self.old.messages self.old.table) }
+            (forest_in around.now self.old.lists.forest) self.old.lists.trail.items self.old.lists.messages self.old.table) }
     {
-        let (start, forest) = (place, self.forest.len());
+        let (start, forest) = (place, self.lists.forest.len());
         let operators = self.table.operators().len();
-        begin(alloc, around, &mut self.forest)?;
+        begin(alloc, around, &mut self.lists.forest)?;
         let frame = Frame::Around {
             around,
             start,
@@ -145,7 +157,7 @@ impl<'a> Machine<'a> {
     ) -> Result<Mode, AllocError>
         ensures { IfOk result (λ mode. tape_of mode self.new ≡
             tape_at part place (frame_of frame.entry ∷ stack_of self.old.frames.items)
-            self.old.forest self.old.trail.items self.old.messages self.old.table) }
+            self.old.lists.forest self.old.lists.trail.items self.old.lists.messages self.old.table) }
     {
         self.push(frame)?;
         Ok(Mode::At(part, place))
@@ -163,7 +175,7 @@ impl<'a> Machine<'a> {
                 self.enter_part(Frame::Parts(PartsFrame { rest, before }), *part, place)
             }
             None => {
-                let error = self.no_messages_at(place);
+                let error = self.lists.no_messages_at(place);
                 let (consumed, end) = (false, place);
                 Ok(Mode::With(Reply::Succeeded {
                     consumed,
@@ -180,10 +192,10 @@ impl<'a> Machine<'a> {
         ensures { IfOk result (λ mode. tape_of mode self.new ≡
             on_lists (tape_many part place) self.old) }
     {
-        let slot = self.trail.len();
-        self.trail.push(TrailItem::Rounds(0))?;
+        let slot = self.lists.trail.len();
+        self.lists.trail.push(TrailItem::Rounds(0))?;
         let marks = self.marks()?;
-        let messages = self.messages.len();
+        let messages = self.lists.messages.len();
         let rounds = RoundsFrame {
             part,
             count: 0,
@@ -210,17 +222,17 @@ impl<'a> Machine<'a> {
         ensures { IfOk result (λ mode. tape_of mode self.new ≡
             on_lists (tape_chain (record { side = side; used = used.now; operand = operand; separator = separator }) place) self.old) }
     {
-        let slot = self.trail.len();
-        self.trail.push(TrailItem::Rounds(0))?;
+        let slot = self.lists.trail.len();
+        self.lists.trail.push(TrailItem::Rounds(0))?;
         let chain = ChainFrame {
             side,
             used,
             operand,
             separator,
             slot,
-            forest: self.forest.len(),
+            forest: self.lists.forest.len(),
         };
-        self.forest.open(alloc)?;
+        self.lists.forest.open(alloc)?;
         self.enter_part(Frame::First(chain), operand, place)
     }
 

@@ -19,11 +19,11 @@ impl Machine<'_> {
         text: &Text,
         error: TapeError,
     ) -> Result<ParseError, AllocError>
-        ensures error { IfOk result (λ e. without_position e ≡ error_of error.place (drop error.from self.now.messages)) }
+        ensures error { IfOk result (λ e. without_position e ≡ error_of error.place (drop error.from self.now.lists.messages)) }
         ensures position { IfOk result (λ e. e.position ≡ position_of text.now error.place) }
     {
         let position = text.position(error.place.min(text.len()));
-        self.messages.error(alloc, error, position)
+        self.lists.messages.error(alloc, error, position)
     }
 }
 

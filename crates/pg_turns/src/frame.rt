@@ -5,6 +5,7 @@
 //! long the lists were, and how many operators there were, where it may cut them back.
 
 use pg_form::{Around, BuilderUse, NodeId, Side};
+use pg_lists::ExpressionFrame;
 use pg_message_tape::{KeptError, TapeError};
 use pg_tree::Forest;
 use pg_value::TrailItem;
@@ -35,7 +36,7 @@ pub enum Mode {
     At(NodeId, usize),
     /// It hands the answer to the topmost frame.
     With(Reply),
-    /// No turn comes to an answer: a chain goes on without an end, or a node has a form that isn't run.
+    /// No turn comes to an answer: a chain goes on without an end, or a node names what its grammar doesn't have.
     Endless,
 }
 
@@ -171,4 +172,6 @@ pub enum Frame<'a> {
         forest: usize,
         operators: usize,
     },
+    /// The term of an expression runs.
+    Expression(Box<ExpressionFrame<'a>>),
 }

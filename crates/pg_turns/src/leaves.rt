@@ -7,7 +7,8 @@ ghost use Rattle.pg_class_tables.specs.Tables.{AreTablesOf, IsClassOfNode};
 ghost use Rattle.pg_form.specs.ClassItems.{has_character};
 ghost use Rattle.pg_language.specs.Leaves.{taken, satisfy_outcome, string_outcome, word_outcome, word_read, not_followed_outcome, end_outcome};
 ghost use Rattle.pg_message_tape.specs.Messages.{tape_message_of};
-ghost use Rattle.pg_turns.specs.Tape.{spot_at, tape_with, tape_leaf};
+ghost use Rattle.pg_turns.specs.Spots.{spot_at};
+ghost use Rattle.pg_turns.specs.Tape.{tape_with, tape_leaf};
 ghost use Rattle.pg_turns.specs.View.{on_lists, stack_of, tape_of};
 ghost use Rattle.pg_message_tape.specs.TapeErrors.{tape_error};
 ghost use Rattle.pg_turns.specs.declared.frame.Reply.TheVariants.{Succeeded, Failed};
@@ -169,9 +170,9 @@ impl<'a> Machine<'a> {
         ensures { IfOk result (λ mode. tape_of mode self.new ≡
             on_lists (tape_leaf (taken (spot_at self.old.table place) characters.now)) self.old) }
     {
-        self.forest.push_leaf(characters)?;
+        self.lists.forest.push_leaf(characters)?;
         let consumed = true;
-        let error = self.no_messages_at(end);
+        let error = self.lists.no_messages_at(end);
         Ok(Mode::With(Reply::Succeeded {
             consumed,
             end,
@@ -188,12 +189,12 @@ impl<'a> Machine<'a> {
         message: Message<'a>,
     ) -> Result<Mode, AllocError>
         ensures { IfOk result (λ mode. tape_of mode self.new ≡
-            tape_with (Failed consumed (tape_error place (length self.old.messages)))
-            (stack_of self.old.frames.items) self.old.forest self.old.trail.items (self.old.messages ++ tape_message_of message.entry ∷ [])
+            tape_with (Failed consumed (tape_error place (length self.old.lists.messages)))
+            (stack_of self.old.frames.items) self.old.lists.forest self.old.lists.trail.items (self.old.lists.messages ++ tape_message_of message.entry ∷ [])
             self.old.table) }
     {
-        let error = self.no_messages_at(place);
-        self.messages.push(message)?;
+        let error = self.lists.no_messages_at(place);
+        self.lists.messages.push(message)?;
         Ok(Mode::With(Reply::Failed { consumed, error }))
     }
 
@@ -207,13 +208,13 @@ impl<'a> Machine<'a> {
         wanted: Message<'a>,
     ) -> Result<Mode, AllocError>
         ensures { IfOk result (λ mode. tape_of mode self.new ≡
-            tape_with (Failed consumed (tape_error place (length self.old.messages)))
-            (stack_of self.old.frames.items) self.old.forest self.old.trail.items
-            (self.old.messages ++ tape_message_of message.entry ∷ tape_message_of wanted.entry ∷ []) self.old.table) }
+            tape_with (Failed consumed (tape_error place (length self.old.lists.messages)))
+            (stack_of self.old.frames.items) self.old.lists.forest self.old.lists.trail.items
+            (self.old.lists.messages ++ tape_message_of message.entry ∷ tape_message_of wanted.entry ∷ []) self.old.table) }
     {
-        let error = self.no_messages_at(place);
-        self.messages.push(message)?;
-        self.messages.push(wanted)?;
+        let error = self.lists.no_messages_at(place);
+        self.lists.messages.push(message)?;
+        self.lists.messages.push(wanted)?;
         Ok(Mode::With(Reply::Failed { consumed, error }))
     }
 
@@ -221,12 +222,12 @@ impl<'a> Machine<'a> {
     #[inline(always)]
     fn stay(&mut self, place: usize, message: Message<'a>) -> Result<Mode, AllocError>
         ensures { IfOk result (λ mode. tape_of mode self.new ≡
-            tape_with (Succeeded false place (tape_error place (length self.old.messages)))
-            (stack_of self.old.frames.items) self.old.forest self.old.trail.items (self.old.messages ++ tape_message_of message.entry ∷ [])
+            tape_with (Succeeded false place (tape_error place (length self.old.lists.messages)))
+            (stack_of self.old.frames.items) self.old.lists.forest self.old.lists.trail.items (self.old.lists.messages ++ tape_message_of message.entry ∷ [])
             self.old.table) }
     {
-        let error = self.no_messages_at(place);
-        self.messages.push(message)?;
+        let error = self.lists.no_messages_at(place);
+        self.lists.messages.push(message)?;
         let (consumed, end) = (false, place);
         Ok(Mode::With(Reply::Succeeded {
             consumed,
@@ -244,13 +245,13 @@ impl<'a> Machine<'a> {
         wanted: Message<'a>,
     ) -> Result<Mode, AllocError>
         ensures { IfOk result (λ mode. tape_of mode self.new ≡
-            tape_with (Succeeded false place (tape_error place (length self.old.messages)))
-            (stack_of self.old.frames.items) self.old.forest self.old.trail.items
-            (self.old.messages ++ tape_message_of message.entry ∷ tape_message_of wanted.entry ∷ []) self.old.table) }
+            tape_with (Succeeded false place (tape_error place (length self.old.lists.messages)))
+            (stack_of self.old.frames.items) self.old.lists.forest self.old.lists.trail.items
+            (self.old.lists.messages ++ tape_message_of message.entry ∷ tape_message_of wanted.entry ∷ []) self.old.table) }
     {
-        let error = self.no_messages_at(place);
-        self.messages.push(message)?;
-        self.messages.push(wanted)?;
+        let error = self.lists.no_messages_at(place);
+        self.lists.messages.push(message)?;
+        self.lists.messages.push(wanted)?;
         let (consumed, end) = (false, place);
         Ok(Mode::With(Reply::Succeeded {
             consumed,

@@ -14,15 +14,14 @@ mod choices;
 mod declare;
 mod enter;
 mod errors;
+mod expression;
 mod frame;
 mod leaves;
 mod machine;
 mod parts;
 mod rounds;
-mod run_forest;
 mod turn;
 
 pub use errors::error_at_end;
 pub use frame::{Frame, Mode, Reply};
 pub use machine::Machine;
-pub use run_forest::RunForest;

@@ -53,7 +53,7 @@ impl<'a> Machine<'a> {
     {
         match rest.split_first() {
             Some((part, rest)) => {
-                let kept = self.messages.kept(error);
+                let kept = self.lists.messages.kept(error);
                 let before = Some(Before { consumed, kept });
                 self.push(Frame::Parts(PartsFrame { rest, before }))?;
                 Ok(Mode::At(*part, end))
@@ -74,15 +74,15 @@ impl<'a> Machine<'a> {
         consumed: bool,
         error: TapeError,
     ) -> Result<TapeError, AllocError>
-        ensures error { IfOk result (λ after. after ≡ joined_tape_error before consumed error self.old.messages) }
+        ensures error { IfOk result (λ after. after ≡ joined_tape_error before consumed error self.old.lists.messages) }
         ensures frames { OnOk result (self.new.frames ≡ self.old.frames) }
-        ensures forest { OnOk result (self.new.forest ≡ self.old.forest) }
-        ensures trail { OnOk result (self.new.trail ≡ self.old.trail) }
-        ensures messages { OnOk result (self.new.messages ≡ joined_messages before consumed error self.old.messages) }
+        ensures forest { OnOk result (self.new.lists.forest ≡ self.old.lists.forest) }
+        ensures trail { OnOk result (self.new.lists.trail ≡ self.old.lists.trail) }
+        ensures messages { OnOk result (self.new.lists.messages ≡ joined_messages before consumed error self.old.lists.messages) }
         ensures table { OnOk result (self.new.table ≡ self.old.table) }
     {
         match before {
-            Some(before) => self.error_after(before.kept, consumed, error),
+            Some(before) => self.lists.error_after(before.kept, consumed, error),
             None => Ok(error),
         }
     }

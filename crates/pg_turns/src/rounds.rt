@@ -32,7 +32,7 @@ impl<'a> Machine<'a> {
                 if !consumed {
                     return Ok(Mode::With(Reply::EmptyRound));
                 }
-                self.messages.cut(rounds.messages);
+                self.lists.messages.cut(rounds.messages);
                 let marks = self.marks()?;
                 self.push(Frame::Rounds(RoundsFrame {
                     part: rounds.part,
@@ -50,7 +50,8 @@ impl<'a> Machine<'a> {
                     return Ok(Mode::With(Reply::Failed { consumed, error }));
                 }
                 self.cut(rounds.marks);
-                self.note(rounds.slot, TrailItem::Rounds(rounds.count));
+                self.lists
+                    .note(rounds.slot, TrailItem::Rounds(rounds.count));
                 Ok(Mode::With(Reply::Succeeded {
                     consumed: rounds.consumed,
                     end: rounds.start,

@@ -4,7 +4,6 @@ ghost use Rattle.std.specs.Prelude.{◌≡◌, ◌-◌, ◌^◌, IfOk};
 ghost use Rattle.pg_pred.specs.Offer.{offer_of};
 ghost use Rattle.pg_class_tables.specs.Tables.{AreTablesOf};
 ghost use Rattle.pg_value.specs.Fits.{Fits};
-ghost use Rattle.pg_value.specs.Grammar.{Grammar as Parts};
 ghost use Rattle.pg_language.specs.Answers.{given};
 ghost use Rattle.pg_turns.specs.Tape.{tape_turn, tape_hand, tape_is_last};
 ghost use Rattle.pg_turns.specs.Ready.{IsReady, IsTapeReady};
@@ -14,6 +13,7 @@ use crate::frame::{Frame, Mode, Reply};
 use crate::machine::Machine;
 use pg_class_tables::ClassTables;
 use pg_language::Reading;
+use pg_lists::Given;
 use pg_pred::Registry;
 use pg_text::Text;
 use pg_value::Grammar;
@@ -21,8 +21,9 @@ use std::alloc::{AllocError, Global};
 
 impl<'a> Machine<'a> {
     /// One turn: the node at hand is entered, or the answer at hand is handed to the topmost frame. The caller owes that the
-    /// registry fits, that the tables are the grammar's, and that the frames are ready: their counts can grow, and the builders that they name are offered. The
-    /// only error is that memory ran out; what the machine holds then isn't said.
+    /// registry fits, that the tables are the grammar's, and that the frames are ready: their counts can grow, the builders that
+    /// they name are offered, and expressions have the grammar's operators item. The only error is that memory ran out; what the
+    /// machine holds then isn't said.
     #[inline(always)]
     pub fn step(
         &mut self,
@@ -36,14 +37,18 @@ impl<'a> Machine<'a> {
     ) -> Result<Mode, AllocError>
         requires fits { Fits (offer_of registry.now) grammar.now }
         requires tables { AreTablesOf grammar.now tables.now }
-        requires ready { IsTapeReady (offer_of registry.now) (2 ^ 64 - 1) (tape_of mode self.now) }
+        requires ready { IsTapeReady (offer_of registry.now) grammar.now (2 ^ 64 - 1) (tape_of mode self.now) }
         ensures { IfOk result (λ next. tape_of next self.new ≡
             tape_turn (given reading grammar.now text.now) (tape_of mode self.old)) }
     {
         match mode {
-            Mode::At(node, place) => self.enter(alloc, grammar, tables, text, node, place),
+            Mode::At(node, place) => {
+                self.enter(alloc, grammar, tables, text, reading, node, place)
+            }
             Mode::With(reply) => match self.frames.pop() {
-                Some(frame) => self.hand_to(alloc, registry, text, reading, frame, reply),
+                Some(frame) => {
+                    self.hand_to(alloc, grammar, registry, text, reading, frame, reply)
+                }
                 None => Ok(Mode::With(reply)),
             },
             Mode::Endless => Ok(Mode::Endless),
@@ -55,15 +60,16 @@ impl<'a> Machine<'a> {
     fn hand_to(
         &mut self,
         alloc: Global,
+        grammar: &'a Grammar,
         registry: &Registry,
-        text: &Text,
+        text: &'a Text,
         reading: Reading,
         frame: Frame<'a>,
         reply: Reply,
     ) -> Result<Mode, AllocError>
-        requires { IsReady (offer_of registry.now) (2 ^ 64 - 1) (frame_of frame) }
-        ensures { IfOk result (λ mode. (grammar : Parts) → tape_of mode self.new ≡
-            on_lists (tape_hand (given reading grammar text.now) (frame_of frame.entry) reply) self.old) }
+        requires { IsReady (offer_of registry.now) grammar.now (2 ^ 64 - 1) (frame_of frame) }
+        ensures { IfOk result (λ mode. tape_of mode self.new ≡
+            on_lists (tape_hand (given reading grammar.now text.now) (frame_of frame.entry) reply) self.old) }
     {
         match frame {
             Frame::Parts(parts) => self.hand_to_parts(parts, reply),
@@ -83,6 +89,14 @@ impl<'a> Machine<'a> {
             } => self.hand_to_around(
                 alloc, registry, text, around, start, forest, operators, reply,
             ),
+            Frame::Expression(frame) => {
+                let given = Given {
+                    reading,
+                    grammar,
+                    text,
+                };
+                self.hand_to_expression(alloc, registry, given, frame, reply)
+            }
         }
     }
 

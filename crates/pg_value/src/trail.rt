@@ -55,6 +55,16 @@ impl AppliedOperators {
     {
         self.operators.as_slice()
     }
+
+    /// Puts an operator at the end. The only error is that memory ran out: the operators are then as they were, and the new one
+    /// is gone.
+    pub fn push(&mut self, operator: AppliedOperator) -> Result<(), AllocError>
+        ensures ok { OnOk result (self.new ≡ self.old ++ operator ∷ []) }
+        ensures err { OnErr result (self.new ≡ self.old) }
+    {
+        self.operators.push(operator)?;
+        Ok(())
+    }
 }
 
 /// What one node of a derivation chose.

@@ -11,4 +11,4 @@ returns-then-not-is_empty c =
     let m = c.args.machine in
     let some : (length m.frames.items == 0) ≡ false = ap (λ n. n == 0) (sym m.frames.ok.0) ∙ sym c.is_empty.ensures ∙ c.if-not-is_empty.true in
     subst (λ (s : Mode). outcome_on (tape_of s m) ≡ None) (sym c.in-With.is)
-    (none_on c.in-With.reply m.frames.items m.forest m.trail.items m.messages m.table some)
+    (none_on c.in-With.reply m.frames.items m.lists.forest m.lists.trail.items m.lists.messages m.table some)

@@ -12,7 +12,7 @@ pub loop-steps-init : goal.loop-steps-init
 loop-steps-init g c =
     let m = c.new-machine.result in
     running_begins (offer_of c.args.registry.now) (given c.args.reading c.args.grammar.now c.args.text.now) c.args.table.now c.args.max_steps c.start_of.result
-    (stack_of m.frames.items) m.forest m.trail.items m.messages m.table c.start_of.ensures c.new-machine.ensures.frames c.new-machine.ensures.forest c.new-machine.ensures.trail c.new-machine.ensures.messages
+    (stack_of m.frames.items) m.lists.forest m.lists.trail.items m.lists.messages m.table c.start_of.ensures c.new-machine.ensures.frames c.new-machine.ensures.forest c.new-machine.ensures.trail c.new-machine.ensures.messages
     (c.new-machine.ensures.table ∙ c.in_ok-own.ensures)
 
 pub step-requires-clause-ready : goal.step-requires-clause-ready

@@ -12,7 +12,7 @@ turns-init g c =
     let m = c.new-machine.result in
     let run = c.args.self.now in
     halting_begins (offer_of c.args.registry.now) (given Library run.grammar.now run.text.now) run.table.now run.halts c.start_of.result
-    (stack_of m.frames.items) m.forest m.trail.items m.messages m.table c.start_of.ensures c.new-machine.ensures.frames c.new-machine.ensures.forest c.new-machine.ensures.trail c.new-machine.ensures.messages
+    (stack_of m.frames.items) m.lists.forest m.lists.trail.items m.lists.messages m.table c.start_of.ensures c.new-machine.ensures.frames c.new-machine.ensures.forest c.new-machine.ensures.trail c.new-machine.ensures.messages
     (c.new-machine.ensures.table ∙ c.in_ok-own.ensures)
 
 pub step-requires-clause-ready : goal.step-requires-clause-ready

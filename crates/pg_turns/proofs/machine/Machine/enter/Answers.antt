@@ -18,11 +18,11 @@ returns-in-Some c =
     let there : slice_get c.args.grammar.now.nodes c.args.node ≡ Some c.in-Some.form.now =
     ap (λ ns. slice_get ns c.args.node) (sym c.nodes.ensures.all) ∙ ap (slice_get c.nodes.result.now) (sym c.index.ensures) ∙ sym c.node_at.ensures ∙ ap option_copied c.in-Some.is in
     IfOk-weaker c.enter_form.result _ _
-    (λ mode h reading. h reading ∙ ap (λ o. tape_enter_at (given reading c.args.grammar.now c.args.text.now) o c.args.place (stack_of m.frames.items) m.forest m.trail.items m.messages m.table) (sym there)) c.enter_form.ensures
+    (λ mode h. h ∙ ap (λ o. tape_enter_at (given c.args.reading c.args.grammar.now c.args.text.now) o c.args.place (stack_of m.frames.items) m.lists.forest m.lists.trail.items m.lists.messages m.table) (sym there)) c.enter_form.ensures
 
 pub returns-in-None : goal.returns-in-None
 returns-in-None c =
     let m = c.args.self.now in
     let none : slice_get c.args.grammar.now.nodes c.args.node ≡ None =
     ap (λ ns. slice_get ns c.args.node) (sym c.nodes.ensures.all) ∙ ap (slice_get c.nodes.result.now) (sym c.index.ensures) ∙ sym c.node_at.ensures ∙ ap option_copied c.in-None.is in
-    λ reading. ap (λ o. tape_enter_at (given reading c.args.grammar.now c.args.text.now) o c.args.place (stack_of m.frames.items) m.forest m.trail.items m.messages m.table) (sym none)
+    ap (λ o. tape_enter_at (given c.args.reading c.args.grammar.now c.args.text.now) o c.args.place (stack_of m.frames.items) m.lists.forest m.lists.trail.items m.lists.messages m.table) (sym none)

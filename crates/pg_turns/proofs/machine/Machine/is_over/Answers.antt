@@ -9,5 +9,5 @@ pub returns-in-With : goal.returns-in-With
 returns-in-With c =
     let m = c.args.self.now in
     c.is_empty.ensures ∙ ap (λ n. n == 0) m.frames.ok.0
-    ∙ last_reply c.in-With.field-0 m.frames.items m.forest m.trail.items m.messages m.table
+    ∙ last_reply c.in-With.field-0 m.frames.items m.lists.forest m.lists.trail.items m.lists.messages m.table
     ∙ ap (λ s. tape_is_last (tape_of s m)) (sym c.in-With.is)

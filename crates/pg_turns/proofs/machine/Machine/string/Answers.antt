@@ -13,7 +13,7 @@ returns-then-count-characters c =
     let whole : common_prefix_len nat_eq c.args.characters.now (drop c.args.place c.args.text.now) ≡ length c.args.characters.now =
     ap (common_prefix_len nat_eq c.args.characters.now) (sym rest) ∙ sym c.matched-count.ensures.value ∙ c.if-count-characters.true in
     IfOk-weaker c.take.result _ _
-    (λ mode h. string_taken (stack_of m.frames.items) m.forest m.trail.items m.messages m.table (tape_of mode c.take.new.self) c.args.text.now c.args.characters.now c.args.place whole h) c.take.ensures
+    (λ mode h. string_taken (stack_of m.frames.items) m.lists.forest m.lists.trail.items m.lists.messages m.table (tape_of mode c.take.new.self) c.args.text.now c.args.characters.now c.args.place whole h) c.take.ensures
 
 pub returns : goal.returns
 returns c =
@@ -23,4 +23,4 @@ returns c =
     let next : c.character_at-next.result ≡ slice_get (drop c.args.place c.args.text.now) c.matched-count.result = c.character_at-next.ensures ∙ ap (λ xs. slice_get xs c.matched-count.result) rest in
     let other : (c.matched-count.result == length c.args.characters.now) ≡ false = other_length c.matched-count.result (length c.args.characters.now) c.if-count-characters.false in
     IfOk-weaker c.fail_wanting.result _ _
-    (λ mode h. string_failed (stack_of m.frames.items) m.forest m.trail.items m.messages m.table (tape_of mode c.fail_wanting.new.self) c.args.text.now c.args.characters.now c.args.place c.matched-count.result count other c.character_at-next.result next h) c.fail_wanting.ensures
+    (λ mode h. string_failed (stack_of m.frames.items) m.lists.forest m.lists.trail.items m.lists.messages m.table (tape_of mode c.fail_wanting.new.self) c.args.text.now c.args.characters.now c.args.place c.matched-count.result count other c.character_at-next.result next h) c.fail_wanting.ensures

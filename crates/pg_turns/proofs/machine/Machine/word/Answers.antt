@@ -26,5 +26,5 @@ returns-else-not-head_has c =
     let whole : take (c.run_len-count.result + 1) c.after.result.now ≡ c.in-Some.c ∷ run_at c.args.grammar.now c.args.text.now c.args.item.now.rest (suc c.args.place) =
     ap (take (c.run_len-count.result + 1)) all ∙ word_taken p c.args.text.now c.args.place c.in-Some.c c.run_len-count.result there count in
     IfOk-weaker c.read_word.result _ _
-    (λ mode h. word_told (stack_of m.frames.items) m.forest m.trail.items m.messages m.table (tape_of mode c.read_word.new.self) c.args.grammar.now c.args.text.now c.args.item.now c.args.place c.in-Some.c
+    (λ mode h. word_told (stack_of m.frames.items) m.lists.forest m.lists.trail.items m.lists.messages m.table (tape_of mode c.read_word.new.self) c.args.grammar.now c.args.text.now c.args.item.now c.args.place c.in-Some.c
     (take (c.run_len-count.result + 1) c.after.result.now) there (sym c.head_has.ensures ∙ c.if-not-head_has.false) whole h) c.read_word.ensures

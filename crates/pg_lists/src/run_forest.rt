@@ -6,7 +6,7 @@
 
 ghost use Rattle.std.specs.Prelude.{◌≡◌, ◌∷◌, [], ◌<◌, ◌==◌, ◌^◌, drop, length, IfOk, OnOk};
 ghost use Rattle.pg_language.specs.Derives.{leaf_of};
-ghost use Rattle.pg_turns.specs.RunTrees.{no_run_trees, tree_count, with_trees, first_trees, hidden_after, rejoined, with_hiding, without_hiding};
+ghost use Rattle.pg_lists.specs.RunTrees.{no_run_trees, tree_count, with_trees, first_trees, hidden_after, rejoined, with_hiding, without_hiding};
 
 use pg_tree::{Forest, ForestTape, Tree};
 use std::alloc::{AllocError, Global};
@@ -25,7 +25,7 @@ pub struct RunForest {
 
 impl Model for RunForest {
     ghost use Rattle.std.specs.Prelude.{◌+◌, ◌<◌, ◌^◌, length};
-    ghost use Rattle.pg_turns.specs.RunTrees.{RunTrees, run_trees_code};
+    ghost use Rattle.pg_lists.specs.RunTrees.{RunTrees, run_trees_code};
 
     ghost Value = { RunTrees };
 
@@ -38,7 +38,7 @@ impl Model for RunForest {
 
 impl RunForest {
     /// No trees. It takes no memory.
-    pub(crate) fn new(alloc: Global) -> RunForest
+    pub fn new(alloc: Global) -> RunForest
         ensures { result ≡ no_run_trees }
     {
         RunForest {
@@ -50,14 +50,14 @@ impl RunForest {
 
     /// How many trees there are, with those that are only counted. It takes no memory.
     #[inline(always)]
-    pub(crate) fn len(&self) -> usize
+    pub fn len(&self) -> usize
         ensures { result ≡ tree_count self.now }
     {
         self.tape.len() + self.hidden
     }
 
     /// Whether trees are kept: whether no form is open that throws them away.
-    pub(crate) fn keeps(&self) -> bool
+    pub fn keeps(&self) -> bool
         ensures { result ≡ (self.now.hiding == 0) }
     {
         self.hiding == 0
@@ -65,21 +65,20 @@ impl RunForest {
 
     /// Puts a leaf with these characters at the end. The only error is that memory ran out.
     #[inline(always)]
-    pub(crate) fn push_leaf(&mut self, characters: &[char]) -> Result<(), AllocError>
+    pub fn push_leaf(&mut self, characters: &[char]) -> Result<(), AllocError>
         ensures { OnOk result (self.new ≡ with_trees (leaf_of characters.now ∷ []) self.old) }
     {
+        if self.hiding > 0 {
+            return self.count_one();
+        }
         if self.len() == usize::MAX {
             return Err(AllocError);
-        }
-        if self.hiding > 0 {
-            self.hidden += 1;
-            return Ok(());
         }
         self.tape.push_leaf(characters)
     }
 
     /// Puts a tree at the end. The only error is that memory ran out; the tree is then gone.
-    pub(crate) fn push(&mut self, tree: Tree) -> Result<(), AllocError>
+    pub fn push(&mut self, tree: Tree) -> Result<(), AllocError>
         ensures { OnOk result (self.new ≡ rejoined (tree ∷ []) 0 self.old) }
     {
         if self.len() == usize::MAX {
@@ -89,19 +88,15 @@ impl RunForest {
     }
 
     /// The trees after the first are one, which is only counted. The only error is that there are too many.
-    pub(crate) fn count_as_one(&mut self, count: usize) -> Result<(), AllocError>
+    pub fn count_as_one(&mut self, count: usize) -> Result<(), AllocError>
         ensures { OnOk result (self.new ≡ rejoined [] 1 (first_trees count self.old)) }
     {
         self.cut(count);
-        if self.len() == usize::MAX {
-            return Err(AllocError);
-        }
-        self.hidden += 1;
-        Ok(())
+        self.count_one()
     }
 
     /// One tree more, which is only counted. The only error is that there are too many.
-    pub(crate) fn count_one(&mut self) -> Result<(), AllocError>
+    pub fn count_one(&mut self) -> Result<(), AllocError>
         ensures { OnOk result (self.new ≡ rejoined [] 1 self.old) }
     {
         if self.len() == usize::MAX {
@@ -112,7 +107,7 @@ impl RunForest {
     }
 
     /// Puts trees that were taken off at the end, and so many that are only counted. The only error is that memory ran out.
-    pub(crate) fn rejoin(&mut self, other: Forest, hidden: usize) -> Result<(), AllocError>
+    pub fn rejoin(&mut self, other: Forest, hidden: usize) -> Result<(), AllocError>
         ensures { OnOk result (self.new ≡ rejoined other hidden self.old) }
     {
         let room = usize::MAX - self.len();
@@ -124,7 +119,7 @@ impl RunForest {
     }
 
     /// Opens a stretch: what comes from here on can be taken off without moving it. The only error is that memory ran out.
-    pub(crate) fn open(&mut self, alloc: Global) -> Result<(), AllocError>
+    pub fn open(&mut self, alloc: Global) -> Result<(), AllocError>
         ensures { OnOk result (self.new ≡ self.old) }
     {
         if self.hiding > 0 {
@@ -135,7 +130,7 @@ impl RunForest {
 
     /// Joins the stretches that were opened after the first `count` trees, and the one that was opened there, to what stands
     /// before. The only error is that memory ran out.
-    pub(crate) fn close(&mut self, count: usize) -> Result<(), AllocError>
+    pub fn close(&mut self, count: usize) -> Result<(), AllocError>
         ensures { OnOk result (self.new ≡ self.old) }
     {
         if self.hiding > 0 {
@@ -153,7 +148,7 @@ impl RunForest {
 
     /// Drops the trees after the first, if there are more. It takes no memory.
     #[inline(always)]
-    pub(crate) fn cut(&mut self, count: usize)
+    pub fn cut(&mut self, count: usize)
         ensures { self.new ≡ first_trees count self.old }
     {
         let kept = self.tape.len();
@@ -166,7 +161,7 @@ impl RunForest {
     }
 
     /// How many trees after the first are only counted.
-    pub(crate) fn hidden_after(&self, count: usize) -> usize
+    pub fn hidden_after(&self, count: usize) -> usize
         ensures { result ≡ hidden_after count self.now }
     {
         self.hidden
@@ -175,7 +170,7 @@ impl RunForest {
 
     /// Moves the trees after the first that are kept into a forest of their own, and drops those that are only counted: without
     /// going through them where a stretch was opened there. The only error is that memory ran out.
-    pub(crate) fn split_off(&mut self, alloc: Global, count: usize) -> Result<Forest, AllocError>
+    pub fn split_off(&mut self, alloc: Global, count: usize) -> Result<Forest, AllocError>
         ensures ok { OnOk result (self.new ≡ first_trees count self.old) }
         ensures rest { IfOk result (λ forest. forest ≡ drop count self.old.kept) }
     {
@@ -195,7 +190,7 @@ impl RunForest {
     }
 
     /// A form begins that throws away the trees of its part. The only error is that there are too many.
-    pub(crate) fn hide(&mut self) -> Result<(), AllocError>
+    pub fn hide(&mut self) -> Result<(), AllocError>
         ensures { OnOk result (self.new ≡ with_hiding self.old) }
     {
         self.hiding = self.hiding.checked_add(1).ok_or(AllocError)?;
@@ -203,7 +198,7 @@ impl RunForest {
     }
 
     /// A form that throws away the trees of its part ends.
-    pub(crate) fn show(&mut self)
+    pub fn show(&mut self)
         ensures { self.new ≡ without_hiding self.old }
     {
         self.hiding = self.hiding.saturating_sub(1);

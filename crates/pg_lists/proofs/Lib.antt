@@ -1,0 +1,4 @@
+pub mod SaidRead
+pub mod LevelStack
+pub mod LevelSteps
+pub mod RowSteps

@@ -1,0 +1,3 @@
+pub mod RunTrees
+pub mod TapeLevels
+pub mod ViewLevels

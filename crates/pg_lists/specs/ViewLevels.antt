@@ -1,0 +1,127 @@
+-- What the definitions see of the values that the code has while an expression runs.
+use Rattle.std.specs.Prelude.{ℕ, Bool, true, false, Option, Some, None, List, [], ◌∷◌, ◌++◌, codes}
+use Rattle.std.specs.Option.{option_copied}
+use Rattle.pg_language.specs.Answers as language
+use Rattle.pg_language.specs.Answers.{given}
+use Rattle.pg_language.specs.Errors.{seen_at}
+use Rattle.pg_message_tape.specs.Messages.{TapeMessage, tape_message_of}
+use Rattle.pg_message_tape.specs.declared.message.Message.{Message}
+use Rattle.pg_message_tape.specs.declared.message.Sided.{Sided}
+use Rattle.pg_message_tape.specs.declared.message.Sided.TheVariants as sided
+use Rattle.pg_operators.specs.Standings.{Stands}
+use Rattle.pg_lists.specs.TapeLevels as on
+use Rattle.pg_lists.specs.TapeLevels.{OnOperator, OnPreceding, on_nothing, on_right, on_left, on_non, OnLevel, on_row, on_right_side, OnSetting, OnStretch, Lists, OnFollowed, on_hands, on_runs, OnClimbed, on_ended, on_again, OnFailure, saw, wanted}
+use Rattle.pg_lists.specs.declared.level.Given.{Given}
+use Rattle.pg_lists.specs.declared.level.InfixRead.{InfixRead}
+use Rattle.pg_lists.specs.declared.level.Preceding.{Preceding}
+use Rattle.pg_lists.specs.declared.level.Preceding.TheVariants as preceding
+use Rattle.pg_lists.specs.declared.level.RowLevel.{RowLevel}
+use Rattle.pg_lists.specs.declared.level.Level.{Level}
+use Rattle.pg_lists.specs.declared.level.Level.TheVariants as level
+use Rattle.pg_lists.specs.declared.level.Setting.{Setting}
+use Rattle.pg_lists.specs.declared.level.Stretch.{Stretch}
+use Rattle.pg_lists.specs.declared.level.Begun.{Begun}
+use Rattle.pg_lists.specs.declared.level.Followed.{Followed}
+use Rattle.pg_lists.specs.declared.level.Followed.TheVariants as followed
+use Rattle.pg_lists.specs.declared.level.Climbed.{Climbed}
+use Rattle.pg_lists.specs.declared.level.Climbed.TheVariants as climbed
+use Rattle.pg_lists.specs.declared.level.Failure.{Failure}
+use Rattle.pg_lists.specs.declared.level.Look.{Look}
+use Rattle.pg_lists.specs.declared.lists.Lists as run
+use Rattle.pg_lists.specs.declared.said.Said.{Said}
+
+abbrev pub given_of : Given → language.Given
+given_of g = given g.reading g.grammar.now g.text.now
+
+abbrev pub setting_of : Setting → OnSetting
+setting_of s = record { parts = record { item = s.item.now; builders = s.builders.now; term = s.term }; operators = s.in_force.value; slot = s.slot }
+
+-- ---- levels
+
+abbrev pub operator_of : InfixRead → OnOperator
+operator_of q = record { symbol = q.symbol.now; forest = q.forest; after = q.after }
+
+abbrev pub preceding_of : Preceding → OnPreceding
+preceding_of preceding.Nothing = on_nothing
+preceding_of (preceding.Right q) = on_right (operator_of q)
+preceding_of (preceding.Left q) = on_left (operator_of q)
+preceding_of (preceding.Non q) = on_non (operator_of q)
+
+-- an operator that associates so precedes an operand
+abbrev pub on_side : Sided → OnOperator → OnPreceding
+on_side sided.Left q = on_left q
+on_side sided.Right q = on_right q
+on_side sided.Neither q = on_non q
+
+abbrev pub row_level_of : RowLevel → OnLevel
+row_level_of l = on_row l.row (option_copied l.prefix) l.entry l.forest l.messages (preceding_of l.before)
+
+abbrev pub level_of : Level → OnLevel
+level_of (level.Row l) = row_level_of l
+level_of (level.RightSide q) = on_right_side (operator_of q)
+
+-- the innermost level stands last in the code
+abbrev pub levels_on : List OnLevel → List Level → List OnLevel
+levels_on levels [] = levels
+levels_on levels (l ∷ more) = levels_on (level_of l ∷ levels) more
+
+abbrev pub levels_of : List Level → List OnLevel
+levels_of levels = levels_on [] levels
+
+-- what waits for the right side of an operator, if one stands between
+abbrev pub between_of : Option InfixRead → List OnLevel
+between_of None = []
+between_of (Some q) = on_right_side (operator_of q) ∷ []
+
+-- ---- what lies on the lists
+
+abbrev pub lists_of : run.Lists → Lists
+lists_of m = record { v = m.forest; t = m.trail.items; x = m.messages }
+
+abbrev pub stretch_of : Stretch → run.Lists → OnStretch
+stretch_of z m = record { consumed = z.consumed; place = z.place; error = z.error; lists = lists_of m }
+
+abbrev pub begun_of : Begun → run.Lists → on.Begun
+begun_of b m = record { place = b.place; level = level_of b.level; lists = lists_of m }
+
+abbrev pub followed_of : Followed → run.Lists → OnFollowed
+followed_of (followed.Hands z) m = on_hands (stretch_of z m)
+followed_of (followed.Runs r) m = on_runs r.tighter r.place (preceding_of r.before) (between_of r.between) (lists_of m)
+
+abbrev pub down_of : ℕ → List Level → run.Lists → on.Down
+down_of place levels m = record { place = place; levels = levels_of levels; lists = lists_of m }
+
+-- a row that has begun stands over these levels
+abbrev pub down_on : on.Begun → List OnLevel → on.Down
+down_on b levels = record { place = b.place; levels = b.level ∷ levels; lists = b.lists }
+
+abbrev pub climbed_of : Climbed → List Level → run.Lists → OnClimbed
+climbed_of (climbed.Ended z) levels m = on_ended (stretch_of z m)
+climbed_of (climbed.Again place) levels m = on_again (down_of place levels m)
+
+abbrev pub failure_of : Failure → run.Lists → OnFailure
+failure_of f m = record { consumed = f.consumed; error = f.error; messages = m.messages }
+
+-- ---- what stands at a place, as the rows of the expression ask for it
+
+abbrev pub IsLook : Look → Type 0
+IsLook l = Stands l.given.grammar.now l.given.text.now l.setting.now.item.now l.setting.now.in_force.value l.place l.standing
+
+-- ---- what is said
+
+abbrev pub messages_in : Option Message → List TapeMessage
+messages_in None = []
+messages_in (Some m) = tape_message_of m ∷ []
+
+abbrev pub said_of : Said → on.Said
+said_of s = record { place = s.place; messages = messages_in s.first ++ messages_in s.second }
+
+-- what stands at the place, if there is anything to name it
+abbrev pub seen_if : Bool → List ℕ → ℕ → List TapeMessage
+seen_if true text i = saw (seen_at text i) ∷ []
+seen_if false text i = []
+
+-- that an operator was expected, if there is any
+abbrev pub operator_if : Bool → List TapeMessage
+operator_if true = wanted (codes "operator") ∷ []
+operator_if false = []

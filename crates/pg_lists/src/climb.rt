@@ -1,0 +1,136 @@
+//! Levels of an expression are handed a stretch one after the other, until one of them runs an operand.
+
+ghost use Rattle.std.specs.Prelude.{◌≡◌, Some, IfOk, OnOk};
+ghost use Rattle.std.specs.Option.{option_copied};
+ghost use Rattle.pg_form.specs.Contents.{all_builders};
+ghost use Rattle.pg_pred.specs.Offer.{offer_of};
+ghost use Rattle.pg_value.specs.Fits.{BuildersFit};
+ghost use Rattle.pg_lists.specs.TapeLevels.{failed_after, failed_before, level_failed, on_climb, on_failed, was_read};
+ghost use Rattle.pg_lists.specs.ViewLevels.{climbed_of, failure_of, given_of, level_of, levels_of, preceding_of, setting_of, stretch_of};
+
+use crate::descend::{look_at, look_on};
+use crate::level::{Climbed, Failure, Followed, Given, Level, Preceding, Setting, Stretch};
+use crate::lists::Lists;
+use pg_message_tape::KeptError;
+use pg_pred::Registry;
+use std::alloc::{AllocError, Global};
+
+impl<'a> Lists<'a> {
+    /// What the levels make of a stretch, the innermost first, each of what the one before it handed on: the expression's own
+    /// stretch, or the place where the term runs again, after an infix operator and the prefixes behind it; the levels are then
+    /// those over which it does. A row goes on as `buildExpressionParser` of Text.Parsec.Expr does: after a right-associative
+    /// operator only such ones of the row are read, after a left-associative one only left-associative ones, and an operator that may
+    /// not follow is told as an ambiguous use, without consumption. The caller owes that the operators item is the grammar's, and
+    /// that the registry offers the builders. The only error is that memory ran out.
+    #[tactic(auto, using(crate::proofs::LevelStack::level_pushed, crate::proofs::LevelSteps::climb_hands, crate::proofs::LevelSteps::climb_runs))]
+    pub fn climb(
+        &mut self,
+        alloc: Global,
+        registry: &Registry,
+        given: Given<'a>,
+        setting: &Setting<'a>,
+        levels: &mut Vec<Level<'a>>,
+        stretch: Stretch,
+    ) -> Result<Climbed, AllocError>
+        requires item { given.grammar.now.operators ≡ Some setting.now.item.now }
+        requires offered { BuildersFit (offer_of registry.now) (all_builders setting.now.builders.now) }
+        ensures climbed { IfOk result (λ climbed. climbed_of climbed levels.new.items self.new ≡
+            on_climb (given_of given.entry) (setting_of setting.now) (levels_of levels.old.items) (stretch_of stretch self.old)) }
+    {
+        let mut stretch = stretch;
+        let mut look = look_at(given, setting, stretch.place);
+        while let Some(level) = levels.pop() {
+            look = look_on(look, stretch.place);
+            match self.level_on(alloc, registry, look, level, stretch)? {
+                Followed::Hands(next) => stretch = next,
+                Followed::Runs(runs) => {
+                    let place = self.operand_down(alloc, given, setting, levels, runs)?;
+                    return Ok(Climbed::Again(place));
+                }
+            }
+        }
+        Ok(Climbed::Ended(stretch))
+    }
+
+    /// What the levels make of a failure of the term, the innermost first. Whatever fails after a prefix or an infix operator has
+    /// consumed; the error of what had not is merged with the one from before. Trees and operators stay as they are. The only
+    /// error is that memory ran out.
+    #[tactic(auto, using(crate::proofs::LevelStack::level_pushed))]
+    pub fn fail_levels(
+        &mut self,
+        levels: &mut Vec<Level<'a>>,
+        failure: Failure,
+    ) -> Result<Failure, AllocError>
+        ensures failure { IfOk result (λ after. failure_of after self.new ≡ on_failed (levels_of levels.old.items) (failure_of failure self.old)) }
+        ensures forest { OnOk result (self.new.forest ≡ self.old.forest) }
+        ensures trail { OnOk result (self.new.trail ≡ self.old.trail) }
+    {
+        let mut failure = failure;
+        while let Some(level) = levels.pop() {
+            failure = self.level_failed(level, failure)?;
+        }
+        Ok(failure)
+    }
+
+    /// The same of one level.
+    fn level_failed(&mut self, level: Level<'a>, failure: Failure) -> Result<Failure, AllocError>
+        ensures failure { IfOk result (λ after. failure_of after self.new ≡ level_failed (level_of level.entry) (failure_of failure self.old)) }
+        ensures forest { OnOk result (self.new.forest ≡ self.old.forest) }
+        ensures trail { OnOk result (self.new.trail ≡ self.old.trail) }
+    {
+        match level {
+            Level::Row(level) => {
+                let consumed = was_read(level.prefix);
+                let failure = self.failed_after(consumed, level.entry, failure)?;
+                self.failed_before(level.before, failure)
+            }
+            Level::RightSide(operator) => self.failed_after(true, operator.after, failure),
+        }
+    }
+
+    /// The same of what precedes an operand.
+    fn failed_before(
+        &mut self,
+        before: Preceding<'a>,
+        failure: Failure,
+    ) -> Result<Failure, AllocError>
+        ensures failure { IfOk result (λ after. failure_of after self.new ≡ failed_before (preceding_of before.entry) (failure_of failure self.old)) }
+        ensures forest { OnOk result (self.new.forest ≡ self.old.forest) }
+        ensures trail { OnOk result (self.new.trail ≡ self.old.trail) }
+    {
+        match before {
+            Preceding::Nothing => Ok(failure),
+            Preceding::Right(operator) => self.failed_after(true, operator.after, failure),
+            Preceding::Left(operator) => self.failed_after(true, operator.after, failure),
+            Preceding::Non(operator) => self.failed_after(true, operator.after, failure),
+        }
+    }
+
+    /// The failure after an error that is kept, and after what consumed or not.
+    fn failed_after(
+        &mut self,
+        consumed: bool,
+        kept: KeptError,
+        failure: Failure,
+    ) -> Result<Failure, AllocError>
+        ensures failure { IfOk result (λ after. failure_of after self.new ≡ failed_after consumed kept (failure_of failure self.old)) }
+        ensures forest { OnOk result (self.new.forest ≡ self.old.forest) }
+        ensures trail { OnOk result (self.new.trail ≡ self.old.trail) }
+    {
+        let error = self.error_after(kept, failure.consumed, failure.error)?;
+        Ok(Failure {
+            consumed: consumed || failure.consumed,
+            error,
+        })
+    }
+}
+
+/// Whether a prefix was read.
+fn was_read(prefix: Option<&[char]>) -> bool
+    ensures { result ≡ was_read (option_copied prefix.entry) }
+{
+    match prefix {
+        Some(_) => true,
+        None => false,
+    }
+}

@@ -1,0 +1,100 @@
+//! The lists of a run, and what is cut from them and changed on them.
+
+ghost use Rattle.std.specs.Prelude.{◌≡◌, [], length, drop, slice_set, IfOk, OnOk};
+ghost use Rattle.pg_message_tape.specs.TapeErrors.{tape_error, tape_error_after, messages_after};
+ghost use Rattle.pg_lists.specs.RunTrees.{no_run_trees, first_trees};
+
+use crate::run_forest::RunForest;
+use pg_message_tape::{KeptError, MessageTape, TapeError};
+use pg_tree::Forest;
+use pg_value::TrailItem;
+use std::alloc::{AllocError, Global};
+
+/// The trees, the items of the trail and the messages of all that runs.
+#[derive(Drop)]
+pub struct Lists<'a> {
+    pub forest: RunForest,
+    pub trail: Vec<TrailItem>,
+    pub messages: MessageTape<'a>,
+}
+
+impl<'a> Lists<'a> {
+    /// Nothing lies on the lists. They take no memory.
+    pub fn new(alloc: Global) -> Lists<'a>
+        ensures forest { result.forest ≡ no_run_trees }
+        ensures trail { result.trail.items ≡ [] }
+        ensures messages { result.messages ≡ [] }
+    {
+        Lists {
+            forest: RunForest::new(alloc),
+            trail: Vec::new(alloc),
+            messages: MessageTape::new(alloc),
+        }
+    }
+
+    /// Drops the trees after the first `count`. It takes no memory.
+    #[inline(always)]
+    pub fn cut_forest(&mut self, count: usize)
+        ensures forest { self.new.forest ≡ first_trees count self.old.forest }
+        ensures trail { self.new.trail ≡ self.old.trail }
+        ensures messages { self.new.messages ≡ self.old.messages }
+    {
+        self.forest.cut(count);
+    }
+
+    /// The trees after the first `count` leave the forest; those that are only counted are dropped. The only error is that memory
+    /// ran out.
+    pub fn forest_after(&mut self, alloc: Global, count: usize) -> Result<Forest, AllocError>
+        ensures after { IfOk result (λ after. after ≡ drop count self.old.forest.kept) }
+        ensures forest { OnOk result (self.new.forest ≡ first_trees count self.old.forest) }
+        ensures trail { OnOk result (self.new.trail ≡ self.old.trail) }
+        ensures messages { OnOk result (self.new.messages ≡ self.old.messages) }
+    {
+        let after = self.forest.split_off(alloc, count)?;
+        Ok(after)
+    }
+
+    /// The error without messages at the place, in characters.
+    #[inline(always)]
+    pub fn no_messages_at(&self, place: usize) -> TapeError
+        ensures { result ≡ tape_error place (length self.now.messages) }
+    {
+        TapeError {
+            place,
+            from: self.messages.len(),
+        }
+    }
+
+    /// Replaces the item at a place of the trail, if there is one.
+    #[inline(always)]
+    pub fn note(&mut self, slot: usize, item: TrailItem)
+        ensures forest { self.new.forest ≡ self.old.forest }
+        ensures trail { self.new.trail.items ≡ slice_set self.old.trail.items slot item }
+        ensures messages { self.new.messages ≡ self.old.messages }
+    {
+        if slot < self.trail.len() {
+            self.trail[slot] = item;
+        }
+    }
+
+    /// The error after one that is kept, of an answer that consumed or not: its own if it consumed, else both merged, as Parsec
+    /// merges them. The only error is that memory ran out.
+    #[inline(always)]
+    pub fn error_after(
+        &mut self,
+        kept: KeptError,
+        consumed: bool,
+        error: TapeError,
+    ) -> Result<TapeError, AllocError>
+        ensures error { IfOk result (λ after. after ≡ tape_error_after consumed kept error self.old.messages) }
+        ensures forest { OnOk result (self.new.forest ≡ self.old.forest) }
+        ensures trail { OnOk result (self.new.trail ≡ self.old.trail) }
+        ensures messages { OnOk result (self.new.messages ≡ messages_after consumed kept error self.old.messages) }
+    {
+        if consumed {
+            return Ok(error);
+        }
+        let merged = self.messages.merge(kept, error)?;
+        Ok(merged)
+    }
+}

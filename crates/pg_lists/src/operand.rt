@@ -1,0 +1,137 @@
+//! A level of an expression is handed a stretch: it is an operand of the level's row, and what follows it is read.
+
+ghost use Rattle.std.specs.Prelude.{◌≡◌, ◌<◌, ℕ, Some, None, IfOk, OnOk};
+ghost use Rattle.std.specs.Option.{option_copied};
+ghost use Rattle.pg_expand.specs.Rows.{row_numbered};
+ghost use Rattle.pg_form.specs.Contents.{all_builders};
+ghost use Rattle.pg_pred.specs.Offer.{offer_of};
+ghost use Rattle.pg_expand.specs.declared.rows.Row.{Row};
+ghost use Rattle.pg_language.specs.Answers.{Given};
+ghost use Rattle.pg_lists.specs.declared.level.Stretch.{Stretch};
+ghost use Rattle.pg_value.specs.Fits.{BuildersFit};
+ghost use Rattle.pg_operators.specs.Standings.{read_of};
+ghost use Rattle.pg_lists.specs.TapeLevels.{from_entry, to_postfix, operand_of};
+ghost use Rattle.pg_lists.specs.ViewLevels.{given_of, setting_of, stretch_of, IsLook};
+
+use crate::level::{Look, RowLevel, Setting, Stretch};
+use crate::lists::Lists;
+use crate::said::no_affix_said;
+use crate::stretch::{apply, note_read};
+use pg_form::Role;
+use pg_operators::Read;
+use pg_pred::Registry;
+use pg_value::Fixity;
+use std::alloc::{AllocError, Global};
+
+impl<'a> Lists<'a> {
+    /// An operand of a row, with its prefix and its postfix.
+    #[tactic(auto, using(crate::proofs::RowSteps::operand_by))]
+    pub(crate) fn operand_of(
+        &mut self,
+        alloc: Global,
+        registry: &Registry,
+        look: Look<'_, 'a>,
+        level: RowLevel<'a>,
+        stretch: Stretch,
+    ) -> Result<Stretch, AllocError>
+        requires look { IsLook look }
+        requires place { stretch.place ≡ look.place }
+        requires row { 0 < level.row }
+        requires offered { BuildersFit (offer_of registry.now) (all_builders look.setting.now.builders.now) }
+        ensures stretch { IfOk result (λ after. stretch_of after self.new ≡
+            operand_of (given_of look.entry.given) (setting_of look.entry.setting.now)
+            (row_numbered look.entry.setting.now.in_force.value level.entry.row) (option_copied level.entry.prefix) level.entry.entry
+            level.entry.forest (stretch_of stretch self.old)) }
+    {
+        let stretch = self.from_entry(alloc, registry, look.setting, level, stretch)?;
+        match look.read(level.row, Role::Postfix) {
+            Some(read) => {
+                let setting = look.setting;
+                let stretch = self.with_postfix(alloc, registry, setting, level.forest, read)?;
+                Ok(stretch)
+            }
+            None => {
+                let stretch = self.without_postfix(look, level.row, stretch)?;
+                Ok(stretch)
+            }
+        }
+    }
+
+    /// The same where no postfix is read: an error is said.
+    fn without_postfix(
+        &mut self,
+        look: Look<'_, 'a>,
+        row: usize,
+        stretch: Stretch,
+    ) -> Result<Stretch, AllocError>
+        ensures stretch { IfOk result (λ after. (n : ℕ) → stretch_of after self.new ≡
+            to_postfix (given_of look.entry.given) (setting_of look.entry.setting.now) (row_numbered look.entry.setting.now.in_force.value row) n
+            (stretch_of stretch self.old) None) }
+    {
+        let any = look.setting.in_force.roles(row).postfix;
+        let said = no_affix_said(look.given.text, any, stretch.place);
+        self.said_after(said, stretch)
+    }
+
+    /// The same from its start on, with its prefix.
+    fn from_entry(
+        &mut self,
+        alloc: Global,
+        registry: &Registry,
+        setting: &Setting<'a>,
+        level: RowLevel<'a>,
+        stretch: Stretch,
+    ) -> Result<Stretch, AllocError>
+        requires { BuildersFit (offer_of registry.now) (all_builders setting.now.builders.now) }
+        ensures stretch { IfOk result (λ after. (given : Given) → stretch_of after self.new ≡
+            from_entry given (setting_of setting.now) (option_copied level.entry.prefix) level.entry.entry level.entry.forest (stretch_of stretch self.old)) }
+        ensures place { IfOk result (λ after. after.place ≡ stretch.place) }
+    {
+        match level.prefix {
+            Some(symbol) => {
+                let used = &setting.builders.prefix;
+                apply(
+                    alloc,
+                    registry,
+                    used,
+                    symbol,
+                    level.forest,
+                    &mut self.forest,
+                )?;
+                self.after_kept(true, level.entry, stretch)
+            }
+            None => self.after_kept(false, level.entry, stretch),
+        }
+    }
+
+    /// The same with the postfix that is read.
+    fn with_postfix(
+        &mut self,
+        alloc: Global,
+        registry: &Registry,
+        setting: &Setting<'a>,
+        forest: usize,
+        read: Read<'_, 'a>,
+    ) -> Result<Stretch, AllocError>
+        requires offered { BuildersFit (offer_of registry.now) (all_builders setting.now.builders.now) }
+        requires symbol { read.symbol.now ≡ read.operator.now.symbol }
+        ensures stretch { IfOk result (λ after. (given : Given) (row : Row) (stretch : Stretch) → stretch_of after self.new ≡
+            to_postfix given (setting_of setting.now) row forest (stretch_of stretch self.old) (Some (read_of read.entry))) }
+    {
+        let used = &setting.builders.postfix;
+        apply(alloc, registry, used, read.symbol, forest, &mut self.forest)?;
+        note_read(
+            alloc,
+            &mut self.trail,
+            setting.slot,
+            Fixity::Postfix,
+            read.symbol,
+        )?;
+        let error = self.no_messages_at(read.end);
+        Ok(Stretch {
+            consumed: true,
+            place: read.end,
+            error,
+        })
+    }
+}

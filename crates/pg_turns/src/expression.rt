@@ -1,0 +1,198 @@
+//! Expressions: rows of operators over a term.
+//!
+//! All that is done between two terms is one turn: the rows are handed what the term came to, one after the other, until one
+//! of them reads an infix operator, after which the term runs again, or the expression ends.
+
+ghost use Rattle.std.specs.Prelude.{◌≡◌, ◌∷◌, Some, IfOk};
+ghost use Rattle.pg_form.specs.Contents.{all_builders};
+ghost use Rattle.pg_pred.specs.Offer.{offer_of};
+ghost use Rattle.pg_value.specs.Fits.{BuildersFit};
+ghost use Rattle.pg_turns.specs.Tape.{tape_at, on_expression, tape_climbed, tape_expression, tape_failed, tape_to_expression};
+ghost use Rattle.pg_lists.specs.TapeLevels.{on_climb, on_failed};
+ghost use Rattle.pg_turns.specs.View.{on_lists, stack_of, tape_of};
+ghost use Rattle.pg_lists.specs.ViewLevels.{failure_of, given_of, levels_of, setting_of, stretch_of};
+
+use crate::frame::{Frame, Mode, Reply};
+use crate::machine::Machine;
+use pg_form::{NodeId, OperatorBuilders, OperatorsItem};
+use pg_lists::{Climbed, ExpressionFrame, Failure, Given, Setting, Stretch};
+use pg_operators::InForce;
+use pg_pred::Registry;
+use pg_table::Table;
+use pg_value::{AppliedOperators, TrailItem};
+use std::alloc::{AllocError, Global};
+use std::rc::Rc;
+
+impl<'a> Machine<'a> {
+    /// The rows of the table in force begin, and then the term, by the operators item, if there is one.
+    #[inline(never)]
+    pub(crate) fn enter_expression(
+        &mut self,
+        alloc: Global,
+        given: Given<'a>,
+        builders: &'a OperatorBuilders,
+        term: NodeId,
+        place: usize,
+    ) -> Result<Mode, AllocError>
+        ensures { IfOk result (λ mode. tape_of mode self.new ≡
+            on_lists (λ fs v t x T. tape_expression (given_of given.entry) builders.now term place fs v t x T given.entry.grammar.now.operators) self.old) }
+    {
+        match given.grammar.operators_item() {
+            Some(item) => self.enter_rows(alloc, given, item, builders, term, place),
+            None => Ok(Mode::Endless),
+        }
+    }
+
+    /// The same by this item.
+    #[tactic(auto, using(crate::proofs::ExpressionSteps::down_tape))]
+    fn enter_rows(
+        &mut self,
+        alloc: Global,
+        given: Given<'a>,
+        item: &'a OperatorsItem,
+        builders: &'a OperatorBuilders,
+        term: NodeId,
+        place: usize,
+    ) -> Result<Mode, AllocError>
+        requires { given.grammar.now.operators ≡ Some item.now }
+        ensures { IfOk result (λ mode. tape_of mode self.new ≡
+            on_lists (λ fs v t x T. tape_expression (given_of given.entry) builders.now term place fs v t x T (Some item.now)) self.old) }
+    {
+        let in_force = in_force(alloc, &mut self.in_force, &self.table)?;
+        let slot = self.lists.trail.len();
+        let none = AppliedOperators::new(Vec::new(alloc));
+        self.lists.trail.push(TrailItem::Ops(none))?;
+        let rows = in_force.rows();
+        let setting = Setting {
+            item,
+            builders,
+            term,
+            in_force,
+            slot,
+        };
+        let mut levels = Vec::with_capacity(alloc, rows)?;
+        let place = self
+            .lists
+            .down(alloc, given, &setting, &mut levels, rows, place)?;
+        let frame = Box::new(alloc, ExpressionFrame { setting, levels })?;
+        self.run_term(frame, place)
+    }
+
+    /// The term runs, and the frame waits for it.
+    fn run_term(
+        &mut self,
+        frame: Box<ExpressionFrame<'a>>,
+        place: usize,
+    ) -> Result<Mode, AllocError>
+        ensures { IfOk result (λ mode. tape_of mode self.new ≡
+            tape_at frame.entry.value.setting.term place
+            (on_expression (setting_of frame.entry.value.setting) (levels_of frame.entry.value.levels.items) ∷ stack_of self.old.frames.items)
+            self.old.lists.forest self.old.lists.trail.items self.old.lists.messages self.old.table) }
+    {
+        let term = frame.setting.term;
+        self.push(Frame::Expression(frame))?;
+        Ok(Mode::At(term, place))
+    }
+
+    /// An answer of the term is handed to the levels.
+    #[inline(never)]
+    pub(crate) fn hand_to_expression(
+        &mut self,
+        alloc: Global,
+        registry: &Registry,
+        given: Given<'a>,
+        frame: Box<ExpressionFrame<'a>>,
+        reply: Reply,
+    ) -> Result<Mode, AllocError>
+        requires item { given.grammar.now.operators ≡ Some frame.value.setting.item.now }
+        requires offered { BuildersFit (offer_of registry.now) (all_builders frame.value.setting.builders.now) }
+        ensures { IfOk result (λ mode. tape_of mode self.new ≡
+            on_lists (tape_to_expression (given_of given.entry) (setting_of frame.entry.value.setting) (levels_of frame.entry.value.levels.items) reply) self.old) }
+    {
+        match reply {
+            Reply::Succeeded {
+                consumed,
+                end,
+                error,
+            } => {
+                let stretch = Stretch {
+                    consumed,
+                    place: end,
+                    error,
+                };
+                self.hand_stretch(alloc, registry, given, frame, stretch)
+            }
+            Reply::Failed { consumed, error } => {
+                self.hand_failure(frame, Failure { consumed, error })
+            }
+            Reply::EmptyRound => Ok(Mode::With(Reply::EmptyRound)),
+        }
+    }
+
+    /// The term was ok.
+    #[tactic(auto, using(crate::proofs::ExpressionSteps::again_tape, crate::proofs::ExpressionSteps::ended_tape))]
+    fn hand_stretch(
+        &mut self,
+        alloc: Global,
+        registry: &Registry,
+        given: Given<'a>,
+        mut frame: Box<ExpressionFrame<'a>>,
+        stretch: Stretch,
+    ) -> Result<Mode, AllocError>
+        requires item { given.grammar.now.operators ≡ Some frame.value.setting.item.now }
+        requires offered { BuildersFit (offer_of registry.now) (all_builders frame.value.setting.builders.now) }
+        ensures { IfOk result (λ mode. tape_of mode self.new ≡
+            tape_climbed (given_of given.entry) (setting_of frame.entry.value.setting)
+            (on_climb (given_of given.entry) (setting_of frame.entry.value.setting) (levels_of frame.entry.value.levels.items) (stretch_of stretch self.old.lists))
+            (stack_of self.old.frames.items) self.old.table) }
+    {
+        let ExpressionFrame { setting, levels } = &mut *frame;
+        let climbed = self
+            .lists
+            .climb(alloc, registry, given, setting, levels, stretch)?;
+        match climbed {
+            Climbed::Ended(stretch) => Ok(Mode::With(Reply::Succeeded {
+                consumed: stretch.consumed,
+                end: stretch.place,
+                error: stretch.error,
+            })),
+            Climbed::Again(place) => self.run_term(frame, place),
+        }
+    }
+
+    /// The term failed.
+    #[tactic(auto, using(crate::proofs::ExpressionSteps::failed_tape))]
+    fn hand_failure(
+        &mut self,
+        mut frame: Box<ExpressionFrame<'a>>,
+        failure: Failure,
+    ) -> Result<Mode, AllocError>
+        ensures { IfOk result (λ mode. tape_of mode self.new ≡
+            tape_failed (on_failed (levels_of frame.entry.value.levels.items) (failure_of failure self.old.lists))
+            (stack_of self.old.frames.items) self.old.lists.forest self.old.lists.trail.items self.old.table) }
+    {
+        let failure = self.lists.fail_levels(&mut frame.levels, failure)?;
+        Ok(Mode::With(Reply::Failed {
+            consumed: failure.consumed,
+            error: failure.error,
+        }))
+    }
+}
+
+/// The operators of the table, with what rows ask of them: the last ones, if they are these.
+fn in_force(
+    alloc: Global,
+    last: &mut Option<Rc<InForce>>,
+    table: &Table,
+) -> Result<Rc<InForce>, AllocError>
+    ensures { IfOk result (λ in_force. in_force.value ≡ table.now.operators) }
+{
+    if let Some(in_force) = last {
+        if in_force.is_of(table.operators()) {
+            return in_force.clone();
+        }
+    }
+    let made = Rc::new(alloc, InForce::of(alloc, table)?)?;
+    *last = Some(made.clone()?);
+    Ok(made)
+}
