@@ -21,6 +21,11 @@ module _ (G : Given) (e : OnSetting) where
       begun G e row i before l (row_numbered e.operators row) got ≡ row_begun G e row i before l
   begun_by row i before l got h = ap (λ (got : Option Read). begun G e row i before l (row_numbered e.operators row) got) h
 
+  -- from an operand's start on, by the prefix that was read, if any
+  pub entry_by : (prefix got : Option (List ℕ)) (entry : KeptError) (n : ℕ) (z w : OnStretch) → w ≡ from_entry G e got entry n z → prefix ≡ got →
+      w ≡ from_entry G e prefix entry n z
+  entry_by prefix got entry n z w last same = last ∙ ap (λ (prefix : Option (List ℕ)). from_entry G e prefix entry n z) (sym same)
+
   -- an operand of a row, by the postfix that is read
   pub operand_by : (row i n : ℕ) (prefix : Option (List ℕ)) (entry : KeptError) (z y w : OnStretch) (got : Option Read) →
       w ≡ to_postfix G e (row_numbered e.operators row) n y got → y ≡ from_entry G e prefix entry n z → y.place ≡ i → got ≡ read_in row i Postfix →

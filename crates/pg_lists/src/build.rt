@@ -32,9 +32,30 @@ pub fn build_after(
     forest.push(made(alloc, registry, used, symbol, kids)?)
 }
 
+/// The same, and the tree begins a stretch: it is taken again where an operator or a link comes before or after it, without being
+/// gone through.
+pub fn build_stretch(
+    alloc: Global,
+    registry: &Registry,
+    used: &BuilderUse,
+    symbol: &str,
+    count: usize,
+    forest: &mut RunForest,
+) -> Result<(), AllocError>
+    requires { builder_shape (offer_of registry.now) used.now.name ≡ Some used.now.shape }
+    ensures { OnOk result (forest.new ≡ built_after used.now.shape symbol.now count forest.old) }
+{
+    if forest.keeps() {
+        let taken = forest.split_off(alloc, count)?;
+        forest.open(alloc)?;
+        return forest.push(made(alloc, registry, used, symbol, taken)?);
+    }
+    forest.count_as_one(count)
+}
+
 /// The tree that the registry's builder makes of the symbol and these trees, the first on the left. The caller owes that the
 /// registry offers the builder. The only error is that memory ran out.
-pub fn made(
+fn made(
     alloc: Global,
     registry: &Registry,
     used: &BuilderUse,

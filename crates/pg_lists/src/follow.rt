@@ -167,17 +167,8 @@ impl<'a> Lists<'a> {
         match look.read(level.row, Role::InfixRight) {
             Some(read) => {
                 let (slot, forest, messages) = (look.setting.slot, level.forest, level.messages);
-                let side = Sided::Right;
-                self.run_after(
-                    alloc,
-                    slot,
-                    tighter,
-                    read,
-                    forest,
-                    messages,
-                    side,
-                    Some(operator),
-                )
+                let (side, between) = (Sided::Right, Some(operator));
+                self.run_after(alloc, slot, tighter, read, forest, messages, side, between)
             }
             None => {
                 let stretch = self.end_right(alloc, registry, look, level.row, operator, stretch)?;
@@ -211,16 +202,8 @@ impl<'a> Lists<'a> {
             Some(read) => {
                 join(alloc, registry, look.setting, operator, &mut self.forest)?;
                 let (slot, forest, messages) = (look.setting.slot, operator.forest, level.messages);
-                self.run_after(
-                    alloc,
-                    slot,
-                    tighter,
-                    read,
-                    forest,
-                    messages,
-                    Sided::Left,
-                    None,
-                )
+                let (side, between) = (Sided::Left, None);
+                self.run_after(alloc, slot, tighter, read, forest, messages, side, between)
             }
             None => {
                 let stretch = self.end_left(alloc, registry, look, level.row, operator, stretch)?;
@@ -229,7 +212,8 @@ impl<'a> Lists<'a> {
         }
     }
 
-    /// An operand runs after an infix operator that was read after a stretch: it is noted, and so many messages are left.
+    /// An operand runs after an infix operator that was read after a stretch: it is noted, and so many messages are left. The
+    /// operand's trees begin a stretch of the forest, so that none moves when they are taken.
     fn run_after(
         &mut self,
         alloc: Global,
@@ -248,6 +232,7 @@ impl<'a> Lists<'a> {
     {
         note_read(alloc, &mut self.trail, slot, Fixity::Infix, read.symbol)?;
         self.messages.cut(messages);
+        self.forest.open(alloc)?;
         let after = KeptError {
             place: read.end,
             from: messages,

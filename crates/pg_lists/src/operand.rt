@@ -88,20 +88,36 @@ impl<'a> Lists<'a> {
         ensures place { IfOk result (λ after. after.place ≡ stretch.place) }
     {
         match level.prefix {
-            Some(symbol) => {
-                let used = &setting.builders.prefix;
-                apply(
-                    alloc,
-                    registry,
-                    used,
-                    symbol,
-                    level.forest,
-                    &mut self.forest,
-                )?;
-                self.after_kept(true, level.entry, stretch)
-            }
+            Some(symbol) => self.with_prefix(alloc, registry, setting, symbol, level, stretch),
             None => self.after_kept(false, level.entry, stretch),
         }
+    }
+
+    /// The same with the prefix that was read.
+    fn with_prefix(
+        &mut self,
+        alloc: Global,
+        registry: &Registry,
+        setting: &Setting<'a>,
+        symbol: &'a [char],
+        level: RowLevel<'a>,
+        stretch: Stretch,
+    ) -> Result<Stretch, AllocError>
+        requires { BuildersFit (offer_of registry.now) (all_builders setting.now.builders.now) }
+        ensures stretch { IfOk result (λ after. (given : Given) → stretch_of after self.new ≡
+            from_entry given (setting_of setting.now) (Some symbol.now) level.entry.entry level.entry.forest (stretch_of stretch self.old)) }
+        ensures place { IfOk result (λ after. after.place ≡ stretch.place) }
+    {
+        let used = &setting.builders.prefix;
+        apply(
+            alloc,
+            registry,
+            used,
+            symbol,
+            level.forest,
+            &mut self.forest,
+        )?;
+        self.after_kept(true, level.entry, stretch)
     }
 
     /// The same with the postfix that is read.

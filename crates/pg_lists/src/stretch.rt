@@ -8,7 +8,7 @@ ghost use Rattle.pg_value.specs.declared.trail.TrailItem.TheVariants.{Ops};
 ghost use Rattle.pg_lists.specs.TapeLevels.{said_after, after_kept, noted_read, with_read};
 ghost use Rattle.pg_lists.specs.ViewLevels.{said_of, stretch_of};
 
-use crate::build::build_after;
+use crate::build::build_stretch;
 use crate::level::Stretch;
 use crate::lists::Lists;
 use crate::run_forest::RunForest;
@@ -28,6 +28,7 @@ impl<'a> Lists<'a> {
         stretch: Stretch,
     ) -> Result<Stretch, AllocError>
         ensures stretch { IfOk result (λ after. stretch_of after self.new ≡ said_after (said_of said.entry) (stretch_of stretch self.old)) }
+        ensures place { IfOk result (λ after. after.place ≡ stretch.place) }
     {
         let error = merge_said(&mut self.messages, said, stretch.error)?;
         Ok(Stretch {
@@ -46,6 +47,7 @@ impl<'a> Lists<'a> {
         stretch: Stretch,
     ) -> Result<Stretch, AllocError>
         ensures stretch { IfOk result (λ after. stretch_of after self.new ≡ after_kept consumed kept (stretch_of stretch self.old)) }
+        ensures place { IfOk result (λ after. after.place ≡ stretch.place) }
     {
         let error = self.error_after(kept, stretch.consumed, stretch.error)?;
         Ok(Stretch {
@@ -120,5 +122,5 @@ pub(crate) fn apply(
         return forest.count_as_one(count);
     }
     let symbol = utf8(alloc, symbol)?;
-    build_after(alloc, registry, used, symbol.as_str(), count, forest)
+    build_stretch(alloc, registry, used, symbol.as_str(), count, forest)
 }

@@ -3,7 +3,7 @@
 //! At the nodes of a checked grammar nothing is wrong, so that the start rule has an answer to each text and the machine
 //! comes to it: the run goes on until it is there, however many turns that takes. After an ok answer the text has to end.
 
-ghost use Rattle.std.specs.Prelude.{◌≡◌, ◌≤◌, length, IfOk, IfSome, IfNone};
+ghost use Rattle.std.specs.Prelude.{◌≡◌, ◌≤◌, length, IfOk, OnOk, IfSome, IfNone};
 ghost use Rattle.pg_value.specs.Fits.{Fits};
 ghost use Rattle.pg_pred.specs.Offer.{offer_of};
 ghost use Rattle.pg_table.specs.Tables.{ComesFrom};
@@ -12,6 +12,7 @@ ghost use Rattle.pg_derive.specs.Accepted.{Accepts};
 ghost use Rattle.pg_derive.specs.LeastSets.{node_sets};
 ghost use Rattle.pg_derive.specs.PredictiveLaws.{LosesNoAlternative, EachRoundConsumes, EachLinkConsumes};
 ghost use Rattle.pg_language.specs.Answers.{given};
+ghost use Rattle.pg_language.specs.Errors.{merge, without_position};
 ghost use Rattle.pg_language.specs.WholeTexts.{at_end};
 ghost use Rattle.pg_language.specs.declared.reading.Reading.TheVariants.{Library};
 ghost use Rattle.pg_message_tape.specs.Messages.{end_error};
@@ -23,6 +24,7 @@ use crate::answer::{Answer, Outcome};
 use crate::probing::{ended, start_of};
 use pg_class_tables::ClassTables;
 use pg_language::Reading;
+use pg_message::ParseError;
 use pg_pred::Registry;
 use pg_predict::Checked;
 use pg_table::Table;
@@ -139,8 +141,7 @@ fn whole_answer(alloc: Global, text: &Text, answer: Answer) -> Result<Answer, Al
             success: None,
         });
     };
-    let said = error_at_end(alloc, text, success.place)?;
-    error.merge(said)?;
+    say_end(alloc, text, success.place, &mut error)?;
     // The end is a node more: it is entered, and its answer is handed on.
     let steps = steps.saturating_add(2);
     let ends = success.place == text.len();
@@ -151,4 +152,20 @@ fn whole_answer(alloc: Global, text: &Text, answer: Answer) -> Result<Answer, Al
         steps,
         success,
     })
+}
+
+/// What is said at the place, where the text has to end, comes after the error of what was read up to it. The only error
+/// is that memory ran out.
+fn say_end(
+    alloc: Global,
+    text: &Text,
+    place: usize,
+    error: &mut ParseError,
+) -> Result<(), AllocError>
+    requires { error.old.position ≡ position_of text.now error.old.place }
+    ensures error { OnOk result (without_position error.new ≡ merge (without_position error.old) (end_error text.now place)) }
+    ensures position { OnOk result (error.new.position ≡ position_of text.now error.new.place) }
+{
+    let said = error_at_end(alloc, text, place)?;
+    error.merge(said)
 }

@@ -14,7 +14,7 @@ ghost use Rattle.pg_message_tape.specs.TapeErrors.{tape_error, kept_at, merged_t
 use crate::frame::{Before, ChainFrame, Frame, LinksFrame, Marks, Mode, Reply};
 use crate::machine::Machine;
 use pg_form::{BuilderUse, Side};
-use pg_lists::{RunForest, made};
+use pg_lists::{RunForest, build_stretch};
 use pg_message_tape::{KeptError, TapeError};
 use pg_pred::Registry;
 use pg_value::TrailItem;
@@ -283,7 +283,7 @@ fn fold(
     ensures forest { OnOk result (forest.new ≡ link_forest links.old.chain.side links.old.chain.used.now.shape links.old.left forest.old) }
 {
     match links.chain.side {
-        Side::Left => build_link(alloc, registry, links.chain.used, links.left, forest),
+        Side::Left => { build_stretch(alloc, registry, links.chain.used, "", links.left, forest) }
         Side::Right => {
             let left = links.left;
             links.waiting.push(left)?;
@@ -313,25 +313,6 @@ fn count_link(links: &mut LinksFrame<'_>, kept: KeptError, end: usize, marks: Ma
     links.marks = marks;
 }
 
-/// Makes the trees after the first into one, if trees are kept, which begins a stretch: it is taken again where a link comes before or after it.
-fn build_link(
-    alloc: Global,
-    registry: &Registry,
-    used: &BuilderUse,
-    count: usize,
-    forest: &mut RunForest,
-) -> Result<(), AllocError>
-    requires { builder_shape (offer_of registry.now) used.now.name ≡ Some used.now.shape }
-    ensures { OnOk result (forest.new ≡ built_after used.now.shape [] count forest.old) }
-{
-    if !forest.keeps() {
-        return forest.count_as_one(count);
-    }
-    let kids = forest.split_off(alloc, count)?;
-    forest.open(alloc)?;
-    forest.push(made(alloc, registry, used, "", kids)?)
-}
-
 /// Makes the trees after each of these places into one, from the last place on.
 fn build_waiting(
     alloc: Global,
@@ -344,7 +325,7 @@ fn build_waiting(
     ensures { OnOk result (forest.new ≡ all_built used.now.shape (reverse places.old.items) forest.old) }
 {
     while let Some(place) = places.pop() {
-        build_link(alloc, registry, used, place, forest)?;
+        build_stretch(alloc, registry, used, "", place, forest)?;
     }
     Ok(())
 }

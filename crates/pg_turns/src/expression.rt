@@ -63,12 +63,15 @@ impl<'a> Machine<'a> {
         let none = AppliedOperators::new(Vec::new(alloc));
         self.lists.trail.push(TrailItem::Ops(none))?;
         let rows = in_force.rows();
+        let forest = self.lists.forest.len();
+        self.lists.forest.open(alloc)?;
         let setting = Setting {
             item,
             builders,
             term,
             in_force,
             slot,
+            forest,
         };
         let mut levels = Vec::with_capacity(alloc, rows)?;
         let place = self
@@ -151,11 +154,14 @@ impl<'a> Machine<'a> {
             .lists
             .climb(alloc, registry, given, setting, levels, stretch)?;
         match climbed {
-            Climbed::Ended(stretch) => Ok(Mode::With(Reply::Succeeded {
-                consumed: stretch.consumed,
-                end: stretch.place,
-                error: stretch.error,
-            })),
+            Climbed::Ended(stretch) => {
+                self.lists.forest.close(setting.forest)?;
+                Ok(Mode::With(Reply::Succeeded {
+                    consumed: stretch.consumed,
+                    end: stretch.place,
+                    error: stretch.error,
+                }))
+            }
             Climbed::Again(place) => self.run_term(frame, place),
         }
     }
@@ -171,6 +177,7 @@ impl<'a> Machine<'a> {
             tape_failed (on_failed (levels_of frame.entry.value.levels.items) (failure_of failure self.old.lists))
             (stack_of self.old.frames.items) self.old.lists.forest self.old.lists.trail.items self.old.table) }
     {
+        self.lists.forest.close(frame.setting.forest)?;
         let failure = self.lists.fail_levels(&mut frame.levels, failure)?;
         Ok(Mode::With(Reply::Failed {
             consumed: failure.consumed,
