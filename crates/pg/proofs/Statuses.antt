@@ -3,14 +3,14 @@ use Rattle.std.proofs.Common.{◌≡◌, ℕ, List, true, false, Option, sym, su
 use Rattle.pg_pred.specs.Offer.{Offer}
 use Rattle.pg_language.specs.declared.reading.Reading.{Reading}
 use Rattle.pg_grammar_bench.specs.Checking.{IsChecked}
-use Rattle.pg_grammar_bench.specs.Faults.{IsCheckRefusal, IsPrintRefusal, IfRefused, IfParseError}
+use Rattle.pg_grammar_bench.specs.Faults.{IsPageRefusal, IfRefused, IfParseError}
 use Rattle.pg_grammar_bench.specs.Files.{AreFindingsOf}
 use Rattle.pg_bench.specs.Parsed.{IsParsed, IsErrorOf}
 use Rattle.pg_grammar_bench.specs.Printing.{IsPrinted}
 use Rattle.pg_bench.specs.Probing.{IsProbed}
 use Rattle.pg_grammar_bench.specs.Showing.{IsShownFile}
 use Rattle.pg_grammar_bench.specs.declared.fault.BenchFault.{BenchFault}
-use Rattle.pg_grammar_bench.specs.declared.fault.BenchFault.TheVariants.{File, NotRun, Refused, Reader, NotUtf8, TooLong, ParseError, Writer, Memory}
+use Rattle.pg_grammar_bench.specs.declared.fault.BenchFault.TheVariants.{File, Refused, Reader, NotUtf8, TooLong, ParseError, Writer, Memory}
 use Rattle.pg.specs.Status.{status_of, IsStatus, yes, no, unusable, out_of_memory, Refuses, IsCheckStatus, IsParseStatus, IsProbeStatus, IsPrintStatus}
 
 -- ---- a check
@@ -21,13 +21,12 @@ accepted_status offer file writer held h = yes (h.said, h.judged)
 pub refused_status : (offer : Offer) (file : List ℕ) (writer held : Option (List ℕ)) → IsChecked offer file writer held false → IsCheckStatus offer file 1
 refused_status offer file writer held h = no (h.said, h.judged)
 
-pub check_fault_status : (offer : Offer) (file : List ℕ) (fault : BenchFault) (status : ℕ) → IsCheckRefusal fault → status ≡ status_of fault
+pub check_fault_status : (offer : Offer) (file : List ℕ) (fault : BenchFault) (status : ℕ) → IsPageRefusal fault → status ≡ status_of fault
     → IsCheckStatus offer file status
 check_fault_status offer file fault status h is = subst (IsCheckStatus offer file) (sym is) (own fault h)
   where
-    own : (f : BenchFault) → IsCheckRefusal f → IsCheckStatus offer file (status_of f)
+    own : (f : BenchFault) → IsPageRefusal f → IsCheckStatus offer file (status_of f)
     own (File f) h = unusable
-    own NotRun h = unusable
     own Writer h = unusable
     own Memory h = out_of_memory
     own _ h = absurd h
@@ -47,7 +46,6 @@ parse_fault_status offer file reader left fault status findings error is = subst
     own (ParseError e) h k = no (inr (left, e, k))
     own Memory h k = out_of_memory
     own (File f) h k = unusable
-    own NotRun h k = unusable
     own Reader h k = unusable
     own NotUtf8 h k = unusable
     own TooLong h k = unusable
@@ -73,7 +71,6 @@ probe_fault_status offer file reader name most reading fault status findings err
     own (ParseError e) h k = absurd k
     own Memory h k = out_of_memory
     own (File f) h k = unusable
-    own NotRun h k = unusable
     own Reader h k = unusable
     own NotUtf8 h k = unusable
     own TooLong h k = unusable
@@ -87,11 +84,11 @@ printed_status offer file writer held h = yes (h.grammar, h.spelled, tt)
 pub shown_status : (offer : Offer) (file : List ℕ) (writer held : Option (List ℕ)) → IsShownFile offer file writer held → IsPrintStatus offer file 0
 shown_status offer file writer held h = yes (h.grammar, h.spelled, tt)
 
-pub print_fault_status : (offer : Offer) (file : List ℕ) (fault : BenchFault) (status : ℕ) → IsPrintRefusal fault → status ≡ status_of fault
+pub print_fault_status : (offer : Offer) (file : List ℕ) (fault : BenchFault) (status : ℕ) → IsPageRefusal fault → status ≡ status_of fault
     → IsPrintStatus offer file status
 print_fault_status offer file fault status h is = subst (IsPrintStatus offer file) (sym is) (own fault h)
   where
-    own : (f : BenchFault) → IsPrintRefusal f → IsPrintStatus offer file (status_of f)
+    own : (f : BenchFault) → IsPageRefusal f → IsPrintStatus offer file (status_of f)
     own (File f) h = unusable
     own Writer h = unusable
     own Memory h = out_of_memory

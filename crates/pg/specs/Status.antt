@@ -10,12 +10,11 @@ use Rattle.pg_grammar_bench.specs.Files.{AreFindingsOf, SpellsAny}
 use Rattle.pg_bench.specs.Parsed.{IsForestOf, IsErrorOf}
 use Rattle.pg_bench.specs.Probing.{IsShown}
 use Rattle.pg_grammar_bench.specs.declared.fault.BenchFault.{BenchFault}
-use Rattle.pg_grammar_bench.specs.declared.fault.BenchFault.TheVariants.{File, NotRun, Refused, Reader, NotUtf8, TooLong, ParseError, Writer, Memory}
+use Rattle.pg_grammar_bench.specs.declared.fault.BenchFault.TheVariants.{File, Refused, Reader, NotUtf8, TooLong, ParseError, Writer, Memory}
 
 -- the exit status of a fault: 1 if the grammar isn't accepted or the text isn't the grammar's, 2 if something can't be used, 3 if memory ran out
 abbrev pub status_of : BenchFault → ℕ
 status_of (File fault) = 2
-status_of NotRun = 2
 status_of (Refused findings) = 1
 status_of Reader = 2
 status_of NotUtf8 = 2

@@ -5,12 +5,11 @@ use Rattle.pg_message.specs.Printed.{printed}
 use Rattle.pg_predict.specs.declared.finding.Finding.{Finding}
 use Rattle.pg_grammar_bench.specs.Texts.{fault_text}
 use Rattle.pg_grammar_bench.specs.declared.fault.BenchFault.{BenchFault}
-use Rattle.pg_grammar_bench.specs.declared.fault.BenchFault.TheVariants.{File, NotRun, Refused, Reader, NotUtf8, TooLong, ParseError, Writer, Memory}
+use Rattle.pg_grammar_bench.specs.declared.fault.BenchFault.TheVariants.{File, Refused, Reader, NotUtf8, TooLong, ParseError, Writer, Memory}
 
 -- what stands before a fault: the grammar file's name, the text's name, or nothing
 abbrev pub front_of : BenchFault → List ℕ → List ℕ → List ℕ
 front_of (File fault) grammar text = grammar ++ codes ":"
-front_of NotRun grammar text = grammar ++ codes ": "
 front_of (Refused findings) grammar text = grammar ++ codes ": "
 front_of Reader grammar text = text ++ codes ": "
 front_of NotUtf8 grammar text = text ++ codes ": "
@@ -31,7 +30,6 @@ finding_line finding = string_bytes finding.line ++ codes "\n"
 -- and else the fault's line
 abbrev pub lines_of : BenchFault → List ℕ → List ℕ → List (List ℕ)
 lines_of (File fault) grammar text = line_of (File fault) grammar text ∷ []
-lines_of NotRun grammar text = line_of NotRun grammar text ∷ []
 lines_of (Refused findings) grammar text = map finding_line findings.items
 lines_of Reader grammar text = line_of Reader grammar text ∷ []
 lines_of NotUtf8 grammar text = line_of NotUtf8 grammar text ∷ []

@@ -43,7 +43,6 @@ fn lines(
         BenchFault::Refused(findings) => finding_lines(alloc, findings.as_slice()),
         BenchFault::ParseError(error) => single(alloc, render(alloc, error, text)?),
         BenchFault::File(_)
-        | BenchFault::NotRun
         | BenchFault::Reader
         | BenchFault::NotUtf8
         | BenchFault::TooLong
@@ -77,7 +76,6 @@ fn status(fault: &BenchFault) -> u8
     match fault {
         BenchFault::Refused(_) | BenchFault::ParseError(_) => 1,
         BenchFault::File(_)
-        | BenchFault::NotRun
         | BenchFault::Reader
         | BenchFault::NotUtf8
         | BenchFault::TooLong
@@ -101,7 +99,7 @@ fn front<'a>(fault: &BenchFault, grammar: &'a str, text: &'a str) -> (&'a str, &
 {
     match fault {
         BenchFault::File(_) => (grammar, ":"),
-        BenchFault::NotRun | BenchFault::Refused(_) => (grammar, ": "),
+        BenchFault::Refused(_) => (grammar, ": "),
         BenchFault::Reader
         | BenchFault::NotUtf8
         | BenchFault::TooLong

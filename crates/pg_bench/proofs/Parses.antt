@@ -17,11 +17,10 @@ use Rattle.pg_machine.specs.Outcomes.{outcome_with}
 use Rattle.pg_machine.specs.declared.answer.Answer.{Answer}
 use Rattle.pg_machine.specs.declared.answer.Success.{Success}
 use Rattle.pg_predict.specs.Checked.{GrammarWithSets, IsChecked}
-use Rattle.pg_predict.specs.Expressions.{HasNoExpressions}
-use Rattle.pg_grammar_bench.specs.Files.{IsFaultOfFile, SpellsOther, AreFindingsOf}
+use Rattle.pg_grammar_bench.specs.Files.{IsFaultOfFile, AreFindingsOf}
 use Rattle.pg_grammar_bench.specs.Faults.{IsGrammarRefusal, IfFile, IfRefused}
 use Rattle.pg_grammar_bench.specs.declared.fault.BenchFault.{BenchFault}
-use Rattle.pg_grammar_bench.specs.declared.fault.BenchFault.TheVariants.{File, NotRun, Refused, Reader, NotUtf8, TooLong, ParseError, Memory}
+use Rattle.pg_grammar_bench.specs.declared.fault.BenchFault.TheVariants.{File, Refused, Reader, NotUtf8, TooLong, ParseError, Memory}
 use Rattle.pg_bench.specs.Parsed.{IsSpelledBy, IsForestOf, IsForestOfAnswer, IsForestOfBytes, ReadsText}
 use Rattle.pg_bench.specs.Refusals.{IsErrorOfAnswer, IsWell, IsReadRefusal, IsTextRefusal, IsParseRefusal, IsRunRefusal, IsTextFault, IsForestRefusal}
 use Rattle.pg_derive.specs.LeastSets.{node_sets}
@@ -29,7 +28,7 @@ use Rattle.pg_derive.specs.PredictiveLaws.{LosesNoAlternative, EachRoundConsumes
 use Rattle.pg_bench.specs.Promise.{IsAccepted, CommitsRightly, IsForestOfText, IsErrorOfText}
 
 pub accepted_grammar : (checked : GrammarWithSets) → IsChecked checked → IsAccepted checked.grammar
-accepted_grammar checked is = record { plain = is.plain; faultless = is.faultless }
+accepted_grammar checked is = record { faultless = is.faultless }
 
 commits_rightly : (checked : GrammarWithSets) (text : List ℕ) → IsChecked checked
     → LosesNoAlternative (given Library checked.grammar text) (node_sets checked.grammar checked.sets) → EachRoundConsumes (given Library checked.grammar text)
@@ -123,13 +122,12 @@ forest_of_file offer file reader left g forest spelled accepted h =
 
 -- what refuses the grammar of a file
 pub grammar_refused : {R : Type 0} (offer : Offer) (file : List ℕ) (before : Metered R) (reader left : Option (List ℕ)) (fault : BenchFault)
-    → IsGrammarRefusal fault → IfFile (IsFaultOfFile offer file) fault → (fault ≡ NotRun → SpellsOther HasNoExpressions offer file)
+    → IsGrammarRefusal fault → IfFile (IsFaultOfFile offer file) fault
     → IfRefused (AreFindingsOf offer file) fault → IsForestRefusal offer file before before reader left fault
-grammar_refused offer file before reader left (File fault) h is other findings = (is, refl)
-grammar_refused offer file before reader left NotRun h is other findings = (other refl, refl)
-grammar_refused offer file before reader left (Refused findings) h is other are = (are, refl)
-grammar_refused offer file before reader left Memory h is other findings = tt
-grammar_refused offer file before reader left _ h is other findings = absurd h
+grammar_refused offer file before reader left (File fault) h is findings = (is, refl)
+grammar_refused offer file before reader left (Refused findings) h is are = (are, refl)
+grammar_refused offer file before reader left Memory h is findings = tt
+grammar_refused offer file before reader left _ h is findings = absurd h
 
 -- what refuses a text by it
 pub reading_refused_file : {R : Type 0} (offer : Offer) (file : List ℕ) (before after : Metered R) (reader left : Option (List ℕ)) (g : Grammar)

@@ -14,13 +14,11 @@ use Rattle.pg_language.specs.WholeTexts.{AnswersText}
 use Rattle.pg_language.specs.declared.reading.Reading.TheVariants.{Library}
 use Rattle.pg_sets.specs.Sets.{Sets, AreSets}
 use Rattle.pg_predict.specs.Conditions.{IsFaultless}
-use Rattle.pg_predict.specs.Expressions.{HasNoExpressions}
 use Rattle.pg_derive.specs.LeastSets.{node_sets}
 use Rattle.pg_derive.specs.PredictiveLaws.{LosesNoAlternative, EachRoundConsumes, EachLinkConsumes}
 
--- nothing is wrong at any node of the grammar, and no text reads expressions
+-- nothing is wrong at any node of the grammar
 pub record IsAccepted (g : Grammar) : Type 0 where
-  pub plain : HasNoExpressions g
   pub faultless : IsFaultless g
 
 -- on this text no choice loses an alternative to consumed input, where what can follow it is what its least follow set says, and

@@ -7,9 +7,8 @@ use Rattle.pg_tree.specs.Meter.{Metered, saturating_sum}
 use Rattle.pg_pred.specs.Offer.{Offer}
 use Rattle.pg_value.specs.Grammar.{Grammar}
 use Rattle.pg_machine.specs.declared.answer.Answer.{Answer}
-use Rattle.pg_predict.specs.Expressions.{HasNoExpressions}
 use Rattle.pg_predict.specs.declared.finding.Finding.{Finding}
-use Rattle.pg_grammar_bench.specs.Files.{AreFindingsOf, IsFaultOfFile, SpellsSome, SpellsOther}
+use Rattle.pg_grammar_bench.specs.Files.{AreFindingsOf, IsFaultOfFile, SpellsSome}
 use Rattle.pg_grammar_bench.specs.Faults.{Claimed, memory_alone}
 use Rattle.pg_grammar_bench.specs.declared.fault.BenchFault.{BenchFault}
 use Rattle.pg_bench.specs.Parsed.{IsErrorOf, IsErrorOfBytes, ReadsText}
@@ -72,14 +71,13 @@ IsProbeFault before after reader left =
       too_long = IsWell before after × ReadsText reader left (λ bytes. IsUtf8 bytes × (LIMIT < length (chars bytes)));
     })
 
--- what a run refuses with before it writes, by a grammar of this kind that a file spells: as not run, with findings or with an
--- error only where this is claimed of it
-abbrev pub IsFilesRefusal : {R : Type 0} → (Grammar → Type 0) → Type 0 → (List Finding → Type 0) → (message.ParseError → Type 0) → Offer → List ℕ
+-- what a run refuses with before it writes, by a grammar of this kind that a file spells: with findings or with an error only
+-- where this is claimed of them
+abbrev pub IsFilesRefusal : {R : Type 0} → (Grammar → Type 0) → (List Finding → Type 0) → (message.ParseError → Type 0) → Offer → List ℕ
     → Metered R → Metered R → Option (List ℕ) → Option (List ℕ) → BenchFault → Type 0
-IsFilesRefusal Is Unrun Finds Errs offer file before after reader left =
+IsFilesRefusal Is Finds Errs offer file before after reader left =
     Claimed (record memory_alone {
       file = λ fault. IsFaultOfFile offer file fault × (after ≡ before);
-      not_run = Unrun × (after ≡ before);
       refused = λ findings. Finds findings × (after ≡ before);
       reader = SpellsSome Is offer file × IsUnread before after;
       not_utf8 = SpellsSome Is offer file × IsWell before after × ReadsText reader left (λ bytes. ¬ (IsUtf8 bytes));
@@ -90,12 +88,12 @@ IsFilesRefusal Is Unrun Finds Errs offer file before after reader left =
 -- parsing does so
 abbrev pub IsForestRefusal : {R : Type 0} → Offer → List ℕ → Metered R → Metered R → Option (List ℕ) → Option (List ℕ) → BenchFault → Type 0
 IsForestRefusal offer file before after reader left =
-    IsFilesRefusal IsAccepted (SpellsOther HasNoExpressions offer file) (AreFindingsOf offer file) (IsErrorOf offer file reader left) offer file before
+    IsFilesRefusal IsAccepted (AreFindingsOf offer file) (IsErrorOf offer file reader left) offer file before
     after reader left
 
 -- and probing, whatever the grammar
 abbrev pub IsProbeRefusal : {R : Type 0} → Offer → List ℕ → Metered R → Metered R → Option (List ℕ) → Option (List ℕ) → BenchFault → Type 0
-IsProbeRefusal = IsFilesRefusal (λ g. Unit {0}) ⊥ (λ findings. ⊥) (λ error. ⊥)
+IsProbeRefusal = IsFilesRefusal (λ g. Unit {0}) (λ findings. ⊥) (λ error. ⊥)
 
 -- what writing refuses with
 abbrev pub IsWriteRefusal : BenchFault → Type 0

@@ -13,9 +13,8 @@ ghost use Rattle.pg_tree.specs.Json.{json};
 ghost use Rattle.pg_tree.specs.Meter.{saturating_sum};
 ghost use Rattle.pg_tree.specs.Bytes.{AppendsPrefix};
 ghost use Rattle.pg_making.specs.Spells.{HasInitialTable};
-ghost use Rattle.pg_predict.specs.Expressions.{HasNoExpressions};
 ghost use Rattle.pg_bench.specs.Promise.{IsAccepted, IsForestOfText};
-ghost use Rattle.pg_grammar_bench.specs.Files.{AreFindingsOf, IsFaultOfFile, SpellsSome, SpellsOther};
+ghost use Rattle.pg_grammar_bench.specs.Files.{AreFindingsOf, IsFaultOfFile, SpellsSome};
 ghost use Rattle.pg_bench.specs.Parsed.{IsParsed, IsForestOf, IsForestOfAnswer, IsForestOfBytes, IsErrorOf, ReadsText, IsPartlyWritten};
 ghost use Rattle.pg_grammar_bench.specs.Faults.{IfRefused, IfParseError, IsBeforeReading, IsAfterFile, IsAfterReading, IfFile, IsBeforeWriting};
 ghost use Rattle.pg_bench.specs.Refusals.{IsForestRefusal, IsErrorOfAnswer, IsTextFault, IsParseRefusal, IsRunRefusal, IsWriteRefusal, IsWell};
@@ -36,9 +35,9 @@ use std::io::{Read, Write};
 /// its initial table, it is that forest that is written, and there is no second derivation. The registry has the predicates
 /// and builders that the file may name.
 ///
-/// Both meters have to be fresh of failures. The faults come in the order of [`BenchFault`]: a fault of the file, `NotRun`
-/// where its grammar reads expressions, and `Refused` with all that is wrong with it, before the reader is asked at
-/// all; then the reader's, then those of its bytes, `ParseError` where the grammar doesn't derive the text, and the writer's.
+/// Both meters have to be fresh of failures. The faults come in the order of [`BenchFault`]: a fault of the file, and `Refused`
+/// with all that is wrong with its grammar, before the reader is asked at all; then the reader's, then those of its bytes,
+/// `ParseError` where the grammar doesn't derive the text, and the writer's.
 /// Up to `ParseError`, and where memory runs out, nothing is written. A text of over 4,194,304 bytes can't be one of 1,048,576
 /// characters, so no more is read of it.
 pub fn parse_bytes<R: Read, W: Write>(
@@ -55,10 +54,9 @@ pub fn parse_bytes<R: Read, W: Write>(
     ensures ok { OnOk result (IsParsed (offer_of registry.now) grammar.now (R.remaining reader.old.inner) (R.remaining reader.new.inner)
         (W.contents writer.old.inner) (W.contents writer.new.inner)) }
 
-    // A fault of the file comes first, and every other one only where the file spells a grammar: one that reads or declares
-    // operators, one that is refused with all its findings, or else an accepted one.
+    // A fault of the file comes first, and every other one only where the file spells a grammar: one that is refused with all
+    // its findings, or else an accepted one.
     ensures file { IfErr result (IfFile (IsFaultOfFile (offer_of registry.now) grammar.now)) }
-    ensures not_run { IsErrOf result BenchFault.NotRun → SpellsOther HasNoExpressions (offer_of registry.now) grammar.now }
     ensures refused { IfErr result (IfRefused (AreFindingsOf (offer_of registry.now) grammar.now)) }
     ensures unread { IfErr result (λ fault. IsBeforeReading fault → reader.new ≡ reader.old) }
     ensures accepted { IfErr result (λ fault. IsAfterFile fault → SpellsSome IsAccepted (offer_of registry.now) grammar.now) }

@@ -11,7 +11,7 @@ ghost use Rattle.pg_tree.specs.Bytes.{AppendsPrefix};
 ghost use Rattle.pg_tree.specs.Meter.{saturating_sum};
 ghost use Rattle.pg_grammar_bench.specs.Files.{IsFaultOfFile, SpellsAny};
 ghost use Rattle.pg_bench.specs.Parsed.{ReadsText};
-ghost use Rattle.pg_grammar_bench.specs.Faults.{IsAfterFile, IsAfterReading, IsFileFault, IfFile, IfNotRun, IfParseError, IfRefused, IsMemory, IsBeforeWriting};
+ghost use Rattle.pg_grammar_bench.specs.Faults.{IsAfterFile, IsAfterReading, IsFileFault, IfFile, IfParseError, IfRefused, IsMemory, IsBeforeWriting};
 ghost use Rattle.pg_bench.specs.Refusals.{IsTextRefusal, IsProbeFault, IsProbeRefusal, IsWell};
 ghost use Rattle.pg_bench.specs.Probing.{IsProbed, IsPartlyProbed, IsShown, IsShownOf, IsShownOfText, is_ok_outcome, outcome_text};
 
@@ -37,7 +37,7 @@ use std::io::{Read, Write};
 /// builders that the file may name.
 ///
 /// Both meters have to be fresh of failures. Any grammar is run. The faults come in the order of [`BenchFault`], without
-/// `NotRun`, `Refused` and `ParseError`: a fault of the file before the reader is asked at all; then the reader's, then those of
+/// `Refused` and `ParseError`: a fault of the file before the reader is asked at all; then the reader's, then those of
 /// its bytes, and the writer's. Before the last, and where memory runs out, nothing is written.
 pub fn probe_bytes<R: Read, W: Write>(
     alloc: Global,
@@ -59,7 +59,7 @@ pub fn probe_bytes<R: Read, W: Write>(
     // A fault of the file comes first, and every other one only where the file spells a grammar.
     ensures file { IfErr result (IfFile (IsFaultOfFile (offer_of registry.now) grammar.now)) }
     ensures unread { IfErr result (λ fault. IsFileFault fault → reader.new ≡ reader.old) }
-    ensures runnable { IfErr result (λ fault. IsAfterFile fault → SpellsAny (offer_of registry.now) grammar.now) }
+    ensures spelled { IfErr result (λ fault. IsAfterFile fault → SpellsAny (offer_of registry.now) grammar.now) }
 
     // The reader failed, or gave more than the limit.
     ensures reader { IsErrOf result BenchFault.Reader →
@@ -71,9 +71,7 @@ pub fn probe_bytes<R: Read, W: Write>(
     ensures too_long { IsErrOf result BenchFault.TooLong →
         ReadsText (R.remaining reader.old.inner) (R.remaining reader.new.inner) (λ bytes. IsUtf8 bytes × (LIMIT < length (chars bytes))) }
 
-    // No grammar is refused, whether it is accepted and whether it reads expressions, and that a parser answers an error is no
-    // fault.
-    ensures run { IfErr result (IfNotRun ⊥) }
+    // No grammar is refused, and that a parser answers an error is no fault.
     ensures unchecked { IfErr result (IfRefused (λ findings. ⊥)) }
     ensures parsed { IfErr result (IfParseError (λ error. ⊥)) }
 

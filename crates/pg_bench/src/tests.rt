@@ -3,8 +3,10 @@
 ghost use Rattle.std.specs.Prelude.{◌≡◌, false};
 
 use crate::parse::parse_bytes;
+use crate::probe::probe_bytes;
 use pg_class::Class;
 use pg_grammar_bench::{BenchFault, print_bytes};
+use pg_language::Reading;
 use pg_pred::{Builder, Predicate, Registry};
 use pg_tree::{Forest, Meter, Shape, Tree};
 use std::alloc::{AllocError, Global};
@@ -121,7 +123,7 @@ fn does_not_ask_the_reader_where_the_file_is_at_fault(rt: HostRuntime) -> Result
 }
 
 #[test]
-fn does_not_ask_the_reader_where_expressions_are_read(rt: HostRuntime) -> Result<(), Fail> {
+fn does_not_ask_the_reader_where_an_operand_can_be_empty(rt: HostRuntime) -> Result<(), Fail> {
     let alloc = rt.alloc();
     let make = Box::new(
         alloc,
@@ -137,7 +139,7 @@ fn does_not_ask_the_reader_where_expressions_are_read(rt: HostRuntime) -> Result
     let mut writer = Meter::new(Vec::<u8>::new(alloc));
     match parse_bytes(alloc, grammar, &registry, &mut reader, &mut writer) {
         Err(BenchFault::Memory) => Err(AllocError)?,
-        outcome => assert!(rt; matches!(outcome, Err(BenchFault::NotRun))),
+        outcome => assert!(rt; matches!(outcome, Err(BenchFault::Refused(_)))),
     }
     assert_eq!(rt; reader.into_inner().calls, 0);
     assert!(rt; writer.into_inner().is_empty());
@@ -265,6 +267,53 @@ fn writes_nothing_where_a_builder_wants_memory(rt: HostRuntime) -> Result<(), Fa
     let outcome = parse_bytes(alloc, grammar, &registry, &mut reader, &mut writer);
     assert!(rt; matches!(outcome, Err(BenchFault::Memory)));
     assert!(rt; writer.into_inner().is_empty());
+    Ok(())
+}
+
+#[test]
+fn writes_nothing_where_the_builder_of_an_operator_wants_memory(
+    rt: HostRuntime,
+) -> Result<(), Fail> {
+    let alloc = rt.alloc();
+    let make = Box::new(
+        alloc,
+        |alloc: Global, symbol: &str, kids: Forest| -> Result<Tree, AllocError> {
+            if symbol == "!" {
+                return Err(AllocError);
+            }
+            Tree::node(alloc, symbol, kids)
+        },
+    )?;
+    let unary = Builder::new(String::from_str(alloc, "unary")?, Shape::Symbol, make);
+    let registry = Registry::new(Vec::new(alloc), vec![in alloc; unary]?)?;
+    let grammar =
+        b"operators \"+!\" gap \" \"; table infixl 6 \"+\"; table postfix 9 \"!\"; start a; a = expr(unary, unary, unary, satisfy(\"1\"));";
+    for (text, wanted) in [
+        (
+            "1+ 1",
+            "consumed ok\nplace 4\n[{\"kids\":[\"1\",\"1\"],\"node\":\"+\"}]\n",
+        ),
+        ("1+ 1!", ""),
+    ] {
+        let mut reader = Meter::new(text.as_bytes());
+        let mut writer = Meter::new(Vec::<u8>::new(alloc));
+        let outcome = probe_bytes(
+            alloc,
+            grammar,
+            &registry,
+            "t",
+            &mut reader,
+            &mut writer,
+            1000,
+            Reading::Library,
+        );
+        assert_eq!(rt; matches!(outcome, Ok(true)), !wanted.is_empty());
+        assert_eq!(rt;
+            matches!(outcome, Err(BenchFault::Memory)),
+            wanted.is_empty()
+        );
+        assert!(rt; writer.into_inner().as_slice() == wanted.as_bytes());
+    }
     Ok(())
 }
 

@@ -12,13 +12,19 @@ use Rattle.pg_form.specs.declared.form.Around.TheVariants as kind
 use Rattle.pg_value.specs.declared.trail.TrailItem.{TrailItem}
 use Rattle.pg_start.specs.Starts.{MatchesAt}
 use Rattle.pg_start.specs.declared.kind.StartKind.{StartKind}
+use Rattle.pg_form.specs.Operators.{Operator}
+use Rattle.pg_form.specs.declared.operators_item.OperatorsItem.{OperatorsItem}
+use Rattle.pg_form.specs.declared.used.OperatorBuilders.{OperatorBuilders}
+use Rattle.pg_table.specs.Fitting.{Expression, term, IsAmong, IsFitting}
 use Rattle.pg_table.specs.Tables.{ComesFrom}
+use Rattle.pg_language.specs.Runs.{IsOperatorAt}
+use Rattle.pg_derive.proofs.ExpressionsOn.{expression_forward}
 use Rattle.pg_language.specs.Derives as derives
-use Rattle.pg_language.specs.Derives.{Spot, left_by, Link, Derives, at_node, DerivesForm, Reads, satisfy, string, word, not_followed_by, end_of_text, declare, seq, choice, many, rule, expression, DerivesParts, no_part, first_part, DerivesRounds, no_round, first_round, DerivesLinks, no_link, first_link}
+use Rattle.pg_language.specs.Derives.{Spot, left_by, Link, Derives, at_node, DerivesForm, Reads, satisfy, string, word, not_followed_by, end_of_text, declare, seq, choice, many, rule, expression, DerivesParts, no_part, first_part, DerivesRounds, no_round, first_round, DerivesLinks, no_link, first_link, DerivesExpression, a_term, a_prefix, a_postfix, an_infix}
 use Rattle.pg_derive.specs.ClosedSets.{NodeSets, SomeMatches, Covers, AllNullable, BeginsParts}
-use Rattle.pg_derive.specs.Predictive.{PartIsPredictive, TryIsPredictive, of_part, of_string, of_key, AlternativesArePredictive, ManyIsPredictive, ChainIsPredictive, LeafIsPredictive, AroundIsPredictive, IsPredictiveAt}
+use Rattle.pg_derive.specs.Predictive.{ExpressionIsPredictive, IsSomeOperatorAt, PartIsPredictive, TryIsPredictive, of_part, of_string, of_key, AlternativesArePredictive, ManyIsPredictive, ChainIsPredictive, LeafIsPredictive, AroundIsPredictive, IsPredictiveAt}
 use Rattle.pg_language.proofs.DeclarationsDerived.{declaration_moves}
-use Rattle.pg_language.proofs.Onward.{left_still}
+use Rattle.pg_language.proofs.Onward.{left_still, operator_on}
 use Rattle.pg_derive.proofs.Inverted.{form_at, spans_string, spans_key, first_stands, forward, forward_parts, forward_rounds, forward_links}
 
 -- a list covers what is in it
@@ -143,6 +149,21 @@ module _ (g : Grammar) (s : List ℕ) (scalars : all_scalars s ≡ true) (sets :
   begins_around kind.Try d h f = in_try d h f
   begins_around k d h f = left_begun k (in_part f h)
 
+  matched : {starts : List StartKind} {i : ℕ} → SomeMatches s starts i → Begun s (Contains starts) i
+  matched m = record { start = m.start; among = m.among; there = m.there }
+
+  term_begins : (p q : ℕ) (x : Expression) → ExpressionIsPredictive g sets p q → {a b : Spot} → BeginsNode g sets s q a b → (a.place < b.place) × (ComesFrom g a.table → IsFitting a.table.operators x → SomeMatches s (sets.first p) a.place)
+  term_begins p q x f (still e n) = let full = f.full in absurd (cc)
+  term_begins p q x f {a = a} (moves l h) = (l, λ from fits. (let m = h from in f.first m.start m.among s scalars a.place m.there))
+
+  -- an operator that is read stands there
+  operator_stands : {p q : ℕ} {item : OperatorsItem} (f : ExpressionIsPredictive g sets p q) (a : Spot) → ComesFrom g a.table → (o : Operator) (j : ℕ) → IsAmong a.table.operators o → g.operators ≡ Some item →
+      IsOperatorAt g s item o.symbol a.place j → IsSomeOperatorAt g f.item s a.place
+  operator_stands {item = item} f a from o j among e is =
+      let named = f.named in
+      let same : item ≡ f.item = cc in
+      record { table = a.table; comes = from; operator = o; among = among; end = j; there = subst (λ item. IsOperatorAt g s item o.symbol a.place j) same is }
+
   mutual
     pub begins : {p : ℕ} {a b : Spot} {v : List Tree} {t : List TrailItem} → Derives g s p a b v t → BeginsNode g sets s p a b
     begins (at_node {p = p} {n = n} e d) = begins_form d p (good p n e)
@@ -154,8 +175,29 @@ module _ (g : Grammar) (s : List ℕ) (scalars : all_scalars s ≡ true) (sets :
     begins_form (many {p = q} d) p f = begins_rounds d p f
     begins_form (derives.chain {p = q} {s = r} d ds) p f = a_chain scalars f (forward_links ds) (begins d) (begins_links ds p f)
     begins_form (rule {named = named} e d) p f = in_part (f.body named e) (begins d)
-    begins_form (expression e x d) p f = absurd f
+    begins_form (expression {p = q} {x = x} e fits d) p f = let h = begins_expression d p f e in moves h.0 (λ from. matched (h.1 from fits))
     begins_form (derives.around {k = k} d) p f = begins_around k d (begins d) f
+
+    -- a term or an operator begins an expression
+    begins_expression : {item : OperatorsItem} {builders : OperatorBuilders} {q : ℕ} {x : Expression} {a b : Spot} {v : List Tree} {t : List TrailItem} → DerivesExpression g s item builders q x a b v t → (p : ℕ) →
+        ExpressionIsPredictive g sets p q → g.operators ≡ Some item → (a.place < b.place) × (ComesFrom g a.table → IsFitting a.table.operators x → SomeMatches s (sets.first p) a.place)
+    begins_expression (a_term {p = q} d) p f e = term_begins p q term f (begins d)
+    begins_expression (a_prefix {o = o} {x = x} {j = j} {a = a} is d) p f e =
+        let rest = begins_expression d p f e in
+        let far = (operator_on g s _ o.symbol a j is).onward in
+        let beyond = rest.0 in
+        (omega arith, λ from fits. f.begins s scalars a.place (operator_stands f a from o j fits.0 e is))
+    begins_expression (a_postfix {o = o} {j = j} {b = b} d is) p f e =
+        let first = begins_expression d p f e in
+        let far = (operator_on g s _ o.symbol b j is).onward in
+        let beyond = first.0 in
+        (omega arith, λ from fits. first.1 from fits.2)
+    begins_expression (an_infix {o = o} {j = j} {b = b} d is rest) p f e =
+        let first = begins_expression d p f e in
+        let far = (operator_on g s _ o.symbol b j is).onward in
+        let beyond = first.0 in
+        let after = expression_forward rest in
+        (omega arith, λ from fits. first.1 from fits.2)
 
     pub begins_parts : {ps : List ℕ} {a b : Spot} {v : List Tree} {t : List TrailItem} → DerivesParts g s ps a b v t → BeginsList g sets s ps a b
     begins_parts no_part = still refl tt

@@ -13,13 +13,13 @@ use Rattle.pg_form.specs.declared.form.Leaf.TheVariants as leaf
 use Rattle.pg_form.specs.declared.form.Around.{Around}
 use Rattle.pg_form.specs.declared.form.Around.TheVariants as kind
 use Rattle.pg_value.specs.declared.trail.TrailItem.{TrailItem}
-use Rattle.pg_value.specs.declared.trail.TrailItem.TheVariants.{Alt}
+use Rattle.pg_value.specs.declared.trail.TrailItem.TheVariants.{Alt, Ops}
 use Rattle.pg_start.specs.declared.kind.StartKind.{StartKind}
 use Rattle.pg_start.proofs.Meeting.{never_meet}
 use Rattle.pg_language.specs.Derives.{Spot, after, leaf_of, Link, carried, finished, folded, made_by, left_by, Reads, Derives, DerivesForm, DerivesParts, DerivesRounds, DerivesLinks}
 use Rattle.pg_language.specs.Derives as derives
-use Rattle.pg_table.specs.Tables.{ComesFrom}
-use Rattle.pg_language.specs.Runs.{HasAt, StandsAt}
+use Rattle.pg_table.specs.Tables.{Table, ComesFrom}
+use Rattle.pg_language.specs.Runs.{HasAt, StandsAt, IsOperatorAt}
 use Rattle.pg_form.specs.declared.class.ClassPart.{ClassPart}
 use Rattle.pg_language.specs.Answers as answers
 use Rattle.pg_language.specs.Answers.{Given, Answers, entered, AnswersForm, nothing, seq, choice, many, rule, AnswersParts, part, part_last, part_ok, AnswersAlternatives, no_alternative, alternative, alternative_consumed, alternative_stands, alternative_waits, alternative_failed, AnswersRounds, round, round_ended, round_ok, AnswersChain, first_operand, first_ok, AnswersLinks, link, separator_failed, separator_ok, operand_failed, operand_ok}
@@ -30,7 +30,25 @@ use Rattle.pg_form.specs.declared.side.Side.{Side}
 use Rattle.pg_language.specs.declared.reading.Reading.{Reading}
 use Rattle.pg_language.specs.declared.reading.Reading.TheVariants.{Library, Report}
 use Rattle.pg_derive.specs.ClosedSets.{NodeSets, SomeMatches, Within, AllApart, PartsFollowed}
-use Rattle.pg_derive.specs.Predictive.{PartIsPredictive, LeafIsPredictive, AroundIsPredictive, TryIsPredictive, of_part, of_string, of_key, ComesBefore, AlternativesArePredictive, ManyIsPredictive, ChainIsPredictive, IsPredictiveAt}
+use Rattle.std.specs.Prelude.{reverse}
+use Rattle.pg_form.specs.Operators.{Operator}
+use Rattle.pg_form.specs.declared.operators_item.OperatorsItem.{OperatorsItem}
+use Rattle.pg_form.specs.declared.used.OperatorBuilders.{OperatorBuilders}
+use Rattle.pg_value.specs.declared.trail.AppliedOperator.{AppliedOperator}
+use Rattle.pg_table.specs.Fitting.{Expression, IsAmong, IsFitting}
+use Rattle.pg_table.specs.Trails.{operators_read}
+use Rattle.pg_expand.specs.Rows.{rows_of}
+use Rattle.pg_language.specs.RowReactions.{Setting, items_of}
+use Rattle.pg_language.specs.Answers.{AnswersRows}
+use Rattle.pg_language.specs.Derives.{DerivesExpression}
+use Rattle.pg_language.proofs.Moves.{tells}
+use Rattle.pg_language.proofs.Sound.{sound}
+use Rattle.pg_derive.proofs.ExpressionsOn.{expression_comes, whole_trail}
+use Rattle.pg_derive.proofs.OperatorsOfTables.{proper_table, clear_table}
+use Rattle.pg_derive.proofs.WholeRows.{all_levels, rank_low}
+use Rattle.pg_derive.proofs.OperandsFound.{IsClear, Gives, Spans, of_term, of_prefix, of_postfix, of_infix}
+use Rattle.pg_derive.proofs.RowsFound.{finds}
+use Rattle.pg_derive.specs.Predictive.{ExpressionIsPredictive, IsSomeOperatorAt, StringIsPredictive, PartIsPredictive, LeafIsPredictive, AroundIsPredictive, TryIsPredictive, of_part, of_string, of_key, ComesBefore, AlternativesArePredictive, ManyIsPredictive, ChainIsPredictive, IsPredictiveAt}
 use Rattle.pg_derive.proofs.Begins.{Begun, still, moves, BeginsNode, BeginsList, alternative_fits, consumes, begins, begins_parts, begins_links}
 use Rattle.pg_language.proofs.DeclarationsDerived.{declaration_moves}
 use Rattle.pg_language.proofs.Flags.{moved, stayed, both_moved}
@@ -275,6 +293,65 @@ module _ (G : Given) (scalars : all_scalars G.text ≡ true) (whole : IsWhole G.
       ok_moved _ a _ _ [] _ _ far
       (answers.leaf (ap (some_declare_outcome G.grammar G.text class a) there ∙ ap Some (declare_ok G.grammar G.text item class d a j is admits)))
 
+  -- ---- expressions
+
+  abbrev setting_of : {p q : ℕ} → ExpressionIsPredictive G.grammar sets p q → OperatorBuilders → Setting
+  setting_of {q = q} f builders = record { item = f.item; builders = builders; term = q }
+
+  same_item : {item other : OperatorsItem} → G.grammar.operators ≡ Some item → G.grammar.operators ≡ Some other → item ≡ other
+  same_item e f = cc
+
+  renamed_item : {item other : OperatorsItem} {symbol : List ℕ} {i j : ℕ} → item ≡ other → IsOperatorAt G.grammar G.text item symbol i j → IsOperatorAt G.grammar G.text other symbol i j
+  renamed_item {symbol = symbol} {i = i} {j = j} e h = subst (λ item. IsOperatorAt G.grammar G.text item symbol i j) e h
+
+  -- what stands after a term: what follows the expression, or an operator
+  data GoesOn (p : ℕ) (item : OperatorsItem) (i : ℕ) : Type 0 where
+    at_end : SomeMatches G.text (sets.follow p) i → GoesOn p item i
+    at_operator : IsSomeOperatorAt G.grammar item G.text i → GoesOn p item i
+
+  after_term : (p : ℕ) {q : ℕ} (f : ExpressionIsPredictive G.grammar sets p q) {i : ℕ} → GoesOn p f.item i → SomeMatches G.text (sets.follow q) i
+  after_term p f (at_end m) = widen scalars f.follow m
+  after_term p f {i = i} (at_operator h) = f.again G.text scalars i h
+
+  stands_of : {p q : ℕ} (f : ExpressionIsPredictive G.grammar sets p q) (table : Table) → ComesFrom G.grammar table → (o : Operator) (j : ℕ) {i : ℕ} → IsAmong table.operators o →
+      IsOperatorAt G.grammar G.text f.item o.symbol i j → IsSomeOperatorAt G.grammar f.item G.text i
+  stands_of f table comes o j among there = record { table = table; comes = comes; operator = o; among = among; end = j; there = there }
+
+  -- no operator stands where a term begins
+  term_begins_bare : (p : ℕ) {q : ℕ} (f : ExpressionIsPredictive G.grammar sets p q) (table : Table) → ComesFrom G.grammar table → {a b : Spot} → BeginsNode G.grammar sets G.text q a b → Comes a → (o : Operator) → IsAmong table.operators o →
+      (j : ℕ) → IsOperatorAt G.grammar G.text f.item o.symbol a.place j → ⊥
+  term_begins_bare p f table comes (still e n) from o among j there = let full = f.full in absurd (cc)
+  term_begins_bare p f table comes {a = a} (moves l h) from o among j there = f.bare G.text scalars a.place (matching (h from)) (stands_of f table comes o j among there)
+
+  -- strings have characters
+  spelled : (p : ℕ) (s : List ℕ) → slice_get G.grammar.nodes p ≡ Some (form.Leaf (leaf.String s)) → 0 < length s
+  spelled p s e = let f : StringIsPredictive sets p s = good p (form.Leaf (leaf.String s)) e in f.spelled
+
+  -- an expression whose rows answer so
+  of_rows : (p : ℕ) (builders : OperatorBuilders) (q : ℕ) (f : ExpressionIsPredictive G.grammar sets p q) (os : List AppliedOperator) (a b : Spot) (v : List Tree) (t : List TrailItem) →
+      slice_get G.grammar.nodes p ≡ Some (form.Expression builders q) → Gives (AnswersRows G (setting_of f builders) (reverse (rows_of a.table.operators)) a) b v os t →
+      IsOk (AnswersForm G (form.Expression builders q) a) a b v (Ops os ∷ t)
+  of_rows p builders q f os a b v t e h =
+      let run = answers.expression f.named h.run in
+      let node = entered e run in
+      let whole_is = whole_trail (sound_form_of e node) in
+      let named : h.trail ≡ Ops os ∷ t = sym whole_is ∙ ap (λ l. Ops l ∷ items_of h.trail) h.operators ∙ ap (λ l. Ops os ∷ l) h.items in
+      subst (λ u. IsOk (AnswersForm G (form.Expression builders q) a) a b v u) named (ok_flag _ a b h.consumed v h.trail h.error h.count (tells G spelled node).0 run)
+    where
+      sound_form_of : {b : Spot} {c : Bool} {v : List Tree} {t : List TrailItem} {g : Error} {m : ℕ} → slice_get G.grammar.nodes p ≡ Some (form.Expression builders q) → Answers G p a (ok c b v t g) m →
+          DerivesForm G.grammar G.text (form.Expression builders q) a b v t
+      sound_form_of e d = form_at (sound d) e
+
+  expression_found : (p : ℕ) (builders : OperatorBuilders) (q : ℕ) (f : ExpressionIsPredictive G.grammar sets p q) (x : Expression) {a b : Spot} {v : List Tree} {t : List TrailItem} →
+      slice_get G.grammar.nodes p ≡ Some (form.Expression builders q) → IsFitting a.table.operators x → Comes a → (clear : IsClear a.table.operators) → Spans G (setting_of f builders) a.table.operators clear x a b v t →
+      SomeMatches G.text (sets.follow p) b.place → IsOk (AnswersForm G (form.Expression builders q) a) a b v (Ops (operators_read x) ∷ t)
+  expression_found p builders q f x {a = a} {b = b} {v = v} {t = t} e fits from clear spans m =
+      let operators = a.table.operators in
+      let proper = proper_table G.grammar a.table whole.initials from in
+      of_rows p builders q f (operators_read x) a b v t e
+      (finds G (setting_of f builders) operators clear (all_levels operators proper) x fits (rank_low operators proper x fits) spans
+      (λ o j among side low there. f.ends G.text scalars b.place m (stands_of f a.table from o j among there)))
+
   mutual
     pub complete : {p : ℕ} {a b : Spot} {v : List Tree} {t : List TrailItem} → Derives G.grammar G.text p a b v t → Comes a → SomeMatches G.text (sets.follow p) b.place → IsOk (Answers G p a) a b v t
     complete (derives.at_node {p = p} {n = n} e d) from m =
@@ -300,8 +377,26 @@ module _ (G : Given) (scalars : all_scalars G.text ≡ true) (whole : IsWhole G.
         let r = chained side used.shape q r _ _ _ a b c t u (forward d) (forward_links ds) operand links in
         record { error = r.error; count = r.count; run = answers.chain r.run }
     complete_form (derives.rule {named = named} x d) from p e f m = let r = complete d from (widen scalars (f.body named x).follow m) in record { error = r.error; count = r.count; run = rule x r.run }
-    complete_form (derives.expression x y d) from p e f m = absurd f
+    complete_form (derives.expression {builders = builders} {item = item} {p = q} {x = x} there fits d) from p e f m =
+        let named : item ≡ f.item = same_item there f.named in
+        let clear = clear_table G.grammar _ whole.initials from in
+        expression_found p builders q f x e fits from clear (complete_terms d from p f (same_item there f.named) _ from fits (at_end m) clear) m
     complete_form (derives.around {k = k} {p = q} d) from p e f m = complete_around k p q f d (λ x. complete d from x) m
+
+    -- each term of an expression is answered
+    complete_terms : {item : OperatorsItem} {builders : OperatorBuilders} {q : ℕ} {x : Expression} {a b : Spot} {v : List Tree} {t : List TrailItem} → DerivesExpression G.grammar G.text item builders q x a b v t → Comes a →
+        (p : ℕ) → (f : ExpressionIsPredictive G.grammar sets p q) → item ≡ f.item → (table : Table) → ComesFrom G.grammar table → IsFitting table.operators x → GoesOn p f.item b.place →
+        (clear : IsClear table.operators) → Spans G (setting_of f builders) table.operators clear x a b v t
+    complete_terms (derives.a_term d) from p f named table comes fits after clear =
+        let r = complete d from (after_term p f after) in
+        of_term r.run (λ o among j there. term_begins_bare p f table comes (begun d) from o among j there)
+    complete_terms (derives.a_prefix is d) from p f named table comes fits after clear =
+        of_prefix (renamed_item named is) (complete_terms d from p f named table comes fits.2 after clear)
+    complete_terms (derives.a_postfix {o = o} {j = j} d is) from p f named table comes fits after clear =
+        of_postfix (complete_terms d from p f named table comes fits.2 (at_operator (stands_of f table comes o j fits.0 (renamed_item named is))) clear) (renamed_item named is)
+    complete_terms (derives.an_infix {o = o} {j = j} d is g) from p f named table comes fits after clear =
+        of_infix (complete_terms d from p f named table comes fits.2 (at_operator (stands_of f table comes o j fits.0 (renamed_item named is))) clear) (renamed_item named is)
+        (complete_terms g (expression_comes d from) p f named table comes fits.3 after clear)
 
     complete_parts : {q : ℕ} {qs : List ℕ} {a b : Spot} {v : List Tree} {t : List TrailItem} → DerivesParts G.grammar G.text (q ∷ qs) a b v t → Comes a → (follow : List StartKind) →
         PartsFollowed sets follow (q ∷ qs) → SomeMatches G.text follow b.place → IsOk (AnswersParts G q qs a) a b v t

@@ -1,6 +1,6 @@
 -- In a predictive grammar each node answers at each place, under each table of the grammar: no run goes on without an end, and no
 -- repetition meets a round that consumes nothing.
-use Rattle.std.proofs.Common.{◌≡◌, ◌+◌, ◌<◌, ◌≤◌, ◌⊎◌, ℕ, zero, suc, List, [], ◌∷◌, Bool, true, false, ◌||◌, refl, ◌∙◌, ap, length, Option, Some, None, slice_get, ◌==◌, if◌then◌else◌, arith, le_refl}
+use Rattle.std.proofs.Common.{◌≡◌, ◌+◌, ◌<◌, ◌≤◌, ◌⊎◌, inl, inr, ℕ, zero, suc, List, [], ◌∷◌, Bool, true, false, ◌||◌, refl, ◌∙◌, ap, length, Option, Some, None, slice_get, ◌==◌, if◌then◌else◌, arith, le_refl}
 use Rattle.std.specs.Prelude.{nat_lt}
 use Rattle.std.specs.List.{AllByRecursion, list_any}
 use Rattle.std.specs.Str.{bytes_eq}
@@ -36,7 +36,18 @@ use Rattle.pg_language.specs.declared.reading.Reading.{Reading}
 use Rattle.pg_language.specs.declared.reading.Reading.TheVariants.{Library, Report}
 use Rattle.pg_language.proofs.Sound.{sound}
 use Rattle.pg_derive.specs.ClosedSets.{NodeSets, PartsFall}
-use Rattle.pg_derive.specs.Predictive.{PartIsPredictive, TryIsPredictive, of_part, of_string, of_key, AlternativesArePredictive, ManyIsPredictive, ChainIsPredictive, LeafIsPredictive, AroundIsPredictive, IsPredictiveAt}
+use Rattle.std.specs.Prelude.{reverse}
+use Rattle.pg_form.specs.Operators.{Operator}
+use Rattle.pg_form.specs.declared.used.OperatorBuilders.{OperatorBuilders}
+use Rattle.pg_expand.specs.Rows.{rows_of}
+use Rattle.pg_language.specs.Answers.{AnswersRows}
+use Rattle.pg_language.specs.Derives.{at}
+use Rattle.pg_language.specs.OperatorReads.{Read, read_at}
+use Rattle.pg_language.specs.RowReactions.{Setting}
+use Rattle.pg_language.proofs.Onward.{operator_on}
+use Rattle.pg_language.proofs.ReadOn.{is_read}
+use Rattle.pg_derive.proofs.RowsSettle.{IsAnswer as IsRowsAnswer, Settled, settle_rows}
+use Rattle.pg_derive.specs.Predictive.{ExpressionIsPredictive, PartIsPredictive, TryIsPredictive, of_part, of_string, of_key, AlternativesArePredictive, ManyIsPredictive, ChainIsPredictive, LeafIsPredictive, AroundIsPredictive, IsPredictiveAt}
 use Rattle.pg_derive.proofs.Begins.{still, moves, BeginsNode}
 use Rattle.pg_derive.proofs.Complete.{begun, link_moves}
 use Rattle.pg_language.proofs.Flags.{moved, both_moved}
@@ -323,6 +334,43 @@ module _ (G : Given) (scalars : all_scalars G.text ≡ true) (whole : IsWhole G.
     settle_around k q (settles_ok c b v t e m run) = settles_ok c _ _ t _ _ (answers.around run)
     settle_around k q (settles_failed c e m run) = settles_failed _ _ _ (answers.around run)
 
+    -- a term answers wherever an expression that began here has it run
+    settle_expression : (builders : OperatorBuilders) (q : ℕ) → ExpressionIsPredictive G.grammar sets p q → q < length G.grammar.nodes → Settles (AnswersForm G (form.Expression builders q) a)
+    settle_expression builders q f there =
+        let s : Setting = record { item = f.item; builders = builders; term = q } in
+        let rows = settle_rows G s IsOnward read_onward (λ b h. h.0.0) (λ os b r e. (is_read G.grammar G.text f.item os b.place r e).ahead) term_settles (reverse (rows_of a.table.operators)) a (within, le_refl _) in
+        go rows.outcome rows.run rows.answers
+      where
+        IsOnward : Spot → Type 0
+        IsOnward b = IsSpot b × (a.place ≤ b.place)
+
+        read_onward : (os : List Operator) (b : Spot) (r : Read) → IsOnward b → read_at G.grammar G.text f.item os b.place ≡ Some r → IsOnward (at b r.end)
+        read_onward os b r h e =
+            let is = is_read G.grammar G.text f.item os b.place r e in
+            let on = operator_on G.grammar G.text f.item r.operator.symbol b r.end is.there in
+            let far = is.ahead in
+            let from = h.1 in
+            ((on.within h.0.0, h.0.1), omega arith)
+
+        nearer : (b : Spot) → a.place ≤ b.place → (a.place < b.place) ⊎ (a.place ≡ b.place) → Nearer p a q b
+        nearer b l (inl m) = further m
+        nearer b l (inr e) = lower e f.falls
+
+        term_settles : (b : Spot) → IsOnward b → Settled (λ z. IsOnward z × (b.place ≤ z.place)) (Answers G q b)
+        term_settles b h = of_settles (near q there b h.0 (nearer b h.1 (further_or_same a.place b.place h.1)))
+          where
+            of_settles : Settles (Answers G q b) → Settled (λ z. IsOnward z × (b.place ≤ z.place)) (Answers G q b)
+            of_settles (settles_ok c z v t e m run) =
+                let on = (leads_on (derived run)).onward in
+                let from = h.1 in
+                record { outcome = ok c z v t e; count = m; run = run; answers = ((ends_at_spot run h.0, omega arith), on) }
+            of_settles (settles_failed c e m run) = record { outcome = failed c e; count = m; run = run; answers = tt }
+
+        go : (o : Outcome) {m : ℕ} → AnswersRows G (record { item = f.item; builders = builders; term = q }) (reverse (rows_of a.table.operators)) a o m → IsRowsAnswer (λ z. IsOnward z × (a.place ≤ z.place)) o → Settles (AnswersForm G (form.Expression builders q) a)
+        go (ok c b v t e) run h = settles_ok c b v t e _ (answers.expression f.named run)
+        go (failed c e) run h = settles_failed c e _ (answers.expression f.named run)
+        go empty_round run h = absurd h
+
     settle_form : (n : Node) → slice_get G.grammar.nodes p ≡ Some n → IsPredictiveAt G.grammar sets p n → Settles (AnswersForm G n a)
     settle_form (form.Leaf l) e f = settle_leaf l e f
     settle_form (form.Seq []) e f = settles_ok false a [] [] _ _ nothing
@@ -355,7 +403,7 @@ module _ (G : Given) (scalars : all_scalars G.text ≡ true) (whole : IsWhole G.
         go : {named : declared.Rule} → slice_get G.grammar.rules r ≡ Some named → Settles (Answers G named.body a) → Settles (AnswersForm G (form.Rule r) a)
         go x (settles_ok c b v t e m run) = settles_ok c b v t e _ (rule x run)
         go x (settles_failed c e m run) = settles_failed c e _ (rule x run)
-    settle_form (form.Expression builders q) e f = absurd f
+    settle_form (form.Expression builders q) e f = settle_expression builders q f (whole.parts p _ e).0
     settle_form (form.Around k q) e f = settle_around k q (near q (whole.parts p _ e).0 a within (lower refl (around_falls k q f)))
 
     settle_at : (n : Node) → slice_get G.grammar.nodes p ≡ Some n → Settles (Answers G p a)

@@ -20,11 +20,11 @@ use Rattle.pg_heads.specs.Reached.{Heads}
 use Rattle.pg_heads.specs.Reached as reached
 use Rattle.pg_sets.specs.Sets.{Sets, AreSets}
 use Rattle.pg_predict.specs.Conditions.{IsFaultless, left_recursion}
-use Rattle.pg_predict.specs.Expressions.{HasNoExpressions}
 use Rattle.pg_derive.specs.Accepted.{AcceptedGrammarsArePredictive}
 use Rattle.pg_derive.specs.ClosedSets.{Covers}
 use Rattle.pg_derive.specs.LeastSets.{node_sets}
 use Rattle.pg_derive.specs.Predictive.{PartIsPredictive, TryIsPredictive, of_part, RuleIsPredictive, LeafIsPredictive, AroundIsPredictive, IsPredictiveAt}
+use Rattle.pg_derive.proofs.ExpressionsFit.{expression_fits}
 use Rattle.pg_derive.proofs.FormsFit.{choice_fits, many_fits, links_fit}
 use Rattle.pg_derive.proofs.LeastSets.{first_is, first_covers, follow_is, follow_covers}
 use Rattle.pg_derive.proofs.LeavesFit.{satisfy_meets, string_fits, word_meets, declare_meets, item_there, string_try, key_try}
@@ -42,7 +42,7 @@ first_rule (heads {b = b} h rest) = (b, h)
 pub acyclic : (g : Grammar) → IsFaultless g → (r : ℕ) → Chain g r r → ⊥
 acyclic g faultless r chain = let first = (first_rule chain).1 in faultless first.rule.body _ (left_recursion first.is_rule chain)
 
-module _ (g : Grammar) (sets : Sets) (are : AreSets g sets) (grammar : IsGrammar g) (bare : HasNoExpressions g) (faultless : IsFaultless g) where
+module _ (g : Grammar) (sets : Sets) (are : AreSets g sets) (grammar : IsGrammar g) (faultless : IsFaultless g) where
   none_on_cycle : (r : ℕ) → Chain g r r → ⊥
   none_on_cycle = acyclic g faultless
 
@@ -105,7 +105,7 @@ module _ (g : Grammar) (sets : Sets) (are : AreSets g sets) (grammar : IsGrammar
   fits p (form.Many q) e = many_fits g sets are none_on_cycle grammar faultless p q e
   fits p (form.Chain side used q r) e = links_fit g sets are none_on_cycle grammar faultless p side used q r e
   fits p (form.Rule r) e = rule_fits p r e
-  fits p (form.Expression builders q) e = bare p (form.Expression builders q) e
+  fits p (form.Expression builders q) e = expression_fits g sets are none_on_cycle grammar faultless p q builders e
   fits p (form.Around k q) e = around_fits p q k e
 
   -- the end of the text follows the start rule
@@ -116,4 +116,4 @@ module _ (g : Grammar) (sets : Sets) (are : AreSets g sets) (grammar : IsGrammar
       follow_covers g sets are start.body inside End (follow.at_end e)
 
 pub accepted : AcceptedGrammarsArePredictive
-accepted g sets grammar bare are faultless = record { nodes = fits g sets are grammar bare faultless; end = end_follows g sets are grammar bare faultless }
+accepted g sets grammar are faultless = record { nodes = fits g sets are grammar faultless; end = end_follows g sets are grammar faultless }

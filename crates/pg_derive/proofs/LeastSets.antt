@@ -61,16 +61,16 @@ module _ (g : Grammar) (sets : Sets) (are : AreSets g sets) where
           let place : h.number ≡ k = one_place sets.starts are.start_sets.ordered h.number k x (h.there ∙ ap Some same) e in
           subst (λ n. contains set n ≡ true) place h.member
 
-  stands_at : (set : List Bool) (s : StartKind) → HasStart sets.starts set s → Stands sets.starts s
+  pub stands_at : (set : List Bool) (s : StartKind) → HasStart sets.starts set s → Stands sets.starts s
   stands_at set s h = record { place = h.number; listed = h.listed; there = h.there; same = h.same }
 
-  firsts_listable : (p : ℕ) → p < length g.nodes → IsListable sets.starts (λ s. IsFirst g s p)
+  pub firsts_listable : (p : ℕ) → p < length g.nodes → IsListable sets.starts (λ s. IsFirst g s p)
   firsts_listable p below = record {
     decide = λ k x e. decided_as (are.start_sets.first p x.start below).0 (are.start_sets.first p x.start below).1 (one_listed k x e (set_at sets.firsts p));
     stands = λ s h. stands_at (set_at sets.firsts p) s ((are.start_sets.first p s below).1 h);
   }
 
-  follows_listable : (p : ℕ) → p < length g.nodes → IsListable sets.starts (λ s. IsFollow g s p)
+  pub follows_listable : (p : ℕ) → p < length g.nodes → IsListable sets.starts (λ s. IsFollow g s p)
   follows_listable p below = record {
     decide = λ k x e. decided_as (are.start_sets.follow p x.start below).0 (are.start_sets.follow p x.start below).1 (one_listed k x e (set_at sets.follows p));
     stands = λ s h. stands_at (set_at sets.follows p) s ((are.start_sets.follow p s below).1 h);

@@ -21,6 +21,7 @@ use Rattle.pg_form.specs.OperatorsItems.{operators_are_used, lacks_operators}
 use Rattle.pg_form.specs.declared.decl.Role.{Role}
 use Rattle.pg_form.specs.declared.decl.Role.TheVariants.{InfixLeft, InfixRight, InfixNone, Prefix, Postfix}
 use Rattle.pg_form.specs.declared.operators_item.OperatorsItem.{OperatorsItem}
+use Rattle.pg_form.specs.declared.used.OperatorBuilders.{OperatorBuilders}
 use Rattle.pg_form.specs.declared.word_item.WordItem.{WordItem}
 use Rattle.pg_start.proofs.Meeting.{scalar_at}
 use Rattle.pg_start.specs.Prefixes.{run, is_reserved}
@@ -41,13 +42,13 @@ use Rattle.pg_derive.proofs.LeastSets.{first_in}
 
 -- ---- characters of a text
 
-scalars_after : (text : List ℕ) (i : ℕ) → all_scalars text ≡ true → all_scalars (drop i text) ≡ true
+pub scalars_after : (text : List ℕ) (i : ℕ) → all_scalars text ≡ true → all_scalars (drop i text) ≡ true
 scalars_after text zero s = s
 scalars_after [] (suc i) s = s
 scalars_after (x ∷ xs) (suc i) s = scalars_after xs i (and_parts _ _ s).1
 
 -- two tests that agree on characters have the same run
-same_run : (f h : ℕ → Bool) (text : List ℕ) → all_scalars text ≡ true → ((c : ℕ) → IsScalar c → f c ≡ h c) → take_while f text ≡ take_while h text
+pub same_run : (f h : ℕ → Bool) (text : List ℕ) → all_scalars text ≡ true → ((c : ℕ) → IsScalar c → f c ≡ h c) → take_while f text ≡ take_while h text
 same_run f h [] s agree = refl
 same_run f h (x ∷ xs) s agree =
     let parts = and_parts _ _ s in
@@ -57,7 +58,7 @@ same_run f h (x ∷ xs) s agree =
     ∙ sym (take_while-cons h x xs)))
 
 -- the texts that are reserved in a start are those of the words
-same_reserved : {g : Grammar} {heads rest : List Range} {texts reserved : List (List ℕ)} → ReservedAs g heads rest texts reserved → (text : List ℕ) → is_reserved reserved text ≡ is_reserved texts text
+pub same_reserved : {g : Grammar} {heads rest : List Range} {texts reserved : List (List ℕ)} → ReservedAs g heads rest texts reserved → (text : List ℕ) → is_reserved reserved text ≡ is_reserved texts text
 same_reserved (own.as_item reads first) text = reads.texts text
 same_reserved (own.as_written none) text = refl
 
@@ -79,17 +80,23 @@ keyword_spelled InfixNone = omega arith
 keyword_spelled Prefix = omega arith
 keyword_spelled Postfix = omega arith
 
--- whoever declares operators has an operators item
-pub item_there : (g : Grammar) (p : ℕ) (class : List ClassPart) → IsGrammar g → slice_get g.nodes p ≡ Some (form.Leaf (leaf.Declare class)) → (item : OperatorsItem) × (g.operators ≡ Some item)
-item_there g p class grammar e = go g.operators refl
+-- whoever reads or declares operators has an operators item
+item_used : (g : Grammar) (p : ℕ) (n : Node) → IsGrammar g → slice_get g.nodes p ≡ Some n → uses_operators (form_of (rule_names g) (word_names g) n) ≡ true → (item : OperatorsItem) × (g.operators ≡ Some item)
+item_used g p n grammar e uses = go g.operators refl
   where
     none_used : (initials : List Operator) → operators_are_used initials (forms_of g) ≡ false → ⊥
-    none_used [] h = true≢false (none-get uses_operators (form_of (rule_names g) (word_names g)) g.nodes p (form.Leaf (leaf.Declare class)) h e)
+    none_used [] h = true≢false (sym uses ∙ none-get uses_operators (form_of (rule_names g) (word_names g)) g.nodes p n h e)
     none_used (initial ∷ initials) h = true≢false h
 
     go : (item : Option OperatorsItem) → g.operators ≡ item → (item : OperatorsItem) × (g.operators ≡ Some item)
     go (Some item) h = (item, h)
     go None h = absurd (none_used g.initials (ap (λ o. lacks_operators o g.initials (forms_of g)) (sym h) ∙ grammar.operators_there))
+
+pub item_there : (g : Grammar) (p : ℕ) (class : List ClassPart) → IsGrammar g → slice_get g.nodes p ≡ Some (form.Leaf (leaf.Declare class)) → (item : OperatorsItem) × (g.operators ≡ Some item)
+item_there g p class grammar e = item_used g p (form.Leaf (leaf.Declare class)) grammar e refl
+
+pub expression_item : (g : Grammar) (p : ℕ) (builders : OperatorBuilders) (term : ℕ) → IsGrammar g → slice_get g.nodes p ≡ Some (form.Expression builders term) → (item : OperatorsItem) × (g.operators ≡ Some item)
+expression_item g p builders term grammar e = item_used g p (form.Expression builders term) grammar e refl
 
 module _ (g : Grammar) (grammar : IsGrammar g) (sets : Sets) (are : AreSets g sets) where
   matched : (p : ℕ) (n : Node) → slice_get g.nodes p ≡ Some n → (s : StartKind) → OwnStart g n s → (text : List ℕ) (place : ℕ) → MatchesAt s text place →

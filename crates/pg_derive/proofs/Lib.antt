@@ -4,6 +4,12 @@ pub mod Chains
 pub mod ChainExample
 pub mod LeavesAnswered
 pub mod Inverted
+pub mod WholeRows
+pub mod OperandsFound
+pub mod RowsFound
+pub mod RowsSettle
+pub mod OperatorsOfTables
+pub mod ExpressionsOn
 pub mod Begins
 pub mod Lexemes
 pub mod Quiet
@@ -27,5 +33,6 @@ pub mod LeavesFit
 pub mod KeyTriesDecided
 pub mod PartsFit
 pub mod FormsFit
+pub mod ExpressionsFit
 pub mod Faultless
 pub mod AcceptedTexts

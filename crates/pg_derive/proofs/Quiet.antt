@@ -31,7 +31,13 @@ use Rattle.pg_language.specs.declared.reading.Reading.{Reading}
 use Rattle.pg_language.specs.declared.reading.Reading.TheVariants.{Library, Report}
 use Rattle.pg_tree.specs.declared.shape.Shape.{Shape}
 use Rattle.pg_derive.specs.ClosedSets.{NodeSets, SomeMatches, Covers, AllNullable, BeginsParts, PartsFall}
-use Rattle.pg_derive.specs.Predictive.{PartIsPredictive, TryIsPredictive, of_part, of_string, of_key, AlternativesArePredictive, ChainIsPredictive, LeafIsPredictive, AroundIsPredictive, IsPredictiveAt}
+use Rattle.pg_form.specs.Operators.{IsOperator}
+use Rattle.pg_form.specs.declared.used.OperatorBuilders.{OperatorBuilders}
+use Rattle.pg_language.specs.RowReactions.{Setting}
+use Rattle.pg_derive.proofs.OperatorsOfTables.{proper_table, clear_table}
+use Rattle.pg_derive.proofs.WholeRows.{all_levels}
+use Rattle.pg_derive.proofs.RowsFound.{refuse}
+use Rattle.pg_derive.specs.Predictive.{ExpressionIsPredictive, PartIsPredictive, TryIsPredictive, of_part, of_string, of_key, AlternativesArePredictive, ChainIsPredictive, LeafIsPredictive, AroundIsPredictive, IsPredictiveAt}
 use Rattle.pg_derive.proofs.LeavesAnswered.{FailsEmpty, StaysOk, satisfy_fails, string_fails, word_fails, not_followed_decided, end_decided, declare_fails}
 use Rattle.pg_language.proofs.Onward.{left_still}
 use Rattle.pg_derive.proofs.Lexemes.{NodeFails, string_node_fails, key_node_fails}
@@ -41,6 +47,8 @@ pub record IsWhole (g : Grammar) : Type 0 where
   pub parts : (p : ℕ) (n : Node) → slice_get g.nodes p ≡ Some n → AllByRecursion (λ q. q < length g.nodes) (parts_of n)
   pub rules : (p r : ℕ) → slice_get g.nodes p ≡ Some (form.Rule r) → (named : declared.Rule) × (slice_get g.rules r ≡ Some named) × (named.body < length g.nodes)
   pub words : (p w : ℕ) → slice_get g.nodes p ≡ Some (form.Leaf (leaf.Word w)) → (item : WordItem) × (slice_get g.words w ≡ Some item)
+  -- and the initial operators can be declared
+  pub initials : AllByRecursion IsOperator g.initials
 
 pub data Quietly (Run : Outcome → ℕ → Type 0) (Empty : Type 0) (a : Spot) : Type 0 where
   refuses : (e : Error) (m : ℕ) → Run (failed false e) m → Quietly Run Empty a
@@ -215,6 +223,19 @@ module _ (G : Given) (scalars : all_scalars G.text ≡ true) (whole : IsWhole G.
         refused (AnswersForm G (form.Leaf (leaf.Declare class)) a) _ a _ _ (answers.leaf (ap (some_declare_outcome G.grammar G.text class a) f.named))
         (declare_fails G.grammar G.text f.item class a (λ role h. unmatched G.text (sets.first p) a.place bare (f.first G.text scalars a.place (record { role = role; there = h }))))
 
+    -- no prefix stands there
+    quiet_expression : (builders : OperatorBuilders) (q : ℕ) → ExpressionIsPredictive G.grammar sets p q → QuietNode q a → QuietForm (form.Expression builders q) p a
+    quiet_expression builders q f (refuses e m run) =
+        let operators = a.table.operators in
+        let proper = proper_table G.grammar a.table whole.initials from in
+        let s : Setting = record { item = f.item; builders = builders; term = q } in
+        let rows = refuse G s operators (clear_table G.grammar a.table whole.initials from) (all_levels operators proper) a
+        (λ o j among role_is there. unmatched G.text (sets.first p) a.place bare
+        (f.begins G.text scalars a.place (record { table = a.table; comes = from; operator = o; among = among; end = j; there = there })))
+        (record { error = e; count = m; run = run }) in
+        refuses rows.error rows.count (answers.expression f.named rows.run)
+    quiet_expression builders q f (skips x v t e m run) = let full = f.full in absurd (cc)
+
     quiet_form : (f : Node) → slice_get G.grammar.nodes p ≡ Some f → IsPredictiveAt G.grammar sets p f → QuietForm f p a
     quiet_form (form.Leaf l) e f = quiet_leaf l e f
     quiet_form (form.Seq []) e f = skips (f.empty tt) [] [] _ _ nothing
@@ -243,7 +264,8 @@ module _ (G : Given) (scalars : all_scalars G.text ≡ true) (whole : IsWhole G.
         go : (named : declared.Rule) → slice_get G.grammar.rules r ≡ Some named → QuietNode named.body a → QuietForm (form.Rule r) p a
         go named e (refuses x m run) = refuses x _ (rule e run)
         go named e (skips y v t x m run) = skips ((f.body named e).empty y) v t x _ (rule e run)
-    quiet_form (form.Expression builders q) e f = absurd f
+    quiet_form (form.Expression builders q) e f = quiet_expression builders q f (lower q (let falls = f.falls in omega arith) (whole.parts p _ e).0
+        (bare_within G.text (Contains (sets.first q)) (sets.first p) a.place scalars f.first bare))
     quiet_form (form.Around k q) e f = quiet_around k q f (whole.parts p _ e).0
 
   module _ (good : (p : ℕ) (n : Node) → slice_get G.grammar.nodes p ≡ Some n → IsPredictiveAt G.grammar sets p n) where

@@ -16,6 +16,11 @@ use Rattle.pg_language.specs.Derives.{Spot}
 use Rattle.pg_table.specs.Tables.{ComesFrom}
 use Rattle.pg_language.specs.Answers as answers
 use Rattle.pg_language.specs.Answers.{Given, Answers, entered, AnswersForm, nothing, seq, choice, many, rule, AnswersParts, part, AfterPart, part_last, part_failed, part_stuck, part_ok, AnswersAlternatives, no_alternative, alternative, AfterAlternative, alternative_consumed, alternative_stands, alternative_waits, alternative_commits, alternative_failed, alternative_stuck, AnswersRounds, round, AfterRound, round_ended, round_failed, round_empty, round_stuck, round_ok, AnswersChain, first_operand, AfterFirst, first_failed, first_stuck, first_ok, AnswersLinks, link, AfterSeparator, separator_failed, separator_stuck, separator_ok, AfterOperand, operand_failed, operand_stuck, operand_ok}
+use Rattle.std.specs.Prelude.{Option, Some}
+use Rattle.pg_expand.specs.declared.rows.Row.{Row}
+use Rattle.pg_language.specs.OperatorReads.{Read}
+use Rattle.pg_language.specs.RowReactions.{Setting}
+use Rattle.pg_language.specs.Answers.{AnswersRows, only_term, loosest_row, AnswersRowOperand, row_operand, AfterRowOperand, row_failed, row_stuck, row_ok, AnswersTail, row_tail, AfterRight, right_stands, right_commits, right_stuck, right_failed, AfterLeft, left_stands, left_commits, left_stuck, left_failed, AnswersRight, right_side, AfterRightOperator, right_unread, right_read, AfterRightOperand, right_operand_failed, right_operand_stuck, right_operand_ok, AnswersLeft, left_side, AfterLeftOperator, left_unread, left_read, AfterLeftOperand, left_operand_failed, left_operand_stuck, left_operand_ok, AnswersNon, neither_side, AfterNonOperator, non_unread, non_read}
 use Rattle.pg_derive.specs.ClosedSets.{NodeSets}
 use Rattle.pg_language.specs.Errors.{Error, with_position, without_position, merge, no_messages_at}
 use Rattle.pg_language.specs.Outcomes.{Outcome, ok}
@@ -69,7 +74,7 @@ module _ (G : Given) (scalars : all_scalars G.text ≡ true) (whole : IsWhole G.
     report_form (many d) p f = many (report_rounds d)
     report_form (answers.chain d) p f = answers.chain (report_chain d)
     report_form (rule e d) p f = rule e (report d)
-    report_form (answers.expression x d) p f = absurd f
+    report_form (answers.expression x d) p f = answers.expression x (report_rows d)
     report_form (answers.around d) p f = answers.around (report d)
 
     report_parts : {p : ℕ} {ps : List ℕ} {a : Spot} {o : Outcome} {m : ℕ} → AnswersParts L p ps a o m → AnswersParts R p ps a o m
@@ -130,6 +135,69 @@ module _ (G : Given) (scalars : all_scalars G.text ≡ true) (whole : IsWhole G.
     report_after_operand operand_failed = operand_failed
     report_after_operand operand_stuck = operand_stuck
     report_after_operand (operand_ok x d) = operand_ok x (report_links d)
+
+    -- ---- expressions
+
+    report_rows : {s : Setting} {rows : List Row} {a : Spot} {o : Outcome} {m : ℕ} → AnswersRows L s rows a o m → AnswersRows R s rows a o m
+    report_rows (only_term d) = only_term (report d)
+    report_rows (loosest_row d r) = loosest_row (report_row_operand d) (report_after_row r)
+
+    report_row_operand : {s : Setting} {r : Row} {tighter : List Row} {a : Spot} {o : Outcome} {m : ℕ} → AnswersRowOperand L s r tighter a o m → AnswersRowOperand R s r tighter a o m
+    report_row_operand (row_operand d) = row_operand (report_rows d)
+
+    report_after_row : {s : Setting} {r : Row} {tighter : List Row} {x o : Outcome} {m : ℕ} → AfterRowOperand L s r tighter x o m → AfterRowOperand R s r tighter x o m
+    report_after_row row_failed = row_failed
+    report_after_row row_stuck = row_stuck
+    report_after_row (row_ok d) = row_ok (report_tail d)
+
+    report_tail : {s : Setting} {r : Row} {tighter : List Row} {v : List Tree} {a : Spot} {o : Outcome} {m : ℕ} → AnswersTail L s r tighter v a o m → AnswersTail R s r tighter v a o m
+    report_tail (row_tail d r) = row_tail (report_right d) (report_after_right r)
+
+    report_after_right : {s : Setting} {r : Row} {tighter : List Row} {v : List Tree} {a : Spot} {x o : Outcome} {m : ℕ} → AfterRight L s r tighter v a x o m → AfterRight R s r tighter v a x o m
+    report_after_right right_stands = right_stands
+    report_after_right right_commits = right_commits
+    report_after_right right_stuck = right_stuck
+    report_after_right (right_failed d r) = right_failed (report_left d) (report_after_left r)
+
+    report_after_left : {s : Setting} {r : Row} {tighter : List Row} {v : List Tree} {a : Spot} {x o : Outcome} {m : ℕ} → AfterLeft L s r tighter v a x o m → AfterLeft R s r tighter v a x o m
+    report_after_left left_stands = left_stands
+    report_after_left left_commits = left_commits
+    report_after_left left_stuck = left_stuck
+    report_after_left (left_failed d) = left_failed (report_non d)
+
+    report_right : {s : Setting} {r : Row} {tighter : List Row} {v : List Tree} {a : Spot} {o : Outcome} {m : ℕ} → AnswersRight L s r tighter v a o m → AnswersRight R s r tighter v a o m
+    report_right (right_side d) = right_side (report_after_right_operator d)
+
+    report_after_right_operator : {s : Setting} {r : Row} {tighter : List Row} {v : List Tree} {a : Spot} {w : Option Read} {o : Outcome} {m : ℕ} → AfterRightOperator L s r tighter v a w o m →
+        AfterRightOperator R s r tighter v a w o m
+    report_after_right_operator right_unread = right_unread
+    report_after_right_operator (right_read d r) = right_read (report_row_operand d) (report_after_right_operand r)
+
+    report_after_right_operand : {s : Setting} {r : Row} {tighter : List Row} {x o : Outcome} {m : ℕ} → AfterRightOperand L s r tighter x o m → AfterRightOperand R s r tighter x o m
+    report_after_right_operand right_operand_failed = right_operand_failed
+    report_after_right_operand right_operand_stuck = right_operand_stuck
+    report_after_right_operand (right_operand_ok d) = right_operand_ok (report_right d)
+
+    report_left : {s : Setting} {r : Row} {tighter : List Row} {v : List Tree} {a : Spot} {o : Outcome} {m : ℕ} → AnswersLeft L s r tighter v a o m → AnswersLeft R s r tighter v a o m
+    report_left (left_side d) = left_side (report_after_left_operator d)
+
+    report_after_left_operator : {s : Setting} {r : Row} {tighter : List Row} {v : List Tree} {a : Spot} {w : Option Read} {o : Outcome} {m : ℕ} → AfterLeftOperator L s r tighter v a w o m →
+        AfterLeftOperator R s r tighter v a w o m
+    report_after_left_operator left_unread = left_unread
+    report_after_left_operator (left_read d r) = left_read (report_row_operand d) (report_after_left_operand r)
+
+    report_after_left_operand : {s : Setting} {r : Row} {tighter : List Row} {v : List Tree} {q : Read} {x o : Outcome} {m : ℕ} → AfterLeftOperand L s r tighter v q x o m → AfterLeftOperand R s r tighter v q x o m
+    report_after_left_operand left_operand_failed = left_operand_failed
+    report_after_left_operand left_operand_stuck = left_operand_stuck
+    report_after_left_operand (left_operand_ok d) = left_operand_ok (report_left d)
+
+    report_non : {s : Setting} {r : Row} {tighter : List Row} {v : List Tree} {a : Spot} {o : Outcome} {m : ℕ} → AnswersNon L s r tighter v a o m → AnswersNon R s r tighter v a o m
+    report_non (neither_side d) = neither_side (report_after_non_operator d)
+
+    report_after_non_operator : {s : Setting} {r : Row} {tighter : List Row} {v : List Tree} {a : Spot} {w : Option Read} {o : Outcome} {m : ℕ} → AfterNonOperator L s r tighter v a w o m →
+        AfterNonOperator R s r tighter v a w o m
+    report_after_non_operator non_unread = non_unread
+    report_after_non_operator (non_read d) = non_read (report_row_operand d)
 
   -- what the report's reading answers is what the library's does, since that answers, and there is one answer
   library : {p : ℕ} {a : Spot} {o : Outcome} {m : ℕ} → p < length G.grammar.nodes → (a.place ≤ length G.text) × ComesFrom G.grammar a.table → Answers R p a o m → Answers L p a o m

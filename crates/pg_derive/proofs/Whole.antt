@@ -25,6 +25,7 @@ is_whole g h = record {
       let named = found g.rules r (all_at (NamesRule (length g.rules)) g.nodes h.named p (form.Rule r) e) in
       (named.0, named.1, all_at (λ (rule : declared.Rule). rule.body < length g.nodes) g.rules (bodies_are_nodes g.rules g.nodes h.bodies) r named.0 named.1);
   words = λ p w e. found g.words w (all_at (NamesWord (length g.words)) g.nodes h.words_named p (form.Leaf (leaf.Word w)) e);
+  initials = h.initials;
 }
 
 pub start_found : (g : Grammar) → IsGrammar g → (named : declared.Rule) × (slice_get g.rules g.start ≡ Some named) × (named.body < length g.nodes)

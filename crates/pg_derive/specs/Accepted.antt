@@ -6,7 +6,6 @@ use Rattle.pg_value.specs.Grammar.{Grammar, IsGrammar}
 use Rattle.pg_value.specs.declared.trail.TrailItem.{TrailItem}
 use Rattle.pg_sets.specs.Sets.{Sets, AreSets}
 use Rattle.pg_predict.specs.Conditions.{IsFaultless}
-use Rattle.pg_predict.specs.Expressions.{HasNoExpressions}
 use Rattle.pg_language.specs.Derives.{DerivesText}
 use Rattle.pg_table.specs.Tables.{Table, ComesFrom}
 use Rattle.pg_language.specs.Answers.{Given}
@@ -20,12 +19,11 @@ use Rattle.pg_derive.specs.WholeTextLaws.{TextIsAnswered}
 
 -- if nothing is wrong at any node of a grammar, its least sets show that it is predictive
 abbrev pub AcceptedGrammarsArePredictive : Type 0
-AcceptedGrammarsArePredictive = (g : Grammar) (sets : Sets) → IsGrammar g → HasNoExpressions g → AreSets g sets → IsFaultless g → IsPredictive g (node_sets g sets)
+AcceptedGrammarsArePredictive = (g : Grammar) (sets : Sets) → IsGrammar g → AreSets g sets → IsFaultless g → IsPredictive g (node_sets g sets)
 
 -- nothing is wrong with the grammar, whose sets these are; the text is one of characters
 pub record Accepts (G : Given) (sets : Sets) : Type 0 where
   pub grammar : IsGrammar G.grammar
-  pub bare : HasNoExpressions G.grammar
   pub least : AreSets G.grammar sets
   pub faultless : IsFaultless G.grammar
   pub text : all_scalars G.text ≡ true

@@ -24,6 +24,10 @@ pub record SomeMatches (text : List ℕ) (starts : List StartKind) (place : ℕ)
 abbrev pub Meets : List StartKind → (List ℕ → ℕ → Type 0) → Type 0
 Meets starts Is = (text : List ℕ) → all_scalars text ≡ true → (place : ℕ) → Is text place → SomeMatches text starts place
 
+-- where this stands in a text of characters, no start of the list matches
+abbrev pub NeverMeets : List StartKind → (List ℕ → ℕ → Type 0) → Type 0
+NeverMeets starts Is = (text : List ℕ) → all_scalars text ≡ true → (place : ℕ) → SomeMatches text starts place → Is text place → ⊥
+
 -- the list covers the start: wherever this one matches, some start of the list does, spelled alike or wider
 abbrev pub Covers : List StartKind → StartKind → Type 0
 Covers starts s = Meets starts (MatchesAt s)

@@ -18,8 +18,11 @@ use Rattle.pg_form.specs.declared.word_item.WordItem.{WordItem}
 use Rattle.pg_start.specs.Apart.{Apart}
 use Rattle.pg_start.specs.declared.kind.StartKind.{StartKind}
 use Rattle.pg_start.specs.declared.kind.StartKind.TheVariants.{End}
-use Rattle.pg_language.specs.Runs.{HasAt, StandsAt, IsWordAt, IsKeywordAt}
-use Rattle.pg_derive.specs.ClosedSets.{NodeSets, Meets, Covers, Within, AllApart, AllNullable, BeginsParts, PartsFollowed, PartsFall}
+use Rattle.pg_language.specs.Runs.{HasAt, StandsAt, IsWordAt, IsKeywordAt, IsOperatorAt}
+use Rattle.pg_table.specs.Tables.{Table, ComesFrom}
+use Rattle.pg_table.specs.Fitting.{IsAmong}
+use Rattle.pg_form.specs.Operators.{Operator}
+use Rattle.pg_derive.specs.ClosedSets.{NodeSets, Meets, NeverMeets, Covers, Within, AllApart, AllNullable, BeginsParts, PartsFollowed, PartsFall}
 
 -- ---- leaves
 
@@ -120,6 +123,30 @@ pub record ChainIsPredictive (sets : NodeSets) (p q r : ℕ) : Type 0 where
   pub apart : (s t : StartKind) → BeginsParts sets (r ∷ q ∷ []) s → Contains (sets.follow p) t → Apart s t
   pub falls : PartsFall sets (sets.level p) (q ∷ r ∷ q ∷ [])
 
+-- ---- expressions
+
+-- an operator of some table of the grammar stands at the place
+pub record IsSomeOperatorAt (g : Grammar) (item : OperatorsItem) (text : List ℕ) (place : ℕ) : Type 0 where
+  pub table : Table
+  pub comes : ComesFrom g table
+  pub operator : Operator
+  pub among : IsAmong table.operators operator
+  pub end : ℕ
+  pub there : IsOperatorAt g text item operator.symbol place end
+
+-- an expression over a term q: the term isn't empty, and no operator stands where it begins, or where the expression ends
+pub record ExpressionIsPredictive (g : Grammar) (sets : NodeSets) (p q : ℕ) : Type 0 where
+  pub item : OperatorsItem
+  pub named : g.operators ≡ Some item
+  pub full : sets.nullable q ≡ false
+  pub begins : Meets (sets.first p) (IsSomeOperatorAt g item)
+  pub first : Within (sets.first q) (sets.first p)
+  pub again : Meets (sets.follow q) (IsSomeOperatorAt g item)
+  pub follow : Within (sets.follow p) (sets.follow q)
+  pub bare : NeverMeets (sets.first q) (IsSomeOperatorAt g item)
+  pub ends : NeverMeets (sets.follow p) (IsSomeOperatorAt g item)
+  pub falls : sets.level q < sets.level p
+
 -- ---- nodes
 
 -- by the leaf
@@ -140,7 +167,7 @@ AroundIsPredictive g sets p (kind.Build used symbol) q = PartIsPredictive sets p
 AroundIsPredictive g sets p (kind.Label message) q = PartIsPredictive sets p q
 AroundIsPredictive g sets p kind.Local q = PartIsPredictive sets p q
 
--- by what stands at the node; grammars with expressions aren't judged yet
+-- by what stands at the node
 abbrev pub IsPredictiveAt : Grammar → NodeSets → ℕ → Node → Type 0
 IsPredictiveAt g sets p (form.Leaf l) = LeafIsPredictive g sets p l
 IsPredictiveAt g sets p (form.Seq parts) = SeqIsPredictive sets p parts
@@ -148,7 +175,7 @@ IsPredictiveAt g sets p (form.Choice parts) = AlternativesArePredictive sets p p
 IsPredictiveAt g sets p (form.Many q) = ManyIsPredictive sets p q
 IsPredictiveAt g sets p (form.Chain side used q r) = ChainIsPredictive sets p q r
 IsPredictiveAt g sets p (form.Rule r) = RuleIsPredictive g sets p r
-IsPredictiveAt g sets p (form.Expression builders q) = ⊥
+IsPredictiveAt g sets p (form.Expression builders q) = ExpressionIsPredictive g sets p q
 IsPredictiveAt g sets p (form.Around k q) = AroundIsPredictive g sets p k q
 
 -- each node fits; the end of the text follows the start rule

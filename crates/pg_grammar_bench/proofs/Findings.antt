@@ -3,18 +3,17 @@ use Rattle.std.proofs.Common.{List, ℕ}
 use Rattle.pg_pred.specs.Offer.{Offer}
 use Rattle.pg_value.specs.Grammar.{Grammar}
 use Rattle.pg_making.specs.Spells.{SpellsWithinLimits}
-use Rattle.pg_predict.specs.Expressions.{HasNoExpressions}
 use Rattle.pg_grammar_bench.specs.Files.{IsFaultOfFile, AreFindingsOf}
 use Rattle.pg_grammar_bench.specs.Faults.{IsFindingRefusal, IfFile, IfRefused}
 use Rattle.pg_grammar_bench.specs.declared.fault.BenchFault.{BenchFault}
 use Rattle.pg_grammar_bench.specs.declared.fault.BenchFault.TheVariants.{File, Refused}
 
 -- findings of a grammar that the file spells are the file's
-pub refused_file : (offer : Offer) (file : List ℕ) (g : Grammar) (fault : BenchFault) → SpellsWithinLimits offer file g → HasNoExpressions g
+pub refused_file : (offer : Offer) (file : List ℕ) (g : Grammar) (fault : BenchFault) → SpellsWithinLimits offer file g
     → IsFindingRefusal g fault → IfRefused (AreFindingsOf offer file) fault
-refused_file offer file g (Refused findings) spelled plain h =
-    record { grammar = g; spelled = spelled; plain = plain; all = h.0; some = h.1 }
-refused_file offer file g _ spelled plain h = tt
+refused_file offer file g (Refused findings) spelled h =
+    record { grammar = g; spelled = spelled; all = h.0; some = h.1 }
+refused_file offer file g _ spelled h = tt
 
 -- and no finding is a fault of the file
 pub refused_later : (offer : Offer) (file : List ℕ) (g : Grammar) (fault : BenchFault) → IsFindingRefusal g fault → IfFile (IsFaultOfFile offer file) fault

@@ -9,7 +9,6 @@ use Rattle.pg_value.specs.Grammar.{Grammar}
 use Rattle.pg_making.specs.Spells.{SpellsWithinLimits}
 use Rattle.pg_predict.specs.Conditions.{IsFaultless}
 use Rattle.pg_predict.specs.Findings.{AreFindings}
-use Rattle.pg_predict.specs.Expressions.{HasNoExpressions}
 use Rattle.pg_predict.specs.declared.finding.Finding.{Finding}
 
 -- a finding's line
@@ -25,11 +24,10 @@ pub data IsJudged (g : Grammar) : Bool → List ℕ → Type 0 where
   is_accepted : IsFaultless g → IsJudged g true (codes "accepted\n")
   is_refused : {findings : List Finding} → AreFindings g findings → 0 < length findings → IsJudged g false (lines_of findings)
 
--- the file spells a grammar that reads no expressions, and this is printed of it
+-- the file spells a grammar, and this is printed of it
 pub record IsJudgedFile (offer : Offer) (file : List ℕ) (accepted : Bool) (said : List ℕ) : Type 0 where
   pub grammar : Grammar
   pub spelled : SpellsWithinLimits offer file grammar
-  pub plain : HasNoExpressions grammar
   pub judged : IsJudged grammar accepted said
 
 -- and it was written

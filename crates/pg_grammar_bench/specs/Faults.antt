@@ -6,7 +6,7 @@ use Rattle.pg_value.specs.Grammar.{Grammar}
 use Rattle.pg_predict.specs.Findings.{AreFindings}
 use Rattle.pg_predict.specs.declared.finding.Finding.{Finding}
 use Rattle.pg_grammar_bench.specs.declared.fault.BenchFault.{BenchFault}
-use Rattle.pg_grammar_bench.specs.declared.fault.BenchFault.TheVariants.{File, NotRun, Refused, Reader, NotUtf8, TooLong, ParseError, Writer, Memory}
+use Rattle.pg_grammar_bench.specs.declared.fault.BenchFault.TheVariants.{File, Refused, Reader, NotUtf8, TooLong, ParseError, Writer, Memory}
 
 -- ---- the order
 
@@ -14,13 +14,12 @@ use Rattle.pg_grammar_bench.specs.declared.fault.BenchFault.TheVariants.{File, N
 abbrev pub step_of : BenchFault → ℕ
 step_of Memory = 0
 step_of (File fault) = 1
-step_of NotRun = 2
-step_of (Refused findings) = 3
-step_of Reader = 4
-step_of NotUtf8 = 5
-step_of TooLong = 6
-step_of (ParseError error) = 7
-step_of Writer = 8
+step_of (Refused findings) = 2
+step_of Reader = 3
+step_of NotUtf8 = 4
+step_of TooLong = 5
+step_of (ParseError error) = 6
+step_of Writer = 7
 
 abbrev pub IsSo : Bool → Type 0
 IsSo true = Unit {0}
@@ -34,28 +33,27 @@ IsOfSteps first last fault = IsSo (nat_le first (step_of fault) && nat_le (step_
 abbrev pub IsFileFault : BenchFault → Type 0
 IsFileFault = IsOfSteps 1 1
 
--- a fault that is judged once the grammar file is read, and all of it can be run
+-- a fault that is judged once the grammar file is read, and its grammar isn't refused
 abbrev pub IsAfterFile : BenchFault → Type 0
-IsAfterFile = IsOfSteps 4 8
+IsAfterFile = IsOfSteps 3 7
 
 -- a fault before the reader is asked for the first time, unless memory runs out
 abbrev pub IsBeforeReading : BenchFault → Type 0
-IsBeforeReading = IsOfSteps 1 3
+IsBeforeReading = IsOfSteps 1 2
 
 -- a fault that is judged once the text is read
 abbrev pub IsAfterReading : BenchFault → Type 0
-IsAfterReading = IsOfSteps 5 8
+IsAfterReading = IsOfSteps 4 7
 
 -- a fault before the first byte is written, or want of memory
 abbrev pub IsBeforeWriting : BenchFault → Type 0
-IsBeforeWriting = IsOfSteps 0 7
+IsBeforeWriting = IsOfSteps 0 6
 
 -- ---- what is claimed of faults
 
 -- a claim for each fault
 pub record Claims : Type 1 where
   pub file : FileFault → Type 0
-  pub not_run : Type 0
   pub refused : List Finding → Type 0
   pub reader : Type 0
   pub not_utf8 : Type 0
@@ -67,7 +65,6 @@ pub record Claims : Type 1 where
 -- the claim that is made of this one
 abbrev pub Claimed : Claims → BenchFault → Type 0
 Claimed of (File fault) = of.file fault
-Claimed of NotRun = of.not_run
 Claimed of (Refused findings) = of.refused findings.items
 Claimed of Reader = of.reader
 Claimed of NotUtf8 = of.not_utf8
@@ -81,7 +78,6 @@ abbrev pub memory_alone : Claims
 memory_alone =
     record {
       file = λ fault. ⊥;
-      not_run = ⊥;
       refused = λ findings. ⊥;
       reader = ⊥;
       not_utf8 = ⊥;
@@ -96,7 +92,6 @@ abbrev pub any_fault : Claims
 any_fault =
     record {
       file = λ fault. Unit {0};
-      not_run = Unit {0};
       refused = λ findings. Unit {0};
       reader = Unit {0};
       not_utf8 = Unit {0};
@@ -109,10 +104,6 @@ any_fault =
 -- what is claimed of the file's fault, where there is one
 abbrev pub IfFile : (FileFault → Type 0) → BenchFault → Type 0
 IfFile Claim = Claimed (record any_fault { file = Claim })
-
--- what is claimed where the grammar isn't run
-abbrev pub IfNotRun : Type 0 → BenchFault → Type 0
-IfNotRun Claim = Claimed (record any_fault { not_run = Claim })
 
 -- what is claimed of the findings, where the grammar is refused
 abbrev pub IfRefused : (List Finding → Type 0) → BenchFault → Type 0
@@ -132,22 +123,14 @@ IsMemory = Claimed memory_alone
 abbrev pub IsFileRefusal : BenchFault → Type 0
 IsFileRefusal = Claimed (record memory_alone { file = λ fault. Unit {0} })
 
--- what reading the file of a grammar that reads no expressions refuses with
-abbrev pub IsPlainRefusal : BenchFault → Type 0
-IsPlainRefusal = Claimed (record memory_alone { file = λ fault. Unit {0}; not_run = Unit {0} })
-
 -- what checking a grammar refuses with, and why
 abbrev pub IsFindingRefusal : Grammar → BenchFault → Type 0
 IsFindingRefusal g = Claimed (record memory_alone { refused = λ findings. AreFindings g findings × (0 < length findings) })
 
 -- what reading the file of an accepted grammar refuses with
 abbrev pub IsGrammarRefusal : BenchFault → Type 0
-IsGrammarRefusal = Claimed (record memory_alone { file = λ fault. Unit {0}; not_run = Unit {0}; refused = λ findings. Unit {0} })
+IsGrammarRefusal = Claimed (record memory_alone { file = λ fault. Unit {0}; refused = λ findings. Unit {0} })
 
--- what printing a grammar or its sets refuses with
-abbrev pub IsPrintRefusal : BenchFault → Type 0
-IsPrintRefusal = Claimed (record memory_alone { file = λ fault. Unit {0}; writer = Unit {0} })
-
--- what checking the grammar of a file refuses with
-abbrev pub IsCheckRefusal : BenchFault → Type 0
-IsCheckRefusal = Claimed (record memory_alone { file = λ fault. Unit {0}; not_run = Unit {0}; writer = Unit {0} })
+-- what checking a grammar, or printing it or its sets, refuses with
+abbrev pub IsPageRefusal : BenchFault → Type 0
+IsPageRefusal = Claimed (record memory_alone { file = λ fault. Unit {0}; writer = Unit {0} })

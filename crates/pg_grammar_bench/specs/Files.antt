@@ -4,7 +4,6 @@ use Rattle.pg_pred.specs.Offer.{Offer}
 use Rattle.pg_value.specs.Grammar.{Grammar}
 use Rattle.pg_making.specs.Spells.{SpellsWithinLimits}
 use Rattle.pg_predict.specs.Findings.{AreFindings}
-use Rattle.pg_predict.specs.Expressions.{HasNoExpressions}
 use Rattle.pg_predict.specs.declared.finding.Finding.{Finding}
 use Rattle.pg_file.specs.Refusals.{IsRefusalOf}
 use Rattle.pg_file.specs.declared.fault.FileFault.{FileFault}
@@ -27,14 +26,9 @@ SpellsSome Is offer file = (g : Grammar) × SpellsWithinLimits offer file g × I
 abbrev pub SpellsAny : Offer → List ℕ → Type 0
 SpellsAny = SpellsSome (λ g. Unit {0})
 
--- the file spells some grammar that isn't of this kind
-abbrev pub SpellsOther : (Grammar → Type 0) → Offer → List ℕ → Type 0
-SpellsOther Is offer file = (g : Grammar) × SpellsWithinLimits offer file g × (Is g → ⊥)
-
--- the file spells a grammar that reads no expressions, and these findings, at least one, are all that is wrong with it
+-- the file spells a grammar, and these findings, at least one, are all that is wrong with it
 pub record AreFindingsOf (offer : Offer) (file : List ℕ) (findings : List Finding) : Type 0 where
   pub grammar : Grammar
   pub spelled : SpellsWithinLimits offer file grammar
-  pub plain : HasNoExpressions grammar
   pub all : AreFindings grammar findings
   pub some : 0 < length findings

@@ -2,12 +2,11 @@
 use Rattle.std.specs.Prelude.{ℕ, List, codes}
 use Rattle.pg_file.specs.Texts as file
 use Rattle.pg_grammar_bench.specs.declared.fault.BenchFault.{BenchFault}
-use Rattle.pg_grammar_bench.specs.declared.fault.BenchFault.TheVariants.{File, NotRun, Refused, Reader, NotUtf8, TooLong, ParseError, Writer, Memory}
+use Rattle.pg_grammar_bench.specs.declared.fault.BenchFault.TheVariants.{File, Refused, Reader, NotUtf8, TooLong, ParseError, Writer, Memory}
 
 -- a fault without the file that it is about. Findings and parse errors have lines of their own; here stands a word for them
 abbrev pub fault_text : BenchFault → List ℕ
 fault_text (File fault) = file.fault_text fault
-fault_text NotRun = codes "X2 not run yet"
 fault_text (Refused findings) = codes "not accepted"
 fault_text Reader = codes "X1 cannot read"
 fault_text NotUtf8 = codes "P1 not UTF-8"

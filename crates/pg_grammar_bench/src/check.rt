@@ -2,13 +2,12 @@
 
 ghost use Rattle.std.specs.Prelude.{◌≡◌, ◌++◌, false, true, codes, IfOk, IfErr, OnOk, IsErrOf};
 ghost use Rattle.pg_pred.specs.Offer.{offer_of};
-ghost use Rattle.pg_predict.specs.Expressions.{HasNoExpressions};
 ghost use Rattle.pg_grammar_bench.specs.Checking.{IsChecked, IsPartlyChecked, IsJudged, line_of, lines_of};
-ghost use Rattle.pg_grammar_bench.specs.Files.{IsFaultOfFile, SpellsSome, SpellsOther};
-ghost use Rattle.pg_grammar_bench.specs.Faults.{IsCheckRefusal, IfFile, IsMemory, IsAfterFile, IsBeforeWriting};
+ghost use Rattle.pg_grammar_bench.specs.Files.{IsFaultOfFile, SpellsAny};
+ghost use Rattle.pg_grammar_bench.specs.Faults.{IsPageRefusal, IfFile, IsMemory, IsAfterFile, IsBeforeWriting};
 
 use crate::fault::BenchFault;
-use crate::grammar_file::plain_grammar_of;
+use crate::grammar_file::grammar_of;
 use crate::output::write_page;
 use pg_pred::Registry;
 use pg_predict::{CheckFault, Finding, check};
@@ -21,8 +20,8 @@ use std::io::Write;
 /// of rules, nodes, numbers and alternatives. The answer is whether it is. The registry has the predicates and builders that
 /// the file may name.
 ///
-/// The meter has to be fresh of failures. A fault of the file, `NotRun` where its grammar reads expressions, and
-/// want of memory come before anything is written; then only the writer can fail.
+/// The meter has to be fresh of failures. A fault of the file and want of memory come before anything is written; then only
+/// the writer can fail.
 pub fn check_bytes<W: Write>(
     alloc: Global,
     grammar: &[u8],
@@ -35,18 +34,16 @@ pub fn check_bytes<W: Write>(
     ensures ok { IfOk result (IsChecked (offer_of registry.now) grammar.now (W.contents writer.old.inner) (W.contents writer.new.inner)) }
     ensures stays { OnOk result (writer.new.failed ≡ false) }
 
-    // The file spells no grammar, or one that reads expressions; or the writer failed after a prefix of what it was
-    // to be given; or memory ran out.
-    ensures err { IfErr result IsCheckRefusal }
+    // The file spells no grammar; or the writer failed after a prefix of what it was to be given; or memory ran out.
+    ensures err { IfErr result IsPageRefusal }
     ensures file { IfErr result (IfFile (IsFaultOfFile (offer_of registry.now) grammar.now)) }
-    ensures not_run { IsErrOf result BenchFault.NotRun → SpellsOther HasNoExpressions (offer_of registry.now) grammar.now }
-    ensures runnable { IfErr result (λ fault. IsAfterFile fault → SpellsSome HasNoExpressions (offer_of registry.now) grammar.now) }
+    ensures spelled { IfErr result (λ fault. IsAfterFile fault → SpellsAny (offer_of registry.now) grammar.now) }
     ensures unwritten { IfErr result (λ fault. IsBeforeWriting fault → writer.new ≡ writer.old) }
     ensures writer { IsErrOf result BenchFault.Writer → writer.new.failed ≡ true }
     ensures prefix { IsErrOf result BenchFault.Writer →
         IsPartlyChecked (offer_of registry.now) grammar.now (W.contents writer.old.inner) (W.contents writer.new.inner) }
 {
-    let grammar = plain_grammar_of(alloc, grammar, registry)?;
+    let grammar = grammar_of(alloc, grammar, registry)?;
     let judgement = judged(alloc, grammar)?;
     write_page(judgement.page.as_slice(), writer)?;
     Ok(judgement.accepted)
@@ -62,7 +59,6 @@ struct Judgement {
 /// What the check says of a grammar.
 #[tactic(auto, using(crate::proofs::Judged::judged_accepted, crate::proofs::Judged::judged_refused))]
 fn judged(alloc: Global, grammar: Grammar) -> Result<Judgement, BenchFault>
-    requires { HasNoExpressions grammar }
     ensures ok { IfOk result (λ judgement. IsJudged grammar judgement.accepted judgement.page.items) }
     ensures err { IfErr result IsMemory }
 {

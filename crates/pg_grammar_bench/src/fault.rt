@@ -2,7 +2,7 @@
 //!
 //! A `BenchFault` is all that a run can end with beside its result; what of it is printed, and with
 //! which status, is the report's matter. The labels are short so that scripts can tell the faults
-//! apart: F a grammar file's, X what can't be run or read, P the text's, W the writing.
+//! apart: F a grammar file's, X what can't be read, P the text's, W the writing.
 
 ghost use Rattle.std.specs.Prelude.{Some};
 ghost use Rattle.pg_grammar_bench.specs.Texts.{fault_text};
@@ -22,9 +22,6 @@ use std::fmt;
 pub enum BenchFault {
     /// The grammar file is no grammar. The text's reader has not been asked yet.
     File(FileFault),
-    /// The grammar file is read, and its grammar reads expressions, which aren't checked or parsed by yet. A probe runs them.
-    /// The text's reader has not been asked yet.
-    NotRun,
     /// The grammar isn't accepted. These are all its findings, at least one. The text's reader has not been asked yet.
     Refused(Vec<Finding>),
     /// The text's reader answered an error, or gave over 4,194,304 bytes, more than the longest text can have.
@@ -47,7 +44,6 @@ impl fmt::Display for BenchFault {
     fn fmt<W: fmt::Write>(&self, f: &mut fmt::Formatter<W>) -> fmt::Result {
         match self {
             BenchFault::File(fault) => write!(f, "{fault}"),
-            BenchFault::NotRun => f.write_str("X2 not run yet"),
             BenchFault::Refused(_) => f.write_str("not accepted"),
             BenchFault::Reader => f.write_str("X1 cannot read"),
             BenchFault::NotUtf8 => f.write_str("P1 not UTF-8"),

@@ -1,18 +1,17 @@
 //! The grammar that a file spells, or why a run has none.
 
-ghost use Rattle.std.specs.Prelude.{◌≡◌, IfOk, IfErr, IsErrOf};
+ghost use Rattle.std.specs.Prelude.{◌≡◌, IfOk, IfErr};
 ghost use Rattle.pg_pred.specs.Offer.{offer_of};
 ghost use Rattle.pg_value.specs.Fits.{Fits};
 ghost use Rattle.pg_making.specs.Spells.{SpellsWithinLimits};
 ghost use Rattle.pg_predict.specs.Checked.{IsChecked};
-ghost use Rattle.pg_predict.specs.Expressions.{HasNoExpressions};
-ghost use Rattle.pg_grammar_bench.specs.Files.{IsFaultOfFile, SpellsOther, AreFindingsOf};
-ghost use Rattle.pg_grammar_bench.specs.Faults.{IfFile, IsFileRefusal, IsFindingRefusal, IsGrammarRefusal, IsPlainRefusal, IfRefused};
+ghost use Rattle.pg_grammar_bench.specs.Files.{IsFaultOfFile, AreFindingsOf};
+ghost use Rattle.pg_grammar_bench.specs.Faults.{IfFile, IsFileRefusal, IsFindingRefusal, IsGrammarRefusal, IfRefused};
 
 use crate::fault::BenchFault;
 use pg_file::FileError;
 use pg_pred::Registry;
-use pg_predict::{CheckFault, Checked, check, has_no_expressions};
+use pg_predict::{CheckFault, Checked, check};
 use pg_value::Grammar;
 use std::alloc::Global;
 
@@ -30,27 +29,6 @@ pub fn grammar_of(alloc: Global, bytes: &[u8], registry: &Registry) -> Result<Gr
     }
 }
 
-/// The same of a grammar that reads no expressions: `NotRun` where it does.
-pub fn plain_grammar_of(
-    alloc: Global,
-    bytes: &[u8],
-    registry: &Registry,
-) -> Result<Grammar, BenchFault>
-    ensures ok { IfOk result (SpellsWithinLimits (offer_of registry.now) bytes.now) }
-    ensures fits { IfOk result (Fits (offer_of registry.now)) }
-    ensures plain { IfOk result HasNoExpressions }
-    ensures err { IfErr result IsPlainRefusal }
-    ensures file { IfErr result (IfFile (IsFaultOfFile (offer_of registry.now) bytes.now)) }
-    ensures not_run { IsErrOf result BenchFault.NotRun → SpellsOther HasNoExpressions (offer_of registry.now) bytes.now }
-{
-    let grammar = grammar_of(alloc, bytes, registry)?;
-    if has_no_expressions(&grammar) {
-        Ok(grammar)
-    } else {
-        Err(BenchFault::NotRun)
-    }
-}
-
 /// The same of a grammar that is accepted: `Refused` with its findings where it isn't.
 #[tactic(auto, using(crate::proofs::Findings::refused_file, crate::proofs::Findings::refused_later))]
 pub fn checked_of(alloc: Global, bytes: &[u8], registry: &Registry) -> Result<Checked, BenchFault>
@@ -59,16 +37,14 @@ pub fn checked_of(alloc: Global, bytes: &[u8], registry: &Registry) -> Result<Ch
     ensures accepted { IfOk result (λ checked. IsChecked checked) }
     ensures err { IfErr result IsGrammarRefusal }
     ensures file { IfErr result (IfFile (IsFaultOfFile (offer_of registry.now) bytes.now)) }
-    ensures not_run { IsErrOf result BenchFault.NotRun → SpellsOther HasNoExpressions (offer_of registry.now) bytes.now }
     ensures refused { IfErr result (IfRefused (AreFindingsOf (offer_of registry.now) bytes.now)) }
 {
-    let grammar = plain_grammar_of(alloc, bytes, registry)?;
+    let grammar = grammar_of(alloc, bytes, registry)?;
     accepted(alloc, grammar)
 }
 
 /// A grammar that is accepted, or all that is wrong with it.
 fn accepted(alloc: Global, grammar: Grammar) -> Result<Checked, BenchFault>
-    requires { HasNoExpressions grammar }
     ensures same { IfOk result (λ checked. checked.grammar ≡ grammar) }
     ensures accepted { IfOk result (λ checked. IsChecked checked) }
     ensures err { IfErr result (IsFindingRefusal grammar) }

@@ -14,7 +14,7 @@ mod sets;
 
 pub use check::check_bytes;
 pub use fault::BenchFault;
-pub use grammar_file::{checked_of, grammar_of, plain_grammar_of};
+pub use grammar_file::{checked_of, grammar_of};
 pub use output::write_page;
 pub use print::print_bytes;
 pub use sets::sets_bytes;

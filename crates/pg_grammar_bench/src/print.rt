@@ -3,7 +3,7 @@
 ghost use Rattle.std.specs.Prelude.{◌≡◌, false, true, IfErr, OnOk, IsErrOf};
 ghost use Rattle.pg_pred.specs.Offer.{offer_of};
 ghost use Rattle.pg_grammar_bench.specs.Files.{IsFaultOfFile};
-ghost use Rattle.pg_grammar_bench.specs.Faults.{IfFile, IsBeforeWriting, IsPrintRefusal};
+ghost use Rattle.pg_grammar_bench.specs.Faults.{IfFile, IsBeforeWriting, IsPageRefusal};
 ghost use Rattle.pg_grammar_bench.specs.Printing.{IsPrinted, IsPartlyPrinted};
 
 use crate::fault::BenchFault;
@@ -33,7 +33,7 @@ pub fn print_bytes<W: Write>(
     ensures stays { OnOk result (writer.new.failed ≡ false) }
 
     // The file spells no grammar; or the writer failed after a prefix of what it was to be given; or memory ran out.
-    ensures err { IfErr result IsPrintRefusal }
+    ensures err { IfErr result IsPageRefusal }
     ensures file { IfErr result (IfFile (IsFaultOfFile (offer_of registry.now) grammar.now)) }
     ensures unwritten { IfErr result (λ fault. IsBeforeWriting fault → writer.new ≡ writer.old) }
     ensures writer { IsErrOf result BenchFault.Writer → writer.new.failed ≡ true }

@@ -65,7 +65,7 @@ moves s a j onward within = record {
   still = λ e. ap (λ i. at a i) e;
 }
 
-joins : (s : List ℕ) (a b c : Spot) → LeadsOn s a b → LeadsOn s b c → LeadsOn s a c
+pub joins : (s : List ℕ) (a b c : Spot) → LeadsOn s a b → LeadsOn s b c → LeadsOn s a c
 joins s a b c h k =
     let added = added_after 0 0 0 a.table b.table c.table h.further k.further h.added k.added in
     record {
@@ -95,7 +95,7 @@ word_on g s item a w is =
     let counted : length w ≡ suc (length (run_at g s item.rest (suc a.place))) = ap length is.whole in
     moves s a (a.place + length w) (omega arith) (λ h. omega arith)
 
-operator_on : (g : Grammar) (s : List ℕ) (item : OperatorsItem) (symbol : List ℕ) (a : Spot) (j : ℕ) → IsOperatorAt g s item symbol a.place j → LeadsOn s a (at a j)
+pub operator_on : (g : Grammar) (s : List ℕ) (item : OperatorsItem) (symbol : List ℕ) (a : Spot) (j : ℕ) → IsOperatorAt g s item symbol a.place j → LeadsOn s a (at a j)
 operator_on g s item symbol a j is =
     let counted : length (run_at g s item.class a.place) ≡ length symbol = ap length is.run in
     let past = is.past in
@@ -175,7 +175,7 @@ mutual
   links_on {s = s} (no_link {a = a}) = stays s a
   links_on {s = s} (first_link {a = a} {b = b} {c = c} {d = e} d f ds) = joins s a b e (leads_on d) (joins s b c e (leads_on f) (links_on ds))
 
-  expression_on : {g : Grammar} {s : List ℕ} {item : OperatorsItem} {builders : OperatorBuilders} {p : ℕ} {x : Expression} {a b : Spot} {forest : List Tree} {trail : List TrailItem}
+  pub expression_on : {g : Grammar} {s : List ℕ} {item : OperatorsItem} {builders : OperatorBuilders} {p : ℕ} {x : Expression} {a b : Spot} {forest : List Tree} {trail : List TrailItem}
       → DerivesExpression g s item builders p x a b forest trail → LeadsOn s a b
   expression_on (a_term d) = leads_on d
   expression_on {g} {s} {item} (a_prefix {o = o} {j = j} {a = a} {b = b} is d) = joins s a (at a j) b (operator_on g s item o.symbol a j is) (expression_on d)

@@ -60,7 +60,7 @@ choice_few i (n ∷ nodes) h zero ps e =
 choice_few i (n ∷ nodes) h (suc p) ps e = let l = choice_few (suc i) nodes h.1 p ps e in omega arith
 
 predicts : (G : Given) (h : HasAcceptedGrammar G) → Predicts G (node_sets G.grammar h.0)
-predicts G h = let a = h.1 in record { grammar = a.grammar; predictive = accepted G.grammar h.0 a.grammar a.bare a.least a.faultless; text = a.text }
+predicts G h = let a = h.1 in record { grammar = a.grammar; predictive = accepted G.grammar h.0 a.grammar a.least a.faultless; text = a.text }
 
 pub bounded : (G : Given) → HasAcceptedGrammar G → IsBounded G.grammar 8192
 bounded G h = record {

@@ -265,8 +265,9 @@ no_word_own {g} {w} no_item = none_own none no_plain
 
 -- ---- operators
 
-no_plain_expression : {g : Grammar} {builders : OperatorBuilders} {term : ℕ} → IsPlain g (form.Expression builders term) → ⊥
-no_plain_expression (plain.key is) = elim is [ ]
+no_plain_expression : {g : Grammar} {builders : OperatorBuilders} {term : ℕ} → g.operators ≡ None → IsPlain g (form.Expression builders term) → ⊥
+no_plain_expression no_item (plain.key is) = elim is [ ]
+no_plain_expression no_item (plain.expression {item = item} there) = none-some item (sym no_item ∙ there)
 
 pub operator_own : {g : Grammar} {builders : OperatorBuilders} {term : ℕ} (item : OperatorsItem) (op : List Range) (listed : ListedStart) → g.operators ≡ Some item → IsClassOf g item.class op
     → ListsWords g op op item.reserved listed → AreOwn g (form.Expression builders term) (listed ∷ [])
@@ -300,6 +301,14 @@ operator_same {g} item op listed at is lists s (own.operator {item = also} {op =
     let reserved_so : ReservedAs g op op item.reserved reserved = subst (λ i. ReservedAs g op op i.reserved reserved) one (subst (λ x. ReservedAs g x x also.reserved reserved) same reserves) in
     known.1 ∙ (ap (Word op op) (one_reserved known.0 reserved known.2 reserved_so) ∙ ap (λ x. Word x x reserved) (sym same))
 
+-- there is one at most
+pub one_operator : {g : Grammar} {s t : StartKind} → IsOperatorStart g s → IsOperatorStart g t → s ≡ t
+one_operator {g} (own.operator {item = item} {op = op} {reserved = reserved} at is reads) (own.operator {item = also} {op = other} {reserved = others} there class also_reads) =
+    let one : also ≡ item = same_Some also item (sym there ∙ at) in
+    let same : other ≡ op = one_class (subst (λ i. IsClassOf g i.class other) one class) is in
+    let reserved_so : ReservedAs g op op item.reserved others = subst (λ i. ReservedAs g op op i.reserved others) one (subst (λ x. ReservedAs g x x also.reserved others) same also_reads) in
+    ap (Word op op) (one_reserved reserved others reads reserved_so) ∙ ap (λ x. Word x x others) (sym same)
+
 gap_same : {g : Grammar} (item : OperatorsItem) (class : List Range) → g.operators ≡ Some item → IsClassOf g item.gap class → (s : StartKind) → IsGapStart g s → Class class ≡ s
 gap_same {g} item class at is s (gap {item = also} {class = other} there belongs) =
     ap Class (one_class is (subst (λ i. IsClassOf g i.gap other) (same_Some also item (sym there ∙ at)) belongs))
@@ -313,7 +322,7 @@ both_starts {g} item op after starts at is is_gap lists e = record {
 }
 
 pub no_operator_own : {g : Grammar} {builders : OperatorBuilders} {term : ℕ} → g.operators ≡ None → AreOwn g (form.Expression builders term) []
-no_operator_own {g} {builders} {term} no_item = none_own none no_plain_expression
+no_operator_own {g} {builders} {term} no_item = none_own none (no_plain_expression no_item)
   where
     none : (s : StartKind) → OwnStart g (form.Expression builders term) s → ⊥
     none s (own.expression (own.operator {item = item} there class is)) = none-some item (sym no_item ∙ there)

@@ -5,6 +5,8 @@ use Rattle.pg_form.specs.declared.class.ClassPart.{ClassPart}
 use Rattle.pg_form.specs.Forms.{Node}
 use Rattle.pg_form.specs.declared.form.Form.TheVariants as form
 use Rattle.pg_form.specs.declared.form.Leaf.TheVariants as leaf
+use Rattle.pg_form.specs.declared.operators_item.OperatorsItem.{OperatorsItem}
+use Rattle.pg_form.specs.declared.used.OperatorBuilders.{OperatorBuilders}
 use Rattle.pg_form.specs.declared.word_item.WordItem.{WordItem}
 use Rattle.pg_class.specs.Ranges.{Range}
 use Rattle.pg_form.specs.declared.decl.Role.{Role}
@@ -20,12 +22,14 @@ pub record OwnListed (g : Grammar) (n : Node) (listed : ListedStart) : Type 0 wh
   pub own : OwnStart g n listed.start
   pub named : IsListed g listed
 
--- a character of a class, a word of an item that is there, a try that gives a key, and a declaration
+-- a character of a class, a word of an item that is there, a try that gives a key, a declaration, and an expression where there
+-- is an operators item
 pub data IsPlain (g : Grammar) : Node → Type 0 where
   satisfy : {class : List ClassPart} → IsPlain g (form.Leaf (leaf.Satisfy class))
   word : {w : ℕ} {item : WordItem} → slice_get g.words w ≡ Some item → IsPlain g (form.Leaf (leaf.Word w))
   key : {n : Node} → IsKeyTry g n → IsPlain g n
   declare : {class : List ClassPart} → IsPlain g (form.Leaf (leaf.Declare class))
+  expression : {builders : OperatorBuilders} {term : ℕ} {item : OperatorsItem} → g.operators ≡ Some item → IsPlain g (form.Expression builders term)
 
 -- the start is one of these
 abbrev pub IsAmong : List ListedStart → ListedStart → Type 0

@@ -1,5 +1,5 @@
 -- What is wrong is noted.
-use Rattle.std.proofs.Common.{◌≡◌, ℕ, suc, ◌+◌, ◌-◌, ◌<◌, Bool, true, List, [], ◌++◌, Option, Some, slice_get, length, refl, sym, ap, subst, ◌∙◌, arith}
+use Rattle.std.proofs.Common.{◌≡◌, ℕ, suc, ◌+◌, ◌-◌, ◌<◌, Bool, true, List, [], ◌++◌, Option, Some, None, slice_get, length, refl, sym, ap, subst, ◌∙◌, arith}
 use Rattle.std.specs.Prelude.{◌&&◌, if◌then◌else◌}
 use Rattle.std.specs.Option.{option_map_or}
 use Rattle.std.proofs.Math.Numerals.{add-one}
@@ -11,25 +11,27 @@ use Rattle.pg_form.specs.declared.form.Form.TheVariants as form
 use Rattle.pg_value.proofs.Numbers.{bodies_are_nodes}
 use Rattle.pg_sets.specs.Follow.{IsChain}
 use Rattle.pg_sets.specs.Follow as chain
+use Rattle.pg_bit_set.specs.Numbers.{set_at}
+use Rattle.pg_form.specs.declared.used.OperatorBuilders.{OperatorBuilders}
 use Rattle.pg_graph.specs.Marks.{is_marked}
 use Rattle.pg_heads.specs.Nullable.{Nullable}
 use Rattle.pg_own_starts.specs.declared.listed.ListedStart.{ListedStart}
 use Rattle.pg_form.proofs.Each.{all-get}
 use Rattle.pg_predict.specs.WithStarts.{kind_with_starts, start_at}
-use Rattle.pg_predict.specs.Conditions.{Violates, AreFirstToMeet, Begins, Follows, BeginsLink, EndsNullable}
+use Rattle.pg_predict.specs.Conditions.{Violates, AreFirstToMeet, Begins, BeginsNothing, Follows, BeginsLink, EndsNullable}
 use Rattle.pg_predict.specs.Conditions as violates
 use Rattle.pg_form.specs.declared.form.Leaf.TheVariants as leaf
-use Rattle.pg_predict.proofs.GapMeetings.{gap_from}
-use Rattle.pg_predict.specs.Judged.{Facts, gap_met, noted, noted_meeting, all_below, part_at, node_meeting, follow_meeting, link_meeting, empty_alternative, empty_alternatives, meeting_alternatives, meetings_of_alternative, alternatives_that_meet, alternative_and_follow, alternatives_and_follow, ends_nullable, noted_chain, noted_form, noted_node}
+use Rattle.pg_predict.proofs.GapMeetings.{operators_first, gaps_first, no_term, gap_from}
+use Rattle.pg_predict.specs.Judged.{Facts, operators_meet, gaps_meet, gap_met, noted_start, noted_gap, noted_operand, noted_end, noted, noted_meeting, all_below, part_at, node_meeting, follow_meeting, link_meeting, empty_alternative, empty_alternatives, meeting_alternatives, meetings_of_alternative, alternatives_that_meet, alternative_and_follow, alternatives_and_follow, ends_nullable, noted_chain, noted_form, noted_node}
 use Rattle.pg_predict.specs.Shown.{AreFacts}
 use Rattle.pg_predict.specs.declared.violation.Violation.{Violation}
 use Rattle.pg_predict.specs.declared.violation.ViolationKind.{ViolationKind}
-use Rattle.pg_predict.specs.declared.violation.ViolationKind.TheVariants.{LeftRecursion, EmptyRound, EmptyAlternative, AlternativesMeet, AlternativeMeetsFollow, RoundMeetsFollow, GapMeets}
+use Rattle.pg_predict.specs.declared.violation.ViolationKind.TheVariants.{LeftRecursion, EmptyRound, EmptyAlternative, AlternativesMeet, AlternativeMeetsFollow, RoundMeetsFollow, EmptyOperand, OperandMeetsOperators, FollowMeetsOperators, GapMeets}
 use Rattle.pg_predict.specs.declared.meetings.Meeting.{Meeting}
-use Rattle.pg_predict.proofs.Lists.{In, in_left, in_right, all_below_has, noted_has, noted_meeting_has, noted_gap_has}
-use Rattle.pg_predict.proofs.Meanings.{MeetAt, first_numbers, first_there, follow_there, link_there, node_found, follow_found, link_found}
+use Rattle.pg_predict.proofs.Lists.{In, in_left, in_right, all_below_has, noted_has, noted_meeting_has, noted_start_has, noted_gap_has}
+use Rattle.pg_predict.proofs.Meanings.{shows_first, shows_follow, MeetAt, first_numbers, first_there, follow_there, link_there, node_found, follow_found, link_found}
 use Rattle.pg_predict.proofs.Pairs.{pair_from}
-use Rattle.pg_predict.proofs.Sound.{parts_below}
+use Rattle.pg_predict.proofs.Sound.{parts_below, start_is}
 
 -- it is noted of a node
 pub record IsNoted (g : Grammar) (facts : Facts) (p : ℕ) (what : ViolationKind ListedStart) : Type 0 where
@@ -95,6 +97,16 @@ module _ (g : Grammar) (facts : Facts) (are : AreFacts g facts) (grammar : IsGra
   at_form p n b at is =
       in_right (noted (is_marked facts.recursive p) p LeftRecursion) (option_map_or (noted_form facts p) (slice_get g.nodes p) []) b
       (subst (λ (o : Option Node). In (option_map_or (noted_form facts p) o []) b) (sym at) is)
+
+  -- so is what is noted of an expression
+  of_operand : (p term : ℕ) (builders : OperatorBuilders) (b : Violation ℕ) → slice_get g.nodes p ≡ Some (form.Expression builders term) → In (noted_operand facts p term) b → In (noted_node g facts p) b
+  of_operand p term builders b at is =
+      at_form p (form.Expression builders term) b at (in_left (noted_operand facts p term) (noted_end facts p ++ noted_gap (gap_met facts (gaps_meet facts (set_at facts.sets.firsts term)) p) p) b is)
+
+  after_operand_noted : (p term : ℕ) (builders : OperatorBuilders) (b : Violation ℕ) → slice_get g.nodes p ≡ Some (form.Expression builders term) →
+      In (noted_end facts p ++ noted_gap (gap_met facts (gaps_meet facts (set_at facts.sets.firsts term)) p) p) b → In (noted_node g facts p) b
+  after_operand_noted p term builders b at is =
+      at_form p (form.Expression builders term) b at (in_right (noted_operand facts p term) (noted_end facts p ++ noted_gap (gap_met facts (gaps_meet facts (set_at facts.sets.firsts term)) p) p) b is)
 
   -- the form of a chain
   at_chain : (p operand separator : ℕ) (n : Node) (b : Violation ℕ) → slice_get g.nodes p ≡ Some n → IsChain operand separator n → In (noted_chain facts p operand separator) b
@@ -258,12 +270,59 @@ module _ (g : Grammar) (facts : Facts) (are : AreFacts g facts) (grammar : IsGra
             (noted_meeting_has (link_meeting facts operand separator p) p RoundMeetsFollow found.meeting found.found));
         below = p_below;
       }
+  violation_noted p what (violates.empty_operand {term = term} {builders = builders} at null) =
+      let b : Violation ℕ = record { node = p; kind = EmptyOperand } in
+      record {
+        kind = EmptyOperand;
+        same = refl;
+        noted_there = of_operand p term builders b at
+            (in_left (noted (is_marked facts.sets.nullable term) p EmptyOperand) (noted_start (operators_meet facts (set_at facts.sets.firsts term)) p OperandMeetsOperators) b
+            (noted_has (is_marked facts.sets.nullable term) p EmptyOperand (marked term null)));
+        below = slice_get_within g.nodes p (form.Expression builders term) at;
+      }
+  violation_noted p what (violates.operand_meets_operators {term = term} {builders = builders} {s = s} {t = t} at first) =
+      let term_below = parts_below g p (form.Expression builders term) 0 term grammar at refl in
+      let found = (operators_first g facts are (set_at facts.sets.firsts term) (Begins g term) (shows_first g facts are term term_below)).from s t first in
+      let b : Violation ℕ = record { node = p; kind = OperandMeetsOperators found.0 } in
+      record {
+        kind = OperandMeetsOperators found.0;
+        same = ap OperandMeetsOperators (start_is g facts are grammar found.0 s found.2);
+        noted_there = of_operand p term builders b at
+            (in_right (noted (is_marked facts.sets.nullable term) p EmptyOperand) (noted_start (operators_meet facts (set_at facts.sets.firsts term)) p OperandMeetsOperators) b
+            (noted_start_has (operators_meet facts (set_at facts.sets.firsts term)) p OperandMeetsOperators found.0 found.1));
+        below = slice_get_within g.nodes p (form.Expression builders term) at;
+      }
+  violation_noted p what (violates.follow_meets_operators {term = term} {builders = builders} {s = s} {t = t} at first) =
+      let below = slice_get_within g.nodes p (form.Expression builders term) at in
+      let found = (operators_first g facts are (set_at facts.sets.follows p) (Follows g p) (shows_follow g facts are p below)).from s t first in
+      let b : Violation ℕ = record { node = p; kind = FollowMeetsOperators found.0 } in
+      record {
+        kind = FollowMeetsOperators found.0;
+        same = ap FollowMeetsOperators (start_is g facts are grammar found.0 s found.2);
+        noted_there = after_operand_noted p term builders b at
+            (in_left (noted_end facts p) (noted_gap (gap_met facts (gaps_meet facts (set_at facts.sets.firsts term)) p) p) b
+            (noted_start_has (operators_meet facts (set_at facts.sets.follows p)) p FollowMeetsOperators found.0 found.1));
+        below = below;
+      }
+  violation_noted p what (violates.expression_gap_meets {term = term} {builders = builders} {s = s} at first) =
+      let term_below = parts_below g p (form.Expression builders term) 0 term grammar at refl in
+      let below = slice_get_within g.nodes p (form.Expression builders term) at in
+      let met = gaps_meet facts (set_at facts.sets.firsts term) in
+      let begins = gaps_first g facts are (set_at facts.sets.firsts term) (Begins g term) (shows_first g facts are term term_below) in
+      let b : Violation ℕ = record { node = p; kind = GapMeets s } in
+      record {
+        kind = GapMeets s;
+        same = refl;
+        noted_there = after_operand_noted p term builders b at
+            (in_right (noted_end facts p) (noted_gap (gap_met facts met p) p) b (noted_gap_has (gap_met facts met p) p s (gap_from g facts are p below met (Begins g term) begins s first)));
+        below = below;
+      }
   violation_noted p what (violates.gap_meets {class = class} {s = s} at first) =
       let below = slice_get_within g.nodes p (form.Leaf (leaf.Declare class)) at in
       let b : Violation ℕ = record { node = p; kind = GapMeets s } in
       record {
         kind = GapMeets s;
         same = refl;
-        noted_there = at_form p (form.Leaf (leaf.Declare class)) b at (noted_gap_has (gap_met facts p) p s (gap_from g facts are p below s first));
+        noted_there = at_form p (form.Leaf (leaf.Declare class)) b at (noted_gap_has (gap_met facts None p) p s (gap_from g facts are p below None BeginsNothing (no_term g facts are) s first));
         below = below;
       }

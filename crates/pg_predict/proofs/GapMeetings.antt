@@ -1,7 +1,7 @@
 -- What gaps meet, by the numbers of starts.
 use Rattle.std.proofs.Common.{◌≡◌, ℕ, ◌<◌, Bool, true, false, List, Option, Some, None, slice_get, length, refl, sym, ap, subst, ◌∙◌, inl, inr, Less}
 use Rattle.std.specs.Prelude.{◌↔◌, not, if◌then◌else◌}
-use Rattle.std.specs.Option.{option_and_then}
+use Rattle.std.specs.Option.{option_and_then, option_or}
 use Rattle.std.proofs.lemmas.Bool.{true≢false, cases_Bool, and_parts, and_from}
 use Rattle.std.proofs.lemmas.Option.{none-some, same_Some}
 use Rattle.pg_value.specs.Grammar.{Grammar}
@@ -16,14 +16,14 @@ use Rattle.pg_own_starts.specs.OwnStarts.{IsOperatorStart}
 use Rattle.pg_own_starts.specs.OwnStarts as own
 use Rattle.pg_own_starts.specs.declared.listed.ListedStart.{ListedStart}
 use Rattle.pg_own_starts.specs.declared.operators.OperatorStarts.{OperatorStarts}
-use Rattle.pg_predict.specs.Conditions.{AreFirstToMeet, NoneMeet, IsFirstToMeetGap, Follows}
+use Rattle.pg_predict.specs.Conditions.{AreFirstToMeet, NoneMeet, IsFirstToMeetGap, BeginsNothing, Follows}
 use Rattle.pg_predict.specs.Conditions as met
-use Rattle.pg_predict.specs.Judged.{Facts, gap_met, gap_met_by}
+use Rattle.pg_predict.specs.Judged.{Facts, operators_meet, gaps_meet, gap_met, gap_met_by}
 use Rattle.pg_predict.specs.Meetings.{first_met}
 use Rattle.pg_predict.specs.Shown.{IsMetSet, AreFacts, AreOfOperators, AreOperatorFacts}
 use Rattle.pg_predict.specs.declared.operator_facts.OperatorFacts.{OperatorFacts}
 use Rattle.pg_predict.proofs.FirstMeetings.{both_below}
-use Rattle.pg_predict.proofs.Least.{least_from, least_is}
+use Rattle.pg_predict.proofs.Least.{least_from, least_is, least_none}
 use Rattle.pg_predict.proofs.Meanings.{ShowsKind, shows_follow, placed, member, kind_of, start_in}
 use Rattle.pg_predict.proofs.Numbered.{never_both, numbers_order, order_numbers, listed_once}
 
@@ -34,12 +34,13 @@ decided true told = (λ e. absurd (true≢false (sym e)), λ none. absurd (none 
 decided false told = (λ e p. true≢false (sym (told.1 p)), λ none. refl)
 
 -- of the two starts
-pub are_of_operators : (g : Grammar) (starts : List ListedStart) (both : OperatorStarts) (met_by_gap : List Bool) (apart : Bool) → AreBothStarts g both
-    → IsMetSet starts both.gap met_by_gap → (apart ≡ true) ↔ Apart both.gap both.operator.start
-    → AreOfOperators g starts (record { operator = both.operator; met_by_gap = met_by_gap; in_gap = not apart })
-are_of_operators g starts both met_by_gap apart are is_met told = record {
+pub are_of_operators : (g : Grammar) (starts : List ListedStart) (both : OperatorStarts) (met met_by_gap : List Bool) (apart : Bool) → AreBothStarts g both
+    → IsMetSet starts both.operator.start met → IsMetSet starts both.gap met_by_gap → (apart ≡ true) ↔ Apart both.gap both.operator.start
+    → AreOfOperators g starts (record { operator = both.operator; met = met; met_by_gap = met_by_gap; in_gap = not apart })
+are_of_operators g starts both met met_by_gap apart are is is_met told = record {
   named = are.named;
   operator = are.operator;
+  met = is;
   gap_start = both.gap;
   gap = are.gap;
   met_by_gap = is_met;
@@ -124,6 +125,40 @@ module _ (g : Grammar) (facts : Facts) (are : AreFacts g facts) where
           there.there,
         )
 
+    -- where none is found, none meets, and the other way round
+    none_found : first_met met set ≡ None → NoneMeet g One Other
+    none_found e x t meet =
+        let there = placed g facts are set One x shows meet.one_listed meet.one in
+        let passes = shown x t there.number there.there meet.one meet.other_listed meet.other meet.together in
+        true≢false (sym passes ∙ least_none (in_both met set) (length set) there.number e (both_below met set there.number passes))
+
+    not_found : NoneMeet g One Other → first_met met set ≡ None
+    not_found free = go (first_met met set) refl
+      where
+        go : (found : Option ℕ) → first_met met set ≡ found → first_met met set ≡ None
+        go None e = e
+        go (Some s) e = let first = first_some s e in absurd (free first.0 o first.2.meet)
+
+  -- the number of the first start of a kind that meets one of another, if there is any
+  pub record IsFirstMet (One Other : StartKind → Type 0) (found : Option ℕ) : Type 0 where
+    pub some : (s : ℕ) → found ≡ Some s → (x : ListedStart) × (t : ListedStart) × (slice_get facts.sets.starts s ≡ Some x) × AreFirstToMeet g One Other x t
+    pub none : found ≡ None → NoneMeet g One Other
+    pub from : (x t : ListedStart) → AreFirstToMeet g One Other x t → (s : ℕ) × (found ≡ Some s) × (slice_get facts.sets.starts s ≡ Some x)
+    pub absent : NoneMeet g One Other → found ≡ None
+
+  by_set : (set met : List Bool) (One Other : StartKind → Type 0) (o : ListedStart) → ShowsKind facts.sets.starts set One → IsMetSet facts.sets.starts o.start met → IsOnly g Other o
+      → IsFirstMet One Other (first_met met set)
+  by_set set met One Other o shows is only = record {
+    some = λ s e. (let first = first_some set met One Other o shows is only s e in (first.0, o, first.1, first.2));
+    none = λ e. none_found set met One Other o shows is only e;
+    from = λ x t first. first_from set met One Other o shows is only x t first;
+    absent = λ free. not_found set met One Other o shows is only free;
+  }
+
+  -- where there are none of the one kind, or of the other, none meet
+  of_none : (One Other : StartKind → Type 0) → NoneMeet g One Other → IsFirstMet One Other None
+  of_none One Other free = record { some = λ s e. absurd (none-some s e); none = λ e. free; from = λ x t first. absurd (free x t first.meet); absent = λ h. refl }
+
   -- ---- operators and gaps
 
   no_operator : (start : StartKind) → g.operators ≡ None → IsOperatorStart g start → ⊥
@@ -191,52 +226,89 @@ module _ (g : Grammar) (facts : Facts) (are : AreFacts g facts) where
         go true e = absurd (free operators.operator gap (both_meet e).meet)
         go false e = refl
 
-  -- ---- after a node
+  -- ---- operators and gaps, and starts of a set
 
-  by_gap : (p : ℕ) → p < length g.nodes → (operators : OperatorFacts) → AreOfOperators g facts.sets.starts operators → (s : ListedStart) → gap_met_by facts p operators ≡ Some s →
-      IsFirstToMeetGap g (Follows g p) s
+  pub operators_first : (set : List Bool) (One : StartKind → Type 0) → ShowsKind facts.sets.starts set One → IsFirstMet One (IsOperatorStart g) (operators_meet facts set)
+  operators_first set One shows = go facts.operators are.operators
+    where
+      go : (o : Option OperatorFacts) → AreOperatorFacts g facts.sets.starts o → IsFirstMet One (IsOperatorStart g) (option_and_then (λ (operators : OperatorFacts). first_met operators.met set) o)
+      go None none = of_none One (IsOperatorStart g) (λ x t meet. no_operator t.start none meet.other)
+      go (Some operators) is = by_set set operators.met One (IsOperatorStart g) operators.operator shows is.met (only_operator operators is)
+
+  pub gaps_first : (set : List Bool) (One : StartKind → Type 0) → ShowsKind facts.sets.starts set One → IsFirstMet One (IsGapStart g) (gaps_meet facts set)
   unfolding gap
-  by_gap p below operators is s = go operators.in_gap refl
+  gaps_first set One shows = go facts.operators are.operators
     where
-      after : operators.in_gap ≡ false → (o : Option ℕ) → first_met operators.met_by_gap (set_at facts.sets.follows p) ≡ o → option_and_then (slice_get facts.sets.starts) o ≡ Some s →
-          IsFirstToMeetGap g (Follows g p) s
-      after free None e h = absurd cc
-      after free (Some k) e h =
-          let found = first_some (set_at facts.sets.follows p) operators.met_by_gap (Follows g p) (IsGapStart g) (gap operators is) (shows_follow g facts are p below) is.met_by_gap
-          (only_gap operators is) k e in
-          let same : found.0 ≡ s = same_Some found.0 s (sym found.1 ∙ h) in
-          met.after (none_meet operators is free) (subst (λ (x : ListedStart). AreFirstToMeet g (Follows g p) (IsGapStart g) x (gap operators is)) same found.2)
+      go : (o : Option OperatorFacts) → AreOperatorFacts g facts.sets.starts o → IsFirstMet One (IsGapStart g) (option_and_then (λ (operators : OperatorFacts). first_met operators.met_by_gap set) o)
+      go None none = of_none One (IsGapStart g) (λ x t meet. no_gap t.start none meet.other)
+      go (Some operators) is = by_set set operators.met_by_gap One (IsGapStart g) (gap operators is) shows is.met_by_gap (only_gap operators is)
 
-      go : (b : Bool) → operators.in_gap ≡ b
-          → (if b then Some operators.operator else option_and_then (slice_get facts.sets.starts) (first_met operators.met_by_gap (set_at facts.sets.follows p))) ≡ Some s
-          → IsFirstToMeetGap g (Follows g p) s
-      go true e h = subst (IsFirstToMeetGap g (Follows g p)) (same_Some operators.operator s h) (met.operator (both_meet operators is e))
-      go false e h = after e (first_met operators.met_by_gap (set_at facts.sets.follows p)) refl h
+  -- a declaration has no term
+  pub no_term : IsFirstMet BeginsNothing (IsGapStart g) None
+  no_term = of_none BeginsNothing (IsGapStart g) (λ x t meet. meet.one)
 
-  -- what gaps are found to meet is the first
-  pub gap_some : (p : ℕ) → p < length g.nodes → (s : ListedStart) → gap_met facts p ≡ Some s → IsFirstToMeetGap g (Follows g p) s
-  gap_some p below s = go facts.operators are.operators
-    where
-      go : (o : Option OperatorFacts) → AreOperatorFacts g facts.sets.starts o → option_and_then (gap_met_by facts p) o ≡ Some s → IsFirstToMeetGap g (Follows g p) s
-      go None none e = absurd cc
-      go (Some operators) is e = by_gap p below operators is s e
+  -- ---- at a node
 
-  -- and the first is found
-  pub gap_from : (p : ℕ) → p < length g.nodes → (s : ListedStart) → IsFirstToMeetGap g (Follows g p) s → gap_met facts p ≡ Some s
-  unfolding gap
-  gap_from p below s first = go facts.operators are.operators first
-    where
-      rest : OperatorFacts → Option ListedStart
-      rest operators = option_and_then (slice_get facts.sets.starts) (first_met operators.met_by_gap (set_at facts.sets.follows p))
+  module _ (p : ℕ) (below : p < length g.nodes) (term : Option ℕ) (Term : StartKind → Type 0) (begins : IsFirstMet Term (IsGapStart g) term) where
+    follows_first : (operators : OperatorFacts) → AreOfOperators g facts.sets.starts operators → IsFirstMet (Follows g p) (IsGapStart g) (first_met operators.met_by_gap (set_at facts.sets.follows p))
+    unfolding gap
+    follows_first operators is =
+        by_set (set_at facts.sets.follows p) operators.met_by_gap (Follows g p) (IsGapStart g) (gap operators is) (shows_follow g facts are p below) is.met_by_gap (only_gap operators is)
 
-      go : (o : Option OperatorFacts) → AreOperatorFacts g facts.sets.starts o → IsFirstToMeetGap g (Follows g p) s → option_and_then (gap_met_by facts p) o ≡ Some s
-      go None none (met.operator first) = absurd (no_operator s.start none first.meet.one)
-      go None none (met.after {t} free first) = absurd (no_gap t.start none first.meet.other)
-      go (Some operators) is (met.operator {t} first) =
-          let inside = any_meet operators is s t first.meet.one_listed first.meet.one first.meet.other_listed first.meet.other first.meet.together in
-          ap (λ (b : Bool). if b then Some operators.operator else rest operators) inside ∙ ap (λ (x : ListedStart). Some x) (same_operator operators is s first.meet.one_listed first.meet.one)
-      go (Some operators) is (met.after {t} free first) =
-          let found = first_from (set_at facts.sets.follows p) operators.met_by_gap (Follows g p) (IsGapStart g) (gap operators is) (shows_follow g facts are p below) is.met_by_gap
-          (only_gap operators is) s t first in
-          ap (λ (b : Bool). if b then Some operators.operator else rest operators) (not_in_gap operators is free)
-          ∙ ap (option_and_then (slice_get facts.sets.starts)) found.1 ∙ found.2
+    abbrev rest : OperatorFacts → Option ListedStart
+    rest operators = option_and_then (slice_get facts.sets.starts) (option_or term (first_met operators.met_by_gap (set_at facts.sets.follows p)))
+
+    by_gap : (operators : OperatorFacts) → AreOfOperators g facts.sets.starts operators → (s : ListedStart) → gap_met_by facts term p operators ≡ Some s → IsFirstToMeetGap g Term (Follows g p) s
+    by_gap operators is s = go operators.in_gap refl
+      where
+        by_follow : operators.in_gap ≡ false → term ≡ None → (o : Option ℕ) → first_met operators.met_by_gap (set_at facts.sets.follows p) ≡ o → option_and_then (slice_get facts.sets.starts) o ≡ Some s →
+            IsFirstToMeetGap g Term (Follows g p) s
+        by_follow free none None e h = absurd cc
+        by_follow free none (Some k) e h =
+            let found = (follows_first operators is).some k e in
+            let same : found.0 ≡ s = same_Some found.0 s (sym found.2 ∙ h) in
+            met.after (none_meet operators is free) (begins.none none) (subst (λ (x : ListedStart). AreFirstToMeet g (Follows g p) (IsGapStart g) x found.1) same found.3)
+
+        by_term : operators.in_gap ≡ false → (o : Option ℕ) → term ≡ o → option_and_then (slice_get facts.sets.starts) (option_or o (first_met operators.met_by_gap (set_at facts.sets.follows p))) ≡ Some s →
+            IsFirstToMeetGap g Term (Follows g p) s
+        by_term free None e h = by_follow free e (first_met operators.met_by_gap (set_at facts.sets.follows p)) refl h
+        by_term free (Some k) e h =
+            let found = begins.some k e in
+            let same : found.0 ≡ s = same_Some found.0 s (sym found.2 ∙ h) in
+            met.term (none_meet operators is free) (subst (λ (x : ListedStart). AreFirstToMeet g Term (IsGapStart g) x found.1) same found.3)
+
+        go : (b : Bool) → operators.in_gap ≡ b → (if b then Some operators.operator else rest operators) ≡ Some s → IsFirstToMeetGap g Term (Follows g p) s
+        go true e h = subst (IsFirstToMeetGap g Term (Follows g p)) (same_Some operators.operator s h) (met.operator (both_meet operators is e))
+        go false e h = by_term e term refl h
+
+    -- what gaps are found to meet is the first
+    pub gap_some : (s : ListedStart) → gap_met facts term p ≡ Some s → IsFirstToMeetGap g Term (Follows g p) s
+    gap_some s = go facts.operators are.operators
+      where
+        go : (o : Option OperatorFacts) → AreOperatorFacts g facts.sets.starts o → option_and_then (gap_met_by facts term p) o ≡ Some s → IsFirstToMeetGap g Term (Follows g p) s
+        go None none e = absurd cc
+        go (Some operators) is e = by_gap operators is s e
+
+    -- and the first is found
+    pub gap_from : (s : ListedStart) → IsFirstToMeetGap g Term (Follows g p) s → gap_met facts term p ≡ Some s
+    gap_from s first = go facts.operators are.operators first
+      where
+        outside : (operators : OperatorFacts) → operators.in_gap ≡ false → rest operators ≡ Some s → gap_met_by facts term p operators ≡ Some s
+        outside operators free e = ap (λ (b : Bool). if b then Some operators.operator else rest operators) free ∙ e
+
+        go : (o : Option OperatorFacts) → AreOperatorFacts g facts.sets.starts o → IsFirstToMeetGap g Term (Follows g p) s → option_and_then (gap_met_by facts term p) o ≡ Some s
+        go None none (met.operator first) = absurd (no_operator s.start none first.meet.one)
+        go None none (met.term {t} free first) = absurd (no_gap t.start none first.meet.other)
+        go None none (met.after {t} free bare first) = absurd (no_gap t.start none first.meet.other)
+        go (Some operators) is (met.operator {t} first) =
+            let inside = any_meet operators is s t first.meet.one_listed first.meet.one first.meet.other_listed first.meet.other first.meet.together in
+            ap (λ (b : Bool). if b then Some operators.operator else rest operators) inside ∙ ap (λ (x : ListedStart). Some x) (same_operator operators is s first.meet.one_listed first.meet.one)
+        go (Some operators) is (met.term {t} free first) =
+            let found = begins.from s t first in
+            outside operators (not_in_gap operators is free)
+            (ap (λ o. option_and_then (slice_get facts.sets.starts) (option_or o (first_met operators.met_by_gap (set_at facts.sets.follows p)))) found.1 ∙ found.2)
+        go (Some operators) is (met.after {t} free bare first) =
+            let found = (follows_first operators is).from s t first in
+            outside operators (not_in_gap operators is free)
+            (ap (λ o. option_and_then (slice_get facts.sets.starts) (option_or o (first_met operators.met_by_gap (set_at facts.sets.follows p)))) (begins.absent bare)
+            ∙ ap (option_and_then (slice_get facts.sets.starts)) found.1 ∙ found.2)

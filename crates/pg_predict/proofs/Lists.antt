@@ -8,11 +8,11 @@ use Rattle.std.specs.Ordering.{nat_cmp, ordering_then}
 use Rattle.std.proofs.lemmas.Bool.{cases_eq, true≢false}
 use Rattle.pg_own_starts.specs.declared.listed.ListedStart.{ListedStart}
 use Rattle.pg_predict.specs.WithStarts.{kind_with_starts, with_starts}
-use Rattle.pg_predict.specs.Findings.{condition_number, alternatives_of, violation_key, violation_order}
-use Rattle.pg_predict.specs.Judged.{noted, noted_meeting, noted_gap, all_below}
+use Rattle.pg_predict.specs.Findings.{condition_number, order_within, violation_key, violation_order}
+use Rattle.pg_predict.specs.Judged.{noted, noted_meeting, noted_gap, noted_start, all_below}
 use Rattle.pg_predict.specs.declared.violation.Violation.{Violation}
 use Rattle.pg_predict.specs.declared.violation.ViolationKind.{ViolationKind}
-use Rattle.pg_predict.specs.declared.violation.ViolationKind.TheVariants.{LeftRecursion, EmptyRound, EmptyAlternative, AlternativesMeet, AlternativeMeetsFollow, RoundMeetsFollow, GapMeets}
+use Rattle.pg_predict.specs.declared.violation.ViolationKind.TheVariants.{LeftRecursion, EmptyRound, EmptyAlternative, AlternativesMeet, AlternativeMeetsFollow, RoundMeetsFollow, EmptyOperand, OperandMeetsOperators, FollowMeetsOperators, GapMeets}
 use Rattle.pg_predict.specs.declared.meetings.Meeting.{Meeting}
 
 -- ---- what is among others
@@ -82,6 +82,21 @@ pub noted_meeting_has : (o : Option Meeting) (p : ℕ) (what : ℕ → ℕ → V
 noted_meeting_has (Some k) p what m e = let same : k ≡ m = cc in inl (ap (λ (x : Meeting). record { node = p; kind = what x.one x.other }) same)
 noted_meeting_has None p what m e = absurd cc
 
+-- a start
+pub record NotedStart (o : Option ℕ) (p : ℕ) (what : ℕ → ViolationKind ℕ) (b : Violation ℕ) : Type 0 where
+  pub start : ℕ
+  pub found : o ≡ Some start
+  pub same : record { node = p; kind = what start } ≡ b
+
+pub in_noted_start : (o : Option ℕ) (p : ℕ) (what : ℕ → ViolationKind ℕ) (b : Violation ℕ) → In (noted_start o p what) b → NotedStart o p what b
+in_noted_start (Some s) p what b (inl e) = record { start = s; found = refl; same = e }
+in_noted_start (Some s) p what b (inr is) = absurd is
+in_noted_start None p what b is = absurd is
+
+pub noted_start_has : (o : Option ℕ) (p : ℕ) (what : ℕ → ViolationKind ℕ) (s : ℕ) → o ≡ Some s → In (noted_start o p what) (record { node = p; kind = what s })
+noted_start_has (Some x) p what s e = let same : x ≡ s = cc in inl (ap (λ (y : ℕ). record { node = p; kind = what y }) same)
+noted_start_has None p what s e = absurd cc
+
 -- a start that gaps meet
 pub record NotedGap (o : Option ListedStart) (p : ℕ) (b : Violation ℕ) : Type 0 where
   pub start : ListedStart
@@ -130,6 +145,10 @@ pub ascends_meeting : (o : Option Meeting) (p : ℕ) (what : ℕ → ℕ → Vio
 ascends_meeting (Some m) p what = (λ c is. absurd is, tt)
 ascends_meeting None p what = tt
 
+pub ascends_start : (o : Option ℕ) (p : ℕ) (what : ℕ → ViolationKind ℕ) → Ascends (noted_start o p what)
+ascends_start (Some s) p what = (λ c is. absurd is, tt)
+ascends_start None p what = tt
+
 pub ascends_gap : (o : Option ListedStart) (p : ℕ) → Ascends (noted_gap o p)
 ascends_gap (Some s) p = (λ c is. absurd is, tt)
 ascends_gap None p = tt
@@ -150,7 +169,7 @@ key_same a xs ys less = ap (λ o. ordering_then o (slice_cmp nat_cmp xs ys)) (eq
 
 -- by node
 pub node_precedes : (b c : Violation ℕ) → b.node < c.node → Precedes b c
-node_precedes b c below = key_less b.node c.node (condition_number b.kind ∷ alternatives_of b.kind) (condition_number c.kind ∷ alternatives_of c.kind) below
+node_precedes b c below = key_less b.node c.node (condition_number b.kind ∷ order_within b.kind) (condition_number c.kind ∷ order_within c.kind) below
 
 -- it is noted of a node, under a number
 pub record Tagged (p n : ℕ) (b : Violation ℕ) : Type 0 where
@@ -166,9 +185,9 @@ tags_precede p m n b c below tag_b tag_c =
     let number_c = tag_c.number in
     let same : b.node ≡ c.node = node_b ∙ sym node_c in
     let less : condition_number b.kind < condition_number c.kind = omega arith in
-    subst (λ (q : ℕ). slice_cmp nat_cmp (violation_key b) (q ∷ condition_number c.kind ∷ alternatives_of c.kind) ≡ Less) same
-    (key_same b.node (condition_number b.kind ∷ alternatives_of b.kind) (condition_number c.kind ∷ alternatives_of c.kind)
-    (key_less (condition_number b.kind) (condition_number c.kind) (alternatives_of b.kind) (alternatives_of c.kind) less))
+    subst (λ (q : ℕ). slice_cmp nat_cmp (violation_key b) (q ∷ condition_number c.kind ∷ order_within c.kind) ≡ Less) same
+    (key_same b.node (condition_number b.kind ∷ order_within b.kind) (condition_number c.kind ∷ order_within c.kind)
+    (key_less (condition_number b.kind) (condition_number c.kind) (order_within b.kind) (order_within c.kind) less))
 
 -- ---- with starts
 
@@ -180,6 +199,9 @@ same_number starts (EmptyAlternative k) = refl
 same_number starts (AlternativesMeet j k s t) = refl
 same_number starts (AlternativeMeetsFollow k s t) = refl
 same_number starts (RoundMeetsFollow s t) = refl
+same_number starts EmptyOperand = refl
+same_number starts (OperandMeetsOperators s) = refl
+same_number starts (FollowMeetsOperators s) = refl
 same_number starts (GapMeets s) = refl
 
 -- and so is all that the order sees
@@ -190,6 +212,9 @@ same_key starts p (EmptyAlternative k) = refl
 same_key starts p (AlternativesMeet j k s t) = refl
 same_key starts p (AlternativeMeetsFollow k s t) = refl
 same_key starts p (RoundMeetsFollow s t) = refl
+same_key starts p EmptyOperand = refl
+same_key starts p (OperandMeetsOperators s) = refl
+same_key starts p (FollowMeetsOperators s) = refl
 same_key starts p (GapMeets s) = refl
 
 precedes_with : (starts : List ListedStart) (b c : Violation ℕ) → Precedes b c → violation_order (with_starts starts b) (with_starts starts c) ≡ Less

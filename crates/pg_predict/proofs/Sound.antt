@@ -4,31 +4,33 @@ use Rattle.std.specs.Prelude.{◌&&◌, nat_lt, if◌then◌else◌}
 use Rattle.std.specs.Option.{option_map_or}
 use Rattle.std.proofs.Math.Numerals.{add-one}
 use Rattle.std.proofs.lemmas.Bool.{and_parts}
-use Rattle.std.proofs.lemmas.Option.{slice_get-get_or, slice_get_within}
+use Rattle.std.proofs.lemmas.Option.{slice_get-get_or, slice_get_within, get_or_from_slice_get}
 use Rattle.pg_form.specs.Forms.{Node, parts_of}
 use Rattle.pg_value.specs.Grammar.{Grammar, IsGrammar}
 use Rattle.pg_form.specs.declared.form.Form.TheVariants as form
 use Rattle.pg_value.proofs.Numbers.{parts_are_after}
 use Rattle.pg_sets.specs.Follow.{IsChain}
 use Rattle.pg_sets.specs.Follow as chain
+use Rattle.pg_bit_set.specs.Numbers.{set_at}
+use Rattle.pg_form.specs.declared.used.OperatorBuilders.{OperatorBuilders}
 use Rattle.pg_graph.specs.Marks.{is_marked}
 use Rattle.pg_own_starts.specs.declared.listed.ListedStart.{ListedStart}
 use Rattle.pg_form.proofs.Each.{all-get}
 use Rattle.pg_predict.specs.WithStarts.{kind_with_starts, start_at}
-use Rattle.pg_predict.specs.Conditions.{Violates, AreFirstToMeet, Begins, Follows, BeginsLink, EndsNullable}
+use Rattle.pg_predict.specs.Conditions.{Violates, AreFirstToMeet, Begins, BeginsNothing, Follows, BeginsLink, EndsNullable}
 use Rattle.pg_predict.specs.Conditions as violates
 use Rattle.pg_predict.specs.Findings.{condition_number}
 use Rattle.pg_form.specs.declared.class.ClassPart.{ClassPart}
 use Rattle.pg_form.specs.declared.form.Leaf.TheVariants as leaf
-use Rattle.pg_predict.proofs.GapMeetings.{gap_some}
-use Rattle.pg_predict.specs.Judged.{Facts, gap_met, noted_gap, noted, noted_meeting, all_below, part_at, node_meeting, follow_meeting, link_meeting, empty_alternative, empty_alternatives, meeting_alternatives, meetings_of_alternative, alternatives_that_meet, alternative_and_follow, alternatives_and_follow, ends_nullable, noted_many, noted_chain, noted_form, noted_node}
+use Rattle.pg_predict.proofs.GapMeetings.{operators_first, gaps_first, no_term, gap_some}
+use Rattle.pg_predict.specs.Judged.{Facts, operators_meet, gaps_meet, gap_met, noted_gap, noted_start, noted_operand, noted_end, noted, noted_meeting, all_below, part_at, node_meeting, follow_meeting, link_meeting, empty_alternative, empty_alternatives, meeting_alternatives, meetings_of_alternative, alternatives_that_meet, alternative_and_follow, alternatives_and_follow, ends_nullable, noted_many, noted_chain, noted_form, noted_node}
 use Rattle.pg_predict.specs.Shown.{AreFacts}
 use Rattle.pg_predict.specs.declared.violation.Violation.{Violation}
 use Rattle.pg_predict.specs.declared.violation.ViolationKind.{ViolationKind}
-use Rattle.pg_predict.specs.declared.violation.ViolationKind.TheVariants.{LeftRecursion, EmptyRound, EmptyAlternative, AlternativesMeet, AlternativeMeetsFollow, RoundMeetsFollow, GapMeets}
+use Rattle.pg_predict.specs.declared.violation.ViolationKind.TheVariants.{LeftRecursion, EmptyRound, EmptyAlternative, AlternativesMeet, AlternativeMeetsFollow, RoundMeetsFollow, EmptyOperand, OperandMeetsOperators, FollowMeetsOperators, GapMeets}
 use Rattle.pg_predict.specs.declared.meetings.Meeting.{Meeting}
-use Rattle.pg_predict.proofs.Lists.{In, in_cases, NotedFor, in_all_below, in_noted, NotedMeeting, in_noted_meeting, in_noted_gap, Tagged}
-use Rattle.pg_predict.proofs.Meanings.{MeetAt, numbers_first, first_there, follow_there, link_there, node_found, follow_found, link_found}
+use Rattle.pg_predict.proofs.Lists.{In, in_cases, NotedFor, in_all_below, in_noted, NotedMeeting, in_noted_meeting, in_noted_start, in_noted_gap, Tagged}
+use Rattle.pg_predict.proofs.Meanings.{shows_first, shows_follow, MeetAt, numbers_first, first_there, follow_there, link_there, node_found, follow_found, link_found}
 use Rattle.pg_predict.proofs.Pairs.{pair_is}
 
 -- what is noted of a node is wrong there, and has a number
@@ -193,13 +195,60 @@ module _ (g : Grammar) (facts : Facts) (are : AreFacts g facts) (grammar : IsGra
             inr (wrong_where p 6 (RoundMeetsFollow found.meeting.one found.meeting.other) b found.same refl (violates.link_meets_follow at is_chain first))
       ]
 
+  -- ---- expressions
+
+  -- the start with a number
+  pub start_is : (s : ℕ) (x : ListedStart) → slice_get facts.sets.starts s ≡ Some x → start_at facts.sets.starts s ≡ x
+  start_is s x at = get_or_from_slice_get facts.sets.starts s x _ at
+
+  pub operand_wrong : (p term : ℕ) (builders : OperatorBuilders) (b : Violation ℕ) → slice_get g.nodes p ≡ Some (form.Expression builders term) → In (noted_operand facts p term) b → IsWrong g facts.sets.starts p 7 b
+  operand_wrong p term builders b at is =
+      let term_below = parts_below g p (form.Expression builders term) 0 term grammar at refl in
+      let met = operators_meet facts (set_at facts.sets.firsts term) in
+      elim (in_cases (noted (is_marked facts.sets.nullable term) p EmptyOperand) (noted_start met p OperandMeetsOperators) b is) [
+        | inl empty ↦
+            let test = in_noted (is_marked facts.sets.nullable term) p EmptyOperand b empty in
+            wrong_where p 7 EmptyOperand b test.1 refl (violates.empty_operand at ((are.sets.nullable term).0 test.0))
+        | inr meets ↦
+            let found = in_noted_start met p OperandMeetsOperators b meets in
+            let first = (operators_first g facts are (set_at facts.sets.firsts term) (Begins g term) (shows_first g facts are term term_below)).some found.start found.found in
+            let violates : Violates g p (OperandMeetsOperators first.0) = violates.operand_meets_operators at first.3 in
+            wrong_where p 7 (OperandMeetsOperators found.start) b found.same refl (subst (λ (x : ListedStart). Violates g p (OperandMeetsOperators x)) (sym (start_is found.start first.0 first.2)) violates)
+      ]
+
+  pub end_wrong : (p term : ℕ) (builders : OperatorBuilders) (b : Violation ℕ) → slice_get g.nodes p ≡ Some (form.Expression builders term) → In (noted_end facts p) b → IsWrong g facts.sets.starts p 8 b
+  end_wrong p term builders b at is =
+      let p_below = slice_get_within g.nodes p (form.Expression builders term) at in
+      let found = in_noted_start (operators_meet facts (set_at facts.sets.follows p)) p FollowMeetsOperators b is in
+      let first = (operators_first g facts are (set_at facts.sets.follows p) (Follows g p) (shows_follow g facts are p p_below)).some found.start found.found in
+      let violates : Violates g p (FollowMeetsOperators first.0) = violates.follow_meets_operators at first.3 in
+      wrong_where p 8 (FollowMeetsOperators found.start) b found.same refl (subst (λ (x : ListedStart). Violates g p (FollowMeetsOperators x)) (sym (start_is found.start first.0 first.2)) violates)
+
+  pub expression_gap_wrong : (p term : ℕ) (builders : OperatorBuilders) (b : Violation ℕ) → slice_get g.nodes p ≡ Some (form.Expression builders term) →
+      In (noted_gap (gap_met facts (gaps_meet facts (set_at facts.sets.firsts term)) p) p) b → IsWrong g facts.sets.starts p 9 b
+  expression_gap_wrong p term builders b at is =
+      let term_below = parts_below g p (form.Expression builders term) 0 term grammar at refl in
+      let p_below = slice_get_within g.nodes p (form.Expression builders term) at in
+      let begins = gaps_first g facts are (set_at facts.sets.firsts term) (Begins g term) (shows_first g facts are term term_below) in
+      let found = in_noted_gap (gap_met facts (gaps_meet facts (set_at facts.sets.firsts term)) p) p b is in
+      let first = gap_some g facts are p p_below (gaps_meet facts (set_at facts.sets.firsts term)) (Begins g term) begins found.start found.found in
+      wrong_where p 9 (GapMeets found.start) b found.same refl (violates.expression_gap_meets at first)
+
+  pub after_operand : (p term : ℕ) (builders : OperatorBuilders) (b : Violation ℕ) → slice_get g.nodes p ≡ Some (form.Expression builders term) →
+      In (noted_end facts p ++ noted_gap (gap_met facts (gaps_meet facts (set_at facts.sets.firsts term)) p) p) b → IsWrong g facts.sets.starts p 8 b ⊎ IsWrong g facts.sets.starts p 9 b
+  after_operand p term builders b at is =
+      elim (in_cases (noted_end facts p) (noted_gap (gap_met facts (gaps_meet facts (set_at facts.sets.firsts term)) p) p) b is) [
+        | inl end ↦ inl (end_wrong p term builders b at end)
+        | inr gap ↦ inr (expression_gap_wrong p term builders b at gap)
+      ]
+
   -- ---- leaves
 
-  declaration_wrong : (p : ℕ) (class : List ClassPart) (b : Violation ℕ) → slice_get g.nodes p ≡ Some (form.Leaf (leaf.Declare class)) → In (noted_gap (gap_met facts p) p) b
+  declaration_wrong : (p : ℕ) (class : List ClassPart) (b : Violation ℕ) → slice_get g.nodes p ≡ Some (form.Leaf (leaf.Declare class)) → In (noted_gap (gap_met facts None p) p) b
       → IsWrong g facts.sets.starts p 9 b
   declaration_wrong p class b at is =
-      let found = in_noted_gap (gap_met facts p) p b is in
-      let first = gap_some g facts are p (slice_get_within g.nodes p (form.Leaf (leaf.Declare class)) at) found.start found.found in
+      let found = in_noted_gap (gap_met facts None p) p b is in
+      let first = gap_some g facts are p (slice_get_within g.nodes p (form.Leaf (leaf.Declare class)) at) None BeginsNothing (no_term g facts are) found.start found.found in
       wrong_where p 9 (GapMeets found.start) b found.same refl (violates.gap_meets at first)
 
   -- ---- nodes
@@ -229,6 +278,11 @@ module _ (g : Grammar) (facts : Facts) (are : AreFacts g facts) (grammar : IsGra
       let parts = form.Chain side used operand separator in
       either_above 1 p 2 6 b (omega arith) (omega arith)
       (chain_wrong p operand separator parts b at chain.chain (parts_below g p parts 0 operand grammar at refl) (parts_below g p parts 1 separator grammar at refl) is)
+  form_wrong p (form.Expression builders term) b at is =
+      elim (in_cases (noted_operand facts p term) (noted_end facts p ++ noted_gap (gap_met facts (gaps_meet facts (set_at facts.sets.firsts term)) p) p) b is) [
+        | inl operand ↦ record { number = 7; above = omega arith; wrong = operand_wrong p term builders b at operand }
+        | inr after ↦ either_above 1 p 8 9 b (omega arith) (omega arith) (after_operand p term builders b at after)
+      ]
   form_wrong p (form.Leaf (leaf.Declare class)) b at is = record { number = 9; above = omega arith; wrong = declaration_wrong p class b at is }
   form_wrong p n b at is = absurd is
 

@@ -234,6 +234,10 @@ module _ (g : Grammar) where
   at_a_node grammar p kind (conditions.alternative_meets_follow at part last ends met) = slice_get_within g.nodes _ _ at
   at_a_node grammar p kind (conditions.round_meets_follow at met) = slice_get_within g.nodes _ _ at
   at_a_node grammar p kind (conditions.link_meets_follow at is met) = slice_get_within g.nodes _ _ at
+  at_a_node grammar p kind (conditions.empty_operand at h) = slice_get_within g.nodes _ _ at
+  at_a_node grammar p kind (conditions.operand_meets_operators at met) = slice_get_within g.nodes _ _ at
+  at_a_node grammar p kind (conditions.follow_meets_operators at met) = slice_get_within g.nodes _ _ at
+  at_a_node grammar p kind (conditions.expression_gap_meets at met) = slice_get_within g.nodes _ _ at
   at_a_node grammar p kind (conditions.gap_meets at met) = slice_get_within g.nodes _ _ at
 
   speaks : IsGrammar g → (finding : Finding) (v : Violation ListedStart) → said finding ≡ saying_of g v → Violates g v.node v.kind → SpeaksOf g finding

@@ -10,22 +10,24 @@ use lib.ListN.{get_or}
 use Rattle.pg_value.specs.Grammar.{Grammar, IsGrammar}
 use Rattle.pg_form.specs.Forms.{Node}
 use Rattle.pg_form.specs.declared.form.Form.TheVariants as form
+use Rattle.pg_bit_set.specs.Numbers.{set_at}
+use Rattle.pg_form.specs.declared.used.OperatorBuilders.{OperatorBuilders}
 use Rattle.pg_graph.specs.Marks.{is_marked}
 use Rattle.pg_own_starts.specs.declared.listed.ListedStart.{ListedStart}
 use Rattle.pg_predict.specs.WithStarts.{kind_with_starts, with_starts}
 use Rattle.pg_predict.specs.Conditions.{Violates, IsFaultless}
 use Rattle.pg_predict.specs.Findings.{AreViolations, AreFindings, said, saying_of}
 use Rattle.pg_form.specs.declared.form.Leaf.TheVariants as leaf
-use Rattle.pg_predict.specs.Judged.{Facts, gap_met, noted, noted_meeting, all_below, part_at, node_meeting, follow_meeting, link_meeting, empty_alternative, empty_alternatives, meeting_alternatives, meetings_of_alternative, alternatives_that_meet, alternative_and_follow, alternatives_and_follow, ends_nullable, noted_choice, noted_form, noted_node, noted_grammar}
+use Rattle.pg_predict.specs.Judged.{Facts, operators_meet, gaps_meet, gap_met, noted_start, noted_gap, noted_operand, noted_end, noted_expression, noted, noted_meeting, all_below, part_at, node_meeting, follow_meeting, link_meeting, empty_alternative, empty_alternatives, meeting_alternatives, meetings_of_alternative, alternatives_that_meet, alternative_and_follow, alternatives_and_follow, ends_nullable, noted_choice, noted_form, noted_node, noted_grammar}
 use Rattle.pg_predict.specs.Shown.{AreFacts}
 use Rattle.pg_predict.specs.declared.violation.Violation.{Violation}
 use Rattle.pg_predict.specs.declared.violation.ViolationKind.{ViolationKind}
-use Rattle.pg_predict.specs.declared.violation.ViolationKind.TheVariants.{LeftRecursion, EmptyRound, EmptyAlternative, AlternativesMeet, AlternativeMeetsFollow, RoundMeetsFollow}
+use Rattle.pg_predict.specs.declared.violation.ViolationKind.TheVariants.{LeftRecursion, EmptyRound, EmptyAlternative, AlternativesMeet, AlternativeMeetsFollow, RoundMeetsFollow, EmptyOperand, OperandMeetsOperators, FollowMeetsOperators}
 use Rattle.pg_predict.specs.declared.meetings.Meeting.{Meeting}
 use Rattle.pg_predict.specs.declared.finding.Finding.{Finding}
 use Rattle.pg_predict.proofs.Complete.{violation_noted}
-use Rattle.pg_predict.proofs.Lists.{In, in_all_below, all_below_has, in_noted, in_noted_meeting, in_cases, Precedes, Ascends, ascends_append, ascends_below, ascends_noted, ascends_meeting, ascends_gap, key_less, key_same, node_precedes, tags_precede, contains_noted, noted_contains, ascends_sorted}
-use Rattle.pg_predict.proofs.Sound.{in_pair, empty_wrong, meet_wrong, follow_wrong, recursion_wrong, standing_wrong, node_wrong}
+use Rattle.pg_predict.proofs.Lists.{In, in_all_below, all_below_has, in_noted, in_noted_meeting, in_noted_start, in_cases, Precedes, Ascends, ascends_append, ascends_below, ascends_noted, ascends_meeting, ascends_start, ascends_gap, key_less, key_same, node_precedes, tags_precede, contains_noted, noted_contains, ascends_sorted}
+use Rattle.pg_predict.proofs.Sound.{operand_wrong, end_wrong, expression_gap_wrong, after_operand, in_pair, empty_wrong, meet_wrong, follow_wrong, recursion_wrong, standing_wrong, node_wrong}
 
 -- ---- order within a condition
 
@@ -122,12 +124,39 @@ module _ (g : Grammar) (facts : Facts) (are : AreFacts g facts) (grammar : IsGra
       both_are (record { node = p; kind = EmptyRound }) (record { node = p; kind = RoundMeetsFollow other.meeting.one other.meeting.other }) b c
       (in_noted t p EmptyRound b is_b).1 other.same (key_same p (2 ∷ []) (6 ∷ []) (key_less 2 6 [] [] (omega arith))))
 
+  -- that an operand can be empty, and then what it meets
+  operand_ascends : (p term : ℕ) → Ascends (noted_operand facts p term)
+  operand_ascends p term =
+      let empty = is_marked facts.sets.nullable term in
+      let met = operators_meet facts (set_at facts.sets.firsts term) in
+      ascends_append (noted empty p EmptyOperand) (noted_start met p OperandMeetsOperators) (ascends_noted empty p EmptyOperand) (ascends_start met p OperandMeetsOperators)
+      (λ b c is_b is_c.
+      let other = in_noted_start met p OperandMeetsOperators c is_c in
+      both_are (record { node = p; kind = EmptyOperand }) (record { node = p; kind = OperandMeetsOperators other.start }) b c (in_noted empty p EmptyOperand b is_b).1 other.same
+      (key_same p (7 ∷ 1 ∷ []) (7 ∷ 2 ∷ []) (key_same 7 (1 ∷ []) (2 ∷ []) (key_less 1 2 [] [] (omega arith)))))
+
+  expression_ascends : (p term : ℕ) (builders : OperatorBuilders) → slice_get g.nodes p ≡ Some (form.Expression builders term) → Ascends (noted_expression facts p term)
+  expression_ascends p term builders at =
+      let gap = noted_gap (gap_met facts (gaps_meet facts (set_at facts.sets.firsts term)) p) p in
+      ascends_append (noted_operand facts p term) (noted_end facts p ++ gap) (operand_ascends p term)
+      (ascends_append (noted_end facts p) gap (ascends_start (operators_meet facts (set_at facts.sets.follows p)) p FollowMeetsOperators)
+      (ascends_gap (gap_met facts (gaps_meet facts (set_at facts.sets.firsts term)) p) p)
+      (λ b c is_b is_c.
+      tags_precede p 8 9 b c (omega arith) (end_wrong g facts are grammar p term builders b at is_b).tagged (expression_gap_wrong g facts are grammar p term builders c at is_c).tagged))
+      (λ b c is_b is_c.
+      let tag_b = (operand_wrong g facts are grammar p term builders b at is_b).tagged in
+      elim (after_operand g facts are grammar p term builders c at is_c) [
+        | inl end ↦ tags_precede p 7 8 b c (omega arith) tag_b end.tagged
+        | inr gap ↦ tags_precede p 7 9 b c (omega arith) tag_b gap.tagged
+      ])
+
   form_ascends : (p : ℕ) (n : Node) → slice_get g.nodes p ≡ Some n → Ascends (noted_form facts p n)
   form_ascends p (form.Choice parts) at = choice_ascends p parts at
   form_ascends p (form.Many part) at = round_ascends p (is_marked facts.sets.nullable part) (follow_meeting facts part p)
   form_ascends p (form.Chain side used operand separator) at =
       round_ascends p (is_marked facts.sets.nullable separator && is_marked facts.sets.nullable operand) (link_meeting facts operand separator p)
-  form_ascends p (form.Leaf (leaf.Declare class)) at = ascends_gap (gap_met facts p) p
+  form_ascends p (form.Expression builders term) at = expression_ascends p term builders at
+  form_ascends p (form.Leaf (leaf.Declare class)) at = ascends_gap (gap_met facts None p) p
   form_ascends p n at = tt
 
   standing_ascends : (p : ℕ) → Ascends (option_map_or (noted_form facts p) (slice_get g.nodes p) [])

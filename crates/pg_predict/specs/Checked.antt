@@ -4,7 +4,6 @@ use Rattle.pg_value.specs.Grammar.{Grammar}
 use Rattle.pg_sets.specs.Sets.{Sets, AreSets}
 use Rattle.pg_predict.specs.Conditions.{IsFaultless}
 use Rattle.pg_predict.specs.Findings.{AreFindings}
-use Rattle.pg_predict.specs.Expressions.{HasNoExpressions}
 use Rattle.pg_predict.specs.declared.checking.CheckFault.{CheckFault}
 use Rattle.pg_predict.specs.declared.checking.CheckFault.TheVariants as fault
 use Rattle.pg_predict.specs.declared.checking.Refused as declared
@@ -13,11 +12,10 @@ pub record GrammarWithSets : Type 0 where
   pub grammar : Grammar
   pub sets : Sets
 
--- the sets are the grammar's, nothing is wrong with it, and no text reads expressions
+-- the sets are the grammar's, and nothing is wrong with it
 pub record IsChecked (checked : GrammarWithSets) : Type 0 where
   pub sets : AreSets checked.grammar checked.sets
   pub faultless : IsFaultless checked.grammar
-  pub plain : HasNoExpressions checked.grammar
 
 -- the grammar is handed back with all that is wrong with it, which is something
 pub record IsRefused (g : Grammar) (refused : declared.Refused) : Type 0 where

@@ -11,6 +11,7 @@ use Rattle.pg_start.specs.declared.kind.StartKind.{StartKind}
 use Rattle.pg_sets.specs.First.{IsFirst, IsFirstOf}
 use Rattle.pg_sets.specs.Follow.{IsFollow, IsChain}
 use Rattle.pg_form.specs.declared.class.ClassPart.{ClassPart}
+use Rattle.pg_form.specs.declared.used.OperatorBuilders.{OperatorBuilders}
 use Rattle.pg_own_starts.specs.OperatorStarts.{IsGapStart}
 use Rattle.pg_own_starts.specs.OwnStarts.{IsOperatorStart}
 use Rattle.pg_own_starts.specs.Listed.{IsListed, start_order}
@@ -18,7 +19,7 @@ use Rattle.pg_heads.specs.Nullable.{Nullable}
 use Rattle.pg_heads.specs.Ranks.{Chain}
 use Rattle.pg_own_starts.specs.declared.listed.ListedStart.{ListedStart}
 use Rattle.pg_predict.specs.declared.violation.ViolationKind.{ViolationKind}
-use Rattle.pg_predict.specs.declared.violation.ViolationKind.TheVariants.{LeftRecursion, EmptyRound, EmptyAlternative, AlternativesMeet, AlternativeMeetsFollow, RoundMeetsFollow, GapMeets}
+use Rattle.pg_predict.specs.declared.violation.ViolationKind.TheVariants.{LeftRecursion, EmptyRound, EmptyAlternative, AlternativesMeet, AlternativeMeetsFollow, RoundMeetsFollow, EmptyOperand, OperandMeetsOperators, FollowMeetsOperators, GapMeets}
 
 -- ---- meetings
 
@@ -40,10 +41,17 @@ pub record AreFirstToMeet (g : Grammar) (One Other : StartKind → Type 0) (s t 
 abbrev pub NoneMeet : Grammar → (StartKind → Type 0) → (StartKind → Type 0) → Type 0
 NoneMeet g One Other = (s t : ListedStart) → Meet g One Other s t → ⊥
 
--- the first start that isn't apart from gaps: that of operators, and where that is apart, the first of those that may come after
-pub data IsFirstToMeetGap (g : Grammar) (After : StartKind → Type 0) (s : ListedStart) : Type 0 where
-  operator : {t : ListedStart} → AreFirstToMeet g (IsOperatorStart g) (IsGapStart g) s t → IsFirstToMeetGap g After s
-  after : {t : ListedStart} → NoneMeet g (IsOperatorStart g) (IsGapStart g) → AreFirstToMeet g After (IsGapStart g) s t → IsFirstToMeetGap g After s
+-- the first start that isn't apart from gaps: that of operators; where that is apart, the first that begins a term; and where
+-- all of these are, the first of those that may come after
+pub data IsFirstToMeetGap (g : Grammar) (Term After : StartKind → Type 0) (s : ListedStart) : Type 0 where
+  operator : {t : ListedStart} → AreFirstToMeet g (IsOperatorStart g) (IsGapStart g) s t → IsFirstToMeetGap g Term After s
+  term : {t : ListedStart} → NoneMeet g (IsOperatorStart g) (IsGapStart g) → AreFirstToMeet g Term (IsGapStart g) s t → IsFirstToMeetGap g Term After s
+  after : {t : ListedStart} → NoneMeet g (IsOperatorStart g) (IsGapStart g) → NoneMeet g Term (IsGapStart g) → AreFirstToMeet g After (IsGapStart g) s t
+      → IsFirstToMeetGap g Term After s
+
+-- a declaration has no term
+abbrev pub BeginsNothing : StartKind → Type 0
+BeginsNothing start = ⊥
 
 -- the starts of a node, those that follow it, and those of a chain's round, which is a separator and an operand
 abbrev pub Begins : Grammar → ℕ → StartKind → Type 0
@@ -88,9 +96,19 @@ pub data Violates (g : Grammar) : ℕ → ViolationKind ListedStart → Type 0 w
       → Violates g p (RoundMeetsFollow s t)
   link_meets_follow : {p operand separator : ℕ} {n : Node} {s t : ListedStart} → slice_get g.nodes p ≡ Some n → IsChain operand separator n
       → AreFirstToMeet g (BeginsLink g operand separator) (Follows g p) s t → Violates g p (RoundMeetsFollow s t)
-  -- the gap of a declaration isn't apart from operators, or from what follows
-  gap_meets : {p : ℕ} {class : List ClassPart} {s : ListedStart} → slice_get g.nodes p ≡ Some (form.Leaf (leaf.Declare class)) → IsFirstToMeetGap g (Follows g p) s
-      → Violates g p (GapMeets s)
+  -- the term of an expression can be empty
+  empty_operand : {p term : ℕ} {builders : OperatorBuilders} → slice_get g.nodes p ≡ Some (form.Expression builders term) → Nullable g term → Violates g p EmptyOperand
+  -- it has a start that isn't apart from operators
+  operand_meets_operators : {p term : ℕ} {builders : OperatorBuilders} {s t : ListedStart} → slice_get g.nodes p ≡ Some (form.Expression builders term)
+      → AreFirstToMeet g (Begins g term) (IsOperatorStart g) s t → Violates g p (OperandMeetsOperators s)
+  -- what follows an expression has one
+  follow_meets_operators : {p term : ℕ} {builders : OperatorBuilders} {s t : ListedStart} → slice_get g.nodes p ≡ Some (form.Expression builders term)
+      → AreFirstToMeet g (Follows g p) (IsOperatorStart g) s t → Violates g p (FollowMeetsOperators s)
+  -- the gap of an expression, or of a declaration, isn't apart from operators, from a term, or from what follows
+  expression_gap_meets : {p term : ℕ} {builders : OperatorBuilders} {s : ListedStart} → slice_get g.nodes p ≡ Some (form.Expression builders term)
+      → IsFirstToMeetGap g (Begins g term) (Follows g p) s → Violates g p (GapMeets s)
+  gap_meets : {p : ℕ} {class : List ClassPart} {s : ListedStart} → slice_get g.nodes p ≡ Some (form.Leaf (leaf.Declare class))
+      → IsFirstToMeetGap g BeginsNothing (Follows g p) s → Violates g p (GapMeets s)
 
 -- nothing is wrong at any node: the grammar is predictive
 abbrev pub IsFaultless : Grammar → Type 0

@@ -15,7 +15,7 @@ use Rattle.pg_own_starts.specs.declared.listed.ListedStart.{ListedStart}
 use Rattle.pg_predict.specs.Conditions.{Violates}
 use Rattle.pg_predict.specs.declared.violation.Violation.{Violation}
 use Rattle.pg_predict.specs.declared.violation.ViolationKind.{ViolationKind}
-use Rattle.pg_predict.specs.declared.violation.ViolationKind.TheVariants.{LeftRecursion, EmptyRound, EmptyAlternative, AlternativesMeet, AlternativeMeetsFollow, RoundMeetsFollow, GapMeets}
+use Rattle.pg_predict.specs.declared.violation.ViolationKind.TheVariants.{LeftRecursion, EmptyRound, EmptyAlternative, AlternativesMeet, AlternativeMeetsFollow, RoundMeetsFollow, EmptyOperand, OperandMeetsOperators, FollowMeetsOperators, GapMeets}
 use Rattle.pg_predict.specs.declared.finding.Finding.{Finding}
 
 -- ---- the order
@@ -28,21 +28,28 @@ condition_number (EmptyAlternative k) = 3
 condition_number (AlternativesMeet j k s t) = 4
 condition_number (AlternativeMeetsFollow k s t) = 5
 condition_number (RoundMeetsFollow s t) = 6
+condition_number EmptyOperand = 7
+condition_number (OperandMeetsOperators s) = 7
+condition_number (FollowMeetsOperators s) = 8
 condition_number (GapMeets s) = 9
 
--- the alternatives that it names
-abbrev pub alternatives_of : {S : Type 0} → ViolationKind S → List ℕ
-alternatives_of LeftRecursion = []
-alternatives_of EmptyRound = []
-alternatives_of (EmptyAlternative k) = k ∷ []
-alternatives_of (AlternativesMeet j k s t) = j ∷ k ∷ []
-alternatives_of (AlternativeMeetsFollow k s t) = k ∷ []
-alternatives_of (RoundMeetsFollow s t) = []
-alternatives_of (GapMeets s) = []
+-- what orders those of one number at a node: the alternatives that they name; that an operand can be empty comes before what
+-- it meets
+abbrev pub order_within : {S : Type 0} → ViolationKind S → List ℕ
+order_within LeftRecursion = []
+order_within EmptyRound = []
+order_within (EmptyAlternative k) = k ∷ []
+order_within (AlternativesMeet j k s t) = j ∷ k ∷ []
+order_within (AlternativeMeetsFollow k s t) = k ∷ []
+order_within (RoundMeetsFollow s t) = []
+order_within EmptyOperand = 1 ∷ []
+order_within (OperandMeetsOperators s) = 2 ∷ []
+order_within (FollowMeetsOperators s) = []
+order_within (GapMeets s) = []
 
--- by the number of the node, which stand rule by rule, then by that of the condition, then by the alternatives
+-- by the number of the node, which stand rule by rule, then by that of the condition, then within it
 abbrev pub violation_key : {S : Type 0} → Violation S → List ℕ
-violation_key violation = violation.node ∷ condition_number violation.kind ∷ alternatives_of violation.kind
+violation_key violation = violation.node ∷ condition_number violation.kind ∷ order_within violation.kind
 
 abbrev pub violation_order : {S : Type 0} → Violation S → Violation S → Ordering
 violation_order = on violation_key (slice_cmp nat_cmp)
@@ -65,6 +72,9 @@ violation_text g (EmptyAlternative k) = codes "C3 alternative " ++ (decimal k ++
 violation_text g (AlternativesMeet j k s t) = codes "C4 alternatives " ++ (decimal j ++ (codes " and " ++ (decimal k ++ (codes " meet at " ++ meeting_text g s t))))
 violation_text g (AlternativeMeetsFollow k s t) = codes "C5 alternative " ++ (decimal k ++ (codes " meets the follow set at " ++ meeting_text g s t))
 violation_text g (RoundMeetsFollow s t) = codes "C6 repetition meets its follow set at " ++ meeting_text g s t
+violation_text g EmptyOperand = codes "C7 operand can be empty"
+violation_text g (OperandMeetsOperators s) = codes "C7 operand meets operators at " ++ start_text g s
+violation_text g (FollowMeetsOperators s) = codes "C8 follow set meets operators at " ++ start_text g s
 violation_text g (GapMeets s) = codes "C9 gap meets " ++ start_text g s
 
 -- ---- the places

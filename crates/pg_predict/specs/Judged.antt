@@ -1,6 +1,6 @@
 -- What is noted of a grammar, a condition a line, from sets of numbers.
 use Rattle.std.specs.Prelude.{◌+◌, ◌-◌, ℕ, zero, suc, Bool, true, false, ◌&&◌, nat_lt, if◌then◌else◌, List, [], ◌∷◌, ◌++◌, length, Option, Some, None, slice_get, slice_index_or}
-use Rattle.std.specs.Option.{option_and_then, option_map_or}
+use Rattle.std.specs.Option.{option_and_then, option_map_or, option_or}
 use Rattle.pg_value.specs.Grammar.{Grammar}
 use Rattle.pg_form.specs.Forms.{Node}
 use Rattle.pg_form.specs.declared.form.Form.TheVariants as form
@@ -10,7 +10,7 @@ use Rattle.pg_sets.specs.Sets.{Sets}
 use Rattle.pg_predict.specs.Meetings.{first_met, first_meeting, earlier}
 use Rattle.pg_predict.specs.declared.violation.Violation.{Violation}
 use Rattle.pg_predict.specs.declared.violation.ViolationKind.{ViolationKind}
-use Rattle.pg_predict.specs.declared.violation.ViolationKind.TheVariants.{LeftRecursion, EmptyRound, EmptyAlternative, AlternativesMeet, AlternativeMeetsFollow, RoundMeetsFollow, GapMeets}
+use Rattle.pg_predict.specs.declared.violation.ViolationKind.TheVariants.{LeftRecursion, EmptyRound, EmptyAlternative, AlternativesMeet, AlternativeMeetsFollow, RoundMeetsFollow, EmptyOperand, OperandMeetsOperators, FollowMeetsOperators, GapMeets}
 use Rattle.pg_predict.specs.declared.meetings.Meeting.{Meeting}
 use Rattle.pg_predict.specs.declared.operator_facts.OperatorFacts.{OperatorFacts}
 use Rattle.pg_own_starts.specs.declared.listed.ListedStart.{ListedStart}
@@ -38,13 +38,23 @@ abbrev pub link_meeting : Facts → ℕ → ℕ → ℕ → Option Meeting
 link_meeting facts operand separator p =
     if is_marked facts.sets.nullable separator then earlier (follow_meeting facts separator p) (follow_meeting facts operand p) else follow_meeting facts separator p
 
--- the first start that gaps meet after a node: that of operators, or else the first that follows the node
-abbrev pub gap_met_by : Facts → ℕ → OperatorFacts → Option ListedStart
-gap_met_by facts p operators =
-    if operators.in_gap then Some operators.operator else option_and_then (slice_get facts.sets.starts) (first_met operators.met_by_gap (set_at facts.sets.follows p))
+-- the first start of a set that operators meet
+abbrev pub operators_meet : Facts → List Bool → Option ℕ
+operators_meet facts set = option_and_then (λ operators. first_met operators.met set) facts.operators
 
-abbrev pub gap_met : Facts → ℕ → Option ListedStart
-gap_met facts p = option_and_then (gap_met_by facts p) facts.operators
+-- the first start of a set that gaps meet
+abbrev pub gaps_meet : Facts → List Bool → Option ℕ
+gaps_meet facts set = option_and_then (λ operators. first_met operators.met_by_gap set) facts.operators
+
+-- the first start that gaps meet at a node: that of operators, or else that of a term, if there is one, or else the first that
+-- follows the node
+abbrev pub gap_met_by : Facts → Option ℕ → ℕ → OperatorFacts → Option ListedStart
+gap_met_by facts term p operators =
+    if operators.in_gap then Some operators.operator
+    else option_and_then (slice_get facts.sets.starts) (option_or term (first_met operators.met_by_gap (set_at facts.sets.follows p)))
+
+abbrev pub gap_met : Facts → Option ℕ → ℕ → Option ListedStart
+gap_met facts term p = option_and_then (gap_met_by facts term p) facts.operators
 
 -- ---- what is noted
 
@@ -62,6 +72,11 @@ noted_meeting (Some meeting) p what = record { node = p; kind = what meeting.one
 abbrev pub noted_gap : Option ListedStart → ℕ → List (Violation ℕ)
 noted_gap None p = []
 noted_gap (Some start) p = record { node = p; kind = GapMeets start } ∷ []
+
+-- a violation at a start, if there is one
+abbrev pub noted_start : Option ℕ → ℕ → (ℕ → ViolationKind ℕ) → List (Violation ℕ)
+noted_start None p what = []
+noted_start (Some start) p what = record { node = p; kind = what start } ∷ []
 
 -- what is noted for the numbers below a limit, one after another
 abbrev pub all_below : (ℕ → List (Violation ℕ)) → ℕ → List (Violation ℕ)
@@ -113,6 +128,19 @@ noted_chain facts p operand separator =
     noted (is_marked facts.sets.nullable separator && is_marked facts.sets.nullable operand) p EmptyRound
     ++ noted_meeting (link_meeting facts operand separator p) p RoundMeetsFollow
 
+-- ---- expressions
+
+abbrev pub noted_operand : Facts → ℕ → ℕ → List (Violation ℕ)
+noted_operand facts p term =
+    noted (is_marked facts.sets.nullable term) p EmptyOperand ++ noted_start (operators_meet facts (set_at facts.sets.firsts term)) p OperandMeetsOperators
+
+abbrev pub noted_end : Facts → ℕ → List (Violation ℕ)
+noted_end facts p = noted_start (operators_meet facts (set_at facts.sets.follows p)) p FollowMeetsOperators
+
+abbrev pub noted_expression : Facts → ℕ → ℕ → List (Violation ℕ)
+noted_expression facts p term =
+    noted_operand facts p term ++ (noted_end facts p ++ noted_gap (gap_met facts (gaps_meet facts (set_at facts.sets.firsts term)) p) p)
+
 -- ---- leaves
 
 abbrev pub noted_leaf : Facts → ℕ → Leaf ℕ → List (Violation ℕ)
@@ -121,7 +149,7 @@ noted_leaf facts p (leaf.String text) = []
 noted_leaf facts p (leaf.Word word) = []
 noted_leaf facts p (leaf.NotFollowedBy class) = []
 noted_leaf facts p leaf.EndOfText = []
-noted_leaf facts p (leaf.Declare class) = noted_gap (gap_met facts p) p
+noted_leaf facts p (leaf.Declare class) = noted_gap (gap_met facts None p) p
 
 -- ---- all forms
 
@@ -132,7 +160,7 @@ noted_form facts p (form.Choice parts) = noted_choice facts p parts
 noted_form facts p (form.Many part) = noted_many facts p part
 noted_form facts p (form.Chain side used operand separator) = noted_chain facts p operand separator
 noted_form facts p (form.Rule rule) = []
-noted_form facts p (form.Expression builders term) = []
+noted_form facts p (form.Expression builders term) = noted_expression facts p term
 noted_form facts p (form.Around around part) = []
 
 -- what is noted at a node: first whether it is the body of a rule that heads itself

@@ -1,4 +1,3 @@
-pub mod Expressions
 pub mod Conditions
 pub mod Findings
 pub mod Places

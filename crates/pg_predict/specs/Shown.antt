@@ -36,10 +36,11 @@ pub record AreMeetings (starts : List ListedStart) (meetings : List (List Bool))
   pub long : length meetings ≡ length starts
   pub met : (s : ℕ) (listed : ListedStart) → slice_get starts s ≡ Some listed → IsMetSet starts listed.start (set_at meetings s)
 
--- the operator start under its name, the starts that gaps meet, and whether gaps meet operators
+-- the operator start under its name, the starts that it meets, those that gaps meet, and whether gaps meet operators
 pub record AreOfOperators (g : Grammar) (starts : List ListedStart) (facts : OperatorFacts) : Type 0 where
   pub named : IsListed g facts.operator
   pub operator : (start : StartKind) → IsOperatorStart g start ↔ (facts.operator.start ≡ start)
+  pub met : IsMetSet starts facts.operator.start facts.met
   pub gap_start : StartKind
   pub gap : (start : StartKind) → IsGapStart g start ↔ (gap_start ≡ start)
   pub met_by_gap : IsMetSet starts gap_start facts.met_by_gap

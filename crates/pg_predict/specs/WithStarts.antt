@@ -4,7 +4,7 @@ use Rattle.pg_start.specs.declared.kind.StartKind.TheVariants.{End}
 use Rattle.pg_own_starts.specs.declared.listed.ListedStart.{ListedStart}
 use Rattle.pg_predict.specs.declared.violation.Violation.{Violation}
 use Rattle.pg_predict.specs.declared.violation.ViolationKind.{ViolationKind}
-use Rattle.pg_predict.specs.declared.violation.ViolationKind.TheVariants.{LeftRecursion, EmptyRound, EmptyAlternative, AlternativesMeet, AlternativeMeetsFollow, RoundMeetsFollow, GapMeets}
+use Rattle.pg_predict.specs.declared.violation.ViolationKind.TheVariants.{LeftRecursion, EmptyRound, EmptyAlternative, AlternativesMeet, AlternativeMeetsFollow, RoundMeetsFollow, EmptyOperand, OperandMeetsOperators, FollowMeetsOperators, GapMeets}
 
 -- the start with a number; the end for a number that no start has
 abbrev pub start_at : List ListedStart → ℕ → ListedStart
@@ -18,6 +18,9 @@ kind_with_starts starts (EmptyAlternative k) = EmptyAlternative k
 kind_with_starts starts (AlternativesMeet j k s t) = AlternativesMeet j k (start_at starts s) (start_at starts t)
 kind_with_starts starts (AlternativeMeetsFollow k s t) = AlternativeMeetsFollow k (start_at starts s) (start_at starts t)
 kind_with_starts starts (RoundMeetsFollow s t) = RoundMeetsFollow (start_at starts s) (start_at starts t)
+kind_with_starts starts EmptyOperand = EmptyOperand
+kind_with_starts starts (OperandMeetsOperators s) = OperandMeetsOperators (start_at starts s)
+kind_with_starts starts (FollowMeetsOperators s) = FollowMeetsOperators (start_at starts s)
 kind_with_starts starts (GapMeets s) = GapMeets s
 
 -- the violation, with starts for their numbers

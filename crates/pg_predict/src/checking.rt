@@ -2,7 +2,6 @@
 ghost use Rattle.std.specs.Prelude.{◌≡◌, IfOk, IfErr};
 ghost use Rattle.pg_predict.specs.Checked.{IsChecked, IsFaultOf};
 ghost use Rattle.pg_predict.specs.Findings.{AreFindings};
-ghost use Rattle.pg_predict.specs.Expressions.{HasNoExpressions};
 ghost use Rattle.pg_sets.specs.Sets.{AreSets};
 
 use crate::checked::Checked;
@@ -31,12 +30,10 @@ pub enum CheckFault {
     Memory(Grammar),
 }
 
-/// Accepts a grammar where it is predictive: where at no node a condition is broken. The caller owes that it reads no
-/// expressions.
+/// Accepts a grammar where it is predictive: where at no node a condition is broken.
 ///
 /// Otherwise it is handed back, with all that is wrong with it, or because memory ran out.
 pub fn check(alloc: Global, grammar: Grammar) -> Result<Checked, CheckFault>
-    requires { HasNoExpressions grammar }
     ensures same { IfOk result (λ checked. checked.grammar ≡ grammar) }
     ensures accepted { IfOk result (λ checked. IsChecked checked) }
     ensures refused { IfErr result (IsFaultOf grammar) }

@@ -17,7 +17,7 @@ pub struct Finding {
     pub rule: usize,
     /// The node's number in the rule's body, from 1, in preorder.
     pub node: usize,
-    /// The number of the condition that is broken: 1 to 6, or 9.
+    /// The number of the condition that is broken: 1 to 9.
     pub number: usize,
     /// The rule's name, the node's number and the text of what is wrong, without a line feed.
     pub line: String,
@@ -130,6 +130,9 @@ fn condition_number(kind: &ViolationKind<usize>) -> usize
         ViolationKind::AlternativesMeet(_, _, _, _) => 4,
         ViolationKind::AlternativeMeetsFollow(_, _, _) => 5,
         ViolationKind::RoundMeetsFollow(_, _) => 6,
+        ViolationKind::EmptyOperand => 7,
+        ViolationKind::OperandMeetsOperators(_) => 7,
+        ViolationKind::FollowMeetsOperators(_) => 8,
         ViolationKind::GapMeets(_) => 9,
     }
 }

@@ -4,7 +4,7 @@
 ghost use Rattle.std.specs.Prelude.{◌≡◌, IfOk, is_some, option_copied};
 ghost use Rattle.pg_bit_set.specs.Numbers.{set_at};
 ghost use Rattle.pg_graph.specs.Marks.{is_marked};
-ghost use Rattle.pg_predict.specs.Judged.{node_meeting, follow_meeting, link_meeting, gap_met, gap_met_by};
+ghost use Rattle.pg_predict.specs.Judged.{node_meeting, follow_meeting, link_meeting, operators_meet, gaps_meet, gap_met, gap_met_by};
 ghost use Rattle.pg_predict.specs.Meetings.{first_meeting};
 ghost use Rattle.pg_predict.specs.Shown.{AreFacts};
 
@@ -76,6 +76,13 @@ impl Judge {
         self.sets.first(node)
     }
 
+    /// The starts that can follow a node.
+    pub(crate) fn follow(&self, node: NodeId) -> &BitSet
+        ensures { result.now ≡ set_at self.now.sets.follows node }
+    {
+        self.sets.follow(node)
+    }
+
     /// Whether a start of the one set meets one of the other.
     pub(crate) fn meets(&self, one: &BitSet, other: &BitSet) -> bool
         ensures { result ≡ is_some (first_meeting self.now.meetings one.now other.now) }
@@ -132,12 +139,33 @@ impl Judge {
         }
     }
 
-    /// The first start that gaps meet after a node: that of operators, or else the first that follows the node.
-    pub(crate) fn gap_met(&self, node: NodeId) -> Option<&ListedStart>
-        ensures { option_copied result ≡ gap_met self.now node }
+    /// The first start of a set that operators meet.
+    pub(crate) fn operators_meet(&self, set: &BitSet) -> Option<usize>
+        ensures { result ≡ operators_meet self.now set.now }
     {
         match &self.operators {
-            Some(operators) => self.gap_met_by(node, operators),
+            Some(operators) => first_met(&operators.met, set),
+            None => None,
+        }
+    }
+
+    /// The first start of a set that gaps meet.
+    pub(crate) fn gaps_meet(&self, set: &BitSet) -> Option<usize>
+        ensures { result ≡ gaps_meet self.now set.now }
+    {
+        match &self.operators {
+            Some(operators) => first_met(&operators.met_by_gap, set),
+            None => None,
+        }
+    }
+
+    /// The first start that gaps meet at a node: that of operators, or else that of a term, if there is one, or else the
+    /// first that follows the node.
+    pub(crate) fn gap_met(&self, term: Option<usize>, node: NodeId) -> Option<&ListedStart>
+        ensures { option_copied result ≡ gap_met self.now term node }
+    {
+        match &self.operators {
+            Some(operators) => self.gap_met_by(term, node, operators),
             None => None,
         }
     }
@@ -145,15 +173,16 @@ impl Judge {
     /// The same by what is asked of operators.
     fn gap_met_by<'j>(
         &'j self,
+        term: Option<usize>,
         node: NodeId,
         operators: &'j OperatorFacts,
     ) -> Option<&'j ListedStart>
-        ensures { option_copied result ≡ gap_met_by self.now node operators.now }
+        ensures { option_copied result ≡ gap_met_by self.now term node operators.now }
     {
         if operators.in_gap {
             return Some(&operators.operator);
         }
-        match first_met(&operators.met_by_gap, self.sets.follow(node)) {
+        match term.or(first_met(&operators.met_by_gap, self.sets.follow(node))) {
             Some(number) => self.sets.starts().get(number),
             None => None,
         }

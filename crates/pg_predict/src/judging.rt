@@ -6,6 +6,7 @@ ghost use Rattle.pg_predict.specs.Shown.{AreFacts};
 
 use crate::choices::judge_choice;
 use crate::declarations::judge_leaf;
+use crate::expressions::judge_expression;
 use crate::judge::Judge;
 use crate::noting::note_where;
 use crate::repetitions::{judge_chain, judge_many};
@@ -73,7 +74,7 @@ fn judge_form(
             judge_chain(judge, node, *operand, *separator, violations)
         }
         Form::Leaf(leaf) => judge_leaf(alloc, judge, node, leaf, violations),
-        // C7 to C9 judge expressions; whoever checks a grammar owes that it has none of them yet.
-        Form::Seq(_) | Form::Rule(_) | Form::Expression(_, _) | Form::Around(_, _) => Ok(()),
+        Form::Expression(_, term) => judge_expression(alloc, judge, node, *term, violations),
+        Form::Seq(_) | Form::Rule(_) | Form::Around(_, _) => Ok(()),
     }
 }

@@ -2,7 +2,7 @@
 //! wrong with it.
 //!
 //! [`check`] works out the sets of a grammar (`pg_sets`) and then judges each node by the conditions on its form, a module
-//! for each kind: `choices.rt`, `repetitions.rt`, `declarations.rt` and `recursion.rt`. A condition that is broken at a node is
+//! for each kind: `choices.rt`, `repetitions.rt`, `expressions.rt`, `declarations.rt` and `recursion.rt`. A condition that is broken at a node is
 //! noted as a violation (`violation.rt`); it is reported as a finding (`finding.rt`), and put into words in one place
 //! (`texts.rt`). A grammar that is accepted keeps its sets.
 #![tactic(auto)]
@@ -29,6 +29,5 @@ mod violation;
 
 pub use checked::Checked;
 pub use checking::{CheckFault, Refused, check};
-pub use expressions::has_no_expressions;
 pub use finding::Finding;
 pub use laws::findings_speak_of_nodes;

@@ -1,4 +1,4 @@
-//! What is asked of a grammar's operators: how they begin, and what gaps meet.
+//! What is asked of a grammar's operators: how they begin, and what they and gaps meet.
 ghost use Rattle.std.specs.Prelude.{◌≡◌, IfOk};
 ghost use Rattle.pg_predict.specs.Shown.{AreOperatorFacts};
 
@@ -9,11 +9,13 @@ use pg_start::apart;
 use pg_value::Grammar;
 use std::alloc::{AllocError, Global};
 
-/// The facts of operators. The set is of the numbers that starts have in the grammar's sets.
+/// The facts of operators. The sets are of the numbers that starts have in the grammar's sets.
 #[derive(Debug, Drop)]
 pub(crate) struct OperatorFacts {
     /// The operator start.
     pub(crate) operator: ListedStart,
+    /// The starts that operators meet.
+    pub(crate) met: BitSet,
     /// The starts that gaps meet.
     pub(crate) met_by_gap: BitSet,
     /// Whether gaps meet operators.
@@ -31,10 +33,12 @@ pub(crate) fn operator_facts(
 {
     match operator_starts(alloc, grammar)? {
         Some(both) => {
+            let met = met_by(alloc, starts, &both.operator.start)?;
             let met_by_gap = met_by(alloc, starts, &both.gap)?;
             let in_gap = !apart(&both.gap, &both.operator.start);
             Ok(Some(OperatorFacts {
                 operator: both.operator,
+                met,
                 met_by_gap,
                 in_gap,
             }))

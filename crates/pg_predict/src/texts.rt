@@ -36,6 +36,15 @@ pub(crate) fn violation_text(
             let met = meeting_text(alloc, grammar, starts, *one, *other)?;
             format!(in alloc; "C6 repetition meets its follow set at {met}")
         }
+        ViolationKind::EmptyOperand => String::from_str(alloc, "C7 operand can be empty"),
+        ViolationKind::OperandMeetsOperators(start) => {
+            let met = start_at(alloc, grammar, starts, *start)?;
+            format!(in alloc; "C7 operand meets operators at {met}")
+        }
+        ViolationKind::FollowMeetsOperators(start) => {
+            let met = start_at(alloc, grammar, starts, *start)?;
+            format!(in alloc; "C8 follow set meets operators at {met}")
+        }
         ViolationKind::GapMeets(start) => {
             let met = printed_start(alloc, grammar, start)?;
             format!(in alloc; "C9 gap meets {met}")

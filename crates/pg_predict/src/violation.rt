@@ -20,9 +20,15 @@ pub(crate) enum ViolationKind<S> {
     AlternativeMeetsFollow(usize, S, S),
     /// C6: a round meets what follows the repetition at these starts.
     RoundMeetsFollow(S, S),
+    /// C7: the term of an expression can be empty.
+    EmptyOperand,
+    /// C7: it meets operators at this start.
+    OperandMeetsOperators(S),
+    /// C8: what follows an expression meets operators at this start.
+    FollowMeetsOperators(S),
     /// C9: gaps meet this start, which may come after one. It needn't be among the starts of the sets.
     GapMeets(ListedStart),
-    // C7 and C8, which judge expressions, come here, and C11, which judges the cost.
+    // C11, which judges the cost, comes here.
 }
 
 /// A broken condition, and the number of the node at which it is.

@@ -12,5 +12,4 @@ new-requires c =
     record {
       sets = c.in-Ok.ensures.sets;
       faultless = faultless c.args.grammar found.items c.in-Ok.ensures.findings (nil_from_length found.items empty);
-      plain = c.requires;
     }

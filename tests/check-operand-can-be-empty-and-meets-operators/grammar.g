@@ -1,0 +1,4 @@
+operators "+-" gap " " reserved "=";
+table infixl 6 "+";
+start sum;
+sum = expr(node, node, node, many(satisfy("0".."9" | "+")));
