@@ -74,7 +74,7 @@ def predicates():
 
 
 def predicates_of_many_ranges():
-    """The same with a predicate of some 650 ranges, which each mention copies."""
+    """The same with a predicate of some 650 ranges, which all mentions share."""
     return repeated_predicate("letter")
 
 

@@ -42,7 +42,7 @@ pub parse_fault_status : (offer : Offer) (file : List ℕ) (reader left : Option
 parse_fault_status offer file reader left fault status findings error is = subst (IsParseStatus offer file reader) (sym is) (own fault findings error)
   where
     own : (f : BenchFault) → IfRefused (AreFindingsOf offer file) f → IfParseError (IsErrorOf offer file reader left) f → IsParseStatus offer file reader (status_of f)
-    own (Refused found) h k = no (inl (found.items, h))
+    own (Refused refused) h k = no (inl (refused.findings, h))
     own (ParseError e) h k = no (inr (left, e, k))
     own Memory h k = out_of_memory
     own (File f) h k = unusable
@@ -67,7 +67,7 @@ probe_fault_status offer file reader name most reading fault status findings err
     subst (IsProbeStatus offer file reader name most reading) (sym is) (own fault findings error)
   where
     own : (f : BenchFault) → IfRefused (λ findings. ⊥) f → IfParseError (λ error. ⊥) f → IsProbeStatus offer file reader name most reading (status_of f)
-    own (Refused found) h k = absurd h
+    own (Refused refused) h k = absurd h
     own (ParseError e) h k = absurd k
     own Memory h k = out_of_memory
     own (File f) h k = unusable

@@ -4,7 +4,7 @@ use Rattle.pg_message.specs.declared.error.ParseError as message
 use Rattle.pg_tree.specs.Trees.{Tree}
 use Rattle.pg_pred.specs.Offer.{Offer}
 use Rattle.pg_language.specs.declared.reading.Reading.{Reading}
-use Rattle.pg_predict.specs.declared.finding.Finding.{Finding}
+use Rattle.pg_predict.specs.Findings.{Finding}
 use Rattle.pg_grammar_bench.specs.Checking.{IsJudgedFile}
 use Rattle.pg_grammar_bench.specs.Files.{AreFindingsOf, SpellsAny}
 use Rattle.pg_bench.specs.Parsed.{IsForestOf, IsErrorOf}
@@ -15,7 +15,7 @@ use Rattle.pg_grammar_bench.specs.declared.fault.BenchFault.TheVariants.{File, R
 -- the exit status of a fault: 1 if the grammar isn't accepted or the text isn't the grammar's, 2 if something can't be used, 3 if memory ran out
 abbrev pub status_of : BenchFault → ℕ
 status_of (File fault) = 2
-status_of (Refused findings) = 1
+status_of (Refused refused) = 1
 status_of Reader = 2
 status_of NotUtf8 = 2
 status_of TooLong = 2

@@ -15,6 +15,17 @@ use std::rt::Files;
 /// The most bytes of a grammar file that are read.
 const READ_LIMIT: usize = 67_108_864;
 
+/// The device that is empty when it is read.
+const NULL_DEVICE: &str = "/dev/null";
+
+/// A file on the null device, if it can be opened. Three of them are to be opened before all other files, and held to the end.
+///
+/// Where the caller closed descriptors from 0 to 2, these take their numbers, and so no file that is named takes one: a closed
+/// standard input reads as empty, and since they are open to be read alone, output on a closed descriptor still fails.
+pub fn null_file<R: Files>(rt: &R) -> Option<R::File> {
+    fs::open(rt, NULL_DEVICE).ok()
+}
+
 /// The bytes of the grammar in a file, and the open text. Both are opened before either is read; none if one can't be, which
 /// is printed.
 pub fn inputs<R: AllocGlobal + Files + Eprint>(

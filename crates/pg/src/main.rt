@@ -10,12 +10,12 @@
 mod commands;
 mod files;
 mod printing;
-mod report;
 mod reporting;
 
 use clap::ArgMatches;
 use clap::error::ErrorKind;
 use commands::Asked;
+use files::null_file;
 use pg_bench::BenchFault;
 use pg_registry::with_registry;
 use pg_request::{command, request_of};
@@ -34,6 +34,9 @@ fn main(rt: HostRuntime) -> ExitCode {
 
 /// The exit status of the run.
 fn status<R: AllocGlobal + Env + Files + Print + Eprint>(rt: &R) -> u8 {
+    let _first = null_file(rt);
+    let _second = null_file(rt);
+    let _third = null_file(rt);
     match run(rt) {
         Ok(status) => status,
         Err(_) => {

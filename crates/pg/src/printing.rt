@@ -3,15 +3,18 @@
 ghost use Rattle.std.specs.Prelude.{◌≡◌, IfOk};
 ghost use Rattle.pg.specs.Status.{status_of};
 
-use crate::reporting::report;
+use crate::reporting::{status, write_report};
 use pg_bench::BenchFault;
+use pg_tree::{Meter, WriteFault};
 use std::alloc::AllocError;
 use std::fmt::Display;
+use std::io;
+use std::io::Write;
 
 /// The exit status where words or files can't be used.
 pub const UNUSABLE: u8 = 2;
 
-/// Prints the report of a fault, and gives its status.
+/// Prints the report of a fault, as far as standard error takes it, and gives its status.
 pub fn print_report<R: AllocGlobal + Eprint>(
     rt: &R,
     fault: BenchFault,
@@ -20,10 +23,10 @@ pub fn print_report<R: AllocGlobal + Eprint>(
 ) -> Result<u8, AllocError>
     ensures { IfOk result (λ status. status ≡ status_of fault) }
 {
-    print_lines(rt, &fault, grammar, text)
+    print_fault(rt, &fault, grammar, text)
 }
 
-fn print_lines<R: AllocGlobal + Eprint>(
+fn print_fault<R: AllocGlobal + Eprint>(
     rt: &R,
     fault: &BenchFault,
     grammar: &str,
@@ -31,11 +34,31 @@ fn print_lines<R: AllocGlobal + Eprint>(
 ) -> Result<u8, AllocError>
     ensures { IfOk result (λ status. status ≡ status_of fault.now) }
 {
-    let told = report(rt.alloc(), fault, grammar, text)?;
-    for line in &told.lines {
-        let _ = rt.eprint(line);
+    let mut writer = Meter::new(ErrorWriter { rt });
+    match write_report(rt.alloc(), fault, grammar, text, &mut writer) {
+        Ok(()) | Err(WriteFault::Writer) => Ok(status(fault)),
+        Err(WriteFault::Memory) => Err(AllocError),
     }
-    Ok(told.status)
+}
+
+/// Standard error as a writer of text. It takes all that it is given, or fails.
+#[derive(Drop)]
+struct ErrorWriter<'a, R> {
+    rt: &'a R,
+}
+
+impl<R: Eprint> Write for ErrorWriter<'_, R> {
+    fn write(&mut self, buf: &[u8]) -> io::Result<usize> {
+        match str::from_utf8(buf) {
+            Ok(text) => self.rt.eprint(text)?,
+            Err(_) => return Err(io::Error::from(io::ErrorKind::InvalidData)),
+        }
+        Ok(buf.len())
+    }
+
+    fn flush(&mut self) -> io::Result<()> {
+        Ok(())
+    }
 }
 
 /// Says that a file can't be read, and gives the status.

@@ -1,76 +1,92 @@
 //! What the program says of a fault, and the exit status that goes with it.
 //!
-//! A fault of a file begins with the file's name as the caller gave it, so that an editor can jump
-//! to it. The program's `main` prints the lines to standard error. `Report` stands in a module
-//! of its own, since names of one module may not differ only in case.
+//! A fault of a file begins with the file's name as the caller gave it, so that an editor can jump to it. Printing it to
+//! standard error is `printing.rt`'s.
 
-ghost use Rattle.std.specs.Prelude.{◌≡◌, [], ◌∷◌, ◌++◌, map, IfOk};
+ghost use Rattle.std.specs.Prelude.{◌≡◌, ◌++◌, false, IfOk, OnOk, IsErrOf};
 ghost use Rattle.std.specs.String.{string_bytes};
+ghost use Rattle.std.specs.Io.KnownBytes.{Appends};
+ghost use Rattle.pg_tree.specs.Bytes.{AppendsPrefix};
+ghost use Rattle.pg_message.specs.Printed.{printed};
 ghost use Rattle.pg.specs.Status.{status_of};
-ghost use Rattle.pg.specs.Texts.{front_of, line_of, finding_line, lines_of};
+ghost use Rattle.pg.specs.Texts.{front_of, line_of, report_of};
 
-use crate::report::Report;
 use pg_bench::BenchFault;
-use pg_message::render;
-use pg_predict::Finding;
+use pg_message::{ParseError, render};
+use pg_tree::{Meter, WriteFault, write_bytes};
 use std::alloc::{AllocError, Global};
+use std::io::Write;
 
-/// The report of a fault in a run over files of these names: a line for each finding of a grammar that is refused, a parse
-/// error as Text.Parsec prints it but for the four differences in docs/DECISIONS.md, and one line for each other fault.
-pub fn report(
+/// Writes the report of a fault in a run over files of these names: a line for each finding of a grammar that is refused, a
+/// parse error as Text.Parsec prints it but for the four differences in docs/DECISIONS.md, and one line for each other fault.
+///
+/// Memory runs out before the first byte, or not at all.
+pub fn write_report<W: Write>(
     alloc: Global,
     fault: &BenchFault,
     grammar: &str,
     text: &str,
-) -> Result<Report, AllocError>
-    ensures status { IfOk result (λ told. told.status ≡ status_of fault.now) }
-    ensures lines { IfOk result (λ told. map string_bytes told.lines.items ≡ lines_of fault.now grammar.now text.now) }
-{
-    let status = status(fault);
-    let lines = lines(alloc, fault, grammar, text)?;
-    Ok(Report { status, lines })
-}
-
-fn lines(
-    alloc: Global,
-    fault: &BenchFault,
-    grammar: &str,
-    text: &str,
-) -> Result<Vec<String>, AllocError>
-    ensures { IfOk result (λ lines. map string_bytes lines.items ≡ lines_of fault.now grammar.now text.now) }
+    writer: &mut Meter<W>,
+) -> Result<(), WriteFault>
+    requires { writer.old.failed ≡ false }
+    ensures ok { OnOk result (Appends (W.contents writer.old.inner) (W.contents writer.new.inner) (report_of fault.now grammar.now text.now)) }
+    ensures prefix { IsErrOf result WriteFault.Writer →
+        AppendsPrefix (W.contents writer.old.inner) (W.contents writer.new.inner) (report_of fault.now grammar.now text.now) }
+    ensures memory { IsErrOf result WriteFault.Memory → writer.new ≡ writer.old }
 {
     match fault {
-        BenchFault::Refused(findings) => finding_lines(alloc, findings.as_slice()),
-        BenchFault::ParseError(error) => single(alloc, render(alloc, error, text)?),
+        BenchFault::Refused(refused) => refused.write_findings(alloc, writer),
+        BenchFault::ParseError(error) => write_error(alloc, error, text, writer),
         BenchFault::File(_)
         | BenchFault::Reader
         | BenchFault::NotUtf8
         | BenchFault::TooLong
         | BenchFault::Writer
-        | BenchFault::Memory => single(alloc, line(alloc, fault, grammar, text)?),
+        | BenchFault::Memory => write_line(alloc, fault, grammar, text, writer),
     }
 }
 
-fn finding_lines(alloc: Global, findings: &[Finding]) -> Result<Vec<String>, AllocError>
-    ensures { IfOk result (λ lines. map string_bytes lines.items ≡ map finding_line findings.now) }
+/// Writes a parse error as it is printed in a text of this name.
+fn write_error<W: Write>(
+    alloc: Global,
+    error: &ParseError,
+    text: &str,
+    writer: &mut Meter<W>,
+) -> Result<(), WriteFault>
+    requires { writer.old.failed ≡ false }
+    ensures ok { OnOk result (Appends (W.contents writer.old.inner) (W.contents writer.new.inner) (printed error.now text.now)) }
+    ensures prefix { IsErrOf result WriteFault.Writer →
+        AppendsPrefix (W.contents writer.old.inner) (W.contents writer.new.inner) (printed error.now text.now) }
+    ensures memory { IsErrOf result WriteFault.Memory → writer.new ≡ writer.old }
 {
-    let mut lines = Vec::new(alloc);
-    for finding in findings {
-        let line = &finding.line;
-        lines.push(format!(in alloc; "{line}\n")?)?;
-    }
-    Ok(lines)
+    let Ok(page) = render(alloc, error, text) else {
+        return Err(WriteFault::Memory);
+    };
+    write_bytes(page.as_bytes(), writer)
 }
 
-fn single(alloc: Global, line: String) -> Result<Vec<String>, AllocError>
-    ensures { IfOk result (λ lines. map string_bytes lines.items ≡ string_bytes line ∷ []) }
+/// Writes the line of a fault.
+fn write_line<W: Write>(
+    alloc: Global,
+    fault: &BenchFault,
+    grammar: &str,
+    text: &str,
+    writer: &mut Meter<W>,
+) -> Result<(), WriteFault>
+    requires { writer.old.failed ≡ false }
+    ensures ok { OnOk result (Appends (W.contents writer.old.inner) (W.contents writer.new.inner) (line_of fault.now grammar.now text.now)) }
+    ensures prefix { IsErrOf result WriteFault.Writer →
+        AppendsPrefix (W.contents writer.old.inner) (W.contents writer.new.inner) (line_of fault.now grammar.now text.now) }
+    ensures memory { IsErrOf result WriteFault.Memory → writer.new ≡ writer.old }
 {
-    let mut lines = Vec::new(alloc);
-    lines.push(line)?;
-    Ok(lines)
+    let Ok(line) = line(alloc, fault, grammar, text) else {
+        return Err(WriteFault::Memory);
+    };
+    write_bytes(line.as_bytes(), writer)
 }
 
-fn status(fault: &BenchFault) -> u8
+/// The exit status of a fault.
+pub fn status(fault: &BenchFault) -> u8
     ensures { result ≡ status_of fault.now }
 {
     match fault {

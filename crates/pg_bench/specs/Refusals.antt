@@ -7,7 +7,7 @@ use Rattle.pg_tree.specs.Meter.{Metered, saturating_sum}
 use Rattle.pg_pred.specs.Offer.{Offer}
 use Rattle.pg_value.specs.Grammar.{Grammar}
 use Rattle.pg_machine.specs.declared.answer.Answer.{Answer}
-use Rattle.pg_predict.specs.declared.finding.Finding.{Finding}
+use Rattle.pg_predict.specs.Findings.{Finding}
 use Rattle.pg_grammar_bench.specs.Files.{AreFindingsOf, IsFaultOfFile, SpellsSome}
 use Rattle.pg_grammar_bench.specs.Faults.{Claimed, memory_alone}
 use Rattle.pg_grammar_bench.specs.declared.fault.BenchFault.{BenchFault}
@@ -94,7 +94,3 @@ IsForestRefusal offer file before after reader left =
 -- and probing, whatever the grammar
 abbrev pub IsProbeRefusal : {R : Type 0} → Offer → List ℕ → Metered R → Metered R → Option (List ℕ) → Option (List ℕ) → BenchFault → Type 0
 IsProbeRefusal = IsFilesRefusal (λ g. Unit {0}) (λ findings. ⊥) (λ error. ⊥)
-
--- what writing refuses with
-abbrev pub IsWriteRefusal : BenchFault → Type 0
-IsWriteRefusal = Claimed (record memory_alone { writer = Unit {0} })

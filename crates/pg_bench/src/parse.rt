@@ -16,8 +16,8 @@ ghost use Rattle.pg_making.specs.Spells.{HasInitialTable};
 ghost use Rattle.pg_bench.specs.Promise.{IsAccepted, IsForestOfText};
 ghost use Rattle.pg_grammar_bench.specs.Files.{AreFindingsOf, IsFaultOfFile, SpellsSome};
 ghost use Rattle.pg_bench.specs.Parsed.{IsParsed, IsForestOf, IsForestOfAnswer, IsForestOfBytes, IsErrorOf, ReadsText, IsPartlyWritten};
-ghost use Rattle.pg_grammar_bench.specs.Faults.{IfRefused, IfParseError, IsBeforeReading, IsAfterFile, IsAfterReading, IfFile, IsBeforeWriting};
-ghost use Rattle.pg_bench.specs.Refusals.{IsForestRefusal, IsErrorOfAnswer, IsTextFault, IsParseRefusal, IsRunRefusal, IsWriteRefusal, IsWell};
+ghost use Rattle.pg_grammar_bench.specs.Faults.{IfRefused, IfParseError, IsWriteRefusal, IsBeforeReading, IsAfterFile, IsAfterReading, IfFile, IsBeforeWriting};
+ghost use Rattle.pg_bench.specs.Refusals.{IsForestRefusal, IsErrorOfAnswer, IsTextFault, IsParseRefusal, IsRunRefusal, IsWell};
 
 use crate::initial::initial_table;
 use crate::input::{read_text, text_of};

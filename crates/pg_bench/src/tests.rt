@@ -150,12 +150,13 @@ fn does_not_ask_the_reader_where_an_operand_can_be_empty(rt: HostRuntime) -> Res
 fn does_not_ask_the_reader_where_the_grammar_is_refused(rt: HostRuntime) -> Result<(), Fail> {
     let grammar = b"start a; a = choice(string(\"let\"), string(\"lambda\"));";
     let (outcome, calls, written) = asked(rt.alloc(), grammar)?;
-    let Err(BenchFault::Refused(findings)) = outcome else {
+    let Err(BenchFault::Refused(refused)) = outcome else {
         return Err(Fail::new("no findings"));
     };
-    assert_eq!(rt; findings.len(), 1);
-    let wanted = "a:1: C4 alternatives 1 and 2 meet at class U+006C and class U+006C";
-    assert_eq!(rt; findings[0].line.as_str(), wanted);
+    let mut lines = Meter::new(Vec::<u8>::new(rt.alloc()));
+    refused.write_findings(rt.alloc(), &mut lines)?;
+    let wanted = b"a:1: C4 alternatives 1 and 2 meet at class U+006C and class U+006C\n";
+    assert_eq!(rt; lines.into_inner().as_slice(), wanted.as_slice());
     assert_eq!(rt; calls, 0);
     assert!(rt; written.is_empty());
     Ok(())

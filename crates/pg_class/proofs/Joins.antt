@@ -1,11 +1,15 @@
 -- What a list of ranges has once one more is joined to it.
-use Rattle.std.proofs.Common.{◌≡◌, ℕ, ◌+◌, ◌<◌, ◌≤◌, Bool, true, false, ◌&&◌, ◌||◌, nat_lt, nat_le, cond, min, max, List, [], ◌∷◌, ◌++◌, ◌-◌, length, take, Some, slice_get, arith, refl, ap, sym, subst, ◌∙◌}
-use Rattle.std.proofs.Math.Bool.{or_assoc}
+use Rattle.std.proofs.Common.{◌≡◌, ℕ, ◌+◌, ◌<◌, ◌≤◌, Bool, true, false, ◌&&◌, ◌||◌, nat_lt, nat_le, cond, min, max, List, [], ◌∷◌, ◌++◌, ◌-◌, zero, suc, All, length, get_or, take, Some, None, slice_get, slice_set, arith, refl, ap, sym, subst, ◌∙◌}
+use Rattle.std.proofs.Math.Bool.{or_assoc, or_comm}
 use Rattle.std.proofs.lemmas.Bool.Decides.{leb_tells}
-use Rattle.std.proofs.lemmas.List.{take_all, take_more}
-use Rattle.std.proofs.lemmas.Option.{get_or_from_slice_get}
+use Rattle.std.proofs.lemmas.List.{get_or_default, take_all, take_more}
+use Rattle.std.proofs.lemmas.List.Folds.{list_any_more}
+use Rattle.std.proofs.lemmas.List.Elements.{All-append, All-cons, All-nil, All-head, All-tail, All-weaker}
+use Rattle.std.proofs.lemmas.Option.{get_or_from_slice_get, slice_get-get_or}
+use Rattle.std.specs.List.Sorted.{IsNonDecreasingBy}
 use Rattle.std.specs.Char.{IsScalar, scalar_index}
 use Rattle.pg_class.specs.Ranges.{Range, IsRange, AllApart, in_range, has, apart, IsClass, with_range}
+use Rattle.pg_class.proofs.Unique.{scalar_index-mono}
 
 -- two ranges with no character between them, and one from the lower first to the higher last, have the same
 pub joined_same : (a b x y c : ℕ) → a ≤ b → x ≤ y → (b < c → c < x → ⊥) → (y < c → c < a → ⊥)
@@ -137,6 +141,95 @@ with_range-last (s ∷ rs) l r h got e =
     ∙ ap (λ x. take i all ++ x ∷ []) (get_or_from_slice_get all i l s got) in
     ap (with_range r) split ∙ with_range-above (take i all) l r (subst IsClass split h) e ∙ ap (λ xs. xs ++ r ∷ []) (sym split)
 
+-- ---- a range that joins the last
+
+-- what stands below a range stands below one that begins no earlier
+apart-later : (s t r : Range) → apart s t ≡ true → t.0 ≤ r.0 → apart s r ≡ true
+apart-later s t r e h = let m = scalar_index-mono t.0 r.0 h in grind (arith, leb_tells, e, m)
+
+-- a range that begins no earlier than another doesn't stand below it
+not_below : (l r : Range) → l.0 ≤ r.0 → r.0 ≤ r.1 → apart r l ≡ false
+not_below l r h k = let m = scalar_index-mono l.0 r.1 in grind (arith, leb_tells, h, k, m)
+
+-- one range, made longer
+longer : (l r : Range) → l.0 ≤ r.0 → (b d : Bool) → apart l r ≡ b → apart r l ≡ d → b ≡ false → d ≡ false
+    → (l.0, max l.1 r.1) ∷ [] ≡ cond b (l ∷ r ∷ []) (cond d (r ∷ l ∷ []) (merged r l ∷ []))
+longer l r h true d e f is_b is_d = absurd (grind (arith, is_b))
+longer l r h false true e f is_b is_d = absurd (grind (arith, is_d))
+longer l r h false false e f is_b is_d =
+    let first : l.0 ≡ min r.0 l.0 = grind (arith, leb_tells, h) in
+    let last : max l.1 r.1 ≡ max r.1 l.1 = grind (arith, leb_tells) in
+    ap (λ (a : ℕ). (a, max l.1 r.1) ∷ []) first ∙ ap (λ (b : ℕ). (min r.0 l.0, b) ∷ []) last
+
+-- a range begins at a character or before it
+abbrev pub begun_by : ℕ → Range → Type 0
+begun_by low r = r.0 ≤ low
+
+-- a range that begins in the last of a class, or right after it, makes it longer
+joins_last : (rs : List Range) (i : ℕ) (l r : Range) → length rs ≡ i + 1 → IsClass rs → All (λ before. before.0 ≤ r.0) rs → r.0 ≤ r.1
+    → slice_get rs i ≡ Some l → apart l r ≡ false → slice_set rs i (l.0, max l.1 r.1) ≡ with_range r rs
+joins_last [] i l r n h begins k got e = absurd (omega arith)
+joins_last (s ∷ []) zero l r n h begins k got e =
+    let same : s ≡ l = get_or_from_slice_get (s ∷ []) 0 l s got in
+    let low : l.0 ≤ r.0 = subst (λ (t : Range). t.0 ≤ r.0) same (All-head (begun_by r.0) s [] begins) in
+    longer l r low (apart l r) (apart r l) refl refl e (not_below l r low k) ∙ ap (λ t. with_range r (t ∷ [])) (sym same)
+joins_last (s ∷ []) (suc i) l r n h begins k got e = absurd (omega arith)
+joins_last (s ∷ (t ∷ rs)) zero l r n h begins k got e = absurd (omega arith)
+joins_last (s ∷ (t ∷ rs)) (suc i) l r n h begins k got e =
+    let rest : length (t ∷ rs) ≡ i + 1 = omega arith in
+    let after = All-tail (begun_by r.0) s (t ∷ rs) begins in
+    ap (λ xs. s ∷ xs) (joins_last (t ∷ rs) i l r rest h.2 after k got e)
+    ∙ sym (below_step s r (t ∷ rs) (apart-later s t r h.1.0 (All-head (begun_by r.0) t rs after)))
+
+-- the same of the last one as it is looked up
+pub joins_at_end : (rs : List Range) (l r : Range) → IsClass rs → All (λ before. before.0 ≤ r.0) rs → r.0 ≤ r.1
+    → slice_get rs (length rs - 1) ≡ Some l → apart l r ≡ false → slice_set rs (length rs - 1) (l.0, max l.1 r.1) ≡ with_range r rs
+joins_at_end [] l r h begins k got e = absurd (grind (arith, got))
+joins_at_end (s ∷ rs) l r h begins k got e = joins_last (s ∷ rs) (length (s ∷ rs) - 1) l r (omega arith) h begins k got e
+
+-- a range is put into no ranges
+pub joins_none : (rs : List Range) (r : Range) → slice_get rs (length rs - 1) ≡ None → with_range r rs ≡ rs ++ r ∷ []
+joins_none [] r got = refl
+joins_none (s ∷ rs) r got =
+    let all = s ∷ rs in
+    absurd (grind (arith, sym (slice_get-get_or all (length all - 1) s (omega arith)) ∙ got))
+
+-- ---- ranges joined in the order in which they begin
+
+-- each of some ranges begins by the one with this number, if there is one
+abbrev pub BeginBy : List Range → List Range → ℕ → Type 0
+BeginBy rs ranges i = (d : Range) → i < length ranges → All (begun_by (get_or ranges i d).0) rs
+
+-- with a range that begins by a character too, each still does
+begins_step : (low : ℕ) (r s : Range) (rs : List Range) → r.0 ≤ low → s.0 ≤ low → All (begun_by low) rs
+    → ((t : Range) → t.0 ≤ low → All (begun_by low) (with_range t rs)) → (b d : Bool)
+    → All (begun_by low) (cond b (s ∷ with_range r rs) (cond d (r ∷ s ∷ rs) (with_range (merged r s) rs)))
+begins_step low r s rs h k all ih true d = All-cons (begun_by low) s (with_range r rs) k (ih r h)
+begins_step low r s rs h k all ih false true = All-cons (begun_by low) r (s ∷ rs) h (All-cons (begun_by low) s rs k all)
+begins_step low r s rs h k all ih false false = ih (merged r s) (grind (arith, leb_tells, h))
+
+pub begins-with_range : (low : ℕ) (rs : List Range) (r : Range) → r.0 ≤ low → All (begun_by low) rs → All (begun_by low) (with_range r rs)
+begins-with_range low [] r h all = All-cons (begun_by low) r [] h all
+begins-with_range low (s ∷ rs) r h all =
+    let rest = All-tail (begun_by low) s rs all in
+    begins_step low r s rs h (All-head (begun_by low) s rs all) rest (λ t k. begins-with_range low rs t k rest) (apart s r) (apart r s)
+
+-- with the range of this number, each begins by the next
+pub begin_by_next : (rs ranges : List Range) (i : ℕ) (d : Range) → IsNonDecreasingBy (λ (r : Range). r.0) ranges → i < length ranges
+    → BeginBy rs ranges i → BeginBy (with_range (get_or ranges i d) rs) ranges (i + 1)
+begin_by_next rs ranges i d rise here begin e within =
+    let r = get_or ranges i d in
+    let next = (get_or ranges (i + 1) e).0 in
+    let same : (get_or ranges i e).0 ≡ r.0 = ap (λ (s : Range). s.0) (get_or_default ranges i e d here) in
+    let low = rise i (i + 1) e (omega arith) within in
+    let by : r.0 ≤ next = omega arith in
+    All-weaker (begun_by r.0) (begun_by next) (λ s k. omega arith) (with_range r rs) (begins-with_range r.0 rs r (omega arith) (begin d here))
+
+-- the ranges up to one more have what is in it or in the others
+pub has-take_more : (ranges : List Range) (i : ℕ) (d : Range) (c : ℕ) → i < length ranges
+    → (in_range c (get_or ranges i d) || has (take i ranges) c) ≡ has (take (i + 1) ranges) c
+has-take_more ranges i d c h = or_comm (in_range c (get_or ranges i d)) (has (take i ranges) c) ∙ sym (list_any_more (in_range c) ranges i d h)
+
 -- ---- a class with a range more
 
 pub class-more : (rs xs ys : List Range) (r : Range) → IsRange r → IsClass rs → xs ≡ rs → ys ≡ with_range r xs → IsClass ys
@@ -145,3 +238,14 @@ class-more rs xs ys r h k same is = subst IsClass (sym (is ∙ ap (with_range r)
 pub has-more : (rs xs ys : List Range) (r : Range) → IsRange r → IsClass rs → xs ≡ rs → ys ≡ with_range r xs → (c : ℕ) → IsScalar c
     → has ys c ≡ (in_range c r || has rs c)
 has-more rs xs ys r h k same is c sc = ap (λ all. has all c) (is ∙ ap (with_range r) same) ∙ has-with_range rs r c h k sc
+
+-- ---- the ranges of two classes
+
+-- no range of a class descends
+pub class_ascends : (rs : List Range) → IsClass rs → All (λ (r : Range). r.0 ≤ r.1) rs
+class_ascends [] h = All-nil (λ (r : Range). r.0 ≤ r.1)
+class_ascends (r ∷ rs) h = All-cons (λ (s : Range). s.0 ≤ s.1) r rs h.0.ascends (class_ascends rs h.2)
+
+-- nor does one of two classes
+pub both_ascend : (rs ss : List Range) → IsClass rs → IsClass ss → All (λ (r : Range). r.0 ≤ r.1) (rs ++ ss)
+both_ascend rs ss h k = All-append (λ (r : Range). r.0 ≤ r.1) rs ss (class_ascends rs h) (class_ascends ss k)

@@ -3,7 +3,8 @@
 //! Callers see a class as the list of its ranges. The invariant, `IsClass`, is made by `ranges.rt` and
 //! `complement.rt` and never broken, since nothing writes a class once it is made; the printed form of a
 //! grammar and the comparison of classes rely on it.
-ghost use Rattle.std.specs.Prelude.{◌≡◌, ◌<◌, ◌↔◌, ◌||◌, ℕ, not, List, Any, IfOk, IsErrOf, IsTrue};
+ghost use Rattle.std.specs.Prelude.{◌≡◌, ◌<◌, ◌≤◌, ◌↔◌, ◌||◌, ℕ, not, List, All, Any, IfOk, IsErrOf, IsTrue};
+ghost use Rattle.std.specs.List.{list_any};
 ghost use Rattle.std.specs.Char.{IsScalar};
 ghost use Rattle.pg_class.specs.Ranges.{Range, AreDisjoint, IsClass, IsWithin, SameCharacters, begins_by, has};
 
@@ -11,24 +12,27 @@ use crate::compare::{are_disjoint, is_within};
 use crate::complement::complemented;
 use crate::ranges::{joined, united};
 use std::alloc::{AllocError, Global};
+use std::collections::VecDeque;
 use std::marker::Model;
+use std::rc::RcSlice;
 use thiserror::Error;
 
-/// A set of characters, in memory of its own.
+/// A set of characters, whose ranges may be shared with other classes.
 #[derive(Debug, Drop)]
 pub struct Class {
-    ranges: Vec<(char, char)>,
+    ranges: RcSlice<(char, char)>,
 }
 
 impl Model for Class {
     ghost use Rattle.std.specs.Prelude.{List};
+    ghost use Rattle.std.specs.Rc.{rc_slice_items};
     ghost use Rattle.pg_class.specs.Ranges.{Range, IsClass};
 
     ghost Value = { List Range };
 
-    ghost view = { λ c. c.ranges.items };
+    ghost view = { λ c. rc_slice_items c.ranges };
 
-    ghost invariant = { λ c. IsClass c.ranges.items };
+    ghost invariant = { λ c. IsClass (rc_slice_items c.ranges) };
 }
 
 /// Why ranges are no class.
@@ -54,34 +58,56 @@ impl Class {
         if ranges.iter().any(|range| range.1 < range.0) {
             return Err(ClassFault::Descends);
         }
-        let ranges = joined(alloc, ranges).map_err(|_| ClassFault::Memory)?;
-        Ok(Class { ranges })
+        class_of_ranges(alloc, ranges).map_err(|_| ClassFault::Memory)
     }
 
-    /// The class of the characters that are in this class or in the other.
+    /// The class of the characters that are in this class or in the other. The only error is that memory ran out; none is
+    /// taken where the two are equal.
     pub fn union(&self, alloc: Global, other: &Class) -> Result<Class, AllocError>
         ensures members { IfOk result (λ class.
             (c : ℕ) → IsScalar c → has class c ≡ (has self.now c || has other.now c)) }
     {
+        if self.equals(other) {
+            return self.share();
+        }
         let ranges = united(alloc, self.ranges(), other.ranges())?;
-        Ok(Class { ranges })
+        class_with(ranges)
     }
 
-    /// The class of the characters that aren't in this class.
+    /// The class of the characters that are in any of these. The only error is that memory ran out.
+    ///
+    /// They are joined two at a time, so that the time is near linear in the number of their ranges, and equal ones cost no memory.
+    pub fn union_of(alloc: Global, classes: VecDeque<Class>) -> Result<Class, AllocError>
+        ensures members { IfOk result (λ class.
+            (c : ℕ) → IsScalar c → has class c ≡ list_any (λ one. has one c) classes.items) }
+    {
+        let mut waiting = classes;
+        while let Some(class) = waiting.pop_front() {
+            match waiting.pop_front() {
+                Some(other) => waiting.push_back(class.union(alloc, &other)?)?,
+                None => return Ok(class),
+            }
+        }
+        class_with(Vec::new(alloc))
+    }
+
+    /// The class of the characters that aren't in this class. The only error is that memory ran out.
     pub fn complement(&self, alloc: Global) -> Result<Class, AllocError>
         ensures members { IfOk result (λ class.
             (c : ℕ) → IsScalar c → has class c ≡ not (has self.now c)) }
     {
         let ranges = complemented(alloc, self.ranges())?;
-        Ok(Class { ranges })
+        class_with(ranges)
     }
 
-    /// An equal class in memory of its own.
-    pub fn copy(&self, alloc: Global) -> Result<Class, AllocError>
+    /// An equal class, which shares the ranges of this one and takes no memory. The only error, told as want of memory, is that
+    /// they are shared as often as can be counted.
+    pub fn share(&self) -> Result<Class, AllocError>
         ensures { IfOk result (λ class. class ≡ self.now) }
     {
-        let ranges = Vec::from_slice(alloc, self.ranges())?;
-        Ok(Class { ranges })
+        Ok(Class {
+            ranges: self.ranges.clone()?,
+        })
     }
 
     /// Whether the other class is equal, which it is if it has the same characters (`ranges_are_unique`).
@@ -123,6 +149,25 @@ impl Class {
     {
         self.ranges.as_slice()
     }
+}
+
+/// The class of the characters in any of these ranges, none of which descends. The only error is that memory ran out.
+fn class_of_ranges(alloc: Global, ranges: &[(char, char)]) -> Result<Class, AllocError>
+    requires { All (λ range. range.0 ≤ range.1) ranges.now }
+    ensures { IfOk result (λ class. (c : ℕ) → IsScalar c → has class c ≡ has ranges.now c) }
+{
+    let ranges = Vec::from_slice(alloc, ranges)?;
+    class_with(joined(alloc, ranges)?)
+}
+
+/// The class of these ranges. The only error is that memory ran out.
+fn class_with(ranges: Vec<(char, char)>) -> Result<Class, AllocError>
+    requires { IsClass ranges.items }
+    ensures { IfOk result (λ class. class ≡ ranges.items) }
+{
+    Ok(Class {
+        ranges: RcSlice::from_vec(ranges)?,
+    })
 }
 
 /// The place of the first range that doesn't end below the character: no other range may have it, as they ascend.

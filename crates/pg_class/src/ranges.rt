@@ -1,30 +1,43 @@
 //! Joining ranges into the list of a class.
 //!
-//! Each range is joined into a class that is made so far: those that it overlaps or touches become one
-//! range with it, and the others stay. What is made is a class after every range; only `class.rt` calls
-//! this, once the ranges are known not to descend. Ranges that ascend are put behind one another, so that they
-//! cost no more than their number.
-ghost use Rattle.std.specs.Prelude.{◌≡◌, ◌<◌, ◌≤◌, ◌||◌, ◌++◌, ◌∷◌, [], true, ℕ, All, IfOk};
+//! Ranges are joined in the order in which they begin. So each of them overlaps or touches the last range that was made, and
+//! makes it longer, or it comes after it with a character between. What is made is a class after every range; only `class.rt`
+//! calls this, once the ranges are known not to descend.
+ghost use Rattle.std.specs.Prelude.{◌≡◌, ◌<◌, ◌≤◌, ◌||◌, ℕ, All, IfOk, OnOk};
 ghost use Rattle.std.specs.Char.{IsScalar, scalar_index};
+ghost use Rattle.std.specs.List.Sorted.{IsNonDecreasingBy};
 ghost use Rattle.pg_class.specs.Ranges.{IsClass, apart, has, in_range, with_range};
 
 use std::alloc::{AllocError, Global};
 
-/// The class of the characters in any of these ranges, which may stand in any order.
-pub fn joined(alloc: Global, ranges: &[(char, char)]) -> Result<Vec<(char, char)>, AllocError>
-    requires { All (λ range. range.0 ≤ range.1) ranges.now }
+/// The class of the characters in any of these ranges, which may come in any order. The only error is that memory ran out.
+pub fn joined(alloc: Global, ranges: Vec<(char, char)>) -> Result<Vec<(char, char)>, AllocError>
+    requires { All (λ range. range.0 ≤ range.1) ranges.items }
+    ensures class { IfOk result (λ v. IsClass v.items) }
+    ensures members { IfOk result (λ v. (c : ℕ) → IsScalar c → has v.items c ≡ has ranges.items c) }
+{
+    let mut ranges = ranges;
+    ranges.sort_unstable_by_key(|range| range.0);
+    joined_in_order(alloc, ranges.as_slice())
+}
+
+/// The class of the characters in any of these ranges, of which none begins before those ahead of it. The only error is that
+/// memory ran out.
+fn joined_in_order(alloc: Global, ranges: &[(char, char)]) -> Result<Vec<(char, char)>, AllocError>
+    requires ascend { All (λ range. range.0 ≤ range.1) ranges.now }
+    requires rise { IsNonDecreasingBy (λ range. range.0) ranges.now }
     ensures class { IfOk result (λ v. IsClass v.items) }
     ensures members { IfOk result (λ v. (c : ℕ) → IsScalar c → has v.items c ≡ has ranges.now c) }
 {
     let mut class = Vec::new(alloc);
     for range in ranges {
         let (first, last) = *range;
-        class = class_with(alloc, class, first, last)?;
+        join(&mut class, first, last)?;
     }
     Ok(class)
 }
 
-/// The class of the characters in either of two.
+/// The class of the characters in either of two. The only error is that memory ran out.
 pub fn united(
     alloc: Global,
     class: &[(char, char)],
@@ -36,72 +49,29 @@ pub fn united(
     ensures members { IfOk result (λ v.
         (c : ℕ) → IsScalar c → has v.items c ≡ (has class.now c || has other.now c)) }
 {
-    let mut united = Vec::from_slice(alloc, class)?;
-    for range in other {
-        let (first, last) = *range;
-        united = class_with(alloc, united, first, last)?;
-    }
-    Ok(united)
+    let mut ranges = Vec::from_slice(alloc, class)?;
+    ranges.extend_from_slice(other)?;
+    joined(alloc, ranges)
 }
 
-/// The class with the characters of a range more.
-fn class_with(
-    alloc: Global,
-    class: Vec<(char, char)>,
-    first: char,
-    last: char,
-) -> Result<Vec<(char, char)>, AllocError>
-    requires class { IsClass class.items }
+/// Joins a range to a class none of whose ranges begins after it. The only error is that memory ran out.
+fn join(class: &mut Vec<(char, char)>, first: char, last: char) -> Result<(), AllocError>
+    requires class { IsClass class.old.items }
+    requires begins { All (λ range. range.0 ≤ first) class.old.items }
     requires ascends { first ≤ last }
-    ensures class { IfOk result (λ v. IsClass v.items) }
-    ensures members { IfOk result (λ v.
-        (c : ℕ) → IsScalar c → has v.items c ≡ (in_range c (first, last) || has class.items c)) }
-{
-    let mut class = class;
-    if stands_below(class.as_slice(), (first, last)) {
-        class.push((first, last))?;
-        return Ok(class);
-    }
-    let ranges = with_range(alloc, class.as_slice(), (first, last))?;
-    Ok(ranges)
-}
-
-/// Whether a range stands behind all those of a class, and a character before it.
-fn stands_below(class: &[(char, char)], range: (char, char)) -> bool
-    requires { IsClass class.now }
-    ensures { result ≡ true → with_range range class.now ≡ class.now ++ range ∷ [] }
+    ensures joined { OnOk result (class.new.items ≡ with_range (first, last) class.old.items) }
+    ensures class { OnOk result (IsClass class.new.items) }
+    ensures members { OnOk result ((c : ℕ) → IsScalar c → has class.new.items c ≡ (in_range c (first, last) || has class.old.items c)) }
 {
     match class.last() {
-        Some(highest) => is_apart(*highest, range),
-        None => true,
-    }
-}
-
-fn with_range(
-    alloc: Global,
-    ranges: &[(char, char)],
-    range: (char, char),
-) -> Result<Vec<(char, char)>, AllocError>
-    ensures { IfOk result (λ v. v.items ≡ with_range range ranges.now) }
-{
-    let mut out = Vec::new(alloc);
-    let mut added = range;
-    let mut placed = false;
-    for next in ranges {
-        if placed || is_apart(*next, added) {
-            out.push(*next)?;
-        } else if is_apart(added, *next) {
-            out.push(added)?;
-            out.push(*next)?;
-            placed = true;
-        } else {
-            added = (added.0.min(next.0), added.1.max(next.1));
+        Some(highest) if !is_apart(*highest, (first, last)) => {
+            let joined = (highest.0, highest.1.max(last));
+            let end = class.len() - 1;
+            class[end] = joined;
         }
+        _ => class.push((first, last))?,
     }
-    if !placed {
-        out.push(added)?;
-    }
-    Ok(out)
+    Ok(())
 }
 
 /// Whether a character stands between two ranges, the first below the second.

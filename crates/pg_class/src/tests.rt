@@ -79,10 +79,10 @@ fn complements(rt: HostRuntime) -> Result<(), Fail> {
 }
 
 #[test]
-fn copies_and_compares(rt: HostRuntime) -> Result<(), Fail> {
+fn shares_and_compares(rt: HostRuntime) -> Result<(), Fail> {
     let alloc = rt.alloc();
     let letters = Class::from_ranges(alloc, &[('a', 'f'), ('A', 'F')])?;
-    assert!(rt; letters.copy(alloc)?.equals(&letters));
+    assert!(rt; letters.share()?.equals(&letters));
     for ranges in [
         [].as_slice(),
         [('a', 'f')].as_slice(),

@@ -25,7 +25,7 @@ impl PredicateUse {
     {
         Ok(PredicateUse {
             name: self.name.copy(alloc)?,
-            class: self.class.copy(alloc)?,
+            class: self.class.share()?,
         })
     }
 }

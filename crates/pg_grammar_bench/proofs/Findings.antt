@@ -11,7 +11,7 @@ use Rattle.pg_grammar_bench.specs.declared.fault.BenchFault.TheVariants.{File, R
 -- findings of a grammar that the file spells are the file's
 pub refused_file : (offer : Offer) (file : List ℕ) (g : Grammar) (fault : BenchFault) → SpellsWithinLimits offer file g
     → IsFindingRefusal g fault → IfRefused (AreFindingsOf offer file) fault
-refused_file offer file g (Refused findings) spelled h =
+refused_file offer file g (Refused refused) spelled h =
     record { grammar = g; spelled = spelled; all = h.0; some = h.1 }
 refused_file offer file g _ spelled h = tt
 

@@ -1,6 +1,6 @@
 -- What holds of results, whatever they are of.
 use Rattle.std.proofs.Common.{Result, Ok, Err}
-use Rattle.std.specs.Prelude.{IfErr, OnErr, IsErrOf}
+use Rattle.std.specs.Prelude.{IfErr, IfOk, OnErr, OnOk, IsErrOf}
 
 -- a fact that needs no error holds of each
 pub if_err_always : {T E : Type 0} (r : Result T E) (P : E → Type 0) → ((e : E) → P e) → IfErr r P
@@ -11,3 +11,8 @@ if_err_always (Err e) P h = h e
 pub on_this_err : {T E P : Type 0} (r : Result T E) {e : E} → OnErr r P → IsErrOf r e → P
 on_this_err (Ok x) h is = absurd cc
 on_this_err (Err e) h is = h
+
+-- of a value two facts give a third
+pub if_ok_with : {T E Q : Type 0} (r : Result T E) (P R : T → Type 0) → ((x : T) → P x → Q → R x) → IfOk r P → OnOk r Q → IfOk r R
+if_ok_with (Ok x) P R f h k = f x h k
+if_ok_with (Err e) P R f h k = tt

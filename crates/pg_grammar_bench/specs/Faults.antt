@@ -3,8 +3,7 @@ use Rattle.std.specs.Prelude.{◌<◌, ℕ, List, length, Bool, true, false, ◌
 use Rattle.pg_message.specs.declared.error.ParseError as message
 use Rattle.pg_file.specs.declared.fault.FileFault.{FileFault}
 use Rattle.pg_value.specs.Grammar.{Grammar}
-use Rattle.pg_predict.specs.Findings.{AreFindings}
-use Rattle.pg_predict.specs.declared.finding.Finding.{Finding}
+use Rattle.pg_predict.specs.Findings.{Finding, AreFindings}
 use Rattle.pg_grammar_bench.specs.declared.fault.BenchFault.{BenchFault}
 use Rattle.pg_grammar_bench.specs.declared.fault.BenchFault.TheVariants.{File, Refused, Reader, NotUtf8, TooLong, ParseError, Writer, Memory}
 
@@ -14,7 +13,7 @@ use Rattle.pg_grammar_bench.specs.declared.fault.BenchFault.TheVariants.{File, R
 abbrev pub step_of : BenchFault → ℕ
 step_of Memory = 0
 step_of (File fault) = 1
-step_of (Refused findings) = 2
+step_of (Refused refused) = 2
 step_of Reader = 3
 step_of NotUtf8 = 4
 step_of TooLong = 5
@@ -65,7 +64,7 @@ pub record Claims : Type 1 where
 -- the claim that is made of this one
 abbrev pub Claimed : Claims → BenchFault → Type 0
 Claimed of (File fault) = of.file fault
-Claimed of (Refused findings) = of.refused findings.items
+Claimed of (Refused refused) = of.refused refused.findings
 Claimed of Reader = of.reader
 Claimed of NotUtf8 = of.not_utf8
 Claimed of TooLong = of.too_long
@@ -118,6 +117,10 @@ IfParseError Claim = Claimed (record any_fault { parse_error = Claim })
 -- memory ran out
 abbrev pub IsMemory : BenchFault → Type 0
 IsMemory = Claimed memory_alone
+
+-- what writing refuses with
+abbrev pub IsWriteRefusal : BenchFault → Type 0
+IsWriteRefusal = Claimed (record memory_alone { writer = Unit {0} })
 
 -- what reading the grammar file refuses with
 abbrev pub IsFileRefusal : BenchFault → Type 0

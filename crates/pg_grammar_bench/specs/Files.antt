@@ -3,8 +3,7 @@ use Rattle.std.specs.Prelude.{◌<◌, ℕ, List, length}
 use Rattle.pg_pred.specs.Offer.{Offer}
 use Rattle.pg_value.specs.Grammar.{Grammar}
 use Rattle.pg_making.specs.Spells.{SpellsWithinLimits}
-use Rattle.pg_predict.specs.Findings.{AreFindings}
-use Rattle.pg_predict.specs.declared.finding.Finding.{Finding}
+use Rattle.pg_predict.specs.Findings.{Finding, AreFindings}
 use Rattle.pg_file.specs.Refusals.{IsRefusalOf}
 use Rattle.pg_file.specs.declared.fault.FileFault.{FileFault}
 use Rattle.pg_file.specs.declared.fault.FileError.TheVariants.{Fault}

@@ -7,7 +7,7 @@ use Rattle.pg_grammar_bench.specs.declared.fault.BenchFault.TheVariants.{File, R
 -- a fault without the file that it is about. Findings and parse errors have lines of their own; here stands a word for them
 abbrev pub fault_text : BenchFault → List ℕ
 fault_text (File fault) = file.fault_text fault
-fault_text (Refused findings) = codes "not accepted"
+fault_text (Refused refused) = codes "not accepted"
 fault_text Reader = codes "X1 cannot read"
 fault_text NotUtf8 = codes "P1 not UTF-8"
 fault_text TooLong = codes "P2 text too long"

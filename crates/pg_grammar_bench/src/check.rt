@@ -1,19 +1,22 @@
 //! From the bytes of a grammar file to whether its grammar is accepted, or all that is wrong with it.
 
-ghost use Rattle.std.specs.Prelude.{◌≡◌, ◌++◌, false, true, codes, IfOk, IfErr, OnOk, IsErrOf};
+ghost use Rattle.std.specs.Prelude.{◌≡◌, false, true, codes, IfOk, IfErr, OnErr, OnOk, IsErrOf};
+ghost use Rattle.std.specs.Io.KnownBytes.{Appends};
+ghost use Rattle.pg_tree.specs.Bytes.{AppendsPrefix};
 ghost use Rattle.pg_pred.specs.Offer.{offer_of};
-ghost use Rattle.pg_grammar_bench.specs.Checking.{IsChecked, IsPartlyChecked, IsJudged, line_of, lines_of};
+ghost use Rattle.pg_predict.specs.Findings.{lines_of};
+ghost use Rattle.pg_grammar_bench.specs.Checking.{IsChecked, IsPartlyChecked, IsTold, IsPartlyTold};
 ghost use Rattle.pg_grammar_bench.specs.Files.{IsFaultOfFile, SpellsAny};
-ghost use Rattle.pg_grammar_bench.specs.Faults.{IsPageRefusal, IfFile, IsMemory, IsAfterFile, IsBeforeWriting};
+ghost use Rattle.pg_grammar_bench.specs.Faults.{IsPageRefusal, IsWriteRefusal, IfFile, IsAfterFile, IsBeforeWriting};
 
 use crate::fault::BenchFault;
 use crate::grammar_file::grammar_of;
 use crate::output::write_page;
 use pg_pred::Registry;
-use pg_predict::{CheckFault, Finding, check};
-use pg_tree::Meter;
+use pg_predict::{CheckFault, Refused, check};
+use pg_tree::{Meter, WriteFault};
 use pg_value::Grammar;
-use std::alloc::{AllocError, Global};
+use std::alloc::Global;
 use std::io::Write;
 
 /// Writes whether the grammar that a file spells is accepted: the line `accepted`, or a line for each finding, in the order
@@ -44,75 +47,62 @@ pub fn check_bytes<W: Write>(
         IsPartlyChecked (offer_of registry.now) grammar.now (W.contents writer.old.inner) (W.contents writer.new.inner) }
 {
     let grammar = grammar_of(alloc, grammar, registry)?;
-    let judgement = judged(alloc, grammar)?;
-    write_page(judgement.page.as_slice(), writer)?;
-    Ok(judgement.accepted)
+    tell(alloc, grammar, writer)
 }
 
-/// What is printed of a grammar that was checked, and whether it is accepted.
-#[derive(Drop)]
-struct Judgement {
-    accepted: bool,
-    page: Vec<u8>,
-}
-
-/// What the check says of a grammar.
-#[tactic(auto, using(crate::proofs::Judged::judged_accepted, crate::proofs::Judged::judged_refused))]
-fn judged(alloc: Global, grammar: Grammar) -> Result<Judgement, BenchFault>
-    ensures ok { IfOk result (λ judgement. IsJudged grammar judgement.accepted judgement.page.items) }
-    ensures err { IfErr result IsMemory }
+/// Writes what the check says of a grammar. The answer is whether it is accepted.
+fn tell<W: Write>(
+    alloc: Global,
+    grammar: Grammar,
+    writer: &mut Meter<W>,
+) -> Result<bool, BenchFault>
+    requires { writer.old.failed ≡ false }
+    ensures ok { IfOk result (IsTold grammar (W.contents writer.old.inner) (W.contents writer.new.inner)) }
+    ensures stays { OnOk result (writer.new.failed ≡ false) }
+    ensures err { IfErr result IsWriteRefusal }
+    ensures unwritten { IsErrOf result BenchFault.Memory → writer.new ≡ writer.old }
+    ensures writer { IsErrOf result BenchFault.Writer → writer.new.failed ≡ true }
+    ensures prefix { IsErrOf result BenchFault.Writer → IsPartlyTold grammar (W.contents writer.old.inner) (W.contents writer.new.inner) }
 {
     match check(alloc, grammar) {
-        Ok(_) => accepted_judgement(alloc),
-        Err(CheckFault::Refused(refused)) => refused_judgement(alloc, refused.findings.as_slice()),
+        Ok(_) => tell_accepted(writer),
+        Err(CheckFault::Refused(refused)) => tell_findings(alloc, &refused, writer),
         Err(CheckFault::Memory(_)) => Err(BenchFault::Memory),
     }
 }
 
-/// What is said of an accepted grammar.
-fn accepted_judgement(alloc: Global) -> Result<Judgement, BenchFault>
-    ensures ok { IfOk result (λ judgement. (judgement.accepted ≡ true) × (judgement.page.items ≡ codes "accepted\n")) }
-    ensures err { IfErr result IsMemory }
+/// Writes that a grammar is accepted.
+fn tell_accepted<W: Write>(writer: &mut Meter<W>) -> Result<bool, BenchFault>
+    requires { writer.old.failed ≡ false }
+    ensures yes { IfOk result (λ accepted. accepted ≡ true) }
+    ensures ok { OnOk result (Appends (W.contents writer.old.inner) (W.contents writer.new.inner) (codes "accepted\n")) }
+    ensures stays { OnOk result (writer.new.failed ≡ false) }
+    ensures only { OnErr result (IsErrOf result BenchFault.Writer) }
+    ensures failed { OnErr result (writer.new.failed ≡ true) }
+    ensures prefix { OnErr result (AppendsPrefix (W.contents writer.old.inner) (W.contents writer.new.inner) (codes "accepted\n")) }
 {
-    match Vec::from_slice(alloc, b"accepted\n") {
-        Ok(page) => Ok(Judgement {
-            accepted: true,
-            page,
-        }),
-        Err(_) => Err(BenchFault::Memory),
-    }
+    write_page(b"accepted\n", writer)?;
+    Ok(true)
 }
 
-/// What is said of a grammar with these findings.
-fn refused_judgement(alloc: Global, findings: &[Finding]) -> Result<Judgement, BenchFault>
-    ensures ok { IfOk result (λ judgement. (judgement.accepted ≡ false) × (judgement.page.items ≡ lines_of findings.now)) }
-    ensures err { IfErr result IsMemory }
+/// Writes all that is wrong with a grammar.
+fn tell_findings<W: Write>(
+    alloc: Global,
+    refused: &Refused,
+    writer: &mut Meter<W>,
+) -> Result<bool, BenchFault>
+    requires { writer.old.failed ≡ false }
+    ensures no { IfOk result (λ accepted. accepted ≡ false) }
+    ensures ok { OnOk result (Appends (W.contents writer.old.inner) (W.contents writer.new.inner) (lines_of refused.now.findings)) }
+    ensures stays { OnOk result (writer.new.failed ≡ false) }
+    ensures err { IfErr result IsWriteRefusal }
+    ensures unwritten { IsErrOf result BenchFault.Memory → writer.new ≡ writer.old }
+    ensures failed { IsErrOf result BenchFault.Writer → writer.new.failed ≡ true }
+    ensures prefix { IsErrOf result BenchFault.Writer → AppendsPrefix (W.contents writer.old.inner) (W.contents writer.new.inner) (lines_of refused.now.findings) }
 {
-    match page_of(alloc, findings) {
-        Ok(page) => Ok(Judgement {
-            accepted: false,
-            page,
-        }),
-        Err(_) => Err(BenchFault::Memory),
+    match refused.write_findings(alloc, writer) {
+        Ok(()) => Ok(false),
+        Err(WriteFault::Writer) => Err(BenchFault::Writer),
+        Err(WriteFault::Memory) => Err(BenchFault::Memory),
     }
-}
-
-/// The lines of findings.
-fn page_of(alloc: Global, findings: &[Finding]) -> Result<Vec<u8>, AllocError>
-    ensures { IfOk result (λ page. page.items ≡ lines_of findings.now) }
-{
-    let mut page = Vec::new(alloc);
-    for finding in findings {
-        push_line(&mut page, finding)?;
-    }
-    Ok(page)
-}
-
-/// Adds the line of a finding to a page.
-fn push_line(page: &mut Vec<u8>, finding: &Finding) -> Result<(), AllocError>
-    ensures { OnOk result (page.new.items ≡ page.old.items ++ line_of finding.now) }
-{
-    page.extend_from_slice(finding.line.as_bytes())?;
-    page.push(b'\n')?;
-    Ok(())
 }

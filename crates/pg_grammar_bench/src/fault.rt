@@ -9,7 +9,7 @@ ghost use Rattle.pg_grammar_bench.specs.Texts.{fault_text};
 
 use pg_file::FileFault;
 use pg_message::ParseError;
-use pg_predict::Finding;
+use pg_predict::Refused;
 use std::error::Error;
 use std::fmt;
 
@@ -22,8 +22,8 @@ use std::fmt;
 pub enum BenchFault {
     /// The grammar file is no grammar. The text's reader has not been asked yet.
     File(FileFault),
-    /// The grammar isn't accepted. These are all its findings, at least one. The text's reader has not been asked yet.
-    Refused(Vec<Finding>),
+    /// The grammar isn't accepted. It has all its findings, at least one. The text's reader has not been asked yet.
+    Refused(Refused),
     /// The text's reader answered an error, or gave over 4,194,304 bytes, more than the longest text can have.
     Reader,
     /// The text's bytes are not UTF-8. It comes before `TooLong` where both hold.

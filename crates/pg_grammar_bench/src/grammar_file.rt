@@ -51,7 +51,7 @@ fn accepted(alloc: Global, grammar: Grammar) -> Result<Checked, BenchFault>
 {
     match check(alloc, grammar) {
         Ok(checked) => Ok(checked),
-        Err(CheckFault::Refused(refused)) => Err(BenchFault::Refused(refused.findings)),
+        Err(CheckFault::Refused(refused)) => Err(BenchFault::Refused(refused)),
         Err(CheckFault::Memory(_)) => Err(BenchFault::Memory),
     }
 }

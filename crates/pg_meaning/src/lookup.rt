@@ -64,7 +64,7 @@ fn predicate_named(
     let name = label(alloc, name)?;
     match registry.predicate(name.as_str()) {
         Some(predicate) => {
-            let class = predicate.class().copy(alloc)?;
+            let class = predicate.class().share()?;
             Ok(PredicateUse { name, class })
         }
         None => Err(MakingError::Refused),

@@ -2,7 +2,7 @@
 use Rattle.std.proofs.Common.{◌≡◌, ℕ, zero, suc, ◌≤◌, Bool, true, false, ◌||◌, ◌&&◌, List, [], ◌∷◌, ◌++◌, Some, slice_get, length, map, take, drop, nat_le, refl, sym, ap, ◌∙◌, arith, inl, inr}
 use Rattle.std.specs.Prelude.{◌==◌, All}
 use Rattle.std.specs.List.{list_any}
-use Rattle.std.proofs.Math.Bool.{or_assoc}
+use Rattle.std.proofs.Math.Bool.{or_assoc, or-false}
 use Rattle.std.proofs.lemmas.Bool.{cases_order, eq-eqb, ne_eqb, le-leb, lt-leb, and_left, and_right, and_from}
 use Rattle.std.proofs.lemmas.List.Elements.{All-nil, All-cons}
 use Rattle.pg_class.specs.Ranges.{Range, has, in_range}
@@ -66,6 +66,13 @@ alone_ascend [] = All-nil (λ (range : Range). range.0 ≤ range.1)
 alone_ascend (x ∷ xs) = All-cons (λ (range : Range). range.0 ≤ range.1) (x, x) (map (λ (y : ℕ). (y, y)) xs) (omega arith) (alone_ascend xs)
 
 -- ---- a union
+
+-- one of these has a character, with one more
+pub any_more : (classes : List (List Range)) (class : List Range) (c : ℕ)
+    → list_any (λ one. has one c) (classes ++ class ∷ []) ≡ (list_any (λ one. has one c) classes || has class c)
+any_more [] class c = or-false (has class c)
+any_more (x ∷ xs) class c =
+    ap (λ b. has x c || b) (any_more xs class c) ∙ sym (or_assoc (has x c) (list_any (λ one. has one c) xs) (has class c))
 
 pub drop_further : {X : Type 0} (k : ℕ) (xs : List X) → drop 1 (drop k xs) ≡ drop (suc k) xs
 drop_further zero xs = refl

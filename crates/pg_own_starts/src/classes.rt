@@ -93,7 +93,7 @@ fn push_part(
         ClassPart::Union(count) => push_union(alloc, *count, stack),
         ClassPart::Complement => push_complement(alloc, stack),
         ClassPart::Class(item) => push(stack, class_at(alloc, items, item.index())?),
-        ClassPart::Predicate(used) => push(stack, used.class.copy(alloc)?),
+        ClassPart::Predicate(used) => push(stack, used.class.share()?),
     }
 }
 
@@ -110,11 +110,12 @@ fn push_union(alloc: Global, count: usize, stack: &mut VecDeque<Class>) -> Resul
     ensures { OnOk result ((c : ℕ) → IsScalar c → answers_of stack.new.items c ≡
         one_holds (take count (answers_of stack.old.items c)) ∷ drop count (answers_of stack.old.items c)) }
 {
-    let mut union = class_in(alloc, &[])?;
+    let mut members = VecDeque::new(alloc);
     for _taken in 0..count {
         let class = first_of(alloc, stack)?;
-        union = union.union(alloc, &class)?;
+        members.push_back(class)?;
     }
+    let union = Class::union_of(alloc, members)?;
     push(stack, union)
 }
 
@@ -134,7 +135,7 @@ fn class_at(alloc: Global, items: &[Class], item: usize) -> Result<Class, AllocE
     ensures { IfOk result (λ class. (c : ℕ) → IsScalar c → has class c ≡ answer_at (answers_of items.now c) item) }
 {
     match items.get(item) {
-        Some(class) => class.copy(alloc),
+        Some(class) => class.share(),
         None => class_in(alloc, &[]),
     }
 }

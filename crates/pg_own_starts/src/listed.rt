@@ -31,7 +31,7 @@ impl ListedStart {
     {
         let word = self.word;
         let start = match self.start.view() {
-            StartKind::Class(class) => Start::class(alloc, class)?,
+            StartKind::Class(class) => Start::class(class)?,
             StartKind::Key(key, excluded) => Start::key(alloc, key.as_slice(), excluded)?,
             StartKind::Word(heads, rest, reserved) => {
                 Start::word(alloc, heads, rest, reserved.as_slice())?

@@ -57,6 +57,6 @@ fn both_starts(
         &item.reserved,
     )?;
     let gap = class_in_grammar(alloc, grammar, classes.as_slice(), &item.gap)?;
-    let gap = Start::class(alloc, &gap)?;
+    let gap = Start::class(&gap)?;
     Ok(OperatorStarts { operator, gap })
 }

@@ -98,7 +98,7 @@ fn class_starts(
     ensures { IfOk result (λ own. AreOwn grammar.now (Form.Leaf (Leaf.Satisfy expression.now)) own.items) }
 {
     let class = class_in_grammar(alloc, grammar, classes, expression)?;
-    let start = Start::class(alloc, &class)?;
+    let start = Start::class(&class)?;
     one(alloc, ListedStart { start, word: 0 })
 }
 
@@ -115,7 +115,7 @@ fn string_starts(
         [] => Ok(Vec::new(alloc)),
         [first, ..] => {
             let class = character(alloc, *first)?;
-            let start = Start::class(alloc, &class)?;
+            let start = Start::class(&class)?;
             one(alloc, ListedStart { start, word: 0 })
         }
     }

@@ -4,7 +4,7 @@ use Rattle.std.specs.Prelude.{nat_lt, if◌then◌else◌, Bool, false}
 use Rattle.std.proofs.Math.Numerals.{add-one}
 use Rattle.pg_predict.specs.Judged.{Facts, all_below, meeting_alternatives, noted_meeting, node_meeting, part_at}
 use Rattle.pg_predict.specs.declared.violation.ViolationKind.TheVariants.{AlternativesMeet}
-use Rattle.pg_predict.specs.declared.violation.Violation.{Violation}
+use Rattle.pg_predict.specs.Violations.{Violation}
 
 -- what is noted for the next
 pub all_below_step : (f : ℕ → List (Violation ℕ)) (n : ℕ) (old before after : List (Violation ℕ)) → before ≡ old ++ all_below f n → after ≡ before ++ f n

@@ -17,18 +17,18 @@ use Rattle.pg_graph.specs.Marks.{is_marked}
 use Rattle.pg_heads.specs.Nullable.{Nullable}
 use Rattle.pg_own_starts.specs.declared.listed.ListedStart.{ListedStart}
 use Rattle.pg_form.proofs.Each.{all-get}
-use Rattle.pg_predict.specs.WithStarts.{kind_with_starts, start_at}
+use Rattle.pg_predict.specs.WithStarts.{Starts, kind_with_starts, start_at}
 use Rattle.pg_predict.specs.Conditions.{Violates, AreFirstToMeet, Begins, BeginsNothing, Follows, BeginsLink, EndsNullable}
 use Rattle.pg_predict.specs.Conditions as violates
 use Rattle.pg_form.specs.declared.form.Leaf.TheVariants as leaf
 use Rattle.pg_predict.proofs.GapMeetings.{operators_first, gaps_first, no_term, gap_from}
-use Rattle.pg_predict.specs.Judged.{Facts, operators_meet, gaps_meet, gap_met, noted_start, noted_gap, noted_operand, noted_end, noted, noted_meeting, all_below, part_at, node_meeting, follow_meeting, link_meeting, empty_alternative, empty_alternatives, meeting_alternatives, meetings_of_alternative, alternatives_that_meet, alternative_and_follow, alternatives_and_follow, ends_nullable, noted_chain, noted_form, noted_node}
+use Rattle.pg_predict.specs.Judged.{Facts, all_starts, operators_meet, gaps_meet, gap_met, noted_start, noted_gap, noted_operand, noted_end, noted, noted_meeting, all_below, part_at, node_meeting, follow_meeting, link_meeting, empty_alternative, empty_alternatives, meeting_alternatives, meetings_of_alternative, alternatives_that_meet, alternative_and_follow, alternatives_and_follow, ends_nullable, noted_chain, noted_form, noted_node}
 use Rattle.pg_predict.specs.Shown.{AreFacts}
-use Rattle.pg_predict.specs.declared.violation.Violation.{Violation}
+use Rattle.pg_predict.specs.Violations.{Violation}
 use Rattle.pg_predict.specs.declared.violation.ViolationKind.{ViolationKind}
 use Rattle.pg_predict.specs.declared.violation.ViolationKind.TheVariants.{LeftRecursion, EmptyRound, EmptyAlternative, AlternativesMeet, AlternativeMeetsFollow, RoundMeetsFollow, EmptyOperand, OperandMeetsOperators, FollowMeetsOperators, GapMeets}
 use Rattle.pg_predict.specs.declared.meetings.Meeting.{Meeting}
-use Rattle.pg_predict.proofs.Lists.{In, in_left, in_right, all_below_has, noted_has, noted_meeting_has, noted_start_has, noted_gap_has}
+use Rattle.pg_predict.proofs.Lists.{In, in_left, in_right, all_below_has, noted_has, noted_meeting_has, noted_start_has}
 use Rattle.pg_predict.proofs.Meanings.{shows_first, shows_follow, MeetAt, first_numbers, first_there, follow_there, link_there, node_found, follow_found, link_found}
 use Rattle.pg_predict.proofs.Pairs.{pair_from}
 use Rattle.pg_predict.proofs.Sound.{parts_below, start_is}
@@ -36,12 +36,12 @@ use Rattle.pg_predict.proofs.Sound.{parts_below, start_is}
 -- it is noted of a node
 pub record IsNoted (g : Grammar) (facts : Facts) (p : ℕ) (what : ViolationKind ListedStart) : Type 0 where
   pub kind : ViolationKind ℕ
-  pub same : kind_with_starts facts.sets.starts kind ≡ what
+  pub same : kind_with_starts (all_starts facts) kind ≡ what
   pub noted_there : In (noted_node g facts p) (record { node = p; kind = kind })
   pub below : p < length g.nodes
 
 -- a meeting that is found, and the starts with its numbers
-pub record IsFound (starts : List ListedStart) (o : Option Meeting) (s t : ListedStart) : Type 0 where
+pub record IsFound (starts : Starts) (o : Option Meeting) (s t : ListedStart) : Type 0 where
   pub meeting : Meeting
   pub found : o ≡ Some meeting
   pub one : start_at starts meeting.one ≡ s
@@ -57,7 +57,7 @@ module _ (g : Grammar) (facts : Facts) (are : AreFacts g facts) (grammar : IsGra
   -- ---- first meetings
 
   nodes_found : (q r : ℕ) (s t : ListedStart) → q < length g.nodes → r < length g.nodes → AreFirstToMeet g (Begins g q) (Begins g r) s t
-      → IsFound facts.sets.starts (node_meeting facts q r) s t
+      → IsFound (all_starts facts) (node_meeting facts q r) s t
   nodes_found q r s t q_below r_below is =
       let first = first_numbers g facts are (Begins g q) (Begins g r) (first_there g facts are q q_below) (first_there g facts are r r_below) s t is in
       record {
@@ -68,7 +68,7 @@ module _ (g : Grammar) (facts : Facts) (are : AreFacts g facts) (grammar : IsGra
       }
 
   with_follow : (q p : ℕ) (s t : ListedStart) → q < length g.nodes → p < length g.nodes → AreFirstToMeet g (Begins g q) (Follows g p) s t
-      → IsFound facts.sets.starts (follow_meeting facts q p) s t
+      → IsFound (all_starts facts) (follow_meeting facts q p) s t
   with_follow q p s t q_below p_below is =
       let first = first_numbers g facts are (Begins g q) (Follows g p) (first_there g facts are q q_below) (follow_there g facts are p p_below) s t is in
       record {
@@ -79,7 +79,7 @@ module _ (g : Grammar) (facts : Facts) (are : AreFacts g facts) (grammar : IsGra
       }
 
   link_with_follow : (operand separator p : ℕ) (s t : ListedStart) → operand < length g.nodes → separator < length g.nodes → p < length g.nodes
-      → AreFirstToMeet g (BeginsLink g operand separator) (Follows g p) s t → IsFound facts.sets.starts (link_meeting facts operand separator p) s t
+      → AreFirstToMeet g (BeginsLink g operand separator) (Follows g p) s t → IsFound (all_starts facts) (link_meeting facts operand separator p) s t
   link_with_follow operand separator p s t o q below is =
       let first = first_numbers g facts are (BeginsLink g operand separator) (Follows g p) (link_there g facts are operand separator o q) (follow_there g facts are p below) s t is in
       record {
@@ -147,7 +147,7 @@ module _ (g : Grammar) (facts : Facts) (are : AreFacts g facts) (grammar : IsGra
   pair_noted : (p j k q r : ℕ) (parts : List ℕ) (s t : ListedStart) → slice_get g.nodes p ≡ Some (form.Choice parts) → j < k → slice_get parts j ≡ Some q → slice_get parts k ≡ Some r
       → AreFirstToMeet g (Begins g q) (Begins g r) s t → IsNoted g facts p (AlternativesMeet (suc j) (suc k) s t)
   pair_noted p j k q r parts s t at before one other first =
-      let starts = facts.sets.starts in
+      let starts = all_starts facts in
       let q_below = parts_below g p (form.Choice parts) j q grammar at one in
       let r_below = parts_below g p (form.Choice parts) k r grammar at other in
       let found = nodes_found q r s t q_below r_below first in
@@ -179,7 +179,7 @@ module _ (g : Grammar) (facts : Facts) (are : AreFacts g facts) (grammar : IsGra
   follow_noted : (p k q : ℕ) (parts : List ℕ) (s t : ListedStart) → slice_get g.nodes p ≡ Some (form.Choice parts) → slice_get parts k ≡ Some q → suc k < length parts
       → EndsNullable g parts → AreFirstToMeet g (Begins g q) (Follows g p) s t → IsNoted g facts p (AlternativeMeetsFollow (suc k) s t)
   follow_noted p k q parts s t at part not_last ends first =
-      let starts = facts.sets.starts in
+      let starts = all_starts facts in
       let p_below = slice_get_within g.nodes p (form.Choice parts) at in
       let q_below = parts_below g p (form.Choice parts) k q grammar at part in
       let found = with_follow q p s t q_below p_below first in
@@ -204,9 +204,9 @@ module _ (g : Grammar) (facts : Facts) (are : AreFacts g facts) (grammar : IsGra
 
   -- ---- the others
 
-  round_same : (m : Meeting) (s t : ListedStart) → start_at facts.sets.starts m.one ≡ s → start_at facts.sets.starts m.other ≡ t
-      → kind_with_starts facts.sets.starts (RoundMeetsFollow m.one m.other) ≡ RoundMeetsFollow s t
-  round_same m s t one other = ap (λ (x : ListedStart). RoundMeetsFollow x (start_at facts.sets.starts m.other)) one ∙ ap (RoundMeetsFollow s) other
+  round_same : (m : Meeting) (s t : ListedStart) → start_at (all_starts facts) m.one ≡ s → start_at (all_starts facts) m.other ≡ t
+      → kind_with_starts (all_starts facts) (RoundMeetsFollow m.one m.other) ≡ RoundMeetsFollow s t
+  round_same m s t one other = ap (λ (x : ListedStart). RoundMeetsFollow x (start_at (all_starts facts) m.other)) one ∙ ap (RoundMeetsFollow s) other
 
   pub violation_noted : (p : ℕ) (what : ViolationKind ListedStart) → Violates g p what → IsNoted g facts p what
   violation_noted p what (violates.left_recursion {r} {rule} there circle) =
@@ -309,20 +309,22 @@ module _ (g : Grammar) (facts : Facts) (are : AreFacts g facts) (grammar : IsGra
       let below = slice_get_within g.nodes p (form.Expression builders term) at in
       let met = gaps_meet facts (set_at facts.sets.firsts term) in
       let begins = gaps_first g facts are (set_at facts.sets.firsts term) (Begins g term) (shows_first g facts are term term_below) in
-      let b : Violation ℕ = record { node = p; kind = GapMeets s } in
+      let found = gap_from g facts are p below met (Begins g term) begins s first in
+      let b : Violation ℕ = record { node = p; kind = GapMeets found.0 } in
       record {
-        kind = GapMeets s;
-        same = refl;
+        kind = GapMeets found.0;
+        same = ap GapMeets found.2;
         noted_there = after_operand_noted p term builders b at
-            (in_right (noted_end facts p) (noted_gap (gap_met facts met p) p) b (noted_gap_has (gap_met facts met p) p s (gap_from g facts are p below met (Begins g term) begins s first)));
+            (in_right (noted_end facts p) (noted_gap (gap_met facts met p) p) b (noted_start_has (gap_met facts met p) p GapMeets found.0 found.1));
         below = below;
       }
   violation_noted p what (violates.gap_meets {class = class} {s = s} at first) =
       let below = slice_get_within g.nodes p (form.Leaf (leaf.Declare class)) at in
-      let b : Violation ℕ = record { node = p; kind = GapMeets s } in
+      let found = gap_from g facts are p below None BeginsNothing (no_term g facts are) s first in
+      let b : Violation ℕ = record { node = p; kind = GapMeets found.0 } in
       record {
-        kind = GapMeets s;
-        same = refl;
-        noted_there = at_form p (form.Leaf (leaf.Declare class)) b at (noted_gap_has (gap_met facts None p) p s (gap_from g facts are p below None BeginsNothing (no_term g facts are) s first));
+        kind = GapMeets found.0;
+        same = ap GapMeets found.2;
+        noted_there = at_form p (form.Leaf (leaf.Declare class)) b at (noted_start_has (gap_met facts None p) p GapMeets found.0 found.1);
         below = below;
       }

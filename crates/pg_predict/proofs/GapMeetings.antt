@@ -1,13 +1,15 @@
 -- What gaps meet, by the numbers of starts.
-use Rattle.std.proofs.Common.{◌≡◌, ℕ, ◌<◌, Bool, true, false, List, Option, Some, None, slice_get, length, refl, sym, ap, subst, ◌∙◌, inl, inr, Less}
+use Rattle.std.proofs.Common.{◌≡◌, ℕ, ◌<◌, Bool, true, false, List, Option, Some, None, slice_get, length, refl, sym, ap, subst, ◌∙◌, inl, inr, Less, arith}
 use Rattle.std.specs.Prelude.{◌↔◌, not, if◌then◌else◌}
-use Rattle.std.specs.Option.{option_and_then, option_or}
+use Rattle.std.specs.Option.{option_and_then, option_map_or, option_or}
 use Rattle.std.proofs.lemmas.Bool.{true≢false, cases_Bool, and_parts, and_from}
+use Rattle.std.proofs.lemmas.List.{get_or_past}
 use Rattle.std.proofs.lemmas.Option.{none-some, same_Some}
 use Rattle.pg_value.specs.Grammar.{Grammar}
 use Rattle.pg_bit_set.specs.Numbers.{contains, in_both, set_at}
 use Rattle.pg_start.specs.Apart.{Apart}
 use Rattle.pg_start.specs.declared.kind.StartKind.{StartKind}
+use Rattle.pg_start.specs.declared.kind.StartKind.TheVariants.{End}
 use Rattle.pg_start.proofs.Meeting.{Apart-swap}
 use Rattle.pg_own_starts.specs.Listed.{IsListed, IsNumbered, start_order}
 use Rattle.pg_own_starts.specs.OperatorStarts.{IsGapStart, AreBothStarts}
@@ -18,14 +20,15 @@ use Rattle.pg_own_starts.specs.declared.listed.ListedStart.{ListedStart}
 use Rattle.pg_own_starts.specs.declared.operators.OperatorStarts.{OperatorStarts}
 use Rattle.pg_predict.specs.Conditions.{AreFirstToMeet, NoneMeet, IsFirstToMeetGap, BeginsNothing, Follows}
 use Rattle.pg_predict.specs.Conditions as met
-use Rattle.pg_predict.specs.Judged.{Facts, operators_meet, gaps_meet, gap_met, gap_met_by}
+use Rattle.pg_predict.specs.Judged.{Facts, all_starts, operators_meet, gaps_meet, gap_met, gap_met_by}
 use Rattle.pg_predict.specs.Meetings.{first_met}
+use Rattle.pg_predict.specs.WithStarts.{start_at}
 use Rattle.pg_predict.specs.Shown.{IsMetSet, AreFacts, AreOfOperators, AreOperatorFacts}
 use Rattle.pg_predict.specs.declared.operator_facts.OperatorFacts.{OperatorFacts}
 use Rattle.pg_predict.proofs.FirstMeetings.{both_below}
 use Rattle.pg_predict.proofs.Least.{least_from, least_is, least_none}
 use Rattle.pg_predict.proofs.Meanings.{ShowsKind, shows_follow, placed, member, kind_of, start_in}
-use Rattle.pg_predict.proofs.Numbered.{never_both, numbers_order, order_numbers, listed_once}
+use Rattle.pg_predict.proofs.Numbered.{never_both, numbers_order, order_numbers, listed_once, start_is}
 
 -- ---- the facts
 
@@ -255,60 +258,79 @@ module _ (g : Grammar) (facts : Facts) (are : AreFacts g facts) where
     follows_first operators is =
         by_set (set_at facts.sets.follows p) operators.met_by_gap (Follows g p) (IsGapStart g) (gap operators is) (shows_follow g facts are p below) is.met_by_gap (only_gap operators is)
 
-    abbrev rest : OperatorFacts → Option ListedStart
-    rest operators = option_and_then (slice_get facts.sets.starts) (option_or term (first_met operators.met_by_gap (set_at facts.sets.follows p)))
+    abbrev rest : OperatorFacts → Option ℕ
+    rest operators = option_or term (first_met operators.met_by_gap (set_at facts.sets.follows p))
 
-    by_gap : (operators : OperatorFacts) → AreOfOperators g facts.sets.starts operators → (s : ListedStart) → gap_met_by facts term p operators ≡ Some s → IsFirstToMeetGap g Term (Follows g p) s
-    by_gap operators is s = go operators.in_gap refl
+    -- the start of operators has the number after those of the sets
+    own_start : (operators : OperatorFacts) → facts.operators ≡ Some operators → start_at (all_starts facts) (length facts.sets.starts) ≡ operators.operator
+    own_start operators e =
+        get_or_past facts.sets.starts (length facts.sets.starts) (all_starts facts).own (omega arith)
+        ∙ ap (λ (o : Option OperatorFacts). option_map_or (λ (operators : OperatorFacts). operators.operator) o (record { start = End; word = 0 })) e
+
+    by_gap : (operators : OperatorFacts) → facts.operators ≡ Some operators → AreOfOperators g facts.sets.starts operators → (n : ℕ) → gap_met_by facts term p operators ≡ Some n
+        → IsFirstToMeetGap g Term (Follows g p) (start_at (all_starts facts) n)
+    by_gap operators there is n = go operators.in_gap refl
       where
-        by_follow : operators.in_gap ≡ false → term ≡ None → (o : Option ℕ) → first_met operators.met_by_gap (set_at facts.sets.follows p) ≡ o → option_and_then (slice_get facts.sets.starts) o ≡ Some s →
-            IsFirstToMeetGap g Term (Follows g p) s
-        by_follow free none None e h = absurd cc
-        by_follow free none (Some k) e h =
-            let found = (follows_first operators is).some k e in
-            let same : found.0 ≡ s = same_Some found.0 s (sym found.2 ∙ h) in
+        by_follow : operators.in_gap ≡ false → term ≡ None → first_met operators.met_by_gap (set_at facts.sets.follows p) ≡ Some n
+            → IsFirstToMeetGap g Term (Follows g p) (start_at (all_starts facts) n)
+        by_follow free none e =
+            let found = (follows_first operators is).some n e in
+            let same : found.0 ≡ start_at (all_starts facts) n = sym (start_is (all_starts facts) n found.0 found.2) in
             met.after (none_meet operators is free) (begins.none none) (subst (λ (x : ListedStart). AreFirstToMeet g (Follows g p) (IsGapStart g) x found.1) same found.3)
 
-        by_term : operators.in_gap ≡ false → (o : Option ℕ) → term ≡ o → option_and_then (slice_get facts.sets.starts) (option_or o (first_met operators.met_by_gap (set_at facts.sets.follows p))) ≡ Some s →
-            IsFirstToMeetGap g Term (Follows g p) s
-        by_term free None e h = by_follow free e (first_met operators.met_by_gap (set_at facts.sets.follows p)) refl h
+        by_term : operators.in_gap ≡ false → (o : Option ℕ) → term ≡ o → option_or o (first_met operators.met_by_gap (set_at facts.sets.follows p)) ≡ Some n
+            → IsFirstToMeetGap g Term (Follows g p) (start_at (all_starts facts) n)
+        by_term free None e h = by_follow free e h
         by_term free (Some k) e h =
-            let found = begins.some k e in
-            let same : found.0 ≡ s = same_Some found.0 s (sym found.2 ∙ h) in
+            let found = begins.some n (e ∙ h) in
+            let same : found.0 ≡ start_at (all_starts facts) n = sym (start_is (all_starts facts) n found.0 found.2) in
             met.term (none_meet operators is free) (subst (λ (x : ListedStart). AreFirstToMeet g Term (IsGapStart g) x found.1) same found.3)
 
-        go : (b : Bool) → operators.in_gap ≡ b → (if b then Some operators.operator else rest operators) ≡ Some s → IsFirstToMeetGap g Term (Follows g p) s
-        go true e h = subst (IsFirstToMeetGap g Term (Follows g p)) (same_Some operators.operator s h) (met.operator (both_meet operators is e))
+        go : (b : Bool) → operators.in_gap ≡ b → (if b then Some (length facts.sets.starts) else rest operators) ≡ Some n
+            → IsFirstToMeetGap g Term (Follows g p) (start_at (all_starts facts) n)
+        go true e h =
+            let number : length facts.sets.starts ≡ n = same_Some (length facts.sets.starts) n h in
+            subst (IsFirstToMeetGap g Term (Follows g p)) (sym (own_start operators there) ∙ ap (start_at (all_starts facts)) number) (met.operator (both_meet operators is e))
         go false e h = by_term e term refl h
 
     -- what gaps are found to meet is the first
-    pub gap_some : (s : ListedStart) → gap_met facts term p ≡ Some s → IsFirstToMeetGap g Term (Follows g p) s
-    gap_some s = go facts.operators are.operators
+    pub gap_some : (n : ℕ) → gap_met facts term p ≡ Some n → IsFirstToMeetGap g Term (Follows g p) (start_at (all_starts facts) n)
+    gap_some n = go facts.operators refl are.operators
       where
-        go : (o : Option OperatorFacts) → AreOperatorFacts g facts.sets.starts o → option_and_then (gap_met_by facts term p) o ≡ Some s → IsFirstToMeetGap g Term (Follows g p) s
-        go None none e = absurd cc
-        go (Some operators) is e = by_gap operators is s e
+        go : (o : Option OperatorFacts) → facts.operators ≡ o → AreOperatorFacts g facts.sets.starts o → option_and_then (gap_met_by facts term p) o ≡ Some n
+            → IsFirstToMeetGap g Term (Follows g p) (start_at (all_starts facts) n)
+        go None there none e = absurd cc
+        go (Some operators) there is e = by_gap operators there is n e
 
-    -- and the first is found
-    pub gap_from : (s : ListedStart) → IsFirstToMeetGap g Term (Follows g p) s → gap_met facts term p ≡ Some s
-    gap_from s first = go facts.operators are.operators first
+    -- and the first is found, by a number of its own
+    pub gap_from : (s : ListedStart) → IsFirstToMeetGap g Term (Follows g p) s → (n : ℕ) × (gap_met facts term p ≡ Some n) × (start_at (all_starts facts) n ≡ s)
+    gap_from s first = go facts.operators refl are.operators first
       where
-        outside : (operators : OperatorFacts) → operators.in_gap ≡ false → rest operators ≡ Some s → gap_met_by facts term p operators ≡ Some s
-        outside operators free e = ap (λ (b : Bool). if b then Some operators.operator else rest operators) free ∙ e
+        outside : (operators : OperatorFacts) (n : ℕ) → operators.in_gap ≡ false → rest operators ≡ Some n → gap_met_by facts term p operators ≡ Some n
+        outside operators n free e = ap (λ (b : Bool). if b then Some (length facts.sets.starts) else rest operators) free ∙ e
 
-        go : (o : Option OperatorFacts) → AreOperatorFacts g facts.sets.starts o → IsFirstToMeetGap g Term (Follows g p) s → option_and_then (gap_met_by facts term p) o ≡ Some s
-        go None none (met.operator first) = absurd (no_operator s.start none first.meet.one)
-        go None none (met.term {t} free first) = absurd (no_gap t.start none first.meet.other)
-        go None none (met.after {t} free bare first) = absurd (no_gap t.start none first.meet.other)
-        go (Some operators) is (met.operator {t} first) =
-            let inside = any_meet operators is s t first.meet.one_listed first.meet.one first.meet.other_listed first.meet.other first.meet.together in
-            ap (λ (b : Bool). if b then Some operators.operator else rest operators) inside ∙ ap (λ (x : ListedStart). Some x) (same_operator operators is s first.meet.one_listed first.meet.one)
-        go (Some operators) is (met.term {t} free first) =
-            let found = begins.from s t first in
-            outside operators (not_in_gap operators is free)
-            (ap (λ o. option_and_then (slice_get facts.sets.starts) (option_or o (first_met operators.met_by_gap (set_at facts.sets.follows p)))) found.1 ∙ found.2)
-        go (Some operators) is (met.after {t} free bare first) =
-            let found = (follows_first operators is).from s t first in
-            outside operators (not_in_gap operators is free)
-            (ap (λ o. option_and_then (slice_get facts.sets.starts) (option_or o (first_met operators.met_by_gap (set_at facts.sets.follows p)))) (begins.absent bare)
-            ∙ ap (option_and_then (slice_get facts.sets.starts)) found.1 ∙ found.2)
+        go : (o : Option OperatorFacts) → facts.operators ≡ o → AreOperatorFacts g facts.sets.starts o → IsFirstToMeetGap g Term (Follows g p) s
+            → (n : ℕ) × (option_and_then (gap_met_by facts term p) o ≡ Some n) × (start_at (all_starts facts) n ≡ s)
+        go None there none (met.operator first) = absurd (no_operator s.start none first.meet.one)
+        go None there none (met.term {t} free first) = absurd (no_gap t.start none first.meet.other)
+        go None there none (met.after {t} free bare first) = absurd (no_gap t.start none first.meet.other)
+        go (Some operators) there is (met.operator {t} first) =
+            let inside = any_meet operators is s t first.meet.one_listed first.meet.one first.meet.other_listed first.meet.other first.meet.together in (
+              length facts.sets.starts,
+              ap (λ (b : Bool). if b then Some (length facts.sets.starts) else rest operators) inside,
+              own_start operators there ∙ same_operator operators is s first.meet.one_listed first.meet.one,
+            )
+        go (Some operators) there is (met.term {t} free first) =
+            let found = begins.from s t first in (
+              found.0,
+              outside operators found.0 (not_in_gap operators is free)
+                  (ap (λ (o : Option ℕ). option_or o (first_met operators.met_by_gap (set_at facts.sets.follows p))) found.1),
+              start_is (all_starts facts) found.0 s found.2,
+            )
+        go (Some operators) there is (met.after {t} free bare first) =
+            let found = (follows_first operators is).from s t first in (
+              found.0,
+              outside operators found.0 (not_in_gap operators is free)
+                  (ap (λ (o : Option ℕ). option_or o (first_met operators.met_by_gap (set_at facts.sets.follows p))) (begins.absent bare) ∙ found.1),
+              start_is (all_starts facts) found.0 s found.2,
+            )

@@ -11,6 +11,10 @@ pub mod GapMeetings
 pub mod Sound
 pub mod Complete
 pub mod Violations
-pub mod Sayings
 pub mod Unsuspected
 pub mod Standing
+pub mod Puts
+pub mod Pieces
+pub mod Series
+pub mod Told
+pub mod Below

@@ -7,10 +7,10 @@ use Rattle.std.specs.List.Sorted.{IsStrictlySortedBy}
 use Rattle.std.specs.Ordering.{nat_cmp, ordering_then}
 use Rattle.std.proofs.lemmas.Bool.{cases_eq, true≢false}
 use Rattle.pg_own_starts.specs.declared.listed.ListedStart.{ListedStart}
-use Rattle.pg_predict.specs.WithStarts.{kind_with_starts, with_starts}
+use Rattle.pg_predict.specs.WithStarts.{Starts, kind_with_starts, with_starts}
 use Rattle.pg_predict.specs.Findings.{condition_number, order_within, violation_key, violation_order}
-use Rattle.pg_predict.specs.Judged.{noted, noted_meeting, noted_gap, noted_start, all_below}
-use Rattle.pg_predict.specs.declared.violation.Violation.{Violation}
+use Rattle.pg_predict.specs.Judged.{noted, noted_meeting, noted_start, all_below}
+use Rattle.pg_predict.specs.Violations.{Violation}
 use Rattle.pg_predict.specs.declared.violation.ViolationKind.{ViolationKind}
 use Rattle.pg_predict.specs.declared.violation.ViolationKind.TheVariants.{LeftRecursion, EmptyRound, EmptyAlternative, AlternativesMeet, AlternativeMeetsFollow, RoundMeetsFollow, EmptyOperand, OperandMeetsOperators, FollowMeetsOperators, GapMeets}
 use Rattle.pg_predict.specs.declared.meetings.Meeting.{Meeting}
@@ -97,22 +97,6 @@ pub noted_start_has : (o : Option ℕ) (p : ℕ) (what : ℕ → ViolationKind �
 noted_start_has (Some x) p what s e = let same : x ≡ s = cc in inl (ap (λ (y : ℕ). record { node = p; kind = what y }) same)
 noted_start_has None p what s e = absurd cc
 
--- a start that gaps meet
-pub record NotedGap (o : Option ListedStart) (p : ℕ) (b : Violation ℕ) : Type 0 where
-  pub start : ListedStart
-  pub found : o ≡ Some start
-  pub same : record { node = p; kind = GapMeets start } ≡ b
-
-pub in_noted_gap : (o : Option ListedStart) (p : ℕ) (b : Violation ℕ) → In (noted_gap o p) b → NotedGap o p b
-in_noted_gap (Some s) p b (inl e) = record { start = s; found = refl; same = e }
-in_noted_gap (Some s) p b (inr is) = absurd is
-in_noted_gap None p b is = absurd is
-
-pub noted_gap_has : (o : Option ListedStart) (p : ℕ) (s : ListedStart) → o ≡ Some s → In (noted_gap o p) (record { node = p; kind = GapMeets s })
-noted_gap_has (Some x) p s e =
-    let same : x ≡ s = cc in let met : ListedStart → Violation ℕ = λ y. record { node = p; kind = GapMeets y } in inl (ap met same)
-noted_gap_has None p s e = absurd cc
-
 -- ---- the order
 
 -- the one stands before the other
@@ -148,10 +132,6 @@ ascends_meeting None p what = tt
 pub ascends_start : (o : Option ℕ) (p : ℕ) (what : ℕ → ViolationKind ℕ) → Ascends (noted_start o p what)
 ascends_start (Some s) p what = (λ c is. absurd is, tt)
 ascends_start None p what = tt
-
-pub ascends_gap : (o : Option ListedStart) (p : ℕ) → Ascends (noted_gap o p)
-ascends_gap (Some s) p = (λ c is. absurd is, tt)
-ascends_gap None p = tt
 
 -- ---- keys
 
@@ -192,7 +172,7 @@ tags_precede p m n b c below tag_b tag_c =
 -- ---- with starts
 
 -- the number of the condition is the same
-pub same_number : (starts : List ListedStart) (kind : ViolationKind ℕ) → condition_number (kind_with_starts starts kind) ≡ condition_number kind
+pub same_number : (starts : Starts) (kind : ViolationKind ℕ) → condition_number (kind_with_starts starts kind) ≡ condition_number kind
 same_number starts LeftRecursion = refl
 same_number starts EmptyRound = refl
 same_number starts (EmptyAlternative k) = refl
@@ -205,7 +185,7 @@ same_number starts (FollowMeetsOperators s) = refl
 same_number starts (GapMeets s) = refl
 
 -- and so is all that the order sees
-same_key : (starts : List ListedStart) (p : ℕ) (kind : ViolationKind ℕ) → violation_key (with_starts starts (record { node = p; kind = kind })) ≡ violation_key {S = ℕ} (record { node = p; kind = kind })
+same_key : (starts : Starts) (p : ℕ) (kind : ViolationKind ℕ) → violation_key (with_starts starts (record { node = p; kind = kind })) ≡ violation_key {S = ℕ} (record { node = p; kind = kind })
 same_key starts p LeftRecursion = refl
 same_key starts p EmptyRound = refl
 same_key starts p (EmptyAlternative k) = refl
@@ -217,7 +197,7 @@ same_key starts p (OperandMeetsOperators s) = refl
 same_key starts p (FollowMeetsOperators s) = refl
 same_key starts p (GapMeets s) = refl
 
-precedes_with : (starts : List ListedStart) (b c : Violation ℕ) → Precedes b c → violation_order (with_starts starts b) (with_starts starts c) ≡ Less
+precedes_with : (starts : Starts) (b c : Violation ℕ) → Precedes b c → violation_order (with_starts starts b) (with_starts starts c) ≡ Less
 precedes_with starts b c less =
     ap (λ key. slice_cmp nat_cmp key (violation_key (with_starts starts c))) (same_key starts b.node b.kind)
     ∙ (ap (slice_cmp nat_cmp (violation_key b)) (same_key starts c.node c.kind) ∙ less)
@@ -225,27 +205,27 @@ precedes_with starts b c less =
 -- ---- as lists of violations
 
 -- what was noted is among the violations
-pub contains_noted : (starts : List ListedStart) (bs : List (Violation ℕ)) (b : Violation ℕ) → In bs b → Contains (map (with_starts starts) bs) (with_starts starts b)
+pub contains_noted : (starts : Starts) (bs : List (Violation ℕ)) (b : Violation ℕ) → In bs b → Contains (map (with_starts starts) bs) (with_starts starts b)
 contains_noted starts [] b is = absurd is
 contains_noted starts (x ∷ xs) b (inl e) = (0, omega arith, ap (with_starts starts) e)
 contains_noted starts (x ∷ xs) b (inr is) = let rest = contains_noted starts xs b is in let below = rest.1 in (suc rest.0, omega arith, rest.2)
 
-pub record NotedAs (starts : List ListedStart) (bs : List (Violation ℕ)) (v : Violation ListedStart) : Type 0 where
+pub record NotedAs (starts : Starts) (bs : List (Violation ℕ)) (v : Violation ListedStart) : Type 0 where
   pub violation : Violation ℕ
   pub there : In bs violation
   pub same : with_starts starts violation ≡ v
 
-pub noted_contains : (starts : List ListedStart) (bs : List (Violation ℕ)) (v : Violation ListedStart) → Contains (map (with_starts starts) bs) v → NotedAs starts bs v
+pub noted_contains : (starts : Starts) (bs : List (Violation ℕ)) (v : Violation ListedStart) → Contains (map (with_starts starts) bs) v → NotedAs starts bs v
 noted_contains starts [] v is = let below = is.1 in absurd (omega arith)
 noted_contains starts (x ∷ xs) v (zero, below, e) = record { violation = x; there = inl refl; same = e }
 noted_contains starts (x ∷ xs) v (suc k, below, e) = let rest = noted_contains starts xs v (k, omega arith, e) in record { violation = rest.violation; there = inr rest.there; same = rest.same }
 
-all_after : (starts : List ListedStart) (b : Violation ℕ) (bs : List (Violation ℕ)) → ((c : Violation ℕ) → In bs c → Precedes b c)
+all_after : (starts : Starts) (b : Violation ℕ) (bs : List (Violation ℕ)) → ((c : Violation ℕ) → In bs c → Precedes b c)
     → AllByRecursion (λ v. violation_order (with_starts starts b) v ≡ Less) (map (with_starts starts) bs)
 all_after starts b [] before = tt
 all_after starts b (c ∷ cs) before = (precedes_with starts b c (before c (inl refl)), all_after starts b cs (λ d is. before d (inr is)))
 
-pub ascends_sorted : (starts : List ListedStart) (bs : List (Violation ℕ)) → Ascends bs → IsStrictlySortedBy violation_order (map (with_starts starts) bs)
+pub ascends_sorted : (starts : Starts) (bs : List (Violation ℕ)) → Ascends bs → IsStrictlySortedBy violation_order (map (with_starts starts) bs)
 unfolding IsStrictlySortedBy
 ascends_sorted starts [] up = tt
 ascends_sorted starts (b ∷ bs) up = (all_after starts b bs up.0, ascends_sorted starts bs up.1)

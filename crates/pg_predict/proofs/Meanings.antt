@@ -16,7 +16,7 @@ use Rattle.pg_sets.specs.Sets.{HasStart}
 use Rattle.pg_own_starts.specs.declared.listed.ListedStart.{ListedStart}
 use Rattle.pg_predict.specs.WithStarts.{start_at}
 use Rattle.pg_predict.specs.Conditions.{AreFirstToMeet, Begins, Follows, BeginsLink}
-use Rattle.pg_predict.specs.Judged.{Facts, node_meeting, follow_meeting, link_meeting}
+use Rattle.pg_predict.specs.Judged.{Facts, all_starts, node_meeting, follow_meeting, link_meeting}
 use Rattle.pg_predict.specs.Meetings.{first_meeting, earlier}
 use Rattle.pg_predict.specs.Shown.{AreFacts}
 use Rattle.pg_predict.specs.declared.meetings.Meeting.{Meeting}
@@ -59,7 +59,7 @@ module _ (g : Grammar) (facts : Facts) (are : AreFacts g facts) where
       let below = contains_below set s h in
       let limit = shows.limit in
       let inside : s < length facts.sets.starts = omega arith in
-      (start_at facts.sets.starts s, slice_get-get_or facts.sets.starts s _ inside)
+      (start_at (all_starts facts) s, slice_get-get_or facts.sets.starts s _ inside)
 
   -- two numbers of sets meet where their starts do
   pub met_at : (one other : List Bool) (One Other : StartKind → Type 0) → ShowsKind facts.sets.starts one One → ShowsKind facts.sets.starts other Other → (s t : ℕ)
@@ -96,13 +96,13 @@ module _ (g : Grammar) (facts : Facts) (are : AreFacts g facts) where
 
   pub numbers_first : (One Other : StartKind → Type 0) → ((x : ListedStart) → IsListed g x → One x.start → Placed facts.sets.starts x)
       → ((x : ListedStart) → IsListed g x → Other x.start → Placed facts.sets.starts x) → (m : Meeting) → IsFirstPair (MeetAt facts.sets.starts One Other) m
-      → AreFirstToMeet g One Other (start_at facts.sets.starts m.one) (start_at facts.sets.starts m.other)
+      → AreFirstToMeet g One Other (start_at (all_starts facts) m.one) (start_at (all_starts facts) m.other)
   numbers_first One Other there there_other m is =
       let starts = facts.sets.starts in
       let sorted = are.sets.start_sets.ordered in
       let met = is.met in
-      let x_is = start_is starts m.one met.x met.x_there in
-      let y_is = start_is starts m.other met.y met.y_there in
+      let x_is = start_is (all_starts facts) m.one met.x met.x_there in
+      let y_is = start_is (all_starts facts) m.other met.y met.y_there in
       let first : AreFirstToMeet g One Other met.x met.y = record {
         meet = record {
           one_listed = are.sets.start_sets.listed m.one met.x met.x_there;
@@ -121,12 +121,12 @@ module _ (g : Grammar) (facts : Facts) (are : AreFacts g facts) where
             is.first_other at_v.number (order_numbers starts at_v.number m.other v met.y sorted at_v.there met.y_there less)
             (record { x = met.x; y = v; x_there = met.x_there; y_there = at_v.there; one = met.one; other = meet.other; together = meet.together });
       } in
-      subst (λ (u : ListedStart). AreFirstToMeet g One Other u (start_at starts m.other)) (sym x_is)
+      subst (λ (u : ListedStart). AreFirstToMeet g One Other u (start_at (all_starts facts) m.other)) (sym x_is)
       (subst (λ (v : ListedStart). AreFirstToMeet g One Other met.x v) (sym y_is) first)
 
   pub first_numbers : (One Other : StartKind → Type 0) → ((x : ListedStart) → IsListed g x → One x.start → Placed facts.sets.starts x)
       → ((x : ListedStart) → IsListed g x → Other x.start → Placed facts.sets.starts x) → (x y : ListedStart) → AreFirstToMeet g One Other x y
-      → (m : Meeting) × IsFirstPair (MeetAt facts.sets.starts One Other) m × (start_at facts.sets.starts m.one ≡ x) × (start_at facts.sets.starts m.other ≡ y)
+      → (m : Meeting) × IsFirstPair (MeetAt facts.sets.starts One Other) m × (start_at (all_starts facts) m.one ≡ x) × (start_at (all_starts facts) m.other ≡ y)
   first_numbers One Other there there_other x y is =
       let starts = facts.sets.starts in
       let sorted = are.sets.start_sets.ordered in
@@ -152,8 +152,8 @@ module _ (g : Grammar) (facts : Facts) (are : AreFacts g facts) where
               })
               (numbers_order starts t at_y.number met.y y sorted met.y_there at_y.there below);
         },
-        start_is starts at_x.number x at_x.there,
-        start_is starts at_y.number y at_y.there,
+        start_is (all_starts facts) at_x.number x at_x.there,
+        start_is (all_starts facts) at_y.number y at_y.there,
       )
 
   -- ---- nodes

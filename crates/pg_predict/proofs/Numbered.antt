@@ -14,7 +14,7 @@ use Rattle.pg_start.specs.declared.kind.StartKind.TheVariants.{Class, Key, Word,
 use Rattle.pg_own_starts.specs.Listed.{IsListed, IsNumbered, start_order, start_order_total}
 use Rattle.pg_sets.specs.Sets.{HasStart}
 use Rattle.pg_own_starts.specs.declared.listed.ListedStart.{ListedStart}
-use Rattle.pg_predict.specs.WithStarts.{start_at}
+use Rattle.pg_predict.specs.WithStarts.{Starts, start_at}
 
 less_greater : Less ≡ Greater → ⊥
 less_greater e = grind (arith, e)
@@ -102,5 +102,5 @@ member_by g starts set s x sorted all at has =
     let number = same_numbers starts has.number s x sorted (has.there ∙ ap Some same) at in
     sym (ap (contains set) number) ∙ has.member
 
-pub start_is : (starts : List ListedStart) (s : ℕ) (x : ListedStart) → slice_get starts s ≡ Some x → start_at starts s ≡ x
-start_is starts s x at = get_or_from_slice_get starts s x (record { start = End; word = 0 }) at
+pub start_is : (starts : Starts) (s : ℕ) (x : ListedStart) → slice_get starts.listed s ≡ Some x → start_at starts s ≡ x
+start_is starts s x at = get_or_from_slice_get starts.listed s x starts.own at

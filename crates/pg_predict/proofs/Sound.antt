@@ -16,25 +16,25 @@ use Rattle.pg_form.specs.declared.used.OperatorBuilders.{OperatorBuilders}
 use Rattle.pg_graph.specs.Marks.{is_marked}
 use Rattle.pg_own_starts.specs.declared.listed.ListedStart.{ListedStart}
 use Rattle.pg_form.proofs.Each.{all-get}
-use Rattle.pg_predict.specs.WithStarts.{kind_with_starts, start_at}
+use Rattle.pg_predict.specs.WithStarts.{Starts, kind_with_starts, start_at}
 use Rattle.pg_predict.specs.Conditions.{Violates, AreFirstToMeet, Begins, BeginsNothing, Follows, BeginsLink, EndsNullable}
 use Rattle.pg_predict.specs.Conditions as violates
 use Rattle.pg_predict.specs.Findings.{condition_number}
 use Rattle.pg_form.specs.declared.class.ClassPart.{ClassPart}
 use Rattle.pg_form.specs.declared.form.Leaf.TheVariants as leaf
 use Rattle.pg_predict.proofs.GapMeetings.{operators_first, gaps_first, no_term, gap_some}
-use Rattle.pg_predict.specs.Judged.{Facts, operators_meet, gaps_meet, gap_met, noted_gap, noted_start, noted_operand, noted_end, noted, noted_meeting, all_below, part_at, node_meeting, follow_meeting, link_meeting, empty_alternative, empty_alternatives, meeting_alternatives, meetings_of_alternative, alternatives_that_meet, alternative_and_follow, alternatives_and_follow, ends_nullable, noted_many, noted_chain, noted_form, noted_node}
+use Rattle.pg_predict.specs.Judged.{Facts, all_starts, operators_meet, gaps_meet, gap_met, noted_gap, noted_start, noted_operand, noted_end, noted, noted_meeting, all_below, part_at, node_meeting, follow_meeting, link_meeting, empty_alternative, empty_alternatives, meeting_alternatives, meetings_of_alternative, alternatives_that_meet, alternative_and_follow, alternatives_and_follow, ends_nullable, noted_many, noted_chain, noted_form, noted_node}
 use Rattle.pg_predict.specs.Shown.{AreFacts}
-use Rattle.pg_predict.specs.declared.violation.Violation.{Violation}
+use Rattle.pg_predict.specs.Violations.{Violation}
 use Rattle.pg_predict.specs.declared.violation.ViolationKind.{ViolationKind}
 use Rattle.pg_predict.specs.declared.violation.ViolationKind.TheVariants.{LeftRecursion, EmptyRound, EmptyAlternative, AlternativesMeet, AlternativeMeetsFollow, RoundMeetsFollow, EmptyOperand, OperandMeetsOperators, FollowMeetsOperators, GapMeets}
 use Rattle.pg_predict.specs.declared.meetings.Meeting.{Meeting}
-use Rattle.pg_predict.proofs.Lists.{In, in_cases, NotedFor, in_all_below, in_noted, NotedMeeting, in_noted_meeting, in_noted_start, in_noted_gap, Tagged}
+use Rattle.pg_predict.proofs.Lists.{In, in_cases, NotedFor, in_all_below, in_noted, NotedMeeting, in_noted_meeting, in_noted_start, Tagged}
 use Rattle.pg_predict.proofs.Meanings.{shows_first, shows_follow, MeetAt, numbers_first, first_there, follow_there, link_there, node_found, follow_found, link_found}
 use Rattle.pg_predict.proofs.Pairs.{pair_is}
 
 -- what is noted of a node is wrong there, and has a number
-pub record IsWrong (g : Grammar) (starts : List ListedStart) (p number : ℕ) (b : Violation ℕ) : Type 0 where
+pub record IsWrong (g : Grammar) (starts : Starts) (p number : ℕ) (b : Violation ℕ) : Type 0 where
   pub tagged : Tagged p number b
   pub violates : Violates g p (kind_with_starts starts b.kind)
 
@@ -76,26 +76,26 @@ in_follow facts p parts b is = go (ends_nullable facts parts) refl is
 
 module _ (g : Grammar) (facts : Facts) (are : AreFacts g facts) (grammar : IsGrammar g) where
   wrong_where : (p number : ℕ) (what : ViolationKind ℕ) (b : Violation ℕ) → record { node = p; kind = what } ≡ b → condition_number what ≡ number
-      → Violates g p (kind_with_starts facts.sets.starts what) → IsWrong g facts.sets.starts p number b
+      → Violates g p (kind_with_starts (all_starts facts) what) → IsWrong g (all_starts facts) p number b
   wrong_where p number what b e n v =
-      subst (IsWrong g facts.sets.starts p number) e (record { tagged = record { node = refl; number = n }; violates = v })
+      subst (IsWrong g (all_starts facts) p number) e (record { tagged = record { node = refl; number = n }; violates = v })
 
   -- ---- first meetings
 
   nodes_first : (q r : ℕ) (m : Meeting) → q < length g.nodes → r < length g.nodes → node_meeting facts q r ≡ Some m
-      → AreFirstToMeet g (Begins g q) (Begins g r) (start_at facts.sets.starts m.one) (start_at facts.sets.starts m.other)
+      → AreFirstToMeet g (Begins g q) (Begins g r) (start_at (all_starts facts) m.one) (start_at (all_starts facts) m.other)
   nodes_first q r m q_below r_below e =
       numbers_first g facts are (Begins g q) (Begins g r) (first_there g facts are q q_below) (first_there g facts are r r_below) m
       (pair_is (MeetAt facts.sets.starts (Begins g q) (Begins g r)) (node_meeting facts q r) m (node_found g facts are q r q_below r_below) e)
 
   follow_first : (q p : ℕ) (m : Meeting) → q < length g.nodes → p < length g.nodes → follow_meeting facts q p ≡ Some m
-      → AreFirstToMeet g (Begins g q) (Follows g p) (start_at facts.sets.starts m.one) (start_at facts.sets.starts m.other)
+      → AreFirstToMeet g (Begins g q) (Follows g p) (start_at (all_starts facts) m.one) (start_at (all_starts facts) m.other)
   follow_first q p m q_below p_below e =
       numbers_first g facts are (Begins g q) (Follows g p) (first_there g facts are q q_below) (follow_there g facts are p p_below) m
       (pair_is (MeetAt facts.sets.starts (Begins g q) (Follows g p)) (follow_meeting facts q p) m (follow_found g facts are q p q_below p_below) e)
 
   link_first : (operand separator p : ℕ) (m : Meeting) → operand < length g.nodes → separator < length g.nodes → p < length g.nodes → link_meeting facts operand separator p ≡ Some m
-      → AreFirstToMeet g (BeginsLink g operand separator) (Follows g p) (start_at facts.sets.starts m.one) (start_at facts.sets.starts m.other)
+      → AreFirstToMeet g (BeginsLink g operand separator) (Follows g p) (start_at (all_starts facts) m.one) (start_at (all_starts facts) m.other)
   link_first operand separator p m o s below e =
       numbers_first g facts are (BeginsLink g operand separator) (Follows g p) (link_there g facts are operand separator o s) (follow_there g facts are p below) m
       (pair_is (MeetAt facts.sets.starts (BeginsLink g operand separator) (Follows g p)) (link_meeting facts operand separator p) m
@@ -103,7 +103,7 @@ module _ (g : Grammar) (facts : Facts) (are : AreFacts g facts) (grammar : IsGra
 
   -- ---- choices
 
-  pub empty_wrong : (p : ℕ) (parts : List ℕ) (b : Violation ℕ) → slice_get g.nodes p ≡ Some (form.Choice parts) → In (empty_alternatives facts p parts) b → IsWrong g facts.sets.starts p 3 b
+  pub empty_wrong : (p : ℕ) (parts : List ℕ) (b : Violation ℕ) → slice_get g.nodes p ≡ Some (form.Choice parts) → In (empty_alternatives facts p parts) b → IsWrong g (all_starts facts) p 3 b
   empty_wrong p parts b at is =
       let for = in_all_below (empty_alternative facts p parts) (length parts - 1) b is in
       let k = for.number in
@@ -116,13 +116,13 @@ module _ (g : Grammar) (facts : Facts) (are : AreFacts g facts) (grammar : IsGra
       wrong_where p 3 (EmptyAlternative (k + 1)) b test.1 refl (subst (λ (i : ℕ). Violates g p (EmptyAlternative i)) (sym (add-one k)) violates)
 
   pub pair_wrong : (p : ℕ) (parts : List ℕ) (j k : ℕ) (b : Violation ℕ) → slice_get g.nodes p ≡ Some (form.Choice parts) → j < length parts → k < length parts
-      → In (meeting_alternatives facts p parts j k) b → IsWrong g facts.sets.starts p 4 b
+      → In (meeting_alternatives facts p parts j k) b → IsWrong g (all_starts facts) p 4 b
   pair_wrong p parts j k b at j_inside k_inside is =
       let pair = in_pair facts p parts j k b is in
       let found = pair.noted_meeting in
       let m = found.meeting in
-      let S = start_at facts.sets.starts m.one in
-      let T = start_at facts.sets.starts m.other in
+      let S = start_at (all_starts facts) m.one in
+      let T = start_at (all_starts facts) m.other in
       let q_there = part_inside parts j j_inside in
       let r_there = part_inside parts k k_inside in
       let q_below = parts_below g p (form.Choice parts) j (part_at parts j) grammar at q_there in
@@ -132,13 +132,13 @@ module _ (g : Grammar) (facts : Facts) (are : AreFacts g facts) (grammar : IsGra
       let one = subst (λ (i : ℕ). Violates g p (AlternativesMeet i (suc k) S T)) (sym (add-one j)) violates in
       wrong_where p 4 (AlternativesMeet (j + 1) (k + 1) m.one m.other) b found.same refl (subst (λ (i : ℕ). Violates g p (AlternativesMeet (j + 1) i S T)) (sym (add-one k)) one)
 
-  pub meet_wrong : (p : ℕ) (parts : List ℕ) (b : Violation ℕ) → slice_get g.nodes p ≡ Some (form.Choice parts) → In (alternatives_that_meet facts p parts) b → IsWrong g facts.sets.starts p 4 b
+  pub meet_wrong : (p : ℕ) (parts : List ℕ) (b : Violation ℕ) → slice_get g.nodes p ≡ Some (form.Choice parts) → In (alternatives_that_meet facts p parts) b → IsWrong g (all_starts facts) p 4 b
   meet_wrong p parts b at is =
       let one = in_all_below (meetings_of_alternative facts p parts) (length parts) b is in
       let other = in_all_below (meeting_alternatives facts p parts one.number) (length parts) b one.noted_for in
       pair_wrong p parts one.number other.number b at one.below other.below other.noted_for
 
-  pub follow_wrong : (p : ℕ) (parts : List ℕ) (b : Violation ℕ) → slice_get g.nodes p ≡ Some (form.Choice parts) → In (alternatives_and_follow facts p parts) b → IsWrong g facts.sets.starts p 5 b
+  pub follow_wrong : (p : ℕ) (parts : List ℕ) (b : Violation ℕ) → slice_get g.nodes p ≡ Some (form.Choice parts) → In (alternatives_and_follow facts p parts) b → IsWrong g (all_starts facts) p 5 b
   follow_wrong p parts b at is =
       let both = in_follow facts p parts b is in
       let for = both.1 in
@@ -159,14 +159,14 @@ module _ (g : Grammar) (facts : Facts) (are : AreFacts g facts) (grammar : IsGra
         there = part_inside parts (length parts - 1) last;
         nullable = (are.sets.nullable (part_at parts (length parts - 1))).0 both.0;
       } in
-      let S = start_at facts.sets.starts m.one in
-      let T = start_at facts.sets.starts m.other in
+      let S = start_at (all_starts facts) m.one in
+      let T = start_at (all_starts facts) m.other in
       let violates : Violates g p (AlternativeMeetsFollow (suc k) S T) = violates.alternative_meets_follow at q_there not_last ends first in
       wrong_where p 5 (AlternativeMeetsFollow (k + 1) m.one m.other) b found.same refl (subst (λ (i : ℕ). Violates g p (AlternativeMeetsFollow i S T)) (sym (add-one k)) violates)
 
   -- ---- repetitions and tries
 
-  pub many_wrong : (p q : ℕ) (b : Violation ℕ) → slice_get g.nodes p ≡ Some (form.Many q) → In (noted_many facts p q) b → IsWrong g facts.sets.starts p 2 b ⊎ IsWrong g facts.sets.starts p 6 b
+  pub many_wrong : (p q : ℕ) (b : Violation ℕ) → slice_get g.nodes p ≡ Some (form.Many q) → In (noted_many facts p q) b → IsWrong g (all_starts facts) p 2 b ⊎ IsWrong g (all_starts facts) p 6 b
   many_wrong p q b at is =
       elim (in_cases (noted (is_marked facts.sets.nullable q) p EmptyRound) (noted_meeting (follow_meeting facts q p) p RoundMeetsFollow) b is) [
         | inl empty ↦
@@ -180,7 +180,7 @@ module _ (g : Grammar) (facts : Facts) (are : AreFacts g facts) (grammar : IsGra
       ]
 
   pub chain_wrong : (p operand separator : ℕ) (n : Node) (b : Violation ℕ) → slice_get g.nodes p ≡ Some n → IsChain operand separator n → operand < length g.nodes → separator < length g.nodes
-      → In (noted_chain facts p operand separator) b → IsWrong g facts.sets.starts p 2 b ⊎ IsWrong g facts.sets.starts p 6 b
+      → In (noted_chain facts p operand separator) b → IsWrong g (all_starts facts) p 2 b ⊎ IsWrong g (all_starts facts) p 6 b
   chain_wrong p operand separator n b at is_chain o s is =
       let null_s = is_marked facts.sets.nullable separator in
       let null_o = is_marked facts.sets.nullable operand in
@@ -198,10 +198,10 @@ module _ (g : Grammar) (facts : Facts) (are : AreFacts g facts) (grammar : IsGra
   -- ---- expressions
 
   -- the start with a number
-  pub start_is : (s : ℕ) (x : ListedStart) → slice_get facts.sets.starts s ≡ Some x → start_at facts.sets.starts s ≡ x
+  pub start_is : (s : ℕ) (x : ListedStart) → slice_get facts.sets.starts s ≡ Some x → start_at (all_starts facts) s ≡ x
   start_is s x at = get_or_from_slice_get facts.sets.starts s x _ at
 
-  pub operand_wrong : (p term : ℕ) (builders : OperatorBuilders) (b : Violation ℕ) → slice_get g.nodes p ≡ Some (form.Expression builders term) → In (noted_operand facts p term) b → IsWrong g facts.sets.starts p 7 b
+  pub operand_wrong : (p term : ℕ) (builders : OperatorBuilders) (b : Violation ℕ) → slice_get g.nodes p ≡ Some (form.Expression builders term) → In (noted_operand facts p term) b → IsWrong g (all_starts facts) p 7 b
   operand_wrong p term builders b at is =
       let term_below = parts_below g p (form.Expression builders term) 0 term grammar at refl in
       let met = operators_meet facts (set_at facts.sets.firsts term) in
@@ -216,7 +216,7 @@ module _ (g : Grammar) (facts : Facts) (are : AreFacts g facts) (grammar : IsGra
             wrong_where p 7 (OperandMeetsOperators found.start) b found.same refl (subst (λ (x : ListedStart). Violates g p (OperandMeetsOperators x)) (sym (start_is found.start first.0 first.2)) violates)
       ]
 
-  pub end_wrong : (p term : ℕ) (builders : OperatorBuilders) (b : Violation ℕ) → slice_get g.nodes p ≡ Some (form.Expression builders term) → In (noted_end facts p) b → IsWrong g facts.sets.starts p 8 b
+  pub end_wrong : (p term : ℕ) (builders : OperatorBuilders) (b : Violation ℕ) → slice_get g.nodes p ≡ Some (form.Expression builders term) → In (noted_end facts p) b → IsWrong g (all_starts facts) p 8 b
   end_wrong p term builders b at is =
       let p_below = slice_get_within g.nodes p (form.Expression builders term) at in
       let found = in_noted_start (operators_meet facts (set_at facts.sets.follows p)) p FollowMeetsOperators b is in
@@ -225,17 +225,17 @@ module _ (g : Grammar) (facts : Facts) (are : AreFacts g facts) (grammar : IsGra
       wrong_where p 8 (FollowMeetsOperators found.start) b found.same refl (subst (λ (x : ListedStart). Violates g p (FollowMeetsOperators x)) (sym (start_is found.start first.0 first.2)) violates)
 
   pub expression_gap_wrong : (p term : ℕ) (builders : OperatorBuilders) (b : Violation ℕ) → slice_get g.nodes p ≡ Some (form.Expression builders term) →
-      In (noted_gap (gap_met facts (gaps_meet facts (set_at facts.sets.firsts term)) p) p) b → IsWrong g facts.sets.starts p 9 b
+      In (noted_gap (gap_met facts (gaps_meet facts (set_at facts.sets.firsts term)) p) p) b → IsWrong g (all_starts facts) p 9 b
   expression_gap_wrong p term builders b at is =
       let term_below = parts_below g p (form.Expression builders term) 0 term grammar at refl in
       let p_below = slice_get_within g.nodes p (form.Expression builders term) at in
       let begins = gaps_first g facts are (set_at facts.sets.firsts term) (Begins g term) (shows_first g facts are term term_below) in
-      let found = in_noted_gap (gap_met facts (gaps_meet facts (set_at facts.sets.firsts term)) p) p b is in
+      let found = in_noted_start (gap_met facts (gaps_meet facts (set_at facts.sets.firsts term)) p) p GapMeets b is in
       let first = gap_some g facts are p p_below (gaps_meet facts (set_at facts.sets.firsts term)) (Begins g term) begins found.start found.found in
       wrong_where p 9 (GapMeets found.start) b found.same refl (violates.expression_gap_meets at first)
 
   pub after_operand : (p term : ℕ) (builders : OperatorBuilders) (b : Violation ℕ) → slice_get g.nodes p ≡ Some (form.Expression builders term) →
-      In (noted_end facts p ++ noted_gap (gap_met facts (gaps_meet facts (set_at facts.sets.firsts term)) p) p) b → IsWrong g facts.sets.starts p 8 b ⊎ IsWrong g facts.sets.starts p 9 b
+      In (noted_end facts p ++ noted_gap (gap_met facts (gaps_meet facts (set_at facts.sets.firsts term)) p) p) b → IsWrong g (all_starts facts) p 8 b ⊎ IsWrong g (all_starts facts) p 9 b
   after_operand p term builders b at is =
       elim (in_cases (noted_end facts p) (noted_gap (gap_met facts (gaps_meet facts (set_at facts.sets.firsts term)) p) p) b is) [
         | inl end ↦ inl (end_wrong p term builders b at end)
@@ -245,9 +245,9 @@ module _ (g : Grammar) (facts : Facts) (are : AreFacts g facts) (grammar : IsGra
   -- ---- leaves
 
   declaration_wrong : (p : ℕ) (class : List ClassPart) (b : Violation ℕ) → slice_get g.nodes p ≡ Some (form.Leaf (leaf.Declare class)) → In (noted_gap (gap_met facts None p) p) b
-      → IsWrong g facts.sets.starts p 9 b
+      → IsWrong g (all_starts facts) p 9 b
   declaration_wrong p class b at is =
-      let found = in_noted_gap (gap_met facts None p) p b is in
+      let found = in_noted_start (gap_met facts None p) p GapMeets b is in
       let first = gap_some g facts are p (slice_get_within g.nodes p (form.Leaf (leaf.Declare class)) at) None BeginsNothing (no_term g facts are) found.start found.found in
       wrong_where p 9 (GapMeets found.start) b found.same refl (violates.gap_meets at first)
 
@@ -257,9 +257,9 @@ module _ (g : Grammar) (facts : Facts) (are : AreFacts g facts) (grammar : IsGra
   pub record WrongAbove (low p : ℕ) (b : Violation ℕ) : Type 0 where
     pub number : ℕ
     pub above : low < number
-    pub wrong : IsWrong g facts.sets.starts p number b
+    pub wrong : IsWrong g (all_starts facts) p number b
 
-  either_above : (low p m n : ℕ) (b : Violation ℕ) → low < m → low < n → IsWrong g facts.sets.starts p m b ⊎ IsWrong g facts.sets.starts p n b → WrongAbove low p b
+  either_above : (low p m n : ℕ) (b : Violation ℕ) → low < m → low < n → IsWrong g (all_starts facts) p m b ⊎ IsWrong g (all_starts facts) p n b → WrongAbove low p b
   either_above low p m n b a c (inl is) = record { number = m; above = a; wrong = is }
   either_above low p m n b a c (inr is) = record { number = n; above = c; wrong = is }
 
@@ -286,7 +286,7 @@ module _ (g : Grammar) (facts : Facts) (are : AreFacts g facts) (grammar : IsGra
   form_wrong p (form.Leaf (leaf.Declare class)) b at is = record { number = 9; above = omega arith; wrong = declaration_wrong p class b at is }
   form_wrong p n b at is = absurd is
 
-  pub recursion_wrong : (p : ℕ) (b : Violation ℕ) → In (noted (is_marked facts.recursive p) p LeftRecursion) b → IsWrong g facts.sets.starts p 1 b
+  pub recursion_wrong : (p : ℕ) (b : Violation ℕ) → In (noted (is_marked facts.recursive p) p LeftRecursion) b → IsWrong g (all_starts facts) p 1 b
   recursion_wrong p b is =
       let test = in_noted (is_marked facts.recursive p) p LeftRecursion b is in
       let recursive = (are.recursive p).0 test.0 in

@@ -15,11 +15,10 @@ use Rattle.pg_form.proofs.Each.{all-get}
 use Rattle.pg_own_starts.specs.declared.listed.ListedStart.{ListedStart}
 use Rattle.pg_predict.specs.Conditions as conditions
 use Rattle.pg_predict.specs.Conditions.{Violates}
-use Rattle.pg_predict.specs.Findings.{Saying, AreFindings, said, saying_of, rule_of, body_of, name_of, number_in_rule, name_text, placed_text, violation_text}
+use Rattle.pg_predict.specs.Findings.{Finding, AreFindings, finding_of, rule_of, body_of, name_of, number_in_rule, name_text, placed_text, violation_text}
 use Rattle.pg_predict.specs.Places.{Preorder, nothing, node, StandsAs, SpeaksOf}
-use Rattle.pg_predict.specs.declared.violation.Violation.{Violation}
+use Rattle.pg_predict.specs.Violations.{Violation}
 use Rattle.pg_predict.specs.declared.violation.ViolationKind.{ViolationKind}
-use Rattle.pg_predict.specs.declared.finding.Finding.{Finding}
 
 -- ---- numbers one after another
 
@@ -240,10 +239,10 @@ module _ (g : Grammar) where
   at_a_node grammar p kind (conditions.expression_gap_meets at met) = slice_get_within g.nodes _ _ at
   at_a_node grammar p kind (conditions.gap_meets at met) = slice_get_within g.nodes _ _ at
 
-  speaks : IsGrammar g → (finding : Finding) (v : Violation ListedStart) → said finding ≡ saying_of g v → Violates g v.node v.kind → SpeaksOf g finding
+  speaks : IsGrammar g → (finding : Finding) (v : Violation ListedStart) → finding ≡ finding_of g v → Violates g v.node v.kind → SpeaksOf g finding
   speaks grammar finding v e h =
-      let rule : finding.rule ≡ rule_of g.rules v.node = ap (λ (s : Saying). s.rule) e in
-      let number : finding.node ≡ number_in_rule g.rules v.node = ap (λ (s : Saying). s.node) e in
+      let rule : finding.rule ≡ rule_of g.rules v.node = ap (λ (s : Finding). s.rule) e in
+      let number : finding.node ≡ number_in_rule g.rules v.node = ap (λ (s : Finding). s.node) e in
       let standing = stands grammar v.node (at_a_node grammar v.node v.kind h) in
       let name : name_of g.rules (rule_of g.rules v.node) ≡ name_text standing.rule = rw standing.there refl in
       record {
@@ -259,19 +258,19 @@ module _ (g : Grammar) where
               from_one = subst (λ (n : ℕ). 1 ≤ n) (sym number) standing.from_one;
               numbered = ap (λ (n : ℕ). slice_get standing.nodes (n - 1)) number ∙ standing.numbered;
             };
-        condition = ap (λ (s : Saying). s.number) e;
+        condition = ap (λ (s : Finding). s.number) e;
         line =
-            ap (λ (s : Saying). s.line) e ∙ ap (λ (text : List ℕ). placed_text text (number_in_rule g.rules v.node) (violation_text g v.kind)) name
+            ap (λ (s : Finding). s.line) e ∙ ap (λ (text : List ℕ). placed_text text (number_in_rule g.rules v.node) (violation_text g v.kind)) name
             ∙ ap (λ (n : ℕ). placed_text (name_text standing.rule) n (violation_text g v.kind)) (sym number);
       }
 
-  each_speaks : IsGrammar g → (findings : List Finding) (vs : List (Violation ListedStart)) → map said findings ≡ map (saying_of g) vs
+  each_speaks : IsGrammar g → (findings : List Finding) (vs : List (Violation ListedStart)) → findings ≡ map (finding_of g) vs
       → AllByRecursion (λ (v : Violation ListedStart). Violates g v.node v.kind) vs → AllByRecursion (SpeaksOf g) findings
   each_speaks grammar [] vs e h = tt
   each_speaks grammar (finding ∷ findings) [] e h = absurd cc
   each_speaks grammar (finding ∷ findings) (v ∷ vs) e h =
-      let head : said finding ≡ saying_of g v = cc in
-      let tail : map said findings ≡ map (saying_of g) vs = cc in
+      let head : finding ≡ finding_of g v = cc in
+      let tail : findings ≡ map (finding_of g) vs = cc in
       (speaks grammar finding v head h.0, each_speaks grammar findings vs tail h.1)
 
   all_violate : (vs : List (Violation ListedStart)) → ((v : Violation ListedStart) → Contains vs v → Violates g v.node v.kind)

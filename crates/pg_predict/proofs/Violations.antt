@@ -1,5 +1,5 @@
 -- What is noted of a grammar is all that is wrong with it, in order.
-use Rattle.std.proofs.Common.{◌≡◌, ℕ, zero, suc, ◌+◌, ◌-◌, ◌<◌, Bool, true, false, List, [], ◌∷◌, ◌++◌, Option, Some, None, map, slice_get, length, refl, sym, ap, subst, ◌∙◌, inl, inr, arith}
+use Rattle.std.proofs.Common.{◌≡◌, ℕ, zero, suc, ◌+◌, ◌-◌, ◌<◌, Bool, true, false, List, [], ◌∷◌, ◌++◌, Option, Some, None, map, slice_get, length, refl, sym, ap, subst, inl, inr, arith}
 use Rattle.std.specs.Prelude.{◌&&◌, nat_lt, if◌then◌else◌}
 use Rattle.std.proofs.Common.{Less}
 use Rattle.std.specs.Cmp.Lexicographic.{slice_cmp}
@@ -16,17 +16,19 @@ use Rattle.pg_graph.specs.Marks.{is_marked}
 use Rattle.pg_own_starts.specs.declared.listed.ListedStart.{ListedStart}
 use Rattle.pg_predict.specs.WithStarts.{kind_with_starts, with_starts}
 use Rattle.pg_predict.specs.Conditions.{Violates, IsFaultless}
-use Rattle.pg_predict.specs.Findings.{AreViolations, AreFindings, said, saying_of}
+use Rattle.pg_predict.specs.Findings.{AreViolations, AreFindings, finding_of}
 use Rattle.pg_form.specs.declared.form.Leaf.TheVariants as leaf
-use Rattle.pg_predict.specs.Judged.{Facts, operators_meet, gaps_meet, gap_met, noted_start, noted_gap, noted_operand, noted_end, noted_expression, noted, noted_meeting, all_below, part_at, node_meeting, follow_meeting, link_meeting, empty_alternative, empty_alternatives, meeting_alternatives, meetings_of_alternative, alternatives_that_meet, alternative_and_follow, alternatives_and_follow, ends_nullable, noted_choice, noted_form, noted_node, noted_grammar}
+use Rattle.pg_predict.specs.Judged.{Facts, all_starts, operators_meet, gaps_meet, gap_met, noted_start, noted_gap, noted_operand, noted_end, noted_expression, noted, noted_meeting, all_below, part_at, node_meeting, follow_meeting, link_meeting, empty_alternative, empty_alternatives, meeting_alternatives, meetings_of_alternative, alternatives_that_meet, alternative_and_follow, alternatives_and_follow, ends_nullable, noted_choice, noted_form, noted_node, noted_grammar, findings_noted}
 use Rattle.pg_predict.specs.Shown.{AreFacts}
-use Rattle.pg_predict.specs.declared.violation.Violation.{Violation}
+use Rattle.pg_predict.specs.Violations.{Violation}
 use Rattle.pg_predict.specs.declared.violation.ViolationKind.{ViolationKind}
-use Rattle.pg_predict.specs.declared.violation.ViolationKind.TheVariants.{LeftRecursion, EmptyRound, EmptyAlternative, AlternativesMeet, AlternativeMeetsFollow, RoundMeetsFollow, EmptyOperand, OperandMeetsOperators, FollowMeetsOperators}
+use Rattle.pg_predict.specs.declared.violation.ViolationKind.TheVariants.{LeftRecursion, EmptyRound, EmptyAlternative, AlternativesMeet, AlternativeMeetsFollow, RoundMeetsFollow, EmptyOperand, OperandMeetsOperators, FollowMeetsOperators, GapMeets}
 use Rattle.pg_predict.specs.declared.meetings.Meeting.{Meeting}
-use Rattle.pg_predict.specs.declared.finding.Finding.{Finding}
+use Rattle.pg_predict.specs.Refusals.{IsRefusal, IsRefused}
+use Rattle.pg_predict.specs.declared.source.Source.{Source}
+use Rattle.pg_predict.proofs.Below.{has_some}
 use Rattle.pg_predict.proofs.Complete.{violation_noted}
-use Rattle.pg_predict.proofs.Lists.{In, in_all_below, all_below_has, in_noted, in_noted_meeting, in_noted_start, in_cases, Precedes, Ascends, ascends_append, ascends_below, ascends_noted, ascends_meeting, ascends_start, ascends_gap, key_less, key_same, node_precedes, tags_precede, contains_noted, noted_contains, ascends_sorted}
+use Rattle.pg_predict.proofs.Lists.{In, in_all_below, all_below_has, in_noted, in_noted_meeting, in_noted_start, in_cases, Precedes, Ascends, ascends_append, ascends_below, ascends_noted, ascends_meeting, ascends_start, key_less, key_same, node_precedes, tags_precede, contains_noted, noted_contains, ascends_sorted}
 use Rattle.pg_predict.proofs.Sound.{operand_wrong, end_wrong, expression_gap_wrong, after_operand, in_pair, empty_wrong, meet_wrong, follow_wrong, recursion_wrong, standing_wrong, node_wrong}
 
 -- ---- order within a condition
@@ -140,7 +142,7 @@ module _ (g : Grammar) (facts : Facts) (are : AreFacts g facts) (grammar : IsGra
       let gap = noted_gap (gap_met facts (gaps_meet facts (set_at facts.sets.firsts term)) p) p in
       ascends_append (noted_operand facts p term) (noted_end facts p ++ gap) (operand_ascends p term)
       (ascends_append (noted_end facts p) gap (ascends_start (operators_meet facts (set_at facts.sets.follows p)) p FollowMeetsOperators)
-      (ascends_gap (gap_met facts (gaps_meet facts (set_at facts.sets.firsts term)) p) p)
+      (ascends_start (gap_met facts (gaps_meet facts (set_at facts.sets.firsts term)) p) p GapMeets)
       (λ b c is_b is_c.
       tags_precede p 8 9 b c (omega arith) (end_wrong g facts are grammar p term builders b at is_b).tagged (expression_gap_wrong g facts are grammar p term builders c at is_c).tagged))
       (λ b c is_b is_c.
@@ -156,7 +158,7 @@ module _ (g : Grammar) (facts : Facts) (are : AreFacts g facts) (grammar : IsGra
   form_ascends p (form.Chain side used operand separator) at =
       round_ascends p (is_marked facts.sets.nullable separator && is_marked facts.sets.nullable operand) (link_meeting facts operand separator p)
   form_ascends p (form.Expression builders term) at = expression_ascends p term builders at
-  form_ascends p (form.Leaf (leaf.Declare class)) at = ascends_gap (gap_met facts None p) p
+  form_ascends p (form.Leaf (leaf.Declare class)) at = ascends_start (gap_met facts None p) p GapMeets
   form_ascends p n at = tt
 
   standing_ascends : (p : ℕ) → Ascends (option_map_or (noted_form facts p) (slice_get g.nodes p) [])
@@ -185,24 +187,24 @@ module _ (g : Grammar) (facts : Facts) (are : AreFacts g facts) (grammar : IsGra
 
   -- ---- the whole
 
-  violation_wrong : (b : Violation ℕ) → In (noted_grammar g facts) b → Violates g b.node (kind_with_starts facts.sets.starts b.kind)
+  violation_wrong : (b : Violation ℕ) → In (noted_grammar g facts) b → Violates g b.node (kind_with_starts (all_starts facts) b.kind)
   violation_wrong b is =
       let for = in_all_below (noted_node g facts) (length g.nodes) b is in
       let wrong = (node_wrong g facts are grammar for.number b for.noted_for).wrong in
-      subst (λ (p : ℕ). Violates g p (kind_with_starts facts.sets.starts b.kind)) (sym wrong.tagged.node) wrong.violates
+      subst (λ (p : ℕ). Violates g p (kind_with_starts (all_starts facts) b.kind)) (sym wrong.tagged.node) wrong.violates
 
-  pub are_violations : AreViolations g (map (with_starts facts.sets.starts) (noted_grammar g facts))
+  pub are_violations : AreViolations g (map (with_starts (all_starts facts)) (noted_grammar g facts))
   are_violations = record {
-    ordered = ascends_sorted facts.sets.starts (noted_grammar g facts) grammar_ascends;
+    ordered = ascends_sorted (all_starts facts) (noted_grammar g facts) grammar_ascends;
     members = λ v. (
       λ h.
-          let noted = noted_contains facts.sets.starts (noted_grammar g facts) v h in
+          let noted = noted_contains (all_starts facts) (noted_grammar g facts) v h in
           subst (λ (w : Violation ListedStart). Violates g w.node w.kind) noted.same (violation_wrong noted.violation noted.there),
       λ is.
           let noted = violation_noted g facts are grammar v.node v.kind is in
           let b : Violation ℕ = record { node = v.node; kind = noted.kind } in
-          let there = contains_noted facts.sets.starts (noted_grammar g facts) b (all_below_has (noted_node g facts) (length g.nodes) v.node b noted.below noted.noted_there) in
-          subst (λ (w : Violation ListedStart). Contains (map (with_starts facts.sets.starts) (noted_grammar g facts)) w) (ap (λ (c : ViolationKind ListedStart). record v { kind = c }) noted.same) there,
+          let there = contains_noted (all_starts facts) (noted_grammar g facts) b (all_below_has (noted_node g facts) (length g.nodes) v.node b noted.below noted.noted_there) in
+          subst (λ (w : Violation ListedStart). Contains (map (with_starts (all_starts facts)) (noted_grammar g facts)) w) (ap (λ (c : ViolationKind ListedStart). record v { kind = c }) noted.same) there,
     );
   }
 
@@ -224,21 +226,32 @@ module _ (g : Grammar) (facts : Facts) (are : AreFacts g facts) (grammar : IsGra
 
   -- ---- findings
 
-  map_twice : (starts : List ListedStart) (bs : List (Violation ℕ)) → map (λ b. saying_of g (with_starts starts b)) bs ≡ map (saying_of g) (map (with_starts starts) bs)
-  map_twice starts [] = refl
-  map_twice starts (b ∷ bs) = ap (λ ss. saying_of g (with_starts starts b) ∷ ss) (map_twice starts bs)
-
-  pub are_findings : (findings : List Finding) → map said findings ≡ map (λ b. saying_of g (with_starts facts.sets.starts b)) (noted_grammar g facts) → AreFindings g findings
-  are_findings findings e = record {
-    violations = map (with_starts facts.sets.starts) (noted_grammar g facts);
+  pub are_findings : AreFindings g (findings_noted g facts)
+  are_findings = record {
+    violations = map (with_starts (all_starts facts)) (noted_grammar g facts);
     all = are_violations;
-    says = e ∙ map_twice facts.sets.starts (noted_grammar g facts);
+    says = refl;
   }
 
--- where nothing is said, nothing is wrong
-pub faultless : (g : Grammar) (findings : List Finding) → AreFindings g findings → findings ≡ [] → IsFaultless g
-faultless g findings are none p kind is = nothing are.violations (sym are.says ∙ ap (map said) none) ((are.all.members (record { node = p; kind = kind })).1 is)
+  -- where nothing is noted, nothing is wrong
+  pub faultless : noted_grammar g facts ≡ [] → IsFaultless g
+  faultless none p kind is =
+      let there = (are_violations.members (record { node = p; kind = kind })).1 is in
+      nowhere (subst (λ (bs : List (Violation ℕ)). Contains (map (with_starts (all_starts facts)) bs) (record { node = p; kind = kind })) none there)
+    where
+      nowhere : Contains {X = Violation ListedStart} [] (record { node = p; kind = kind }) → ⊥
+      nowhere (k, below, at) = absurd (omega arith)
+
+-- ---- refusals
+
+-- what is said of a grammar in which something is noted
+pub refusal_is : (source : Source) → IsRefusal source → IsRefused source.grammar (record { grammar = source.grammar; findings = findings_noted source.grammar source.judge })
+refusal_is source is = record {
+  same = refl;
+  findings = are_findings source.grammar source.judge is.is_source.facts is.is_source.grammar;
+  some = some_said (noted_grammar source.grammar source.judge) (has_some (noted_grammar source.grammar source.judge) is.any);
+}
   where
-    nothing : (vs : List (Violation ListedStart)) → map (saying_of g) vs ≡ [] → Contains vs (record { node = p; kind = kind }) → ⊥
-    nothing [] e (k, below, at) = absurd (omega arith)
-    nothing (v ∷ vs) e h = absurd cc
+    some_said : (bs : List (Violation ℕ)) → 0 < length bs → 0 < length (map (finding_of source.grammar) (map (with_starts (all_starts source.judge)) bs))
+    some_said [] h = absurd (omega arith)
+    some_said (b ∷ bs) h = omega arith

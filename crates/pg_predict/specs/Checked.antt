@@ -1,12 +1,11 @@
 -- Grammars that were checked.
-use Rattle.std.specs.Prelude.{◌≡◌, ◌<◌, length}
+use Rattle.std.specs.Prelude.{◌≡◌}
 use Rattle.pg_value.specs.Grammar.{Grammar}
 use Rattle.pg_sets.specs.Sets.{Sets, AreSets}
 use Rattle.pg_predict.specs.Conditions.{IsFaultless}
-use Rattle.pg_predict.specs.Findings.{AreFindings}
+use Rattle.pg_predict.specs.Refusals.{IsRefused}
 use Rattle.pg_predict.specs.declared.checking.CheckFault.{CheckFault}
 use Rattle.pg_predict.specs.declared.checking.CheckFault.TheVariants as fault
-use Rattle.pg_predict.specs.declared.checking.Refused as declared
 
 pub record GrammarWithSets : Type 0 where
   pub grammar : Grammar
@@ -16,12 +15,6 @@ pub record GrammarWithSets : Type 0 where
 pub record IsChecked (checked : GrammarWithSets) : Type 0 where
   pub sets : AreSets checked.grammar checked.sets
   pub faultless : IsFaultless checked.grammar
-
--- the grammar is handed back with all that is wrong with it, which is something
-pub record IsRefused (g : Grammar) (refused : declared.Refused) : Type 0 where
-  pub same : refused.grammar ≡ g
-  pub findings : AreFindings g refused.findings.items
-  pub some : 0 < length refused.findings.items
 
 -- why a grammar isn't accepted: it is refused, or memory ran out, and it is handed back
 abbrev pub IsFaultOf : Grammar → CheckFault → Type 0

@@ -1,8 +1,8 @@
 -- What is said of a grammar that isn't accepted.
-use Rattle.std.specs.Prelude.{◌≡◌, ◌+◌, ◌-◌, ◌↔◌, ℕ, nat_le, List, [], ◌∷◌, ◌++◌, map, codes, count_by, slice_get, string_bytes}
+use Rattle.std.specs.Prelude.{◌≡◌, ◌+◌, ◌-◌, ◌↔◌, ℕ, nat_le, List, [], ◌∷◌, ◌++◌, map, codes, count_by, slice_get}
 use Rattle.std.specs.Cmp.Lexicographic.{slice_cmp}
 use Rattle.std.specs.Fmt.{decimal}
-use Rattle.std.specs.List.{Contains}
+use Rattle.std.specs.List.{Contains, flat_map}
 use Rattle.std.specs.List.Sorted.{IsStrictlySortedBy}
 use Rattle.std.specs.Option.{option_map_or}
 use Rattle.std.specs.Ordering.{nat_cmp, on}
@@ -13,10 +13,9 @@ use Rattle.pg_value.specs.declared.grammar.Rule.{Rule}
 use Rattle.pg_own_starts.specs.PrintedStarts.{start_text}
 use Rattle.pg_own_starts.specs.declared.listed.ListedStart.{ListedStart}
 use Rattle.pg_predict.specs.Conditions.{Violates}
-use Rattle.pg_predict.specs.declared.violation.Violation.{Violation}
+use Rattle.pg_predict.specs.Violations.{Violation}
 use Rattle.pg_predict.specs.declared.violation.ViolationKind.{ViolationKind}
 use Rattle.pg_predict.specs.declared.violation.ViolationKind.TheVariants.{LeftRecursion, EmptyRound, EmptyAlternative, AlternativesMeet, AlternativeMeetsFollow, RoundMeetsFollow, EmptyOperand, OperandMeetsOperators, FollowMeetsOperators, GapMeets}
-use Rattle.pg_predict.specs.declared.finding.Finding.{Finding}
 
 -- ---- the order
 
@@ -61,21 +60,26 @@ pub record AreViolations (g : Grammar) (violations : List (Violation ListedStart
 
 -- ---- the texts
 
--- two starts that meet
-abbrev pub meeting_text : Grammar → ListedStart → ListedStart → List ℕ
-meeting_text g s t = start_text g s ++ (codes " and " ++ start_text g t)
+-- two starts that meet, with a text for each start
+abbrev pub meeting_text : {S : Type 0} → (S → List ℕ) → S → S → List ℕ
+meeting_text text s t = text s ++ (codes " and " ++ text t)
 
+-- what is wrong, with a text for each start
+abbrev pub kind_text : {S : Type 0} → (S → List ℕ) → ViolationKind S → List ℕ
+kind_text text LeftRecursion = codes "C1 left recursion"
+kind_text text EmptyRound = codes "C2 repeated part can be empty"
+kind_text text (EmptyAlternative k) = codes "C3 alternative " ++ (decimal k ++ codes " can be empty and is not last")
+kind_text text (AlternativesMeet j k s t) = codes "C4 alternatives " ++ (decimal j ++ (codes " and " ++ (decimal k ++ (codes " meet at " ++ meeting_text text s t))))
+kind_text text (AlternativeMeetsFollow k s t) = codes "C5 alternative " ++ (decimal k ++ (codes " meets the follow set at " ++ meeting_text text s t))
+kind_text text (RoundMeetsFollow s t) = codes "C6 repetition meets its follow set at " ++ meeting_text text s t
+kind_text text EmptyOperand = codes "C7 operand can be empty"
+kind_text text (OperandMeetsOperators s) = codes "C7 operand meets operators at " ++ text s
+kind_text text (FollowMeetsOperators s) = codes "C8 follow set meets operators at " ++ text s
+kind_text text (GapMeets s) = codes "C9 gap meets " ++ text s
+
+-- with each start as it is printed
 abbrev pub violation_text : Grammar → ViolationKind ListedStart → List ℕ
-violation_text g LeftRecursion = codes "C1 left recursion"
-violation_text g EmptyRound = codes "C2 repeated part can be empty"
-violation_text g (EmptyAlternative k) = codes "C3 alternative " ++ (decimal k ++ codes " can be empty and is not last")
-violation_text g (AlternativesMeet j k s t) = codes "C4 alternatives " ++ (decimal j ++ (codes " and " ++ (decimal k ++ (codes " meet at " ++ meeting_text g s t))))
-violation_text g (AlternativeMeetsFollow k s t) = codes "C5 alternative " ++ (decimal k ++ (codes " meets the follow set at " ++ meeting_text g s t))
-violation_text g (RoundMeetsFollow s t) = codes "C6 repetition meets its follow set at " ++ meeting_text g s t
-violation_text g EmptyOperand = codes "C7 operand can be empty"
-violation_text g (OperandMeetsOperators s) = codes "C7 operand meets operators at " ++ start_text g s
-violation_text g (FollowMeetsOperators s) = codes "C8 follow set meets operators at " ++ start_text g s
-violation_text g (GapMeets s) = codes "C9 gap meets " ++ start_text g s
+violation_text g = kind_text (start_text g)
 
 -- ---- the places
 
@@ -102,34 +106,40 @@ number_in_rule rules p = p - body_of rules (rule_of rules p) + 1
 -- ---- findings
 
 -- a rule, from 0, a node in it, from 1, the number of a condition, and a line
-pub record Saying : Type 0 where
+pub record Finding : Type 0 where
   pub rule : ℕ
   pub node : ℕ
   pub number : ℕ
   pub line : List ℕ
 
--- what a finding says
-abbrev pub said : Finding → Saying
-said finding = record { rule = finding.rule; node = finding.node; number = finding.number; line = string_bytes finding.line }
-
 -- a rule's name, the number of a node in it, and a text
 abbrev pub placed_text : List ℕ → ℕ → List ℕ → List ℕ
 placed_text name node text = name ++ (codes ":" ++ (decimal node ++ (codes ": " ++ text)))
 
-abbrev pub line_of : Grammar → Violation ListedStart → List ℕ
-line_of g v = placed_text (name_of g.rules (rule_of g.rules v.node)) (number_in_rule g.rules v.node) (violation_text g v.kind)
+abbrev pub line_text : Grammar → Violation ListedStart → List ℕ
+line_text g v = placed_text (name_of g.rules (rule_of g.rules v.node)) (number_in_rule g.rules v.node) (violation_text g v.kind)
 
 -- what is said of a violation
-abbrev pub saying_of : Grammar → Violation ListedStart → Saying
-saying_of g v = record {
+abbrev pub finding_of : Grammar → Violation ListedStart → Finding
+finding_of g v = record {
   rule = rule_of g.rules v.node;
   node = number_in_rule g.rules v.node;
   number = condition_number v.kind;
-  line = line_of g v;
+  line = line_text g v;
 }
 
 -- all findings of a grammar
 pub record AreFindings (g : Grammar) (findings : List Finding) : Type 0 where
   pub violations : List (Violation ListedStart)
   pub all : AreViolations g violations
-  pub says : map said findings ≡ map (saying_of g) violations
+  pub says : findings ≡ map (finding_of g) violations
+
+-- ---- lines
+
+-- a finding's line, with its line feed
+abbrev pub line_of : Finding → List ℕ
+line_of finding = finding.line ++ 10 ∷ []
+
+-- a line for each finding
+abbrev pub lines_of : List Finding → List ℕ
+lines_of = flat_map line_of

@@ -1,5 +1,5 @@
 -- What is noted of a grammar, a condition a line, from sets of numbers.
-use Rattle.std.specs.Prelude.{◌+◌, ◌-◌, ℕ, zero, suc, Bool, true, false, ◌&&◌, nat_lt, if◌then◌else◌, List, [], ◌∷◌, ◌++◌, length, Option, Some, None, slice_get, slice_index_or}
+use Rattle.std.specs.Prelude.{◌+◌, ◌-◌, ℕ, zero, suc, Bool, true, false, ◌&&◌, nat_lt, if◌then◌else◌, List, [], ◌∷◌, ◌++◌, length, map, Option, Some, None, slice_get, slice_index_or}
 use Rattle.std.specs.Option.{option_and_then, option_map_or, option_or}
 use Rattle.pg_value.specs.Grammar.{Grammar}
 use Rattle.pg_form.specs.Forms.{Node}
@@ -8,24 +8,27 @@ use Rattle.pg_bit_set.specs.Numbers.{set_at}
 use Rattle.pg_graph.specs.Marks.{is_marked}
 use Rattle.pg_sets.specs.Sets.{Sets}
 use Rattle.pg_predict.specs.Meetings.{first_met, first_meeting, earlier}
-use Rattle.pg_predict.specs.declared.violation.Violation.{Violation}
+use Rattle.pg_predict.specs.Violations.{Violation}
 use Rattle.pg_predict.specs.declared.violation.ViolationKind.{ViolationKind}
 use Rattle.pg_predict.specs.declared.violation.ViolationKind.TheVariants.{LeftRecursion, EmptyRound, EmptyAlternative, AlternativesMeet, AlternativeMeetsFollow, RoundMeetsFollow, EmptyOperand, OperandMeetsOperators, FollowMeetsOperators, GapMeets}
 use Rattle.pg_predict.specs.declared.meetings.Meeting.{Meeting}
 use Rattle.pg_predict.specs.declared.operator_facts.OperatorFacts.{OperatorFacts}
-use Rattle.pg_own_starts.specs.declared.listed.ListedStart.{ListedStart}
+use Rattle.pg_start.specs.declared.kind.StartKind.TheVariants.{End}
+use Rattle.pg_predict.specs.WithStarts.{Starts, with_starts}
+use Rattle.pg_predict.specs.Findings.{Finding, finding_of}
 use Rattle.pg_form.specs.declared.form.Leaf.{Leaf}
 use Rattle.pg_form.specs.declared.form.Leaf.TheVariants as leaf
 
 -- ---- what is asked
 
 -- the sets of a grammar, marks on the bodies of rules that head themselves, for each start the set of those that aren't
--- apart from it, and what is asked of operators, if there are any
+-- apart from it, what is asked of operators, if there are any, and marks on alternatives that may meet one after them
 pub record Facts : Type 0 where
   pub sets : Sets
   pub recursive : List Bool
   pub meetings : List (List Bool)
   pub operators : Option OperatorFacts
+  pub suspects : List Bool
 
 -- the first meeting of two nodes, of a node and what follows another, of a round of a chain and what follows the chain
 abbrev pub node_meeting : Facts → ℕ → ℕ → Option Meeting
@@ -46,14 +49,17 @@ operators_meet facts set = option_and_then (λ operators. first_met operators.me
 abbrev pub gaps_meet : Facts → List Bool → Option ℕ
 gaps_meet facts set = option_and_then (λ operators. first_met operators.met_by_gap set) facts.operators
 
--- the first start that gaps meet at a node: that of operators, or else that of a term, if there is one, or else the first that
--- follows the node
-abbrev pub gap_met_by : Facts → Option ℕ → ℕ → OperatorFacts → Option ListedStart
-gap_met_by facts term p operators =
-    if operators.in_gap then Some operators.operator
-    else option_and_then (slice_get facts.sets.starts) (option_or term (first_met operators.met_by_gap (set_at facts.sets.follows p)))
+-- the starts of the sets, and that of operators; the end, where there are none
+abbrev pub all_starts : Facts → Starts
+all_starts facts = record { listed = facts.sets.starts; own = option_map_or (λ operators. operators.operator) facts.operators (record { start = End; word = 0 }) }
 
-abbrev pub gap_met : Facts → Option ℕ → ℕ → Option ListedStart
+-- the first start that gaps meet at a node: that of operators, whose number comes after those of the sets, or else that of a
+-- term, if there is one, or else the first that follows the node
+abbrev pub gap_met_by : Facts → Option ℕ → ℕ → OperatorFacts → Option ℕ
+gap_met_by facts term p operators =
+    if operators.in_gap then Some (length facts.sets.starts) else option_or term (first_met operators.met_by_gap (set_at facts.sets.follows p))
+
+abbrev pub gap_met : Facts → Option ℕ → ℕ → Option ℕ
 gap_met facts term p = option_and_then (gap_met_by facts term p) facts.operators
 
 -- ---- what is noted
@@ -68,15 +74,14 @@ abbrev pub noted_meeting : Option Meeting → ℕ → (ℕ → ℕ → Violation
 noted_meeting None p what = []
 noted_meeting (Some meeting) p what = record { node = p; kind = what meeting.one meeting.other } ∷ []
 
--- a violation at a start that gaps meet, if there is one
-abbrev pub noted_gap : Option ListedStart → ℕ → List (Violation ℕ)
-noted_gap None p = []
-noted_gap (Some start) p = record { node = p; kind = GapMeets start } ∷ []
-
 -- a violation at a start, if there is one
 abbrev pub noted_start : Option ℕ → ℕ → (ℕ → ViolationKind ℕ) → List (Violation ℕ)
 noted_start None p what = []
 noted_start (Some start) p what = record { node = p; kind = what start } ∷ []
+
+-- a violation at a start that gaps meet, if there is one
+abbrev pub noted_gap : Option ℕ → ℕ → List (Violation ℕ)
+noted_gap start p = noted_start start p GapMeets
 
 -- what is noted for the numbers below a limit, one after another
 abbrev pub all_below : (ℕ → List (Violation ℕ)) → ℕ → List (Violation ℕ)
@@ -170,3 +175,7 @@ noted_node g facts p = noted (is_marked facts.recursive p) p LeftRecursion ++ op
 -- at all nodes
 abbrev pub noted_grammar : Grammar → Facts → List (Violation ℕ)
 noted_grammar g facts = all_below (noted_node g facts) (length g.nodes)
+
+-- what is said of it
+abbrev pub findings_noted : Grammar → Facts → List Finding
+findings_noted g facts = map (finding_of g) (map (with_starts (all_starts facts)) (noted_grammar g facts))

@@ -1,3 +1,4 @@
+pub mod Violations
 pub mod Conditions
 pub mod Findings
 pub mod Places
@@ -5,5 +6,9 @@ pub mod WithStarts
 pub mod Meetings
 pub mod Judged
 pub mod Suspects
+pub mod Questions
 pub mod Shown
+pub mod Texts
+pub mod Writing
+pub mod Refusals
 pub mod Checked

@@ -1,14 +1,13 @@
 -- Where findings stand: in which rule, at which of its nodes.
-use Rattle.std.specs.Prelude.{◌≡◌, ◌-◌, ◌≤◌, ℕ, List, [], ◌∷◌, ◌++◌, Some, slice_get, string_bytes}
+use Rattle.std.specs.Prelude.{◌≡◌, ◌-◌, ◌≤◌, ℕ, List, [], ◌∷◌, ◌++◌, Some, slice_get}
 use Rattle.std.specs.List.{AllByRecursion}
 use Rattle.pg_form.specs.Forms.{Node, parts_of}
 use Rattle.pg_value.specs.Grammar.{Grammar, IsGrammar, rule_body}
 use Rattle.pg_value.specs.declared.grammar.Rule.{Rule}
 use Rattle.pg_own_starts.specs.declared.listed.ListedStart.{ListedStart}
 use Rattle.pg_predict.specs.Conditions.{Violates}
-use Rattle.pg_predict.specs.Findings.{AreFindings, condition_number, name_text, placed_text, violation_text}
+use Rattle.pg_predict.specs.Findings.{Finding, AreFindings, condition_number, name_text, placed_text, violation_text}
 use Rattle.pg_predict.specs.declared.violation.ViolationKind.{ViolationKind}
-use Rattle.pg_predict.specs.declared.finding.Finding.{Finding}
 
 -- some nodes with all that stand in them, in preorder: a node, then what stands in its parts, and then the other nodes
 pub data Preorder (g : Grammar) : List ℕ → List ℕ → Type 0 where
@@ -33,7 +32,7 @@ pub record SpeaksOf (g : Grammar) (finding : Finding) : Type 0 where
   pub violates : Violates g p kind
   pub stands : StandsAs g finding.rule finding.node p
   pub condition : finding.number ≡ condition_number kind
-  pub line : string_bytes finding.line ≡ placed_text (name_text stands.rule) finding.node (violation_text g kind)
+  pub line : finding.line ≡ placed_text (name_text stands.rule) finding.node (violation_text g kind)
 
 -- each finding of a grammar speaks of such a node
 abbrev pub FindingsSpeakOfNodes : Type 0

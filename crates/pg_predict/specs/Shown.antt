@@ -13,6 +13,7 @@ use Rattle.pg_own_starts.specs.Listed.{IsListed}
 use Rattle.pg_own_starts.specs.OperatorStarts.{IsGapStart}
 use Rattle.pg_own_starts.specs.OwnStarts.{IsOperatorStart}
 use Rattle.pg_predict.specs.Judged.{Facts}
+use Rattle.pg_predict.specs.Suspects.{AreSuspects}
 use Rattle.pg_predict.specs.declared.operator_facts.OperatorFacts.{OperatorFacts}
 
 -- the node is the body of a rule that heads itself
@@ -57,3 +58,4 @@ pub record AreFacts (g : Grammar) (facts : Facts) : Type 0 where
   pub recursive : MarksRecursive g facts.recursive
   pub meetings : AreMeetings facts.sets.starts facts.meetings
   pub operators : AreOperatorFacts g facts.sets.starts facts.operators
+  pub suspects : AreSuspects g facts.sets facts.meetings facts.suspects

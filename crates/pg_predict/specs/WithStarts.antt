@@ -1,17 +1,21 @@
 -- Violations with starts for their numbers: while a grammar is judged, a start is known by its number.
 use Rattle.std.specs.Prelude.{ℕ, List, slice_index_or}
-use Rattle.pg_start.specs.declared.kind.StartKind.TheVariants.{End}
 use Rattle.pg_own_starts.specs.declared.listed.ListedStart.{ListedStart}
-use Rattle.pg_predict.specs.declared.violation.Violation.{Violation}
+use Rattle.pg_predict.specs.Violations.{Violation}
 use Rattle.pg_predict.specs.declared.violation.ViolationKind.{ViolationKind}
 use Rattle.pg_predict.specs.declared.violation.ViolationKind.TheVariants.{LeftRecursion, EmptyRound, EmptyAlternative, AlternativesMeet, AlternativeMeetsFollow, RoundMeetsFollow, EmptyOperand, OperandMeetsOperators, FollowMeetsOperators, GapMeets}
 
--- the start with a number; the end for a number that no start has
-abbrev pub start_at : List ListedStart → ℕ → ListedStart
-start_at starts s = slice_index_or starts s (record { start = End; word = 0 })
+-- the starts of the sets, and that of operators, which needn't be one of them
+pub record Starts : Type 0 where
+  pub listed : List ListedStart
+  pub own : ListedStart
+
+-- the start with a number; that of operators for a number that no start of the sets has
+abbrev pub start_at : Starts → ℕ → ListedStart
+start_at starts s = slice_index_or starts.listed s starts.own
 
 -- the kind, with starts for their numbers
-abbrev pub kind_with_starts : List ListedStart → ViolationKind ℕ → ViolationKind ListedStart
+abbrev pub kind_with_starts : Starts → ViolationKind ℕ → ViolationKind ListedStart
 kind_with_starts starts LeftRecursion = LeftRecursion
 kind_with_starts starts EmptyRound = EmptyRound
 kind_with_starts starts (EmptyAlternative k) = EmptyAlternative k
@@ -21,8 +25,8 @@ kind_with_starts starts (RoundMeetsFollow s t) = RoundMeetsFollow (start_at star
 kind_with_starts starts EmptyOperand = EmptyOperand
 kind_with_starts starts (OperandMeetsOperators s) = OperandMeetsOperators (start_at starts s)
 kind_with_starts starts (FollowMeetsOperators s) = FollowMeetsOperators (start_at starts s)
-kind_with_starts starts (GapMeets s) = GapMeets s
+kind_with_starts starts (GapMeets s) = GapMeets (start_at starts s)
 
 -- the violation, with starts for their numbers
-abbrev pub with_starts : List ListedStart → Violation ℕ → Violation ListedStart
+abbrev pub with_starts : Starts → Violation ℕ → Violation ListedStart
 with_starts starts violation = record { node = violation.node; kind = kind_with_starts starts violation.kind }

@@ -1,25 +1,16 @@
-//! The check: a grammar is accepted where it is predictive, and else all that is wrong with it is said.
+//! The check: a grammar is accepted where it is predictive, and else all that is wrong with it can be said.
 ghost use Rattle.std.specs.Prelude.{◌≡◌, IfOk, IfErr};
 ghost use Rattle.pg_predict.specs.Checked.{IsChecked, IsFaultOf};
-ghost use Rattle.pg_predict.specs.Findings.{AreFindings};
-ghost use Rattle.pg_sets.specs.Sets.{AreSets};
+ghost use Rattle.pg_predict.specs.Shown.{AreFacts};
 
 use crate::checked::Checked;
-use crate::finding::{Finding, findings_of};
+use crate::finds::any_violation;
 use crate::judge::Judge;
-use crate::judging::judge_grammar;
-use pg_sets::Sets;
+use crate::refused::Refused;
+use crate::source::Source;
+use crate::texts::texts_of;
 use pg_value::Grammar;
-use std::alloc::{AllocError, Global};
-
-/// A grammar that isn't predictive, and why.
-#[derive(Drop)]
-pub struct Refused {
-    /// The grammar, as it was handed in.
-    pub grammar: Grammar,
-    /// All that is wrong with it, at least one thing, in the order of nodes, numbers and alternatives.
-    pub findings: Vec<Finding>,
-}
+use std::alloc::Global;
 
 /// Why a grammar wasn't accepted.
 #[derive(Drop)]
@@ -38,38 +29,28 @@ pub fn check(alloc: Global, grammar: Grammar) -> Result<Checked, CheckFault>
     ensures accepted { IfOk result (λ checked. IsChecked checked) }
     ensures refused { IfErr result (IsFaultOf grammar) }
 {
-    match judge(alloc, &grammar) {
-        Ok(judged) => {
-            if judged.findings.is_empty() {
-                Ok(Checked::new(grammar, judged.sets))
-            } else {
-                Err(CheckFault::Refused(Refused {
-                    grammar,
-                    findings: judged.findings,
-                }))
-            }
-        }
+    match Judge::of(alloc, &grammar) {
+        Ok(judge) => decide(alloc, grammar, judge),
         Err(_) => Err(CheckFault::Memory(grammar)),
     }
 }
 
-/// The sets of a grammar, and what is wrong with it.
-#[derive(Debug, Drop)]
-struct Judged {
-    sets: Sets,
-    findings: Vec<Finding>,
-}
-
-/// Judges a grammar. The only error is that memory ran out.
-fn judge(alloc: Global, grammar: &Grammar) -> Result<Judged, AllocError>
-    ensures sets { IfOk result (λ judged. AreSets grammar.now judged.sets) }
-    ensures findings { IfOk result (λ judged. AreFindings grammar.now judged.findings.items) }
+/// Accepts a grammar by its facts, or refuses it.
+fn decide(alloc: Global, grammar: Grammar, judge: Judge) -> Result<Checked, CheckFault>
+    requires { AreFacts grammar judge }
+    ensures same { IfOk result (λ checked. checked.grammar ≡ grammar) }
+    ensures accepted { IfOk result (λ checked. IsChecked checked) }
+    ensures refused { IfErr result (IsFaultOf grammar) }
 {
-    let facts = Judge::of(alloc, grammar)?;
-    let violations = judge_grammar(alloc, grammar, &facts)?;
-    let findings = findings_of(alloc, grammar, facts.starts(), violations.as_slice())?;
-    Ok(Judged {
-        sets: facts.into_sets(),
-        findings,
-    })
+    if !any_violation(&judge, &grammar) {
+        return Ok(Checked::new(grammar, judge.into_sets()));
+    }
+    match texts_of(alloc, &grammar, &judge) {
+        Ok(texts) => Err(CheckFault::Refused(Refused::new(Source {
+            grammar,
+            judge,
+            texts,
+        }))),
+        Err(_) => Err(CheckFault::Memory(grammar)),
+    }
 }

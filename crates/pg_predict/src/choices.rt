@@ -1,170 +1,109 @@
 //! Choices: only the last alternative may be empty (C3), no two alternatives may begin alike (C4), and where the last may be
 //! empty, none may begin like what follows the choice (C5).
-ghost use Rattle.std.specs.Prelude.{◌≡◌, ◌<◌, ◌++◌, [], false, length, OnOk};
-ghost use Rattle.pg_predict.specs.Suspects.{HaveLimits};
-ghost use Rattle.pg_predict.specs.Judged.{ends_nullable, noted_meeting, empty_alternatives, meetings_of_alternative, alternatives_that_meet, alternatives_and_follow, alternative_and_follow, meeting_alternatives, noted_choice, node_meeting};
+ghost use Rattle.std.specs.Prelude.{◌≡◌, ◌<◌, ◌-◌, [], length, if◌then◌else◌};
+ghost use Rattle.pg_predict.specs.Judged.{ends_nullable, empty_alternative, alternative_and_follow, meeting_alternatives};
+ghost use Rattle.pg_predict.specs.Questions.{found_at, asked_choice, choice_questions};
 
 use crate::judge::Judge;
-use crate::marks::is_marked;
-use crate::noting::note_where;
-use crate::suspects::suspects;
-use crate::violation::{Violation, ViolationKind};
+use crate::violation::ViolationKind;
 use pg_form::NodeId;
-use std::alloc::{AllocError, Global};
 
-/// Judges a choice of these alternatives. The only error is that memory ran out.
-pub(crate) fn judge_choice(
-    alloc: Global,
-    judge: &Judge,
-    node: NodeId,
-    parts: &[NodeId],
-    violations: &mut Vec<Violation<usize>>,
-) -> Result<(), AllocError>
-    requires { HaveLimits judge.now parts.now }
-    ensures { OnOk result (violations.new.items ≡ violations.old.items ++ noted_choice judge.now node parts.now) }
+/// How many questions a series of a choice has.
+pub(crate) fn choice_questions(judge: &Judge, parts: &[NodeId], series: usize) -> usize
+    ensures { result ≡ choice_questions judge.now parts.now series }
 {
-    judge_empty_alternatives(judge, node, parts, violations)?;
-    judge_meetings(alloc, judge, node, parts, violations)?;
-    judge_follow(judge, node, parts, violations)
-}
-
-/// Notes each alternative but the last that is nullable. The only error is that memory ran out.
-#[tactic(auto, using(crate::proofs::AllBelow::all_below_step))]
-fn judge_empty_alternatives(
-    judge: &Judge,
-    node: NodeId,
-    parts: &[NodeId],
-    violations: &mut Vec<Violation<usize>>,
-) -> Result<(), AllocError>
-    ensures { OnOk result (violations.new.items ≡ violations.old.items ++ empty_alternatives judge.now node parts.now) }
-{
-    for k in 0..parts.len().saturating_sub(1) {
-        let empty = judge.is_nullable(parts[k]);
-        note_where(
-            empty,
-            node.index(),
-            ViolationKind::EmptyAlternative(k + 1),
-            violations,
-        )?;
+    let all_but_last = parts.len().saturating_sub(1);
+    match series.checked_sub(1) {
+        None => all_but_last,
+        Some(j) => match parts.get(j) {
+            None => all_but_last,
+            Some(part) => {
+                if judge.is_suspect(*part) {
+                    parts.len()
+                } else {
+                    0
+                }
+            }
+        },
     }
-    Ok(())
 }
 
-/// Notes each two alternatives that meet. The only error is that memory ran out.
-#[tactic(auto, using(crate::proofs::AllBelow::all_below_step, crate::proofs::Unsuspected::none_noted))]
-fn judge_meetings(
-    alloc: Global,
+/// What is wrong with a choice of these alternatives, by the question of a series.
+pub(crate) fn ask_choice(
     judge: &Judge,
     node: NodeId,
     parts: &[NodeId],
-    violations: &mut Vec<Violation<usize>>,
-) -> Result<(), AllocError>
-    requires { HaveLimits judge.now parts.now }
-    ensures { OnOk result (violations.new.items ≡ violations.old.items ++ alternatives_that_meet judge.now node parts.now) }
+    series: usize,
+    question: usize,
+) -> Option<ViolationKind<usize>>
+    requires { question < choice_questions judge.now parts.now series }
+    ensures { found_at node result ≡ asked_choice judge.now node parts.now series question }
 {
-    let marks = suspects(alloc, judge, parts)?;
-    for j in 0..parts.len() {
-        judge_suspect(judge, node, parts, j, is_marked(&marks, j), violations)?;
-    }
-    Ok(())
-}
-
-/// Notes each alternative after this one that meets it, if one may. The only error is that memory ran out.
-fn judge_suspect(
-    judge: &Judge,
-    node: NodeId,
-    parts: &[NodeId],
-    j: usize,
-    suspect: bool,
-    violations: &mut Vec<Violation<usize>>,
-) -> Result<(), AllocError>
-    requires alternative { j < length parts.now }
-    requires apart { suspect ≡ false → meetings_of_alternative judge.now node parts.now j ≡ [] }
-    ensures { OnOk result (violations.new.items ≡ violations.old.items ++ meetings_of_alternative judge.now node parts.now j) }
-{
-    if suspect {
-        judge_alternative(judge, node, parts, j, violations)?;
-    }
-    Ok(())
-}
-
-/// Notes each alternative after this one that meets it. The only error is that memory ran out.
-#[tactic(auto, using(crate::proofs::AllBelow::all_below_step, crate::proofs::AllBelow::none_before))]
-fn judge_alternative(
-    judge: &Judge,
-    node: NodeId,
-    parts: &[NodeId],
-    j: usize,
-    violations: &mut Vec<Violation<usize>>,
-) -> Result<(), AllocError>
-    requires { j < length parts.now }
-    ensures { OnOk result (violations.new.items ≡ violations.old.items ++ meetings_of_alternative judge.now node parts.now j) }
-{
-    for k in j + 1..parts.len() {
-        judge_pair(judge, node, parts, j, k, violations)?;
-    }
-    Ok(())
-}
-
-/// Notes that two alternatives meet, if they do. The only error is that memory ran out.
-fn judge_pair(
-    judge: &Judge,
-    node: NodeId,
-    parts: &[NodeId],
-    j: usize,
-    k: usize,
-    violations: &mut Vec<Violation<usize>>,
-) -> Result<(), AllocError>
-    requires first { j < k }
-    requires second { k < length parts.now }
-    ensures { OnOk result (violations.new.items ≡ violations.old.items ++ meeting_alternatives judge.now node parts.now j k) }
-{
-    if let Some(met) = judge.node_meeting(parts[j], parts[k]) {
-        violations.push(Violation {
-            node: node.index(),
-            kind: ViolationKind::AlternativesMeet(j + 1, k + 1, met.one, met.other),
-        })?;
-    }
-    Ok(())
-}
-
-/// Notes each alternative but the last that meets what follows, where the last is nullable. The only error is that memory
-/// ran out.
-#[tactic(auto, using(crate::proofs::AllBelow::all_below_step))]
-fn judge_follow(
-    judge: &Judge,
-    node: NodeId,
-    parts: &[NodeId],
-    violations: &mut Vec<Violation<usize>>,
-) -> Result<(), AllocError>
-    ensures { OnOk result (violations.new.items ≡ violations.old.items ++ alternatives_and_follow judge.now node parts.now) }
-{
-    if let Some(last) = parts.last()
-        && judge.is_nullable(*last)
-    {
-        for k in 0..parts.len() - 1 {
-            judge_alternative_and_follow(judge, node, parts, k, violations)?;
+    match series.checked_sub(1) {
+        None => empty_alternative(judge, node, parts, question),
+        Some(j) => {
+            if j < parts.len() {
+                alternatives_meet(judge, node, parts, j, question)
+            } else {
+                alternative_meets_follow(judge, node, parts, question)
+            }
         }
     }
-    Ok(())
 }
 
-/// Notes that an alternative meets what follows, if it does. The only error is that memory ran out.
-fn judge_alternative_and_follow(
+/// Whether an alternative but the last is nullable.
+fn empty_alternative(
     judge: &Judge,
     node: NodeId,
     parts: &[NodeId],
     k: usize,
-    violations: &mut Vec<Violation<usize>>,
-) -> Result<(), AllocError>
+) -> Option<ViolationKind<usize>>
     requires { k < length parts.now }
-    ensures { OnOk result (violations.new.items ≡ violations.old.items ++ alternative_and_follow judge.now node parts.now k) }
+    ensures { found_at node result ≡ empty_alternative judge.now node parts.now k }
 {
-    if let Some(met) = judge.follow_meeting(parts[k], node) {
-        violations.push(Violation {
-            node: node.index(),
-            kind: ViolationKind::AlternativeMeetsFollow(k + 1, met.one, met.other),
-        })?;
+    if judge.is_nullable(parts[k]) {
+        Some(ViolationKind::EmptyAlternative(k + 1))
+    } else {
+        None
     }
-    Ok(())
+}
+
+/// Whether an alternative meets this one after it.
+fn alternatives_meet(
+    judge: &Judge,
+    node: NodeId,
+    parts: &[NodeId],
+    j: usize,
+    k: usize,
+) -> Option<ViolationKind<usize>>
+    requires first { j < length parts.now }
+    requires second { k < length parts.now }
+    ensures { found_at node result ≡ meeting_alternatives judge.now node parts.now j k }
+{
+    if j >= k {
+        return None;
+    }
+    match judge.node_meeting(parts[j], parts[k]) {
+        Some(met) => Some(ViolationKind::AlternativesMeet(j + 1, k + 1, met.one, met.other)),
+        None => None,
+    }
+}
+
+/// Whether an alternative but the last meets what follows, where the last is nullable.
+fn alternative_meets_follow(
+    judge: &Judge,
+    node: NodeId,
+    parts: &[NodeId],
+    k: usize,
+) -> Option<ViolationKind<usize>>
+    requires { k < length parts.now - 1 }
+    ensures { found_at node result ≡ (if ends_nullable judge.now parts.now then alternative_and_follow judge.now node parts.now k else []) }
+{
+    if !judge.is_nullable(parts[parts.len() - 1]) {
+        return None;
+    }
+    match judge.follow_meeting(parts[k], node) {
+        Some(met) => Some(ViolationKind::AlternativeMeetsFollow(k + 1, met.one, met.other)),
+        None => None,
+    }
 }

@@ -1,63 +1,51 @@
 //! Expressions: a term isn't empty and doesn't begin like an operator (C7), what follows doesn't either (C8), and a gap begins
 //! like none of these (C9).
-ghost use Rattle.std.specs.Prelude.{◌≡◌, ◌++◌, OnOk};
-ghost use Rattle.pg_predict.specs.Judged.{noted_end, noted_expression, noted_operand};
+ghost use Rattle.std.specs.Prelude.{◌≡◌};
+ghost use Rattle.pg_bit_set.specs.Numbers.{set_at};
+ghost use Rattle.pg_predict.specs.Judged.{noted_end, noted_start, operators_meet};
+ghost use Rattle.pg_predict.specs.Questions.{found_at, expression_series};
 
 use crate::judge::Judge;
-use crate::noting::{note_gap, note_where};
-use crate::violation::{Violation, ViolationKind};
+use crate::noting::{found_where, gap_meets};
+use crate::violation::ViolationKind;
 use pg_form::NodeId;
-use std::alloc::{AllocError, Global};
 
-/// Judges an expression over a term. The only error is that memory ran out.
-pub(crate) fn judge_expression(
-    alloc: Global,
+/// What is wrong with an expression over a term, by the question.
+pub(crate) fn ask_expression(
     judge: &Judge,
     node: NodeId,
     term: NodeId,
-    violations: &mut Vec<Violation<usize>>,
-) -> Result<(), AllocError>
-    ensures { OnOk result (violations.new.items ≡ violations.old.items ++ noted_expression judge.now node term) }
+    question: usize,
+) -> Option<ViolationKind<usize>>
+    ensures { found_at node result ≡ expression_series judge.now node term question }
 {
-    judge_operand(judge, node, term, violations)?;
-    judge_end(judge, node, violations)?;
-    let term = judge.gaps_meet(judge.first(term));
-    note_gap(alloc, judge.gap_met(term, node), node, violations)
+    match question {
+        0 => found_where(judge.is_nullable(term), node, ViolationKind::EmptyOperand),
+        1 => operand_meets(judge, node, term),
+        2 => follow_meets(judge, node),
+        _ => gap_meets(
+            judge.gap_met(judge.gaps_meet(judge.first(term)), node),
+            node,
+        ),
+    }
 }
 
-/// Judges what an expression has for its operands. The only error is that memory ran out.
-fn judge_operand(
-    judge: &Judge,
-    node: NodeId,
-    term: NodeId,
-    violations: &mut Vec<Violation<usize>>,
-) -> Result<(), AllocError>
-    ensures { OnOk result (violations.new.items ≡ violations.old.items ++ noted_operand judge.now node term) }
+/// That what begins a term meets operators, if it does.
+fn operand_meets(judge: &Judge, node: NodeId, term: NodeId) -> Option<ViolationKind<usize>>
+    ensures { found_at node result ≡ noted_start (operators_meet judge.now (set_at judge.now.sets.firsts term)) node ViolationKind.OperandMeetsOperators }
 {
-    let empty = judge.is_nullable(term);
-    note_where(empty, node.index(), ViolationKind::EmptyOperand, violations)?;
-    if let Some(start) = judge.operators_meet(judge.first(term)) {
-        violations.push(Violation {
-            node: node.index(),
-            kind: ViolationKind::OperandMeetsOperators(start),
-        })?;
+    match judge.operators_meet(judge.first(term)) {
+        Some(start) => Some(ViolationKind::OperandMeetsOperators(start)),
+        None => None,
     }
-    Ok(())
 }
 
-/// Judges what follows an expression. The only error is that memory ran out.
-fn judge_end(
-    judge: &Judge,
-    node: NodeId,
-    violations: &mut Vec<Violation<usize>>,
-) -> Result<(), AllocError>
-    ensures { OnOk result (violations.new.items ≡ violations.old.items ++ noted_end judge.now node) }
+/// That what follows an expression meets operators, if it does.
+fn follow_meets(judge: &Judge, node: NodeId) -> Option<ViolationKind<usize>>
+    ensures { found_at node result ≡ noted_end judge.now node }
 {
-    if let Some(start) = judge.operators_meet(judge.follow(node)) {
-        violations.push(Violation {
-            node: node.index(),
-            kind: ViolationKind::FollowMeetsOperators(start),
-        })?;
+    match judge.operators_meet(judge.follow(node)) {
+        Some(start) => Some(ViolationKind::FollowMeetsOperators(start)),
+        None => None,
     }
-    Ok(())
 }

@@ -1,11 +1,11 @@
 //! What a grammar is judged by: its sets, the rules that head themselves, and the starts that meet.
 //!
 //! Each question of a condition is answered here, and in one place.
-ghost use Rattle.std.specs.Prelude.{◌≡◌, IfOk, is_some, option_copied};
+ghost use Rattle.std.specs.Prelude.{◌≡◌, IfOk, option_copied};
+ghost use Rattle.std.specs.Option.{option_map};
 ghost use Rattle.pg_bit_set.specs.Numbers.{set_at};
 ghost use Rattle.pg_graph.specs.Marks.{is_marked};
 ghost use Rattle.pg_predict.specs.Judged.{node_meeting, follow_meeting, link_meeting, operators_meet, gaps_meet, gap_met, gap_met_by};
-ghost use Rattle.pg_predict.specs.Meetings.{first_meeting};
 ghost use Rattle.pg_predict.specs.Shown.{AreFacts};
 
 use crate::marks::is_marked;
@@ -13,6 +13,7 @@ use crate::meetings::{Meeting, earlier, first_meeting, first_met};
 use crate::met_starts::met_starts;
 use crate::operator_facts::{OperatorFacts, operator_facts};
 use crate::recursion::recursive_bodies;
+use crate::suspects::suspects;
 use pg_bit_set::BitSet;
 use pg_form::NodeId;
 use pg_own_starts::ListedStart;
@@ -28,6 +29,7 @@ pub(crate) struct Judge {
     recursive: Vec<bool>,
     meetings: Vec<BitSet>,
     operators: Option<OperatorFacts>,
+    suspects: Vec<bool>,
 }
 
 impl Model for Judge {
@@ -35,7 +37,7 @@ impl Model for Judge {
 
     ghost Value = { Facts };
 
-    ghost view = { λ judge. record { sets = judge.sets; recursive = judge.recursive.items; meetings = judge.meetings.items; operators = judge.operators } };
+    ghost view = { λ judge. record { sets = judge.sets; recursive = judge.recursive.items; meetings = judge.meetings.items; operators = judge.operators; suspects = judge.suspects.items } };
 }
 
 impl Judge {
@@ -47,11 +49,13 @@ impl Judge {
         let recursive = recursive_bodies(alloc, grammar, &sets)?;
         let meetings = met_starts(alloc, sets.starts())?;
         let operators = operator_facts(alloc, grammar, sets.starts())?;
+        let suspects = suspects(alloc, grammar, &sets, meetings.as_slice())?;
         Ok(Judge {
             sets,
             recursive,
             meetings,
             operators,
+            suspects,
         })
     }
 
@@ -83,11 +87,14 @@ impl Judge {
         self.sets.follow(node)
     }
 
-    /// Whether a start of the one set meets one of the other.
-    pub(crate) fn meets(&self, one: &BitSet, other: &BitSet) -> bool
-        ensures { result ≡ is_some (first_meeting self.now.meetings one.now other.now) }
+    /// The start of operators, if there are any.
+    pub(crate) fn operator(&self) -> Option<&ListedStart>
+        ensures { option_copied result ≡ option_map (λ operators. operators.operator) self.now.operators }
     {
-        first_meeting(&self.meetings, one, other).is_some()
+        match &self.operators {
+            Some(operators) => Some(&operators.operator),
+            None => None,
+        }
     }
 
     /// Whether a node is nullable.
@@ -102,6 +109,13 @@ impl Judge {
         ensures { result ≡ is_marked self.now.recursive node }
     {
         is_marked(&self.recursive, node)
+    }
+
+    /// Whether an alternative may meet one after it.
+    pub(crate) fn is_suspect(&self, node: NodeId) -> bool
+        ensures { result ≡ is_marked self.now.suspects node }
+    {
+        is_marked(&self.suspects, node.index())
     }
 
     /// The first meeting of a start of one node and a start of another.
@@ -159,10 +173,10 @@ impl Judge {
         }
     }
 
-    /// The first start that gaps meet at a node: that of operators, or else that of a term, if there is one, or else the
-    /// first that follows the node.
-    pub(crate) fn gap_met(&self, term: Option<usize>, node: NodeId) -> Option<&ListedStart>
-        ensures { option_copied result ≡ gap_met self.now term node }
+    /// The first start that gaps meet at a node: that of operators, whose number comes after those of the sets, or else that of
+    /// a term, if there is one, or else the first that follows the node.
+    pub(crate) fn gap_met(&self, term: Option<usize>, node: NodeId) -> Option<usize>
+        ensures { result ≡ gap_met self.now term node }
     {
         match &self.operators {
             Some(operators) => self.gap_met_by(term, node, operators),
@@ -171,20 +185,18 @@ impl Judge {
     }
 
     /// The same by what is asked of operators.
-    fn gap_met_by<'j>(
-        &'j self,
+    fn gap_met_by(
+        &self,
         term: Option<usize>,
         node: NodeId,
-        operators: &'j OperatorFacts,
-    ) -> Option<&'j ListedStart>
-        ensures { option_copied result ≡ gap_met_by self.now term node operators.now }
+        operators: &OperatorFacts,
+    ) -> Option<usize>
+        ensures { result ≡ gap_met_by self.now term node operators.now }
     {
         if operators.in_gap {
-            return Some(&operators.operator);
-        }
-        match term.or(first_met(&operators.met_by_gap, self.sets.follow(node))) {
-            Some(number) => self.sets.starts().get(number),
-            None => None,
+            Some(self.sets.starts().len())
+        } else {
+            term.or(first_met(&operators.met_by_gap, self.sets.follow(node)))
         }
     }
 }

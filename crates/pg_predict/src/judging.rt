@@ -1,80 +1,97 @@
-//! Judging a grammar: each node in its order, by the conditions on its form.
-ghost use Rattle.std.specs.Prelude.{◌≡◌, ◌<◌, ◌++◌, Some, slice_get, length, IfOk, OnOk};
-ghost use Rattle.pg_value.specs.Grammar.{IsGrammar};
-ghost use Rattle.pg_predict.specs.Judged.{noted_form, noted_node, noted_grammar};
-ghost use Rattle.pg_predict.specs.Shown.{AreFacts};
+//! Judging a node: what is asked of it, question by question.
+//!
+//! Each question finds one violation at most, and takes no memory, so that nothing need be kept of what is found. The questions
+//! stand in series: a choice has one for each alternative, of the questions whether it meets those after it.
+ghost use Rattle.std.specs.Prelude.{◌≡◌, ◌<◌, ◌+◌};
+ghost use Rattle.pg_predict.specs.Questions.{found_at, form_series_count, node_questions, form_questions, asked_node, asked_form};
 
-use crate::choices::judge_choice;
-use crate::declarations::judge_leaf;
-use crate::expressions::judge_expression;
+use crate::choices::{ask_choice, choice_questions};
+use crate::declarations::ask_leaf;
+use crate::expressions::ask_expression;
 use crate::judge::Judge;
-use crate::noting::note_where;
-use crate::repetitions::{judge_chain, judge_many};
-use crate::violation::{Violation, ViolationKind};
+use crate::noting::found_where;
+use crate::repetitions::{ask_chain, ask_many};
+use crate::violation::ViolationKind;
 use pg_form::{Form, Node, NodeId};
-use pg_value::Grammar;
-use std::alloc::{AllocError, Global};
 
-/// All that is wrong with a grammar, by the order of nodes. The only error is that memory ran out.
-#[tactic(auto, using(crate::proofs::AllBelow::all_below_first))]
-pub(crate) fn judge_grammar(
-    alloc: Global,
-    grammar: &Grammar,
-    judge: &Judge,
-) -> Result<Vec<Violation<usize>>, AllocError>
-    requires { AreFacts grammar.now judge.now }
-    ensures violations { IfOk result (λ violations. violations.items ≡ noted_grammar grammar.now judge.now) }
-    ensures grammar { IfOk result (λ _. IsGrammar grammar.now) }
+/// How many series of questions are asked of a node: one whether its rule heads itself, and those of what stands there.
+pub(crate) fn series_count(form: &Node) -> usize
+    ensures { result ≡ form_series_count form.now + 1 }
 {
-    let mut violations = Vec::new(alloc);
-    for number in 0..grammar.nodes().len() {
-        judge_node(alloc, grammar, judge, number, &mut violations)?;
+    match form {
+        Form::Choice(parts) => parts.as_slice().len() + 3,
+        Form::Many(_) | Form::Chain(_, _, _, _) => 3,
+        Form::Leaf(_) => 2,
+        Form::Expression(_, _) => 5,
+        Form::Seq(_) | Form::Rule(_) | Form::Around(_, _) => 1,
     }
-    Ok(violations)
 }
 
-/// Judges a node. The only error is that memory ran out.
-fn judge_node(
-    alloc: Global,
-    grammar: &Grammar,
-    judge: &Judge,
-    number: usize,
-    violations: &mut Vec<Violation<usize>>,
-) -> Result<(), AllocError>
-    requires facts { AreFacts grammar.now judge.now }
-    requires grammar { IsGrammar grammar.now }
-    requires node { number < length grammar.now.nodes }
-    ensures { OnOk result (violations.new.items ≡ violations.old.items ++ noted_node grammar.now judge.now number) }
+/// How many questions a series of a node has.
+pub(crate) fn node_questions(judge: &Judge, form: &Node, series: usize) -> usize
+    ensures { result ≡ node_questions judge.now form.now series }
 {
-    let recursive = judge.is_recursive(number);
-    note_where(recursive, number, ViolationKind::LeftRecursion, violations)?;
-    let node = NodeId::new(number);
-    judge_form(alloc, grammar, judge, node, grammar.node(node), violations)
+    match series.checked_sub(1) {
+        None => 1,
+        Some(series) => form_questions(judge, form, series),
+    }
 }
 
-/// Judges what stands at a node. The only error is that memory ran out.
-#[tactic(auto, using(crate::proofs::Unsuspected::limits_of))]
-fn judge_form(
-    alloc: Global,
-    grammar: &Grammar,
+fn form_questions(judge: &Judge, form: &Node, series: usize) -> usize
+    ensures { result ≡ form_questions judge.now form.now series }
+{
+    match form {
+        Form::Choice(parts) => choice_questions(judge, parts.as_slice(), series),
+        Form::Many(_)
+        | Form::Chain(_, _, _, _)
+        | Form::Leaf(_)
+        | Form::Expression(_, _)
+        | Form::Seq(_)
+        | Form::Rule(_)
+        | Form::Around(_, _) => 1,
+    }
+}
+
+/// What is wrong at a node, by the question of a series.
+pub(crate) fn ask_node(
     judge: &Judge,
     node: NodeId,
     form: &Node,
-    violations: &mut Vec<Violation<usize>>,
-) -> Result<(), AllocError>
-    requires facts { AreFacts grammar.now judge.now }
-    requires grammar { IsGrammar grammar.now }
-    requires form { slice_get grammar.now.nodes node ≡ Some form.now }
-    ensures { OnOk result (violations.new.items ≡ violations.old.items ++ noted_form judge.now node form.now) }
+    series: usize,
+    question: usize,
+) -> Option<ViolationKind<usize>>
+    requires { question < node_questions judge.now form.now series }
+    ensures { found_at node result ≡ asked_node judge.now node form.now series question }
+{
+    match series.checked_sub(1) {
+        None => found_where(
+            judge.is_recursive(node.index()),
+            node,
+            ViolationKind::LeftRecursion,
+        ),
+        Some(series) => ask_form(judge, node, form, series, question),
+    }
+}
+
+/// What is wrong with what stands at a node.
+fn ask_form(
+    judge: &Judge,
+    node: NodeId,
+    form: &Node,
+    series: usize,
+    question: usize,
+) -> Option<ViolationKind<usize>>
+    requires { question < form_questions judge.now form.now series }
+    ensures { found_at node result ≡ asked_form judge.now node form.now series question }
 {
     match form {
-        Form::Choice(parts) => judge_choice(alloc, judge, node, parts.as_slice(), violations),
-        Form::Many(part) => judge_many(judge, node, *part, violations),
+        Form::Choice(parts) => ask_choice(judge, node, parts.as_slice(), series, question),
+        Form::Many(part) => ask_many(judge, node, *part, series),
         Form::Chain(_, _, operand, separator) => {
-            judge_chain(judge, node, *operand, *separator, violations)
+            ask_chain(judge, node, *operand, *separator, series)
         }
-        Form::Leaf(leaf) => judge_leaf(alloc, judge, node, leaf, violations),
-        Form::Expression(_, term) => judge_expression(alloc, judge, node, *term, violations),
-        Form::Seq(_) | Form::Rule(_) | Form::Around(_, _) => Ok(()),
+        Form::Leaf(leaf) => ask_leaf(judge, node, leaf),
+        Form::Expression(_, term) => ask_expression(judge, node, *term, series),
+        Form::Seq(_) | Form::Rule(_) | Form::Around(_, _) => None,
     }
 }

@@ -3,8 +3,8 @@
 //!
 //! [`check`] works out the sets of a grammar (`pg_sets`) and then judges each node by the conditions on its form, a module
 //! for each kind: `choices.rt`, `repetitions.rt`, `expressions.rt`, `declarations.rt` and `recursion.rt`. A condition that is broken at a node is
-//! noted as a violation (`violation.rt`); it is reported as a finding (`finding.rt`), and put into words in one place
-//! (`texts.rt`). A grammar that is accepted keeps its sets.
+//! a violation (`violation.rt`), whose finding is put into words in one place (`texts.rt`). A grammar that is accepted keeps its
+//! sets; one that isn't keeps what its findings are found by, and each is found anew when it is written (`lines.rt`).
 #![tactic(auto)]
 
 mod checked;
@@ -12,22 +12,27 @@ mod checking;
 mod choices;
 mod declarations;
 mod expressions;
-mod finding;
+mod finds;
 mod judge;
 mod judging;
 mod laws;
+mod lines;
 mod marks;
 mod meetings;
 mod met_starts;
 mod noting;
 mod operator_facts;
+mod output;
+mod places;
 mod recursion;
+mod refused;
 mod repetitions;
+mod source;
 mod suspects;
 mod texts;
 mod violation;
 
 pub use checked::Checked;
-pub use checking::{CheckFault, Refused, check};
-pub use finding::Finding;
+pub use checking::{CheckFault, check};
 pub use laws::findings_speak_of_nodes;
+pub use refused::Refused;

@@ -1,41 +1,28 @@
-//! Noting what is wrong.
-ghost use Rattle.std.specs.Prelude.{◌≡◌, ◌++◌, OnOk, option_copied};
+//! What is found wrong at a node.
+ghost use Rattle.std.specs.Prelude.{◌≡◌};
 ghost use Rattle.pg_predict.specs.Judged.{noted, noted_gap};
+ghost use Rattle.pg_predict.specs.Questions.{found_at};
 
-use crate::violation::{Violation, ViolationKind};
+use crate::violation::ViolationKind;
 use pg_form::NodeId;
-use pg_own_starts::ListedStart;
-use std::alloc::{AllocError, Global};
 
-/// Notes what is wrong at a node, where it is. The only error is that memory ran out.
-pub(crate) fn note_where(
+/// What is wrong at a node, where it is.
+pub(crate) fn found_where(
     holds: bool,
-    node: usize,
+    node: NodeId,
     kind: ViolationKind<usize>,
-    violations: &mut Vec<Violation<usize>>,
-) -> Result<(), AllocError>
-    ensures { OnOk result (violations.new.items ≡ violations.old.items ++ noted holds node kind) }
+) -> Option<ViolationKind<usize>>
+    ensures { found_at node result ≡ noted holds node kind }
 {
-    if holds {
-        violations.push(Violation { node, kind })?;
-    }
-    Ok(())
+    if holds { Some(kind) } else { None }
 }
 
-/// Notes the start that gaps meet at a node, if there is one (C9). The only error is that memory ran out.
-pub(crate) fn note_gap(
-    alloc: Global,
-    met: Option<&ListedStart>,
-    node: NodeId,
-    violations: &mut Vec<Violation<usize>>,
-) -> Result<(), AllocError>
-    ensures { OnOk result (violations.new.items ≡ violations.old.items ++ noted_gap (option_copied met.entry) node) }
+/// The start that gaps meet at a node, if there is one (C9).
+pub(crate) fn gap_meets(met: Option<usize>, node: NodeId) -> Option<ViolationKind<usize>>
+    ensures { found_at node result ≡ noted_gap met node }
 {
-    if let Some(start) = met {
-        violations.push(Violation {
-            node: node.index(),
-            kind: ViolationKind::GapMeets(start.copy(alloc)?),
-        })?;
+    match met {
+        Some(start) => Some(ViolationKind::GapMeets(start)),
+        None => None,
     }
-    Ok(())
 }

@@ -1,83 +1,192 @@
 //! The texts of violations: the one place where they are written.
-ghost use Rattle.std.specs.Prelude.{◌≡◌, IfOk, string_bytes};
+//!
+//! The names of rules and the printed starts are made before, so that a line is put together from pieces, and takes no memory.
+ghost use Rattle.std.specs.Prelude.{◌≡◌, ◌++◌, IfOk, map, decimal, string_bytes};
 ghost use Rattle.pg_own_starts.specs.PrintedStarts.{start_text};
-ghost use Rattle.pg_predict.specs.WithStarts.{kind_with_starts, start_at};
-ghost use Rattle.pg_predict.specs.Findings.{violation_text, meeting_text};
+ghost use Rattle.pg_predict.specs.Judged.{all_starts};
+ghost use Rattle.pg_predict.specs.Findings.{name_text, kind_text};
+ghost use Rattle.pg_predict.specs.Texts.{AreTexts, name_at, start_text_at};
+ghost use Rattle.pg_predict.specs.Writing.{pieces_bytes};
 
+use crate::judge::Judge;
+use crate::output::Piece;
 use crate::violation::ViolationKind;
 use pg_own_starts::{ListedStart, printed_start};
-use pg_value::Grammar;
+use pg_value::{Grammar, Rule};
 use std::alloc::{AllocError, Global};
 
-/// What is wrong, in words. The only error is that memory ran out.
-pub(crate) fn violation_text(
-    alloc: Global,
-    grammar: &Grammar,
-    starts: &[ListedStart],
-    kind: &ViolationKind<usize>,
-) -> Result<String, AllocError>
-    ensures { IfOk result (λ text. string_bytes text ≡ violation_text grammar.now (kind_with_starts starts.now kind.now)) }
+/// The names of a grammar's rules, and its starts in words: those of the sets by their numbers, and that of operators.
+#[derive(Drop)]
+pub(crate) struct Texts {
+    pub(crate) names: Vec<String>,
+    pub(crate) listed: Vec<String>,
+    pub(crate) own: String,
+}
+
+/// The texts of a grammar. The only error is that memory ran out.
+pub(crate) fn texts_of(alloc: Global, grammar: &Grammar, judge: &Judge) -> Result<Texts, AllocError>
+    ensures { IfOk result (AreTexts grammar.now (all_starts judge.now)) }
 {
-    match kind {
-        ViolationKind::LeftRecursion => String::from_str(alloc, "C1 left recursion"),
-        ViolationKind::EmptyRound => String::from_str(alloc, "C2 repeated part can be empty"),
-        ViolationKind::EmptyAlternative(k) => {
-            format!(in alloc; "C3 alternative {k} can be empty and is not last")
-        }
-        ViolationKind::AlternativesMeet(j, k, one, other) => {
-            let met = meeting_text(alloc, grammar, starts, *one, *other)?;
-            format!(in alloc; "C4 alternatives {j} and {k} meet at {met}")
-        }
-        ViolationKind::AlternativeMeetsFollow(k, one, other) => {
-            let met = meeting_text(alloc, grammar, starts, *one, *other)?;
-            format!(in alloc; "C5 alternative {k} meets the follow set at {met}")
-        }
-        ViolationKind::RoundMeetsFollow(one, other) => {
-            let met = meeting_text(alloc, grammar, starts, *one, *other)?;
-            format!(in alloc; "C6 repetition meets its follow set at {met}")
-        }
-        ViolationKind::EmptyOperand => String::from_str(alloc, "C7 operand can be empty"),
-        ViolationKind::OperandMeetsOperators(start) => {
-            let met = start_at(alloc, grammar, starts, *start)?;
-            format!(in alloc; "C7 operand meets operators at {met}")
-        }
-        ViolationKind::FollowMeetsOperators(start) => {
-            let met = start_at(alloc, grammar, starts, *start)?;
-            format!(in alloc; "C8 follow set meets operators at {met}")
-        }
-        ViolationKind::GapMeets(start) => {
-            let met = printed_start(alloc, grammar, start)?;
-            format!(in alloc; "C9 gap meets {met}")
-        }
+    let names = names(alloc, grammar.rules())?;
+    let listed = start_texts(alloc, grammar, judge.starts())?;
+    let own = own_text(alloc, grammar, judge)?;
+    Ok(Texts { names, listed, own })
+}
+
+/// The names of rules. The only error is that memory ran out.
+fn names(alloc: Global, rules: &[Rule]) -> Result<Vec<String>, AllocError>
+    ensures { IfOk result (λ names. map string_bytes names.items ≡ map name_text rules.now) }
+{
+    let mut names = Vec::new(alloc);
+    for rule in rules {
+        names.push(format!(in alloc; "{}", rule.name)?)?;
     }
+    Ok(names)
 }
 
-/// Two starts that meet, in words. The only error is that memory ran out.
-fn meeting_text(
+/// Starts in words. The only error is that memory ran out.
+fn start_texts(
     alloc: Global,
     grammar: &Grammar,
     starts: &[ListedStart],
-    one: usize,
-    other: usize,
-) -> Result<String, AllocError>
-    ensures { IfOk result (λ text. string_bytes text ≡ meeting_text grammar.now (start_at starts.now one) (start_at starts.now other)) }
+) -> Result<Vec<String>, AllocError>
+    ensures { IfOk result (λ texts. map string_bytes texts.items ≡ map (start_text grammar.now) starts.now) }
 {
-    let one = start_at(alloc, grammar, starts, one)?;
-    let other = start_at(alloc, grammar, starts, other)?;
-    format!(in alloc; "{one} and {other}")
+    let mut texts = Vec::new(alloc);
+    for listed in starts {
+        texts.push(printed_start(alloc, grammar, listed)?)?;
+    }
+    Ok(texts)
 }
 
-/// The start with this number, in words. The only error is that memory ran out.
-fn start_at(
-    alloc: Global,
-    grammar: &Grammar,
-    starts: &[ListedStart],
-    number: usize,
-) -> Result<String, AllocError>
-    ensures { IfOk result (λ text. string_bytes text ≡ start_text grammar.now (start_at starts.now number)) }
+/// The start of operators in words; `end`, where there are none. The only error is that memory ran out.
+#[tactic(auto, using(crate::proofs::Told::own_some, crate::proofs::Told::own_none))]
+fn own_text(alloc: Global, grammar: &Grammar, judge: &Judge) -> Result<String, AllocError>
+    ensures { IfOk result (λ text. string_bytes text ≡ start_text grammar.now (all_starts judge.now).own) }
 {
-    match starts.get(number) {
+    match judge.operator() {
         Some(listed) => printed_start(alloc, grammar, listed),
         None => String::from_str(alloc, "end"),
     }
+}
+
+impl Texts {
+    /// The name of a rule.
+    pub(crate) fn name(&self, rule: usize) -> &str
+        ensures { result.now ≡ name_at self.now rule }
+    {
+        match self.names.get(rule) {
+            Some(name) => name.as_str(),
+            None => "",
+        }
+    }
+
+    /// The start with this number, in words.
+    fn start(&self, number: usize) -> &str
+        ensures { result.now ≡ start_text_at self.now number }
+    {
+        match self.listed.get(number) {
+            Some(text) => text.as_str(),
+            None => self.own.as_str(),
+        }
+    }
+
+    /// What is wrong, in words.
+    pub(crate) fn said(&self, kind: &ViolationKind<usize>) -> [Piece<'_>; 8]
+        ensures { pieces_bytes result ≡ kind_text (start_text_at self.now) kind.now }
+    {
+        match kind {
+            ViolationKind::LeftRecursion => alone("C1 left recursion"),
+            ViolationKind::EmptyRound => alone("C2 repeated part can be empty"),
+            ViolationKind::EmptyAlternative(k) => {
+                numbered("C3 alternative ", *k, " can be empty and is not last")
+            }
+            ViolationKind::AlternativesMeet(j, k, one, other) => [
+                Piece::Text("C4 alternatives "),
+                Piece::Number(*j),
+                Piece::Text(" and "),
+                Piece::Number(*k),
+                Piece::Text(" meet at "),
+                Piece::Text(self.start(*one)),
+                Piece::Text(" and "),
+                Piece::Text(self.start(*other)),
+            ],
+            ViolationKind::AlternativeMeetsFollow(k, one, other) => [
+                Piece::Text("C5 alternative "),
+                Piece::Number(*k),
+                Piece::Text(" meets the follow set at "),
+                Piece::Text(self.start(*one)),
+                Piece::Text(" and "),
+                Piece::Text(self.start(*other)),
+                Piece::Text(""),
+                Piece::Text(""),
+            ],
+            ViolationKind::RoundMeetsFollow(one, other) => [
+                Piece::Text("C6 repetition meets its follow set at "),
+                Piece::Text(self.start(*one)),
+                Piece::Text(" and "),
+                Piece::Text(self.start(*other)),
+                Piece::Text(""),
+                Piece::Text(""),
+                Piece::Text(""),
+                Piece::Text(""),
+            ],
+            ViolationKind::EmptyOperand => alone("C7 operand can be empty"),
+            ViolationKind::OperandMeetsOperators(start) => {
+                ended("C7 operand meets operators at ", self.start(*start))
+            }
+            ViolationKind::FollowMeetsOperators(start) => {
+                ended("C8 follow set meets operators at ", self.start(*start))
+            }
+            ViolationKind::GapMeets(start) => ended("C9 gap meets ", self.start(*start)),
+        }
+    }
+}
+
+/// A text alone.
+fn alone(text: &str) -> [Piece<'_>; 8]
+    ensures { pieces_bytes result ≡ text.now }
+{
+    [
+        Piece::Text(text),
+        Piece::Text(""),
+        Piece::Text(""),
+        Piece::Text(""),
+        Piece::Text(""),
+        Piece::Text(""),
+        Piece::Text(""),
+        Piece::Text(""),
+    ]
+}
+
+/// A text and its end.
+fn ended<'t>(text: &'t str, end: &'t str) -> [Piece<'t>; 8]
+    ensures { pieces_bytes result ≡ text.now ++ end.now }
+{
+    [
+        Piece::Text(text),
+        Piece::Text(end),
+        Piece::Text(""),
+        Piece::Text(""),
+        Piece::Text(""),
+        Piece::Text(""),
+        Piece::Text(""),
+        Piece::Text(""),
+    ]
+}
+
+/// A number between two texts.
+fn numbered<'t>(text: &'t str, number: usize, end: &'t str) -> [Piece<'t>; 8]
+    ensures { pieces_bytes result ≡ text.now ++ (decimal number ++ end.now) }
+{
+    [
+        Piece::Text(text),
+        Piece::Number(number),
+        Piece::Text(end),
+        Piece::Text(""),
+        Piece::Text(""),
+        Piece::Text(""),
+        Piece::Text(""),
+        Piece::Text(""),
+    ]
 }

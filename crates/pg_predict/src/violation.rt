@@ -1,9 +1,7 @@
-//! Violations: broken conditions, with where they are.
+//! What is wrong at a node: which condition is broken, and by what.
 //!
 //! `S` is what a start is known by: by its number in the grammar's sets while a grammar is judged, so that nothing is copied,
 //! and by itself in the definitions. Texts are written in `texts.rt`.
-
-use pg_own_starts::ListedStart;
 
 /// How a condition is broken. Alternatives count from 1.
 #[derive(Debug, Drop)]
@@ -27,13 +25,6 @@ pub(crate) enum ViolationKind<S> {
     /// C8: what follows an expression meets operators at this start.
     FollowMeetsOperators(S),
     /// C9: gaps meet this start, which may come after one. It needn't be among the starts of the sets.
-    GapMeets(ListedStart),
+    GapMeets(S),
     // C11, which judges the cost, comes here.
-}
-
-/// A broken condition, and the number of the node at which it is.
-#[derive(Debug, Drop)]
-pub(crate) struct Violation<S> {
-    pub(crate) node: usize,
-    pub(crate) kind: ViolationKind<S>,
 }

@@ -31,10 +31,10 @@ impl Model for Start {
 
 impl Start {
     /// A character of this class. The only error is that memory ran out.
-    pub fn class(alloc: Global, class: &Class) -> Result<Start, AllocError>
+    pub fn class(class: &Class) -> Result<Start, AllocError>
         ensures { IfOk result (λ start. start ≡ StartKind.Class class.now) }
     {
-        let class = class.copy(alloc)?;
+        let class = class.share()?;
         Ok(Start {
             kind: StartKind::Class(class),
         })
@@ -46,7 +46,7 @@ impl Start {
         ensures { IfOk result (λ start. start ≡ StartKind.Key key.now excluded.now) }
     {
         let key = Characters::new(Vec::from_slice(alloc, key)?);
-        let excluded = excluded.copy(alloc)?;
+        let excluded = excluded.share()?;
         Ok(Start {
             kind: StartKind::Key(key, excluded),
         })
@@ -62,8 +62,8 @@ impl Start {
     ) -> Result<Start, AllocError>
         ensures { IfOk result (λ start. start ≡ StartKind.Word heads.now rest.now reserved.now) }
     {
-        let heads = heads.copy(alloc)?;
-        let rest = rest.copy(alloc)?;
+        let heads = heads.share()?;
+        let rest = rest.share()?;
         let reserved = Reserved::of(alloc, reserved)?;
         Ok(Start {
             kind: StartKind::Word(heads, rest, reserved),

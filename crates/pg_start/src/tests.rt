@@ -49,7 +49,7 @@ fn tells_words_apart(rt: HostRuntime) -> Result<(), Fail> {
 fn matches(rt: HostRuntime) -> Result<(), Fail> {
     let text = Text::from_bytes(rt.alloc(), b"let x")?;
     let digits = Class::from_ranges(rt.alloc(), &[('0', '9')])?;
-    let digit = Start::class(rt.alloc(), &digits)?;
+    let digit = Start::class(&digits)?;
     let any = name(rt.alloc(), &[])?;
     assert!(rt; matches_at(&any, &text, 0));
     assert!(rt; !matches_at(&digit, &text, 0));

@@ -11,7 +11,7 @@ returns-in-Some c =
     let class = c.in-Some.class.now in
     let within : c.args.item < length items = search rules in
     let at = slice_get_read items (length items) c.args.item class refl within (c.in-Some.ensures.lookup.1) in
-    IfOk-weaker c.copy.result (λ copy. copy ≡ class) _ (λ copy same x is. ap (λ y. has y x) same ∙ sym (answer_there items c.args.item x class at)) c.copy.ensures
+    IfOk-weaker c.share.result (λ shared. shared ≡ class) _ (λ shared same x is. ap (λ y. has y x) same ∙ sym (answer_there items c.args.item x class at)) c.share.ensures
 
 pub returns-in-None : goal.returns-in-None
 returns-in-None c =

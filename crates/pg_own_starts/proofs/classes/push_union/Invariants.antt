@@ -1,5 +1,6 @@
 use Rattle.std.proofs.Common.{◌≡◌, ℕ, take, drop}
 use Rattle.std.specs.Char.{IsScalar}
+use Rattle.std.specs.List.{list_any}
 use Rattle.pg_class.specs.Ranges.{has}
 use Rattle.pg_form.specs.Classes.{one_holds}
 use Rattle.pg_own_starts.specs.Classes.{answers_of}
@@ -7,6 +8,6 @@ use Rattle.pg_own_starts.proofs.classes.push_union.Given as goal
 
 abbrev pub invariant-loop-taken : goal.invariant-loop-taken
 invariant-loop-taken l = record {
-  union : (c : ℕ) → IsScalar c → has l.union c ≡ one_holds (take l._taken (answers_of l.initial.stack.items c));
+  union : (c : ℕ) → IsScalar c → list_any (λ one. has one c) l.members.items ≡ one_holds (take l._taken (answers_of l.initial.stack.items c));
   rest : (c : ℕ) → answers_of l.stack.items c ≡ drop l._taken (answers_of l.initial.stack.items c);
 }

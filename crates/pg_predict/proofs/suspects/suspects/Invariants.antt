@@ -1,8 +1,5 @@
-use Rattle.pg_predict.proofs.Unsuspected.{HaveLooked}
+use Rattle.pg_predict.proofs.Unsuspected.{HaveMarked}
 use Rattle.pg_predict.proofs.suspects.suspects.Given as goal
 
-abbrev pub invariant-loop-next : goal.invariant-loop-next
-invariant-loop-next l = HaveLooked l.judge l.parts l.next l.marks.items l.after
-
-abbrev pub decreases-loop-next : goal.decreases-loop-next
-decreases-loop-next l = l.next
+abbrev pub invariant-loop-node : goal.invariant-loop-node
+invariant-loop-node l = HaveMarked l.grammar l.sets l.meetings l.node-index l.marks.items

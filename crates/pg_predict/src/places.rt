@@ -1,0 +1,53 @@
+//! Where nodes stand: in which rule, and as which of its nodes.
+ghost use Rattle.std.specs.Prelude.{◌≡◌, ◌<◌};
+ghost use Rattle.pg_predict.specs.Findings.{rule_of, body_of, number_in_rule};
+ghost use Rattle.pg_predict.specs.Texts.{place_at};
+
+use pg_form::NodeId;
+use pg_value::Rule;
+
+/// A node, and where it stands.
+#[derive(Clone, Copy)]
+pub(crate) struct Place {
+    pub(crate) node: NodeId,
+    /// The number of the rule, from 0 in file order.
+    pub(crate) rule: usize,
+    /// The node's number in the rule's body, from 1, in preorder.
+    pub(crate) number: usize,
+}
+
+/// Where a node stands.
+pub(crate) fn place_of(rules: &[Rule], node: NodeId) -> Place
+    requires { node < 8192 }
+    ensures { result ≡ place_at rules.now node }
+{
+    let rule = rule_of(rules, node.index());
+    Place {
+        node,
+        rule,
+        number: node.index().saturating_sub(body_of(rules, rule)) + 1,
+    }
+}
+
+/// The number of the last rule whose body isn't after a node.
+fn rule_of(rules: &[Rule], node: usize) -> usize
+    ensures { result ≡ rule_of rules.now node }
+{
+    let mut count: usize = 0;
+    for rule in rules {
+        if rule.body.index() <= node {
+            count += 1;
+        }
+    }
+    count.saturating_sub(1)
+}
+
+/// The number of the node that is a rule's body.
+fn body_of(rules: &[Rule], rule: usize) -> usize
+    ensures { result ≡ body_of rules.now rule }
+{
+    match rules.get(rule) {
+        Some(rule) => rule.body.index(),
+        None => 0,
+    }
+}

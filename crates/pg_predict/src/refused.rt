@@ -1,0 +1,104 @@
+//! A grammar that isn't accepted, and all that is wrong with it.
+//!
+//! The findings can be very many, as those of each two alternatives of a choice. So they are computed one by one as they are
+//! written, from the grammar and its sets, and never stand in memory together.
+ghost use Rattle.std.specs.Prelude.{◌≡◌, false, true, OnOk, OnErr, IsErrOf};
+ghost use Rattle.std.specs.Io.KnownBytes.{Appends};
+ghost use Rattle.pg_tree.specs.Bytes.{AppendsPrefix};
+ghost use Rattle.pg_predict.specs.Findings.{lines_of};
+
+use crate::lines::write_lines;
+use crate::source::Source;
+use pg_tree::{Meter, WriteFault};
+use pg_value::Grammar;
+use std::alloc::Global;
+use std::fmt;
+use std::io::Write;
+use std::marker::Model;
+
+/// How many bytes of lines are kept before they are written.
+const BUFFER: usize = 65_536;
+
+/// A grammar that isn't predictive, seen with all its findings, at least one, in the order of nodes, numbers and alternatives.
+#[derive(Drop)]
+pub struct Refused {
+    source: Source,
+}
+
+impl Model for Refused {
+    ghost use Rattle.pg_predict.specs.Refusals.{RefusedGrammar, IsRefusal};
+    ghost use Rattle.pg_predict.specs.Judged.{findings_noted};
+
+    ghost Value = { RefusedGrammar };
+
+    ghost view = { λ refused. record { grammar = refused.source.grammar; findings = findings_noted refused.source.grammar refused.source.judge } };
+
+    ghost invariant = { λ refused. IsRefusal refused.source };
+}
+
+impl Refused {
+    ghost use Rattle.pg_predict.specs.Refusals.{RefusedGrammar, IsRefusal, IsRefused};
+    ghost use Rattle.pg_predict.specs.Judged.{findings_noted};
+
+    /// The grammar of the source, in which something is wrong.
+    pub(crate) fn new(source: Source) -> Refused
+        requires { IsRefusal source }
+        ensures { result ≡ record { grammar = source.grammar; findings = findings_noted source.grammar source.judge } }
+    {
+        Refused { source }
+    }
+
+    /// The grammar. It takes no memory.
+    pub fn grammar(&self) -> &Grammar
+        ensures grammar { result.now ≡ self.now.grammar }
+        ensures refused { IsRefused self.now.grammar self.now }
+    {
+        &self.source.grammar
+    }
+
+    /// The grammar, as it was handed in.
+    pub fn into_grammar(self) -> Grammar
+        ensures { result ≡ self.grammar }
+    {
+        let Refused { source } = self;
+        source.grammar
+    }
+
+    /// Writes a line for each finding, with the rule's name, the node's number in it and the text of what is wrong, in as many
+    /// calls as the writer wants. It is not flushed.
+    ///
+    /// The memory that it takes doesn't grow with the findings, and is there before the first byte is written.
+    pub fn write_findings<W: Write>(
+        &self,
+        alloc: Global,
+        writer: &mut Meter<W>,
+    ) -> Result<(), WriteFault>
+        requires { writer.old.failed ≡ false }
+
+        // The lines were taken, and no more.
+        ensures ok { OnOk result (Appends (W.contents writer.old.inner) (W.contents writer.new.inner) (lines_of self.now.findings)) }
+        ensures stays { OnOk result (writer.new.failed ≡ false) }
+
+        // The writer failed, after a prefix of the lines.
+        ensures failed { IsErrOf result WriteFault.Writer → writer.new.failed ≡ true }
+        ensures prefix { IsErrOf result WriteFault.Writer →
+            AppendsPrefix (W.contents writer.old.inner) (W.contents writer.new.inner) (lines_of self.now.findings) }
+
+        // Memory ran out before the first byte.
+        ensures memory { IsErrOf result WriteFault.Memory → writer.new ≡ writer.old }
+    {
+        let Ok(mut buffer) = Vec::with_capacity(alloc, BUFFER) else {
+            return Err(WriteFault::Memory);
+        };
+        match write_lines(&self.source, &mut buffer, writer) {
+            Ok(()) => Ok(()),
+            Err(_) => Err(WriteFault::Writer),
+        }
+    }
+}
+
+impl fmt::Debug for Refused {
+    fn fmt<W: fmt::Write>(&self, f: &mut fmt::Formatter<W>) -> fmt::Result {
+        f.write_str("Refused")
+    }
+}

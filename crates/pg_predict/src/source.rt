@@ -1,0 +1,13 @@
+//! What the findings of a grammar are written from.
+
+use crate::judge::Judge;
+use crate::texts::Texts;
+use pg_value::Grammar;
+
+/// A grammar with its facts, and the texts of its names and starts.
+#[derive(Drop)]
+pub(crate) struct Source {
+    pub(crate) grammar: Grammar,
+    pub(crate) judge: Judge,
+    pub(crate) texts: Texts,
+}

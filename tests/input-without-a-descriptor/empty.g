@@ -1,0 +1,2 @@
+start a;
+a = seq(text(seq()));
