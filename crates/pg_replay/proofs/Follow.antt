@@ -1,0 +1,318 @@
+-- Each task leads to what comes of its turn.
+use Rattle.std.proofs.Common.{◌≡◌, ◌==◌, ◌≤◌, ◌-◌, ◌&&◌, ℕ, zero, suc, Bool, true, false, List, [], ◌∷◌, ◌++◌, refl, sym, ap, ◌∙◌, subst, eqb-true, eq-eqb, arith, if◌then◌else◌, take, drop, length, append-nil, append_assoc, length-append}
+use Rattle.std.specs.Prelude.{Option, Some, None, slice_get, ◌||◌}
+use Rattle.pg_tree.specs.Trees.{Tree}
+use Rattle.pg_form.specs.Forms.{Node}
+use Rattle.pg_form.specs.Operators.{Operator}
+use Rattle.pg_form.specs.declared.form.Form.TheVariants as form
+use Rattle.pg_form.specs.declared.form.Around.{Around}
+use Rattle.pg_form.specs.declared.form.Around.TheVariants as kind
+use Rattle.pg_value.specs.Grammar.{Grammar}
+use Rattle.pg_value.specs.declared.grammar.Rule as declared
+use Rattle.pg_value.specs.declared.trail.TrailItem.{TrailItem}
+use Rattle.pg_value.specs.declared.trail.AppliedOperator.{AppliedOperator}
+use Rattle.pg_value.specs.declared.trail.TrailItem.TheVariants.{Alt, Rounds, Ops}
+use Rattle.pg_table.specs.Tables.{Table, admit_fault, with_operator, whole, added_unless, added_from, first_operators}
+use Rattle.pg_table.specs.declared.fault.AdmitFault.{AdmitFault}
+use Rattle.pg_language.specs.Derives as derives
+use Rattle.pg_language.specs.Derives.{Spot, Derives, DerivesParts, DerivesRounds, made_by, table_by, left_by}
+use Rattle.std.proofs.Math.Seq.{take-append_seam, drop-append_seam}
+use Rattle.pg_language.specs.Onward.{LeadsOn}
+use Rattle.pg_language.proofs.Onward.{leads_on}
+use Rattle.pg_replay.specs.Refusals as refusal
+use Rattle.pg_replay.specs.Refusals.{still_entered, if_no_item, IsEntered, ChoosesNone, CountsNone}
+use Rattle.pg_replay.specs.Tasks.{OnTask, node, parts, rounds, more_rounds, links, operand, fold, marked, operator_symbol, application, unmark, close, leave, State, Turn, on, stops, ended, part_turn, numbered_turn, choice_turn, many_turn, is_entered, rule_turn, form_turn, node_turn, parts_turn, rounds_turn, is_unchanged, more_turn, closed_table, closed_forest, without_newest, turn}
+use Rattle.pg_replay.proofs.Items.{positive, no_count_at_end, no_count_for_choice, no_count_for_operators}
+use Rattle.pg_replay.proofs.LeavesFollow.{leaf_follows}
+use Rattle.pg_replay.proofs.ProperTables.{IsProper}
+use Rattle.pg_replay.proofs.ExpressionsFollow.{expression_follows, symbol_follows}
+use Rattle.pg_replay.proofs.ChainsFollow.{chain_follows, links_follow, operand_follows}
+use Rattle.pg_replay.proofs.Leads.{End, entered_after, Does, Leads, does, refuses, does_node, does_parts, does_rounds, does_more, over, does_fold, does_term, does_application, does_unmark, does_close, does_leave, refuses_node, refuses_parts, refuses_rounds, refuses_more, refuses_term, spot_of, StateLeads, TaskLeads, Follows, follows_if, still_here, still_none, still_after_item, still_twice, parts_onward, rounds_onward}
+
+abbrev spot_at : ℕ → Table → Spot
+spot_at place table = record { place = place; table = table }
+
+module _ (g : Grammar) (text : List ℕ) where
+  -- ---- parts and rounds
+
+  -- a task that did nothing
+  stayed : (t : OnTask) (s : State) (e : End) → Does g text s.marks s.marks t (spot_of s) s.forest (spot_of s) (s.forest ++ []) [] →
+      entered_after t (spot_of s) (spot_of s) [] s.entered ≡ still_entered (spot_of s) (spot_of s) [] s.entered → StateLeads g text s e → TaskLeads g text t s e
+  stayed t s e d same k = does d
+      (subst (λ x. Leads g text s.marks s.tasks x (spot_of s) (s.forest ++ []) s.rest e) (sym (same ∙ still_here (spot_of s) s.entered))
+      (subst (λ v. Leads g text s.marks s.tasks s.entered (spot_of s) v s.rest e) (sym (append-nil s.forest)) k))
+
+  -- a task of two stretches
+  joined : (ms : List ℕ) (t : OnTask) (ts : List OnTask) (entered : List ℕ) (a b c : Spot) (v w z : List Tree) (x y rest : List TrailItem) (e : End) → a.place ≤ b.place → b.place ≤ c.place →
+      Does g text ms ms t a v c (v ++ (w ++ z)) (x ++ y) → entered_after t a c (x ++ y) entered ≡ still_entered a c (x ++ y) entered →
+      Leads g text ms ts (still_entered b c y (still_entered a b x entered)) c (v ++ w ++ z) rest e → Leads g text ms (t ∷ ts) entered a v (x ++ (y ++ rest)) e
+  joined ms t ts entered a b c v w z x y rest e low high d same k =
+      subst (λ items. Leads g text ms (t ∷ ts) entered a v items e) (append_assoc x y rest)
+      (does d
+      (subst (λ q. Leads g text ms ts q c (v ++ (w ++ z)) rest e) (still_twice a b c x y entered low high ∙ sym same)
+      (subst (λ f. Leads g text ms ts (still_entered b c y (still_entered a b x entered)) c f rest e) (append_assoc v w z) k)))
+
+  -- a part, and then the others
+  part_more : (ms : List ℕ) (p : ℕ) (ps : List ℕ) (ts : List OnTask) (entered : List ℕ) (a : Spot) (v : List Tree) (items : List TrailItem) (e : End) →
+      Leads g text ms (node p ∷ parts ps ∷ ts) entered a v items e → Leads g text ms (parts (p ∷ ps) ∷ ts) entered a v items e
+  part_more ms p ps ts entered a v items e (refuses (refuses_node h)) = refuses (refuses_parts (refusal.this_part h))
+  part_more ms p ps ts entered a v items e (does (does_node d) (refuses (refuses_parts h))) = refuses (refuses_parts (refusal.later_part d h))
+  part_more ms p ps ts entered a v items e (does {b = b} {u = x} (does_node {w = w} d) (does {b = c} {u = y} {items = rest} (does_parts {w = z} ds) k)) =
+      joined ms (parts (p ∷ ps)) ts entered a b c v w z x y rest e (leads_on d).onward (parts_onward ds) (does_parts (derives.first_part d ds)) refl k
+
+  pub parts_follow : (ps : List ℕ) (s : State) → Follows g text (parts ps) s (parts_turn ps s)
+  parts_follow [] s = λ e k. stayed (parts []) s e (does_parts derives.no_part) refl k
+  parts_follow (p ∷ ps) s = λ e k. part_more s.marks p ps s.tasks s.entered (spot_of s) s.forest s.rest e k
+
+  -- rounds that take and give nothing, as many as there are
+  nothing_again : (p n : ℕ) (a : Spot) → Derives g text p a a [] [] → DerivesRounds g text p n a a [] []
+  nothing_again p zero a d = derives.no_round
+  nothing_again p (suc n) a d = derives.first_round d (nothing_again p n a d)
+
+  no_tree_more : (v w : List Tree) → length v ≡ length (v ++ w) → w ≡ []
+  no_tree_more v [] e = refl
+  no_tree_more v (t ∷ w) e = let more = length-append v (t ∷ w) in absurd (omega arith)
+
+  no_item_more : (x rest : List TrailItem) → length (x ++ rest) ≡ length rest → x ≡ []
+  no_item_more [] rest e = refl
+  no_item_more (i ∷ x) rest e = let more = length-append (i ∷ x) rest in absurd (omega arith)
+
+  -- a round that took and gave nothing, and the others at once
+  round_over : (ms : List ℕ) (p n : ℕ) (ts : List OnTask) (entered : List ℕ) (a b : Spot) (v w : List Tree) (x rest : List TrailItem) (e : End) → Derives g text p a b w x →
+      a.place ≡ b.place → w ≡ [] → x ≡ [] → Leads g text ms ts (still_entered a b x entered) b (v ++ w) rest e → Leads g text ms (rounds p (suc n) ∷ ts) entered a v (x ++ rest) e
+  round_over ms p n ts entered a b v w x rest e d place none taken k =
+      let here : a ≡ b = (leads_on d).still place in
+      let again : Derives g text p b b [] [] =
+      subst (λ u. Derives g text p b b [] u) taken (subst (λ w. Derives g text p b b w x) none (subst (λ a. Derives g text p a b w x) here d)) in
+      joined ms (rounds p (suc n)) ts entered a b b v w [] x [] rest e (leads_on d).onward (omega arith) (does_rounds (derives.first_round d (nothing_again p n b again))) refl
+      (subst (λ q. Leads g text ms ts q b (v ++ w ++ []) rest e) (sym (still_here b (still_entered a b x entered)))
+      (subst (λ f. Leads g text ms ts (still_entered a b x entered) b f rest e) (sym (append-nil (v ++ w))) k))
+
+  -- a round, and then the others
+  round_more : (ms : List ℕ) (p n : ℕ) (ts : List OnTask) (entered : List ℕ) (a : Spot) (v : List Tree) (items : List TrailItem) (e : End) →
+      Leads g text ms (node p ∷ more_rounds p n a.place (length v) (length items) ∷ ts) entered a v items e → Leads g text ms (rounds p (suc n) ∷ ts) entered a v items e
+  round_more ms p n ts entered a v items e (refuses (refuses_node h)) = refuses (refuses_rounds (refusal.this_round h))
+  round_more ms p n ts entered a v items e (does (does_node d) (refuses (refuses_more h))) = refuses (refuses_rounds (refusal.later_round d h))
+  round_more ms p n ts entered a v items e (does {b = b} {u = x} (does_node {w = w} d) (does {b = c} {u = y} {items = rest} (does_more {w = z} ds) k)) =
+      joined ms (rounds p (suc n)) ts entered a b c v w z x y rest e (leads_on d).onward (rounds_onward ds) (does_rounds (derives.first_round d ds)) refl k
+  round_more ms p n ts entered a v items e (does {b = b} {u = x} (does_node {w = w} d) (over {items = rest} place trees count k)) =
+      round_over ms p n ts entered a b v w x rest e d place (no_tree_more v w trees) (no_item_more x rest count) k
+
+  pub rounds_follow : (p n : ℕ) (s : State) → Follows g text (rounds p n) s (rounds_turn p n s)
+  rounds_follow p n s = follows_if g text (rounds p n) s (n == 0) _ _
+      (λ h. λ e k. subst (λ m. TaskLeads g text (rounds p m) s e) (sym (eqb-true n 0 h)) (stayed (rounds p 0) s e (does_rounds derives.no_round) refl k))
+      (λ h. λ e k. subst (λ m. TaskLeads g text (rounds p m) s e) (sym (positive n h)) (round_more s.marks p (n - 1) s.tasks s.entered (spot_of s) s.forest s.rest e k))
+
+  -- the rounds after one are rounds
+  as_more : (p n place trees count : ℕ) (ts : List OnTask) (ms entered : List ℕ) (a : Spot) (v : List Tree) (items : List TrailItem) (e : End) →
+      Leads g text ms (rounds p n ∷ ts) entered a v items e → Leads g text ms (more_rounds p n place trees count ∷ ts) entered a v items e
+  as_more p n place trees count ts ms entered a v items e (refuses (refuses_rounds h)) = refuses (refuses_more h)
+  as_more p n place trees count ts ms entered a v items e (does (does_rounds d) k) = does (does_more d) k
+
+  more_by : (p n place trees count : ℕ) (s : State) (x : Turn) → Follows g text (rounds p n) s x → Follows g text (more_rounds p n place trees count) s x
+  more_by p n place trees count s (on after) h = λ e k. as_more p n place trees count s.tasks s.marks s.entered (spot_of s) s.forest s.rest e (h e k)
+  more_by p n place trees count s (stops why at rest) h = as_more p n place trees count s.tasks s.marks s.entered (spot_of s) s.forest s.rest _ h
+  more_by p n place trees count s (ended after) h = h
+
+  both : (b c : Bool) → b && c ≡ true → (b ≡ true) × (c ≡ true)
+  both true c e = (refl, e)
+  both false c e = absurd cc
+
+  pub more_follow : (p n place trees count : ℕ) (s : State) → Follows g text (more_rounds p n place trees count) s (more_turn p n place trees count s)
+  more_follow p n place trees count s = follows_if g text (more_rounds p n place trees count) s (is_unchanged place trees count s) _ _
+      (λ h. λ e k. (let first = both (place == s.place) ((trees == length s.forest) && (count == length s.rest)) h in
+      let second = both (trees == length s.forest) (count == length s.rest) first.1 in
+      over (eqb-true place s.place first.0) (eqb-true trees (length s.forest) second.0) (eqb-true count (length s.rest) second.1) k))
+      (λ h. more_by p n place trees count s (rounds_turn p n s) (rounds_follow p n s))
+
+  -- ---- sequences and choices
+
+  seq_leads : (ms : List ℕ) (p : ℕ) (ps : List ℕ) (ts : List OnTask) (entered : List ℕ) (a : Spot) (v : List Tree) (items : List TrailItem) (e : End) → slice_get g.nodes p ≡ Some (form.Seq ps) →
+      Leads g text ms (parts ps ∷ ts) entered a v items e → Leads g text ms (node p ∷ ts) entered a v items e
+  seq_leads ms p ps ts entered a v items e is (refuses (refuses_parts h)) = refuses (refuses_node (refusal.at_node is (refusal.seq h)))
+  seq_leads ms p ps ts entered a v items e is (does (does_parts ds) k) = does (does_node (derives.at_node is (derives.seq ds))) k
+
+  choice_leads : (ms : List ℕ) (p q j : ℕ) (ps : List ℕ) (ts : List OnTask) (entered : List ℕ) (a : Spot) (v : List Tree) (items : List TrailItem) (e : End) →
+      slice_get g.nodes p ≡ Some (form.Choice ps) → slice_get ps j ≡ Some q →
+      Leads g text ms (node q ∷ ts) [] a v items e → Leads g text ms (node p ∷ ts) entered a v (Alt (suc j) ∷ items) e
+  choice_leads ms p q j ps ts entered a v items e is got (refuses (refuses_node h)) = refuses (refuses_node (refusal.at_node is (refusal.choice got h)))
+  choice_leads ms p q j ps ts entered a v items e is got (does {b = b} {x = x} {u = u} {items = rest} (does_node d) k) =
+      does (does_node (derives.at_node is (derives.choice got d)))
+      (subst (λ o. Leads g text ms ts o b x rest e) (still_none a b u ∙ sym (still_after_item a b (Alt (suc j)) u entered)) k)
+
+  -- what the next item isn't
+  none_past : (ps : List ℕ) (j : ℕ) (items rest : List TrailItem) → slice_get ps j ≡ None → items ≡ Alt (suc j) ∷ rest → ChoosesNone ps items
+  none_past ps j items rest got e = λ k r others f h. let same : k ≡ j = cc in let there = subst (λ m. slice_get ps m ≡ Some r) same h in cc
+
+  none_numbered : (ps : List ℕ) (n : ℕ) (items rest : List TrailItem) → n ≡ 0 → items ≡ Alt n ∷ rest → ChoosesNone ps items
+  none_numbered ps n items rest z e = λ j r others f i. let same : n ≡ suc j = cc in omega arith
+
+  none_at_end : (ps : List ℕ) (items : List TrailItem) → items ≡ [] → ChoosesNone ps items
+  none_at_end ps items e = λ k r others f h. cc
+
+  none_for_rounds : (ps : List ℕ) (n : ℕ) (items rest : List TrailItem) → items ≡ Rounds n ∷ rest → ChoosesNone ps items
+  none_for_rounds ps n items rest e = λ k r others f h. cc
+
+  none_for_operators : (ps : List ℕ) (o : List AppliedOperator) (items rest : List TrailItem) → items ≡ Ops o ∷ rest → ChoosesNone ps items
+  none_for_operators ps o items rest e = λ k r others f h. cc
+
+  part_follows : (p j : ℕ) (ps : List ℕ) (rest : List TrailItem) (q : Option ℕ) (s : State) → slice_get g.nodes p ≡ Some (form.Choice ps) → slice_get ps j ≡ q → s.rest ≡ Alt (suc j) ∷ rest →
+      Follows g text (node p) s (part_turn q rest s)
+  part_follows p j ps rest None s is got e = refuses (refuses_node (refusal.at_node is (refusal.no_choice (none_past ps j s.rest rest got e))))
+  part_follows p j ps rest (Some q) s is got e = λ end k.
+      subst (λ items. Leads g text s.marks (node p ∷ s.tasks) s.entered (spot_of s) s.forest items end) (sym e)
+      (choice_leads s.marks p q j ps s.tasks s.entered (spot_of s) s.forest rest end is got k)
+
+  numbered_follows : (p k : ℕ) (ps : List ℕ) (rest : List TrailItem) (s : State) → slice_get g.nodes p ≡ Some (form.Choice ps) → s.rest ≡ Alt k ∷ rest →
+      Follows g text (node p) s (numbered_turn ps k rest s)
+  numbered_follows p k ps rest s is e = follows_if g text (node p) s (k == 0) _ _
+      (λ h. refuses (refuses_node (refusal.at_node is (refusal.no_choice (none_numbered ps k s.rest rest (eqb-true k 0 h) e)))))
+      (λ h. part_follows p (k - 1) ps rest (slice_get ps (k - 1)) s is refl (e ∙ ap (λ n. Alt n ∷ rest) (positive k h)))
+
+  choice_follows : (p : ℕ) (ps : List ℕ) (items : List TrailItem) (s : State) → slice_get g.nodes p ≡ Some (form.Choice ps) → s.rest ≡ items →
+      Follows g text (node p) s (choice_turn ps items s)
+  choice_follows p ps [] s is e = refuses (refuses_node (refusal.at_node is (refusal.no_choice (none_at_end ps s.rest e))))
+  choice_follows p ps (Alt k ∷ rest) s is e = numbered_follows p k ps rest s is e
+  choice_follows p ps (Rounds n ∷ rest) s is e = refuses (refuses_node (refusal.at_node is (refusal.no_choice (none_for_rounds ps n s.rest rest e))))
+  choice_follows p ps (Ops o ∷ rest) s is e = refuses (refuses_node (refusal.at_node is (refusal.no_choice (none_for_operators ps o s.rest rest e))))
+
+  -- ---- repetitions
+
+  many_leads : (ms : List ℕ) (p q n : ℕ) (ts : List OnTask) (entered : List ℕ) (a : Spot) (v : List Tree) (items : List TrailItem) (e : End) → slice_get g.nodes p ≡ Some (form.Many q) →
+      Leads g text ms (rounds q n ∷ ts) [] a v items e → Leads g text ms (node p ∷ ts) entered a v (Rounds n ∷ items) e
+  many_leads ms p q n ts entered a v items e is (refuses (refuses_rounds h)) = refuses (refuses_node (refusal.at_node is (refusal.many h)))
+  many_leads ms p q n ts entered a v items e is (does {b = b} {x = x} {u = u} {items = rest} (does_rounds d) k) =
+      does (does_node (derives.at_node is (derives.many d)))
+      (subst (λ o. Leads g text ms ts o b x rest e) (still_none a b u ∙ sym (still_after_item a b (Rounds n) u entered)) k)
+
+  many_follows : (p q : ℕ) (items : List TrailItem) (s : State) → slice_get g.nodes p ≡ Some (form.Many q) → s.rest ≡ items → Follows g text (node p) s (many_turn q items s)
+  many_follows p q [] s is e = refuses (refuses_node (refusal.at_node is (refusal.no_count (no_count_at_end s.rest e))))
+  many_follows p q (Alt k ∷ rest) s is e = refuses (refuses_node (refusal.at_node is (refusal.no_count (no_count_for_choice k s.rest rest e))))
+  many_follows p q (Rounds n ∷ rest) s is e = λ end k.
+      subst (λ items. Leads g text s.marks (node p ∷ s.tasks) s.entered (spot_of s) s.forest items end) (sym e)
+      (many_leads s.marks p q n s.tasks s.entered (spot_of s) s.forest rest end is k)
+  many_follows p q (Ops o ∷ rest) s is e = refuses (refuses_node (refusal.at_node is (refusal.no_count (no_count_for_operators o s.rest rest e))))
+
+  -- ---- rules
+
+  found_entered : (r : ℕ) (entered : List ℕ) → is_entered r entered ≡ true → IsEntered r entered
+  found_entered r [] e = absurd cc
+  found_entered r (q ∷ entered) e = go (q == r) refl (found_entered r entered) e
+    where
+      go : (b : Bool) → (q == r) ≡ b → (is_entered r entered ≡ true → IsEntered r entered) → b || is_entered r entered ≡ true → IsEntered r (q ∷ entered)
+      go true h more e = (0, ap Some (eqb-true q r h))
+      go false h more e = let later = more e in (suc later.0, later.1)
+
+  not_entered : (r : ℕ) (entered : List ℕ) → is_entered r entered ≡ false → IsEntered r entered → ⊥
+  not_entered r entered e is = at entered is.0 e is.1
+    where
+      at : (entered : List ℕ) (k : ℕ) → is_entered r entered ≡ false → slice_get entered k ≡ Some r → ⊥
+      at [] k e h = cc
+      at (q ∷ entered) zero e h = let same : q ≡ r = cc in let test = eq-eqb q r same in cc
+      at (q ∷ entered) (suc k) e h = at entered k (rest (q == r) (is_entered r entered) e) h
+        where
+          rest : (b c : Bool) → b || c ≡ false → c ≡ false
+          rest true c e = absurd cc
+          rest false c e = e
+
+  left_rule : (r : ℕ) (a b : Spot) (u : List TrailItem) (entered : List ℕ) → without_newest (still_entered a b u (r ∷ entered)) ≡ still_entered a b u entered
+  left_rule r a b u entered = go (a.place == b.place) u
+    where
+      go : (q : Bool) (u : List TrailItem) → without_newest (if q then if_no_item u (r ∷ entered) else []) ≡ (if q then if_no_item u entered else [])
+      go true [] = refl
+      go true (i ∷ u) = refl
+      go false u = refl
+
+  rule_leads : (ms : List ℕ) (p r : ℕ) (named : declared.Rule) (ts : List OnTask) (entered : List ℕ) (a : Spot) (v : List Tree) (items : List TrailItem) (e : End) →
+      slice_get g.nodes p ≡ Some (form.Rule r) → slice_get g.rules r ≡ Some named → (IsEntered r entered → ⊥) →
+      Leads g text ms (node named.body ∷ leave ∷ ts) (r ∷ entered) a v items e → Leads g text ms (node p ∷ ts) entered a v items e
+  rule_leads ms p r named ts entered a v items e is there new (refuses (refuses_node h)) = refuses (refuses_node (refusal.at_node is (refusal.rule new there h)))
+  rule_leads ms p r named ts entered a v items e is there new (does (does_node d) (refuses h)) = elim h [ ]
+  rule_leads ms p r named ts entered a v items e is there new (does {b = b} {x = x} {u = u} (does_node d) (does {items = rest} does_leave k)) =
+      does (does_node (derives.at_node is (derives.rule there d)))
+      (subst (λ o. Leads g text ms ts o b x rest e) (left_rule r a b u entered) k)
+
+  rule_follows : (p r : ℕ) (named : Option declared.Rule) (s : State) → slice_get g.nodes p ≡ Some (form.Rule r) → slice_get g.rules r ≡ named →
+      Follows g text (node p) s (rule_turn r named s)
+  rule_follows p r None s is there = refuses (refuses_node (refusal.at_node is (refusal.no_rule there)))
+  rule_follows p r (Some named) s is there = follows_if g text (node p) s (is_entered r s.entered) _ _
+      (λ h. refuses (refuses_node (refusal.at_node is (refusal.again (found_entered r s.entered h)))))
+      (λ h. λ e k. rule_leads s.marks p r named s.tasks s.entered (spot_of s) s.forest s.rest e is there (not_entered r s.entered h) k)
+
+  -- ---- forms around a part
+
+  same_rest : (k : ℕ) (t u : Table) (ds : List Operator) → added_from k t ds ≡ whole u → (u.reserved ≡ t.reserved) × (u.most ≡ t.most)
+  same_rest k t u [] e = let same : t ≡ u = cc in (sym (ap (λ (x : Table). x.reserved) same), sym (ap (λ (x : Table). x.most) same))
+  same_rest k t u (d ∷ ds) e = go (admit_fault t d) e (same_rest (suc k) (with_operator t d) u ds)
+    where
+      go : (fault : Option AdmitFault) → added_unless fault k (added_from (suc k) (with_operator t d) ds) ≡ whole u →
+          (added_from (suc k) (with_operator t d) ds ≡ whole u → (u.reserved ≡ t.reserved) × (u.most ≡ t.most)) → (u.reserved ≡ t.reserved) × (u.most ≡ t.most)
+      go None e more = more e
+      go (Some fault) e more = absurd cc
+
+  given_back : (a b : Spot) → LeadsOn text a b → first_operators (length a.table.operators) b.table ≡ a.table
+  given_back a b h =
+      let rest = same_rest 0 a.table b.table h.further h.added in
+      let cut : take (length a.table.operators) b.table.operators ≡ a.table.operators =
+      ap (take (length a.table.operators)) h.after ∙ take-append_seam a.table.operators h.further in
+      ap (λ os. let t : Table = record { operators = os; reserved = b.table.reserved; most = b.table.most } in t) cut
+      ∙ ap (λ rs. let t : Table = record { operators = a.table.operators; reserved = rs; most = b.table.most } in t) rest.0
+      ∙ ap (λ m. let t : Table = record { operators = a.table.operators; reserved = a.table.reserved; most = m } in t) rest.1
+
+  table_closed : (k : Around) (a b : Spot) → LeadsOn text a b → closed_table k (length a.table.operators) b.table ≡ table_by k a.table b.table
+  table_closed kind.Local a b h = given_back a b h
+  table_closed kind.Try a b h = refl
+  table_closed kind.Text a b h = refl
+  table_closed kind.Skip a b h = refl
+  table_closed (kind.Build used symbol) a b h = refl
+  table_closed (kind.Label message) a b h = refl
+
+  forest_closed : (k : Around) (from to : ℕ) (v w : List Tree) → closed_forest k text from to (length v) (v ++ w) ≡ v ++ made_by k text from to w
+  forest_closed k from to v w =
+      ap (λ x. x ++ made_by k text from to (drop (length v) (v ++ w))) (take-append_seam v w) ∙ ap (λ x. v ++ made_by k text from to x) (drop-append_seam v w)
+
+  around_leads : (ms : List ℕ) (p q : ℕ) (k : Around) (ts : List OnTask) (entered : List ℕ) (a : Spot) (v : List Tree) (items : List TrailItem) (e : End) → slice_get g.nodes p ≡ Some (form.Around k q) →
+      Leads g text ms (node q ∷ close k a.place (length v) (length a.table.operators) ∷ ts) entered a v items e → Leads g text ms (node p ∷ ts) entered a v items e
+  around_leads ms p q k ts entered a v items e is (refuses (refuses_node h)) = refuses (refuses_node (refusal.at_node is (refusal.around h)))
+  around_leads ms p q k ts entered a v items e is (does (does_node d) (refuses h)) = elim h [ ]
+  around_leads ms p q k ts entered a v items e is (does {b = b} {u = u} (does_node {w = w} d) (does {items = rest} does_close m)) =
+      does (does_node (derives.at_node is (derives.around d)))
+      (subst (λ x. Leads g text ms ts (still_entered a b u entered) (left_by k a b) x rest e) (forest_closed k a.place b.place v w)
+      (subst (λ t. Leads g text ms ts (still_entered a b u entered) (spot_at b.place t) (closed_forest k text a.place b.place (length v) (v ++ w)) rest e) (table_closed k a b (leads_on d)) m))
+
+  -- ---- forms
+
+  pub form_follows : (p : ℕ) (n : Node) (s : State) → slice_get g.nodes p ≡ Some n → IsProper s.table → Follows g text (node p) s (form_turn g text n s)
+  form_follows p (form.Leaf l) s is proper = leaf_follows g text p s l is
+  form_follows p (form.Seq ps) s is proper = λ e k. seq_leads s.marks p ps s.tasks s.entered (spot_of s) s.forest s.rest e is k
+  form_follows p (form.Choice ps) s is proper = choice_follows p ps s.rest s is refl
+  form_follows p (form.Many q) s is proper = many_follows p q s.rest s is refl
+  form_follows p (form.Chain side used q r) s is proper = chain_follows g text p (record { side = side; used = used; part = q; separator = r }) s.rest s is refl
+  form_follows p (form.Rule r) s is proper = rule_follows p r (slice_get g.rules r) s is refl
+  form_follows p (form.Expression builders q) s is proper = expression_follows g text builders p q s.rest s is refl proper
+  form_follows p (form.Around k q) s is proper = λ e m. around_leads s.marks p q k s.tasks s.entered (spot_of s) s.forest s.rest e is m
+
+  node_follows : (p : ℕ) (n : Option Node) (s : State) → slice_get g.nodes p ≡ n → IsProper s.table → Follows g text (node p) s (node_turn g text n s)
+  node_follows p None s is proper = refuses (refuses_node (refusal.no_node is))
+  node_follows p (Some n) s is proper = form_follows p n s is proper
+
+  -- a term of an expression
+  term_more : (p : ℕ) (ts : List OnTask) (ms entered : List ℕ) (a : Spot) (v : List Tree) (items : List TrailItem) (e : End) →
+      Leads g text (length v ∷ ms) (node p ∷ ts) entered a v items e → Leads g text ms (marked p ∷ ts) entered a v items e
+  term_more p ts ms entered a v items e (refuses (refuses_node h)) = refuses (refuses_term h)
+  term_more p ts ms entered a v items e (does (does_node d) k) = does (does_term d) k
+
+  pub task_follows : (t : OnTask) (s : State) → IsProper s.table → Follows g text t s (turn g text t s)
+  task_follows (node p) s proper = node_follows p (slice_get g.nodes p) s refl proper
+  task_follows (parts ps) s proper = parts_follow ps s
+  task_follows (rounds p n) s proper = rounds_follow p n s
+  task_follows (more_rounds p n place trees count) s proper = more_follow p n place trees count s
+  task_follows (links c n trees) s proper = links_follow g text c n trees s
+  task_follows (operand c n trees) s proper = operand_follows g text c n trees s
+  task_follows (fold used trees) s proper = λ e h. does does_fold h
+  task_follows (close k from trees operators) s proper = λ e h. does does_close h
+  task_follows (marked p) s proper = λ e k. term_more p s.tasks s.marks s.entered (spot_of s) s.forest s.rest e k
+  task_follows (operator_symbol o) s proper = symbol_follows g text o s
+  task_follows (application builders o) s proper = λ e h. does does_application h
+  task_follows unmark s proper = λ e h. does does_unmark h
+  task_follows leave s proper = λ e h. does does_leave h

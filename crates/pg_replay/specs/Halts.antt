@@ -1,0 +1,34 @@
+-- What is made of the end of all tasks.
+use Rattle.std.specs.Prelude.{◌≡◌, ℕ, List, [], ◌∷◌, length}
+use Rattle.pg_tree.specs.Trees.{Tree}
+use Rattle.pg_value.specs.declared.trail.TrailItem.{TrailItem}
+use Rattle.pg_table.specs.Tables.{Table}
+use Rattle.pg_replay.specs.declared.fault.Mismatch.{Mismatch}
+use Rattle.pg_replay.specs.declared.fault.Mismatch.TheVariants.{LeftOver}
+use Rattle.pg_replay.specs.declared.fault.Stop as declared_stop
+use Rattle.pg_replay.specs.declared.fault.ReplayFault.{ReplayFault}
+use Rattle.pg_replay.specs.declared.fault.ReplayFault.TheVariants.{Stopped, Memory}
+use Rattle.pg_replay.specs.Tasks.{State, Turn, on, stops, ended, node}
+
+-- the state before a node of a rule that was entered is gone along
+abbrev pub first_state : ℕ → ℕ → Table → List TrailItem → State
+first_state rule body table items = record { tasks = node body ∷ []; place = 0; table = table; forest = []; rest = items; entered = rule ∷ []; marks = [] }
+
+-- all tasks are done, and nothing is left over
+abbrev pub IsEnd : List ℕ → Turn → List Tree → Type 0
+IsEnd text (on s) forest = ⊥
+IsEnd text (stops why place rest) forest = ⊥
+IsEnd text (ended s) forest = (s.place ≡ length text) × (s.rest ≡ []) × (forest ≡ s.forest)
+
+abbrev pub stop_told : Mismatch → ℕ → ℕ → declared_stop.Stop
+stop_told why place left = record { why = why; place = place; left = left }
+
+-- what is told of a turn after which there is no forest
+abbrev pub IsStopOf : List ℕ → Turn → declared_stop.Stop → Type 0
+IsStopOf text (on s) told = ⊥
+IsStopOf text (stops why place rest) told = told ≡ stop_told why place (length rest)
+IsStopOf text (ended s) told = (s.place ≡ length text → s.rest ≡ [] → ⊥) × (told ≡ stop_told LeftOver s.place (length s.rest))
+
+abbrev pub IsHalt : List ℕ → Turn → ReplayFault → Type 0
+IsHalt text turn (Stopped told) = IsStopOf text turn told
+IsHalt text turn Memory = Unit {0}

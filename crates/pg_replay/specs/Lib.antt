@@ -1,0 +1,6 @@
+pub mod Refusals
+pub mod Ends
+pub mod Tasks
+pub mod View
+pub mod Halts
+pub mod Laws

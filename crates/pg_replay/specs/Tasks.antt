@@ -1,0 +1,390 @@
+-- What is left to do while a trail is gone along, as a list of tasks, and what one task does to what was derived so far.
+use Rattle.std.specs.Prelude.{◌+◌, ◌-◌, ◌==◌, ◌&&◌, not, if◌then◌else◌, ℕ, List, [], ◌∷◌, ◌++◌, Bool, true, false, Option, Some, None, slice_get, length, take, drop, map}
+use Rattle.std.specs.List.{list_any}
+use Rattle.std.specs.Str.{bytes_eq, encode_utf8_all}
+use Rattle.pg_tree.specs.Trees.{Tree}
+use Rattle.pg_tree.specs.Built.{built}
+use Rattle.pg_tree.specs.declared.shape.Shape.{Shape}
+use Rattle.pg_form.specs.ClassItems.{has_character}
+use Rattle.pg_value.specs.Grammar.{Grammar}
+use Rattle.pg_form.specs.Operators.{Operator}
+use Rattle.pg_form.specs.Forms.{Node}
+use Rattle.pg_form.specs.declared.class.ClassPart.{ClassPart}
+use Rattle.pg_form.specs.declared.form.Form.TheVariants as form
+use Rattle.pg_form.specs.declared.form.Leaf.{Leaf}
+use Rattle.pg_form.specs.declared.form.Leaf.TheVariants as read
+use Rattle.pg_form.specs.declared.form.Around.{Around}
+use Rattle.pg_form.specs.declared.form.Around.TheVariants as kind
+use Rattle.pg_form.specs.declared.side.Side.{Side}
+use Rattle.pg_form.specs.declared.side.Side.TheVariants.{Left, Right}
+use Rattle.pg_form.specs.declared.used.BuilderUse.{BuilderUse}
+use Rattle.pg_form.specs.declared.used.OperatorBuilders.{OperatorBuilders}
+use Rattle.pg_value.specs.declared.trail.AppliedOperator.{AppliedOperator}
+use Rattle.pg_value.specs.declared.trail.Fixity.{Fixity}
+use Rattle.pg_value.specs.declared.trail.Fixity.TheVariants as fixity
+use Rattle.pg_form.specs.declared.operators_item.OperatorsItem.{OperatorsItem}
+use Rattle.pg_form.specs.declared.word_item.WordItem.{WordItem}
+use Rattle.pg_value.specs.declared.grammar.Rule as declared
+use Rattle.pg_value.specs.declared.trail.TrailItem.{TrailItem}
+use Rattle.pg_value.specs.declared.trail.TrailItem.TheVariants.{Alt, Rounds, Ops}
+use Rattle.pg_table.specs.Tables.{Table, admit_fault, with_operator, first_operators}
+use Rattle.pg_table.specs.declared.fault.AdmitFault.{AdmitFault}
+use Rattle.pg_fitting.specs.Steps.{Step, a_term, a_symbol, an_application}
+use Rattle.pg_fitting.specs.Judge.{known_in, judgement}
+use Rattle.pg_language.specs.Runs.{run_at, past_run, stands_at}
+use Rattle.pg_language.specs.Declarations.{Declaration, no_keyword, no_digit, no_symbol, declared, declaration_at}
+use Rattle.pg_language.specs.Derives.{leaf_of, declaration_tree, made_by}
+use Rattle.pg_replay.specs.declared.fault.Mismatch.{Mismatch}
+use Rattle.pg_replay.specs.declared.fault.Mismatch.TheVariants.{ItemDiffers, TextDiffers, NotAdmitted}
+use Rattle.pg_replay.specs.declared.task.Halt.{Halt}
+use Rattle.pg_replay.specs.declared.task.Halt.TheVariants.{Stopped, Ended}
+
+-- a chain: from which side it is folded by which builder, its operand and its separator
+pub record Chain : Type 0 where
+  pub side : Side
+  pub used : BuilderUse
+  pub part : ℕ
+  pub separator : ℕ
+
+pub data OnTask : Type 0 where
+  -- a node
+  node : ℕ → OnTask
+  -- the parts of a sequence
+  parts : List ℕ → OnTask
+  -- so many rounds of a node
+  rounds : (part left : ℕ) → OnTask
+  -- so many rounds more, after one that began at the place, with so many trees before it and so many items left
+  more_rounds : (part left place trees items : ℕ) → OnTask
+  -- so many rounds of a chain: a separator and an operand each, where the trees to be folded come after so many
+  links : Chain → (left trees : ℕ) → OnTask
+  -- the operand after a separator, and then so many rounds
+  operand : Chain → (left trees : ℕ) → OnTask
+  -- the trees after so many are made into one
+  fold : BuilderUse → (trees : ℕ) → OnTask
+  -- a term of an expression, whose trees begin the next operand
+  marked : ℕ → OnTask
+  -- the symbol of an operator
+  operator_symbol : AppliedOperator → OnTask
+  -- the operator is applied to the trees of its operands
+  application : OperatorBuilders → AppliedOperator → OnTask
+  -- the last operand ends the expression
+  unmark : OnTask
+  -- what a form makes of its part, which began at the place, with so many trees and operators before it
+  close : Around → (place trees operators : ℕ) → OnTask
+  -- the body of a rule ends
+  leave : OnTask
+
+-- the tasks, the next one first, the place and the table, the forest so far, the items left, and the rules entered since
+-- something was last taken, the newest first, and how many trees there are before each operand that isn't applied yet, the newest first
+pub record State : Type 0 where
+  pub tasks : List OnTask
+  pub place : ℕ
+  pub table : Table
+  pub forest : List Tree
+  pub rest : List TrailItem
+  pub entered : List ℕ
+  pub marks : List ℕ
+
+-- what doing a task comes to
+pub data Turn : Type 0 where
+  on : State → Turn
+  -- at this place, with these items left
+  stops : Mismatch → ℕ → List TrailItem → Turn
+  -- nothing is left to do
+  ended : State → Turn
+
+abbrev pub told : Option Halt → State → Turn
+told None s = on s
+told (Some (Stopped why)) s = stops why s.place s.rest
+told (Some Ended) s = ended s
+
+-- one task more
+abbrev pub with_task : OnTask → State → State
+with_task t s = record { tasks = t ∷ s.tasks; place = s.place; table = s.table; forest = s.forest; rest = s.rest; entered = s.entered; marks = s.marks }
+
+-- other marks
+abbrev pub with_marks : List ℕ → State → State
+with_marks marks s = record { tasks = s.tasks; place = s.place; table = s.table; forest = s.forest; rest = s.rest; entered = s.entered; marks = marks }
+
+-- the trees and the table changed
+abbrev pub with_forest : List Tree → Table → State → State
+with_forest forest table s = record { tasks = s.tasks; place = s.place; table = table; forest = forest; rest = s.rest; entered = s.entered; marks = s.marks }
+
+-- the rules that are open changed
+abbrev pub with_entered : List ℕ → State → State
+with_entered entered s = record { tasks = s.tasks; place = s.place; table = s.table; forest = s.forest; rest = s.rest; entered = entered; marks = s.marks }
+
+-- an item was taken
+abbrev pub after_item : List TrailItem → State → State
+after_item rest s = record { tasks = s.tasks; place = s.place; table = s.table; forest = s.forest; rest = rest; entered = []; marks = s.marks }
+
+-- at another place, where no rule is open unless it is the same
+abbrev pub moved_to : ℕ → State → State
+moved_to place s = record { tasks = s.tasks; place = place; table = s.table; forest = s.forest; rest = s.rest; entered = if s.place == place then s.entered else []; marks = s.marks }
+
+-- without the newest, if there is one
+abbrev pub without_newest : List ℕ → List ℕ
+without_newest [] = []
+without_newest (newest ∷ others) = others
+
+-- ---- leaves
+
+-- how many characters a leaf takes at a place, if what it asks for stands there
+
+abbrev pub next_in : Grammar → List ClassPart → Option ℕ → Bool
+next_in g class None = false
+next_in g class (Some c) = has_character g.classes class c
+
+-- one character of the class
+abbrev pub satisfied : Grammar → List ℕ → List ClassPart → ℕ → Option ℕ
+satisfied g text class i = if next_in g class (slice_get text i) then Some 1 else None
+
+-- the characters
+abbrev pub spelled : List ℕ → List ℕ → ℕ → Option ℕ
+spelled text s i = if stands_at text i s then Some (length s) else None
+
+-- a word, unless it is reserved
+abbrev pub unreserved : WordItem → List ℕ → Option ℕ
+unreserved item s = if list_any (λ reserved. bytes_eq reserved s) item.reserved then None else Some (length s)
+
+abbrev pub word_from : Grammar → List ℕ → WordItem → ℕ → Option ℕ → Option ℕ
+word_from g text item i None = None
+word_from g text item i (Some c) = if has_character g.classes item.head c then unreserved item (c ∷ run_at g text item.rest (i + 1)) else None
+
+abbrev pub word_by : Grammar → List ℕ → ℕ → Option WordItem → Option ℕ
+word_by g text i None = None
+word_by g text i (Some item) = word_from g text item i (slice_get text i)
+
+-- the leaf takes so many characters, as one tree
+abbrev pub takes : List ℕ → Option ℕ → State → Turn
+takes text None s = stops TextDiffers s.place s.rest
+takes text (Some n) s = on (with_forest (s.forest ++ leaf_of (take n (drop s.place text)) ∷ []) s.table (moved_to (s.place + n) s))
+
+-- the leaf takes nothing
+abbrev pub stays_if : Bool → State → Turn
+stays_if true s = on s
+stays_if false s = stops TextDiffers s.place s.rest
+
+-- a declaration up to a place, unless the table refuses it
+abbrev pub declares : Operator → ℕ → Option AdmitFault → State → Turn
+declares d j (Some fault) s = stops NotAdmitted s.place s.rest
+declares d j None s = on (with_forest (s.forest ++ declaration_tree d ∷ []) (with_operator s.table d) (moved_to j s))
+
+abbrev pub declared_turn : Declaration → State → Turn
+declared_turn no_keyword s = stops TextDiffers s.place s.rest
+declared_turn (no_digit i) s = stops TextDiffers s.place s.rest
+declared_turn (no_symbol i) s = stops TextDiffers s.place s.rest
+declared_turn (declared d i j) s = declares d j (admit_fault s.table d) s
+
+abbrev pub declare_turn : Grammar → List ℕ → List ClassPart → Option OperatorsItem → State → Turn
+declare_turn g text class None s = stops TextDiffers s.place s.rest
+declare_turn g text class (Some item) s = declared_turn (declaration_at g text item class s.place) s
+
+abbrev pub leaf_turn : Grammar → List ℕ → Leaf ℕ → State → Turn
+leaf_turn g text (read.Satisfy class) s = takes text (satisfied g text class s.place) s
+leaf_turn g text (read.String characters) s = takes text (spelled text characters s.place) s
+leaf_turn g text (read.Word w) s = takes text (word_by g text s.place (slice_get g.words w)) s
+leaf_turn g text (read.NotFollowedBy class) s = stays_if (not (next_in g class (slice_get text s.place))) s
+leaf_turn g text read.EndOfText s = stays_if (s.place == length text) s
+leaf_turn g text (read.Declare class) s = declare_turn g text class g.operators s
+
+-- ---- forms
+
+-- an alternative, if there is one
+abbrev pub part_turn : Option ℕ → List TrailItem → State → Turn
+part_turn None rest s = stops ItemDiffers s.place s.rest
+part_turn (Some p) rest s = on (with_task (node p) (after_item rest s))
+
+-- the alternative with this number, from 1
+abbrev pub numbered_turn : List ℕ → ℕ → List TrailItem → State → Turn
+numbered_turn ps k rest s = if k == 0 then stops ItemDiffers s.place s.rest else part_turn (slice_get ps (k - 1)) rest s
+
+abbrev pub choice_turn : List ℕ → List TrailItem → State → Turn
+choice_turn ps [] s = stops ItemDiffers s.place s.rest
+choice_turn ps (Alt k ∷ rest) s = numbered_turn ps k rest s
+choice_turn ps (Rounds n ∷ rest) s = stops ItemDiffers s.place s.rest
+choice_turn ps (Ops o ∷ rest) s = stops ItemDiffers s.place s.rest
+
+abbrev pub many_turn : ℕ → List TrailItem → State → Turn
+many_turn p [] s = stops ItemDiffers s.place s.rest
+many_turn p (Alt k ∷ rest) s = stops ItemDiffers s.place s.rest
+many_turn p (Rounds n ∷ rest) s = on (with_task (rounds p n) (after_item rest s))
+many_turn p (Ops o ∷ rest) s = stops ItemDiffers s.place s.rest
+
+-- the first operand, and then the rounds
+abbrev pub chain_turn : Chain → List TrailItem → State → Turn
+chain_turn c [] s = stops ItemDiffers s.place s.rest
+chain_turn c (Alt k ∷ rest) s = stops ItemDiffers s.place s.rest
+chain_turn c (Rounds n ∷ rest) s = on (with_task (node c.part) (with_task (links c n (length s.forest)) (after_item rest s)))
+chain_turn c (Ops o ∷ rest) s = stops ItemDiffers s.place s.rest
+
+-- ---- expressions
+
+abbrev pub step_task : OperatorBuilders → ℕ → Step → OnTask
+step_task builders p a_term = marked p
+step_task builders p (a_symbol o) = operator_symbol o
+step_task builders p (an_application o) = application builders o
+
+-- the tasks come before the others
+abbrev pub with_steps : OperatorBuilders → ℕ → List Step → State → State
+with_steps builders p steps s = record { tasks = map (step_task builders p) steps ++ s.tasks; place = s.place; table = s.table; forest = s.forest; rest = s.rest; entered = s.entered; marks = s.marks }
+
+-- the steps of the tree that fits, if there is one
+abbrev pub steps_turn : OperatorBuilders → ℕ → Option (List Step) → List TrailItem → State → Turn
+steps_turn builders p None rest s = stops ItemDiffers s.place s.rest
+steps_turn builders p (Some steps) rest s = on (with_steps builders p steps (with_task unmark (after_item rest s)))
+
+-- they are looked for where the grammar has operators
+abbrev pub operators_turn : Option OperatorsItem → OperatorBuilders → ℕ → List AppliedOperator → List TrailItem → State → Turn
+operators_turn None builders p read rest s = stops ItemDiffers s.place s.rest
+operators_turn (Some item) builders p read rest s = steps_turn builders p (judgement (known_in s.table.operators) read) rest s
+
+abbrev pub expression_turn : Grammar → OperatorBuilders → ℕ → List TrailItem → State → Turn
+expression_turn g builders p [] s = stops ItemDiffers s.place s.rest
+expression_turn g builders p (Alt k ∷ rest) s = stops ItemDiffers s.place s.rest
+expression_turn g builders p (Rounds n ∷ rest) s = stops ItemDiffers s.place s.rest
+expression_turn g builders p (Ops read ∷ rest) s = operators_turn g.operators builders p read rest s
+
+-- where an operator with these characters ends, if one stands at the place
+abbrev pub operator_end : Grammar → List ℕ → OperatorsItem → List ℕ → ℕ → Option ℕ
+operator_end g text item characters i = if bytes_eq (run_at g text item.class i) characters then Some (past_run g text item.gap (i + length characters)) else None
+
+abbrev pub ended_turn : Option ℕ → State → Turn
+ended_turn None s = stops TextDiffers s.place s.rest
+ended_turn (Some j) s = on (moved_to j s)
+
+abbrev pub symbol_turn : Grammar → List ℕ → Option OperatorsItem → AppliedOperator → State → Turn
+symbol_turn g text None o s = stops TextDiffers s.place s.rest
+symbol_turn g text (Some item) o s = ended_turn (operator_end g text item o.symbol s.place) s
+
+abbrev pub builder_on : Fixity → OperatorBuilders → BuilderUse
+builder_on fixity.Prefix builders = builders.prefix
+builder_on fixity.Infix builders = builders.infix
+builder_on fixity.Postfix builders = builders.postfix
+
+-- the newest, if there is one
+abbrev pub first_mark : List ℕ → ℕ
+first_mark [] = 0
+first_mark (m ∷ marks) = m
+
+-- an infix operator makes one operand of two
+abbrev pub marks_after : Fixity → List ℕ → List ℕ
+marks_after fixity.Prefix marks = marks
+marks_after fixity.Infix marks = without_newest marks
+marks_after fixity.Postfix marks = marks
+
+-- the trees after so many are made into one, with a symbol of these characters
+abbrev pub built_after : Shape → List ℕ → ℕ → List Tree → List Tree
+built_after shape characters trees forest = take trees forest ++ built shape (encode_utf8_all characters) (drop trees forest) ∷ []
+
+-- those trees are the operands
+abbrev pub applied_after : OperatorBuilders → AppliedOperator → ℕ → List Tree → List Tree
+applied_after builders o trees forest = built_after (builder_on o.fixity builders).shape o.symbol trees forest
+
+-- under these marks
+abbrev pub applied_under : OperatorBuilders → AppliedOperator → List ℕ → State → State
+applied_under builders o marks s = with_marks marks (with_forest (applied_after builders o (first_mark marks) s.forest) s.table s)
+
+abbrev pub application_turn : OperatorBuilders → AppliedOperator → State → Turn
+application_turn builders o s = on (applied_under builders o (marks_after o.fixity s.marks) s)
+
+-- ---- rules
+
+-- whether the rule was entered since something was last taken
+abbrev pub is_entered : ℕ → List ℕ → Bool
+is_entered r entered = list_any (λ q. q == r) entered
+
+abbrev pub rule_turn : ℕ → Option declared.Rule → State → Turn
+rule_turn r None s = stops ItemDiffers s.place s.rest
+rule_turn r (Some named) s = if is_entered r s.entered then stops ItemDiffers s.place s.rest
+    else on (with_task (node named.body) (with_task leave (with_entered (r ∷ s.entered) s)))
+
+abbrev pub form_turn : Grammar → List ℕ → Node → State → Turn
+form_turn g text (form.Leaf l) s = leaf_turn g text l s
+form_turn g text (form.Seq ps) s = on (with_task (parts ps) s)
+form_turn g text (form.Choice ps) s = choice_turn ps s.rest s
+form_turn g text (form.Many p) s = many_turn p s.rest s
+form_turn g text (form.Chain side used p q) s = chain_turn (record { side = side; used = used; part = p; separator = q }) s.rest s
+form_turn g text (form.Rule r) s = rule_turn r (slice_get g.rules r) s
+form_turn g text (form.Expression builders p) s = expression_turn g builders p s.rest s
+form_turn g text (form.Around k p) s = on (with_task (node p) (with_task (close k s.place (length s.forest) (length s.table.operators)) s))
+
+abbrev pub node_turn : Grammar → List ℕ → Option Node → State → Turn
+node_turn g text None s = stops ItemDiffers s.place s.rest
+node_turn g text (Some n) s = form_turn g text n s
+
+abbrev pub parts_turn : List ℕ → State → Turn
+parts_turn [] s = on s
+parts_turn (p ∷ ps) s = on (with_task (node p) (with_task (parts ps) s))
+
+abbrev pub rounds_turn : ℕ → ℕ → State → Turn
+rounds_turn p n s = if n == 0 then on s else on (with_task (node p) (with_task (more_rounds p (n - 1) s.place (length s.forest) (length s.rest)) s))
+
+-- whether nothing was taken, and no tree was given, since then
+abbrev pub is_unchanged : ℕ → ℕ → ℕ → State → Bool
+is_unchanged place trees items s = (place == s.place) && ((trees == length s.forest) && (items == length s.rest))
+
+-- where a round takes and gives nothing, the others do so too
+abbrev pub more_turn : (part left place trees items : ℕ) → State → Turn
+more_turn p n place trees items s = if is_unchanged place trees items s then on s else rounds_turn p n s
+
+abbrev pub links_turn : Chain → ℕ → ℕ → State → Turn
+links_turn c n trees s = if n == 0 then on s else on (with_task (node c.separator) (with_task (operand c (n - 1) trees) s))
+
+-- from the left the operand is folded with all before it, and then come the other rounds; from the right these come first
+abbrev pub with_links : Side → Chain → ℕ → ℕ → State → State
+with_links Left c n trees s = with_task (fold c.used trees) (with_task (links c n trees) s)
+with_links Right c n trees s = with_task (links c n (length s.forest)) (with_task (fold c.used trees) s)
+
+abbrev pub operand_turn : Chain → ℕ → ℕ → State → Turn
+operand_turn c n trees s = on (with_task (node c.part) (with_links c.side c n trees s))
+
+-- the trees after so many are made into one, without a symbol
+abbrev pub folded_after : Shape → ℕ → List Tree → List Tree
+folded_after shape trees forest = take trees forest ++ built shape [] (drop trees forest) ∷ []
+
+abbrev pub fold_turn : BuilderUse → ℕ → State → Turn
+fold_turn used trees s = on (with_forest (folded_after used.shape trees s.forest) s.table s)
+
+-- the table after a form around a part, of which so many operators were there before
+abbrev pub closed_table : Around → ℕ → Table → Table
+closed_table kind.Try operators table = table
+closed_table kind.Text operators table = table
+closed_table kind.Skip operators table = table
+closed_table (kind.Build used symbol) operators table = table
+closed_table (kind.Label message) operators table = table
+closed_table kind.Local operators table = first_operators operators table
+
+abbrev pub closed_forest : Around → List ℕ → ℕ → ℕ → ℕ → List Tree → List Tree
+closed_forest k text from to trees forest = take trees forest ++ made_by k text from to (drop trees forest)
+
+abbrev pub close_turn : List ℕ → Around → ℕ → ℕ → ℕ → State → Turn
+close_turn text k place trees operators s = on (with_forest (closed_forest k text place s.place trees s.forest) (closed_table k operators s.table) s)
+
+-- doing the task, after which the others are left
+abbrev pub turn : Grammar → List ℕ → OnTask → State → Turn
+turn g text (node p) s = node_turn g text (slice_get g.nodes p) s
+turn g text (parts ps) s = parts_turn ps s
+turn g text (rounds p n) s = rounds_turn p n s
+turn g text (more_rounds p n place trees items) s = more_turn p n place trees items s
+turn g text (links c n trees) s = links_turn c n trees s
+turn g text (operand c n trees) s = operand_turn c n trees s
+turn g text (fold used trees) s = fold_turn used trees s
+turn g text (close k place trees operators) s = close_turn text k place trees operators s
+turn g text (marked p) s = on (with_task (node p) (with_marks (length s.forest ∷ s.marks) s))
+turn g text (operator_symbol o) s = symbol_turn g text g.operators o s
+turn g text (application builders o) s = application_turn builders o s
+turn g text unmark s = on (with_marks (without_newest s.marks) s)
+turn g text leave s = on (with_entered (without_newest s.entered) s)
+
+-- the tasks, without the first
+abbrev pub with_tasks : List OnTask → State → State
+with_tasks tasks s = record { tasks = tasks; place = s.place; table = s.table; forest = s.forest; rest = s.rest; entered = s.entered; marks = s.marks }
+
+-- doing the next task
+abbrev pub turn_by : Grammar → List ℕ → List OnTask → State → Turn
+turn_by g text [] s = ended s
+turn_by g text (t ∷ ts) s = turn g text t (with_tasks ts s)
+
+abbrev pub next_turn : Grammar → List ℕ → State → Turn
+next_turn g text s = turn_by g text s.tasks s

@@ -1,0 +1,44 @@
+-- What the definitions see of the code's tasks.
+use Rattle.std.specs.Prelude.{List, [], ◌∷◌, reverse}
+use Rattle.pg_replay.specs.declared.task.Task.{Task}
+use Rattle.pg_replay.specs.declared.task.Task.TheVariants as task
+use Rattle.pg_replay.specs.declared.task.Chain as declared
+use Rattle.pg_replay.specs.declared.replayer.Replayer.{Replayer}
+use Rattle.pg_replay.specs.Tasks.{Chain, OnTask, node, parts, rounds, more_rounds, links, operand, fold, marked, operator_symbol, application, unmark, close, leave, State}
+
+abbrev pub chain_of : declared.Chain → Chain
+chain_of c = record { side = c.side; used = c.used.now; part = c.part; separator = c.separator }
+
+abbrev pub task_of : Task → OnTask
+task_of (task.Node p) = node p
+task_of (task.Parts ps) = parts ps.now
+task_of (task.Rounds part left) = rounds part left
+task_of (task.MoreRounds part left place trees items) = more_rounds part left place trees items
+task_of (task.Links side used part separator left trees) = links (record { side = side; used = used.now; part = part; separator = separator }) left trees
+task_of (task.Operand side used part separator left trees) = operand (record { side = side; used = used.now; part = part; separator = separator }) left trees
+task_of (task.Fold used trees) = fold used.now trees
+task_of (task.Term p) = marked p
+task_of (task.Symbol o) = operator_symbol o.now
+task_of (task.Application builders o) = application builders.now o.now
+task_of task.Unmark = unmark
+task_of (task.Close around place trees operators) = close around.now place trees operators
+task_of task.Leave = leave
+
+-- the next task stands last in the code
+abbrev pub tasks_on : List OnTask → List Task → List OnTask
+tasks_on ts [] = ts
+tasks_on ts (t ∷ more) = tasks_on (task_of t ∷ ts) more
+
+abbrev pub tasks_of : List Task → List OnTask
+tasks_of ts = tasks_on [] ts
+
+abbrev pub state_of : Replayer → State
+state_of r = record {
+  tasks = tasks_of r.tasks.items;
+  place = r.place;
+  table = r.table;
+  forest = r.forest;
+  rest = r.rest.now;
+  entered = reverse r.entered.items;
+  marks = reverse r.marks.items;
+}

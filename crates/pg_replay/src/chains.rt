@@ -1,0 +1,97 @@
+//! Chains: an operand, and then rounds of a separator and an operand, whose trees are folded from a side.
+
+ghost use Rattle.std.specs.Prelude.{◌≡◌, IfOk, OnOk};
+ghost use Rattle.pg_replay.specs.Tasks.{on, told, with_links, chain_turn, links_turn, operand_turn, fold_turn};
+ghost use Rattle.pg_replay.specs.View.{state_of, chain_of};
+
+use crate::fault::Mismatch;
+use crate::replayer::Replayer;
+use crate::step::build;
+use crate::task::{Chain, Halt};
+use pg_form::{BuilderUse, Side};
+use pg_value::TrailItem;
+use std::alloc::{AllocError, Global};
+
+impl<'a> Replayer<'a> {
+    /// The next item counts the rounds; the first operand comes before them.
+    pub(crate) fn begin_chain(&mut self, chain: &Chain<'a>) -> Result<Option<Halt>, AllocError>
+        ensures { IfOk result (λ halt. told halt (state_of self.new) ≡ chain_turn (chain_of chain.now) self.old.rest.now (state_of self.old)) }
+    {
+        match self.rest.split_first() {
+            Some((TrailItem::Rounds(left), rest)) => {
+                let (left, trees) = (*left, self.forest.len());
+                self.take_item(rest);
+                self.push_links(chain, left, trees)?;
+                self.go_on(chain.part)
+            }
+            Some((TrailItem::Alt(_) | TrailItem::Ops(_), _)) | None => Ok(Some(Halt::Stopped(
+                Mismatch::ItemDiffers,
+            ))),
+        }
+    }
+
+    /// A separator and its operand, and then the other rounds.
+    pub(crate) fn links(
+        &mut self,
+        chain: &Chain<'a>,
+        left: usize,
+        trees: usize,
+    ) -> Result<Option<Halt>, AllocError>
+        ensures { IfOk result (λ halt. told halt (state_of self.new) ≡ links_turn (chain_of chain.now) left trees (state_of self.old)) }
+    {
+        if left == 0 {
+            return Ok(None);
+        }
+        let left = left - 1;
+        self.push_operand(chain, left, trees)?;
+        self.go_on(chain.separator)
+    }
+
+    /// The operand, and then the folding and the other rounds.
+    pub(crate) fn operand(
+        &mut self,
+        chain: &Chain<'a>,
+        left: usize,
+        trees: usize,
+    ) -> Result<Option<Halt>, AllocError>
+        ensures { IfOk result (λ halt. told halt (state_of self.new) ≡ operand_turn (chain_of chain.now) left trees (state_of self.old)) }
+    {
+        self.push_after_operand(chain, left, trees)?;
+        self.go_on(chain.part)
+    }
+
+    /// From the left the operand is folded with all before it first, and from the right with all after it, last.
+    fn push_after_operand(
+        &mut self,
+        chain: &Chain<'a>,
+        left: usize,
+        trees: usize,
+    ) -> Result<(), AllocError>
+        ensures { OnOk result (state_of self.new ≡ with_links chain.now.side (chain_of chain.now) left trees (state_of self.old)) }
+    {
+        match chain.side {
+            Side::Left => {
+                self.push_links(chain, left, trees)?;
+                self.push_fold(chain.used, trees)
+            }
+            Side::Right => {
+                let later = self.forest.len();
+                self.push_fold(chain.used, trees)?;
+                self.push_links(chain, left, later)
+            }
+        }
+    }
+
+    /// The trees after so many are made into one.
+    pub(crate) fn fold(
+        &mut self,
+        alloc: Global,
+        used: &BuilderUse,
+        trees: usize,
+    ) -> Result<Option<Halt>, AllocError>
+        ensures { IfOk result (λ halt. told halt (state_of self.new) ≡ fold_turn used.now trees (state_of self.old)) }
+    {
+        build(alloc, &used.shape, "", trees, &mut self.forest)?;
+        Ok(None)
+    }
+}

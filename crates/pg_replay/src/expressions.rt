@@ -1,0 +1,187 @@
+//! Expressions: the steps of the tree that fits the table and has the item's operators.
+
+ghost use Rattle.std.specs.Prelude.{◌≡◌, IfOk, OnOk, map, reverse};
+ghost use Rattle.pg_fitting.specs.Judge.{step_of};
+ghost use Rattle.pg_replay.specs.Tasks.{told, step_task, with_task, with_steps, operators_turn, expression_turn, symbol_turn, ended_turn, operator_end, builder_on, marks_after, built_after, applied_under, application_turn, with_forest, with_marks, without_newest, first_mark};
+ghost use Rattle.pg_replay.specs.View.{state_of};
+
+use crate::fault::Mismatch;
+use crate::operators::{operator_end, utf8};
+use crate::replayer::Replayer;
+use crate::step::build;
+use crate::task::Halt;
+use pg_fitting::{Step, fitting_steps};
+use pg_form::{BuilderUse, NodeId, OperatorBuilders};
+use pg_text::Text;
+use pg_value::{AppliedOperator, Fixity, Grammar, TrailItem};
+use std::alloc::{AllocError, Global};
+
+impl<'a> Replayer<'a> {
+    /// The next item has the operators.
+    pub(crate) fn begin_expression(
+        &mut self,
+        alloc: Global,
+        grammar: &Grammar,
+        builders: &'a OperatorBuilders,
+        part: NodeId,
+    ) -> Result<Option<Halt>, AllocError>
+        ensures { IfOk result (λ halt. told halt (state_of self.new) ≡ expression_turn grammar.now builders.now part self.old.rest.now (state_of self.old)) }
+    {
+        match self.rest.split_first() {
+            Some((TrailItem::Ops(read), rest)) => {
+                self.begin_operators(alloc, grammar, builders, part, read.as_slice(), rest)
+            }
+            Some((TrailItem::Alt(_) | TrailItem::Rounds(_), _)) | None => Ok(Some(Halt::Stopped(
+                Mismatch::ItemDiffers,
+            ))),
+        }
+    }
+
+    /// They are judged before the first operand.
+    fn begin_operators(
+        &mut self,
+        alloc: Global,
+        grammar: &Grammar,
+        builders: &'a OperatorBuilders,
+        part: NodeId,
+        read: &'a [AppliedOperator],
+        rest: &'a [TrailItem],
+    ) -> Result<Option<Halt>, AllocError>
+        ensures { IfOk result (λ halt. told halt (state_of self.new) ≡ operators_turn grammar.now.operators builders.now part read.now rest.now (state_of self.old)) }
+    {
+        if grammar.operators_item().is_none() {
+            return Ok(Some(Halt::Stopped(Mismatch::ItemDiffers)));
+        }
+        match fitting_steps(alloc, &self.table, read)? {
+            Some(steps) => {
+                self.take_item(rest);
+                self.push_unmark()?;
+                self.push_steps(builders, part, steps)?;
+                Ok(None)
+            }
+            None => Ok(Some(Halt::Stopped(Mismatch::ItemDiffers))),
+        }
+    }
+
+    /// The steps are the next tasks, the first of them first.
+    #[tactic(auto, using(crate::proofs::Steps::steps_pushed, crate::proofs::Steps::no_steps))]
+    fn push_steps(
+        &mut self,
+        builders: &'a OperatorBuilders,
+        part: NodeId,
+        steps: Vec<Step<'a>>,
+    ) -> Result<(), AllocError>
+        ensures { OnOk result (state_of self.new ≡ with_steps builders.now part (map step_of steps.entry.items) (state_of self.old)) }
+    {
+        let mut steps = steps;
+        while let Some(step) = steps.pop() {
+            self.push_step(builders, part, step)?;
+        }
+        Ok(())
+    }
+
+    /// The step is.
+    fn push_step(
+        &mut self,
+        builders: &'a OperatorBuilders,
+        part: NodeId,
+        step: Step<'a>,
+    ) -> Result<(), AllocError>
+        ensures { OnOk result (state_of self.new ≡ with_task (step_task builders.now part (step_of step.entry)) (state_of self.old)) }
+    {
+        match step {
+            Step::Term => self.push_term(part),
+            Step::Symbol(operator) => self.push_symbol(operator),
+            Step::Application(operator) => self.push_application(builders, operator),
+        }
+    }
+
+    /// The symbol of an operator, and the gap after it.
+    pub(crate) fn symbol(
+        &mut self,
+        grammar: &Grammar,
+        text: &Text,
+        operator: &AppliedOperator,
+    ) -> Option<Halt>
+        ensures { told result (state_of self.new) ≡ symbol_turn grammar.now text.now grammar.now.operators operator.now (state_of self.old) }
+    {
+        match grammar.operators_item() {
+            Some(item) => {
+                self.end_at(operator_end(
+                    grammar,
+                    text,
+                    item,
+                    operator.symbol.as_slice(),
+                    self.place,
+                ))
+            }
+            None => Some(Halt::Stopped(Mismatch::TextDiffers)),
+        }
+    }
+
+    /// What was asked for ends at the place, if it stands in the text.
+    fn end_at(&mut self, end: Option<usize>) -> Option<Halt>
+        ensures { told result (state_of self.new) ≡ ended_turn end (state_of self.old) }
+    {
+        match end {
+            Some(end) => {
+                self.move_to(end);
+                None
+            }
+            None => Some(Halt::Stopped(Mismatch::TextDiffers)),
+        }
+    }
+
+    /// The operator is applied to its operands, which are one from then on.
+    pub(crate) fn apply(
+        &mut self,
+        alloc: Global,
+        builders: &OperatorBuilders,
+        operator: &AppliedOperator,
+    ) -> Result<Option<Halt>, AllocError>
+        ensures { IfOk result (λ halt. told halt (state_of self.new) ≡ application_turn builders.now operator.now (state_of self.old)) }
+    {
+        self.join_operands(operator.fixity);
+        self.apply_newest(
+            alloc,
+            builder_on(operator.fixity, builders),
+            operator.symbol.as_slice(),
+        )?;
+        Ok(None)
+    }
+
+    /// An infix operator makes one operand of two.
+    fn join_operands(&mut self, fixity: Fixity)
+        ensures { state_of self.new ≡ with_marks (marks_after fixity (reverse self.old.marks.items)) (state_of self.old) }
+    {
+        match fixity {
+            Fixity::Infix => self.unmark(),
+            Fixity::Prefix | Fixity::Postfix => {}
+        }
+    }
+
+    /// The trees of the newest operand are made into one.
+    fn apply_newest(
+        &mut self,
+        alloc: Global,
+        used: &BuilderUse,
+        symbol: &[char],
+    ) -> Result<(), AllocError>
+        ensures { OnOk result (state_of self.new ≡ with_forest (built_after used.now.shape symbol.now (first_mark (reverse self.old.marks.items)) self.old.forest) self.old.table (state_of self.old)) }
+    {
+        let trees = self.newest_mark();
+        let symbol = utf8(alloc, symbol)?;
+        build(alloc, &used.shape, symbol.as_str(), trees, &mut self.forest)
+    }
+}
+
+/// The builder of operators on this side of their operands.
+fn builder_on(fixity: Fixity, builders: &OperatorBuilders) -> &BuilderUse
+    ensures { result.now ≡ builder_on fixity builders.now }
+{
+    match fixity {
+        Fixity::Prefix => &builders.prefix,
+        Fixity::Infix => &builders.infix,
+        Fixity::Postfix => &builders.postfix,
+    }
+}

@@ -1,0 +1,236 @@
+//! The forms that read the text themselves.
+
+ghost use Rattle.std.specs.Prelude.{◌≡◌, ◌<◌, ◌≤◌, ◌+◌, ◌-◌, ◌∷◌, slice_get, length, drop, option_copied, Some, true, IfOk, IfSome};
+ghost use Rattle.std.specs.List.{list_any};
+ghost use Rattle.std.specs.Str.{bytes_eq};
+ghost use Rattle.pg_form.specs.Operators.{IsOperator};
+ghost use Rattle.pg_value.specs.Fits.{IsClassIn};
+ghost use Rattle.pg_table.specs.Tables.{admit_fault};
+ghost use Rattle.pg_form.specs.declared.form.Form.TheVariants as form;
+ghost use Rattle.pg_declarations.specs.Views.{operator_of};
+ghost use Rattle.pg_language.specs.Runs.{run_at, stands_at};
+ghost use Rattle.pg_replay.specs.Tasks.{told, next_in, satisfied, spelled, unreserved, word_by, word_from, takes, stays_if, declares, declare_turn, leaf_turn};
+ghost use Rattle.pg_replay.specs.View.{state_of};
+
+use crate::fault::Mismatch;
+use crate::replayer::Replayer;
+use crate::task::Halt;
+use pg_declarations::{Declaration, Declared, declaration_at, run_at};
+use pg_form::{ClassExpression, Leaf, NodeId, OperatorsItem, WordId, WordItem};
+use pg_text::Text;
+use pg_value::Grammar;
+use std::alloc::{AllocError, Global};
+
+impl Replayer<'_> {
+    /// A leaf is read, or refuses.
+    #[tactic(auto, using(crate::proofs::LeafClasses::satisfy_class, crate::proofs::LeafClasses::not_followed_class, crate::proofs::LeafClasses::declare_class))]
+    pub(crate) fn leaf(
+        &mut self,
+        alloc: Global,
+        grammar: &Grammar,
+        text: &Text,
+        node: NodeId,
+        leaf: &Leaf<WordId>,
+    ) -> Result<Option<Halt>, AllocError>
+        requires { slice_get grammar.now.nodes node ≡ Some (form.Leaf leaf.now) }
+        ensures { IfOk result (λ halt. told halt (state_of self.new) ≡ leaf_turn grammar.now text.now leaf.now (state_of self.old)) }
+    {
+        let place = self.place;
+        match leaf {
+            Leaf::Satisfy(class) => self.take(text, satisfied(grammar, text, class, place)),
+            Leaf::String(s) => self.take(text, spelled(text, s.as_slice(), place)),
+            Leaf::Word(word) => self.take(text, word_at(grammar, text, *word, place)),
+            Leaf::NotFollowedBy(class) => {
+                Ok(stays_if(!next_in(grammar, class, text.char_at(place))))
+            }
+            Leaf::EndOfText => Ok(stays_if(place == text.len())),
+            Leaf::Declare(class) => self.declare(alloc, grammar, text, class),
+        }
+    }
+
+    /// So many characters are taken, as one tree.
+    fn take(&mut self, text: &Text, count: Option<usize>) -> Result<Option<Halt>, AllocError>
+        requires { IfSome count (λ n. n ≤ length text.now - self.old.place) }
+        ensures { IfOk result (λ halt. told halt (state_of self.new) ≡ takes text.now count (state_of self.old)) }
+    {
+        match count {
+            Some(count) => {
+                let rest = after(text, self.place);
+                self.forest.push_leaf(&rest[..count])?;
+                self.move_to(self.place + count);
+                Ok(None)
+            }
+            None => Ok(Some(Halt::Stopped(Mismatch::TextDiffers))),
+        }
+    }
+
+    /// A declaration by the operators item, if there is one.
+    fn declare(
+        &mut self,
+        alloc: Global,
+        grammar: &Grammar,
+        text: &Text,
+        class: &ClassExpression,
+    ) -> Result<Option<Halt>, AllocError>
+        requires { IsClassIn grammar.now class.now }
+        ensures { IfOk result (λ halt. told halt (state_of self.new) ≡ declare_turn grammar.now text.now class.now grammar.now.operators (state_of self.old)) }
+    {
+        match grammar.operators_item() {
+            Some(item) => match declaration_at(grammar, text, item, class, self.place) {
+                Declaration::NoKeyword | Declaration::NoDigit(_) | Declaration::NoSymbol(_) => Ok(
+                    Some(Halt::Stopped(Mismatch::TextDiffers)),
+                ),
+                Declaration::Declared(declared) => self.admit(alloc, declared),
+            },
+            None => Ok(Some(Halt::Stopped(Mismatch::TextDiffers))),
+        }
+    }
+
+    /// The operator comes to the table's end, unless it is refused.
+    fn admit(&mut self, alloc: Global, declared: Declared<'_>) -> Result<Option<Halt>, AllocError>
+        requires { IsOperator (operator_of declared) }
+        ensures { IfOk result (λ halt. told halt (state_of self.new) ≡
+            declares (operator_of declared.entry) declared.entry.end (admit_fault self.old.table (operator_of declared.entry)) (state_of self.old)) }
+    {
+        let operator = declared.operator(alloc)?;
+        if self.table.admit(&operator).is_err() {
+            return Ok(Some(Halt::Stopped(Mismatch::NotAdmitted)));
+        }
+        self.forest.push(declared.tree(alloc)?)?;
+        self.table.extend(operator)?;
+        self.move_to(declared.end);
+        Ok(None)
+    }
+}
+
+/// Nothing is taken, if this is so.
+fn stays_if(so: bool) -> Option<Halt>
+    ensures { (s : _) → told result s ≡ stays_if so s }
+{
+    if so {
+        None
+    } else {
+        Some(Halt::Stopped(Mismatch::TextDiffers))
+    }
+}
+
+/// Whether a character of the class comes next.
+fn next_in(grammar: &Grammar, class: &ClassExpression, next: Option<char>) -> bool
+    requires { IsClassIn grammar.now class.now }
+    ensures { result ≡ next_in grammar.now class.now next }
+{
+    match next {
+        Some(c) => grammar.has(class, c),
+        None => false,
+    }
+}
+
+/// One character of the class.
+fn satisfied(grammar: &Grammar, text: &Text, class: &ClassExpression, place: usize) -> Option<usize>
+    requires { IsClassIn grammar.now class.now }
+    ensures value { result ≡ satisfied grammar.now text.now class.now place }
+    ensures within { IfSome result (λ n. n ≤ length text.now - place) }
+{
+    if next_in(grammar, class, text.char_at(place)) {
+        return Some(1);
+    }
+    None
+}
+
+/// These characters.
+#[tactic(auto, using(crate::proofs::Characters::stands_short))]
+fn spelled(text: &Text, characters: &[char], place: usize) -> Option<usize>
+    ensures value { result ≡ spelled text.now characters.now place }
+    ensures within { IfSome result (λ n. n ≤ length text.now - place) }
+{
+    if stands_at(text, place, characters) {
+        return Some(characters.len());
+    }
+    None
+}
+
+/// Whether they stand at the place.
+fn stands_at(text: &Text, place: usize, characters: &[char]) -> bool
+    ensures { result ≡ stands_at text.now place characters.now }
+{
+    after(text, place).starts_with(characters)
+}
+
+/// The characters from the place on.
+pub(crate) fn after(text: &Text, place: usize) -> &[char]
+    ensures value { result.now ≡ drop place text.now }
+    ensures count { length result.now ≡ length text.now - place }
+    ensures limit { length text.now ≤ 1048576 }
+{
+    let characters = text.characters();
+    &characters[place.min(characters.len())..]
+}
+
+/// The character at the place, if there is one.
+fn next_at(text: &Text, place: usize) -> Option<char>
+    ensures value { result ≡ slice_get text.now place }
+    ensures within { IfSome result (λ c. place < length text.now) }
+    ensures limit { length text.now ≤ 1048576 }
+{
+    text.characters().get(place).copied()
+}
+
+/// A word of the item with this number.
+#[tactic(auto, using(crate::proofs::LeafClasses::head_class, crate::proofs::LeafClasses::rest_class))]
+fn word_at(grammar: &Grammar, text: &Text, word: WordId, place: usize) -> Option<usize>
+    ensures value { result ≡ word_by grammar.now text.now place (slice_get grammar.now.words word) }
+    ensures within { IfSome result (λ n. n ≤ length text.now - place) }
+{
+    match item_at(grammar.word_items(), word.index()) {
+        Some(item) => word_of(grammar, text, item, place),
+        None => None,
+    }
+}
+
+/// The word item with this number, if there is one.
+fn item_at(items: &[WordItem], number: usize) -> Option<&WordItem>
+    ensures { option_copied result ≡ slice_get items.now number }
+{
+    items.get(number)
+}
+
+/// A word of the item.
+#[tactic(auto, using(crate::proofs::Characters::whole_word, crate::proofs::Characters::run_short))]
+fn word_of(grammar: &Grammar, text: &Text, item: &WordItem, place: usize) -> Option<usize>
+    requires head { IsClassIn grammar.now item.now.head }
+    requires rest { IsClassIn grammar.now item.now.rest }
+    ensures value { result ≡ word_from grammar.now text.now item.now place (slice_get text.now place) }
+    ensures within { IfSome result (λ n. n ≤ length text.now - place) }
+{
+    match next_at(text, place) {
+        Some(c) => {
+            if !grammar.has(&item.head, c) {
+                return None;
+            }
+            let count = run_at(grammar, text, &item.rest, place + 1).len() + 1;
+            unreserved(item, &after(text, place)[..count])
+        }
+        None => None,
+    }
+}
+
+/// The word's characters, unless it is reserved.
+fn unreserved(item: &WordItem, word: &[char]) -> Option<usize>
+    ensures value { result ≡ unreserved item.now word.now }
+    ensures count { IfSome result (λ n. n ≡ length word.now) }
+{
+    if is_reserved(item, word) {
+        return None;
+    }
+    Some(word.len())
+}
+
+/// Whether a word of the item is reserved.
+fn is_reserved(item: &WordItem, word: &[char]) -> bool
+    ensures { result ≡ list_any (λ reserved. bytes_eq reserved word.now) item.now.reserved }
+{
+    item.reserved
+        .as_slice()
+        .iter()
+        .any(|reserved| reserved.as_slice() == word)
+}

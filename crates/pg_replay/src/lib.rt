@@ -1,0 +1,18 @@
+//! Going along a trail over a text, with no search, to the tree of the derivation that it was kept of.
+#![tactic(auto)]
+
+mod chains;
+mod expressions;
+mod fault;
+mod laws;
+mod leaves;
+mod operators;
+mod replayer;
+mod rounds;
+mod step;
+mod task;
+mod trails;
+
+pub use fault::{Mismatch, ReplayFault, Stop};
+pub use laws::trails_tell_derivations;
+pub use trails::replay;

@@ -1,0 +1,67 @@
+//! Operators in a text, and their symbols in trees.
+
+ghost use Rattle.std.specs.Prelude.{◌≡◌, ◌≤◌, Some, length, IfOk, string_bytes};
+ghost use Rattle.std.specs.List.{take_while};
+ghost use Rattle.std.specs.Str.{encode_utf8_all};
+ghost use Rattle.pg_form.specs.ClassItems.{has_character};
+ghost use Rattle.pg_value.specs.Fits.{IsClassIn};
+ghost use Rattle.pg_replay.specs.Tasks.{operator_end};
+
+use crate::leaves::after;
+use pg_form::{ClassExpression, OperatorsItem};
+use pg_text::Text;
+use pg_value::Grammar;
+use std::alloc::{AllocError, Global};
+
+/// Where an operator with this symbol ends, with the gap after it, if it stands at the place.
+#[tactic(auto, using(crate::proofs::LeafClasses::operators_class, crate::proofs::LeafClasses::gap_class))]
+pub(crate) fn operator_end(
+    grammar: &Grammar,
+    text: &Text,
+    item: &OperatorsItem,
+    symbol: &[char],
+    place: usize,
+) -> Option<usize>
+    requires { grammar.now.operators ≡ Some item.now }
+    ensures { result ≡ operator_end grammar.now text.now item.now symbol.now place }
+{
+    let run = run_of(grammar, &item.class, after(text, place));
+    if run != symbol {
+        return None;
+    }
+    let past = place + run.len();
+    Some(past + run_of(grammar, &item.gap, after(text, past)).len())
+}
+
+/// The characters of the class before any other.
+#[tactic(auto, using(crate::proofs::Characters::run_taken))]
+fn run_of<'a>(grammar: &Grammar, class: &ClassExpression, characters: &'a [char]) -> &'a [char]
+    requires { IsClassIn grammar.now class.now }
+    ensures value { result.now ≡ take_while (has_character grammar.now.classes class.now) characters.now }
+    ensures within { length result.now ≤ length characters.now }
+{
+    &characters[..run_length(grammar, class, characters)]
+}
+
+/// How many they are.
+fn run_length(grammar: &Grammar, class: &ClassExpression, characters: &[char]) -> usize
+    requires { IsClassIn grammar.now class.now }
+    ensures value { result ≡ length (take_while (has_character grammar.now.classes class.now) characters.now) }
+    ensures within { result ≤ length characters.now }
+{
+    characters
+        .iter()
+        .take_while(|c| grammar.has(class, **c))
+        .count()
+}
+
+/// The text with these characters. The only error is that memory ran out.
+pub(crate) fn utf8(alloc: Global, characters: &[char]) -> Result<String, AllocError>
+    ensures { IfOk result (λ text. string_bytes text ≡ encode_utf8_all characters.now) }
+{
+    let mut text = String::new(alloc);
+    for c in characters {
+        text.push(*c)?;
+    }
+    Ok(text)
+}

@@ -1,0 +1,67 @@
+//! Repetitions: so many rounds of a node.
+
+ghost use Rattle.std.specs.Prelude.{◌≡◌, IfOk};
+ghost use Rattle.pg_replay.specs.Tasks.{told, many_turn, rounds_turn, is_unchanged, more_turn};
+ghost use Rattle.pg_replay.specs.View.{state_of};
+
+use crate::fault::Mismatch;
+use crate::replayer::Replayer;
+use crate::task::Halt;
+use pg_form::NodeId;
+use pg_value::TrailItem;
+use std::alloc::AllocError;
+
+impl Replayer<'_> {
+    /// The next item counts the rounds.
+    pub(crate) fn begin_rounds(&mut self, part: NodeId) -> Result<Option<Halt>, AllocError>
+        ensures { IfOk result (λ halt. told halt (state_of self.new) ≡ many_turn part self.old.rest.now (state_of self.old)) }
+    {
+        match self.rest.split_first() {
+            Some((TrailItem::Rounds(left), rest)) => {
+                let left = *left;
+                self.take_item(rest);
+                self.push_rounds(part, left)?;
+                Ok(None)
+            }
+            Some((TrailItem::Alt(_) | TrailItem::Ops(_), _)) | None => Ok(Some(Halt::Stopped(
+                Mismatch::ItemDiffers,
+            ))),
+        }
+    }
+
+    /// A round, and then the others.
+    pub(crate) fn round(&mut self, part: NodeId, left: usize) -> Result<Option<Halt>, AllocError>
+        ensures { IfOk result (λ halt. told halt (state_of self.new) ≡ rounds_turn part left (state_of self.old)) }
+    {
+        if left == 0 {
+            return Ok(None);
+        }
+        let left = left - 1;
+        self.push_more_rounds(part, left)?;
+        self.go_on(part)
+    }
+
+    /// The other rounds, after one that began at the place: where it took and gave nothing, all of them are done.
+    pub(crate) fn more_rounds(
+        &mut self,
+        part: NodeId,
+        left: usize,
+        place: usize,
+        trees: usize,
+        items: usize,
+    ) -> Result<Option<Halt>, AllocError>
+        ensures { IfOk result (λ halt. told halt (state_of self.new) ≡ more_turn part left place trees items (state_of self.old)) }
+    {
+        if self.is_unchanged(place, trees, items) {
+            return Ok(None);
+        }
+        self.round(part, left)
+    }
+
+    /// Whether nothing was taken, and no tree was given, since then.
+    fn is_unchanged(&self, place: usize, trees: usize, items: usize) -> bool
+        ensures { result ≡ is_unchanged place trees items (state_of self.now) }
+    {
+        place == self.place && trees == self.forest.len() && items == self.rest.len()
+    }
+}

@@ -1,0 +1,88 @@
+//! What is left to do while a trail is gone along.
+
+use crate::fault::Mismatch;
+use pg_form::{Around, BuilderUse, NodeId, OperatorBuilders, Side};
+use pg_value::AppliedOperator;
+
+/// A chain: from which side it is folded by which builder, its operand and its separator.
+#[derive(Drop)]
+pub struct Chain<'a> {
+    pub side: Side,
+    pub used: &'a BuilderUse,
+    pub part: NodeId,
+    pub separator: NodeId,
+}
+
+/// What is left to do: a node, or the rest of one that was entered.
+#[derive(Drop)]
+pub enum Task<'a> {
+    /// A node.
+    Node(NodeId),
+    /// The parts of a sequence.
+    Parts(&'a [NodeId]),
+    /// So many rounds of a node.
+    Rounds {
+        part: NodeId,
+        left: usize,
+    },
+    /// So many rounds more, after one that began at the place, with so many trees before it and so many items left.
+    MoreRounds {
+        part: NodeId,
+        left: usize,
+        place: usize,
+        trees: usize,
+        items: usize,
+    },
+    /// So many rounds of a chain, where the trees to be folded come after so many.
+    Links {
+        side: Side,
+        used: &'a BuilderUse,
+        part: NodeId,
+        separator: NodeId,
+        left: usize,
+        trees: usize,
+    },
+    /// The operand after a separator, and then so many rounds.
+    Operand {
+        side: Side,
+        used: &'a BuilderUse,
+        part: NodeId,
+        separator: NodeId,
+        left: usize,
+        trees: usize,
+    },
+    /// The trees after so many are made into one.
+    Fold {
+        used: &'a BuilderUse,
+        trees: usize,
+    },
+    /// A term of an expression, whose trees begin the next operand.
+    Term(NodeId),
+    /// The symbol of an operator.
+    Symbol(&'a AppliedOperator),
+    /// The operator is applied to the trees of its operands.
+    Application {
+        builders: &'a OperatorBuilders,
+        operator: &'a AppliedOperator,
+    },
+    /// The last operand ends the expression.
+    Unmark,
+    /// What a form makes of its part, which began at the place, with so many trees and operators before it.
+    Close {
+        around: &'a Around,
+        place: usize,
+        trees: usize,
+        operators: usize,
+    },
+    /// The body of a rule ends.
+    Leave,
+}
+
+/// Why the next task isn't done.
+#[derive(Clone, Copy)]
+pub enum Halt {
+    /// The trail doesn't lead on here.
+    Stopped(Mismatch),
+    /// Nothing is left to do.
+    Ended,
+}

@@ -1,0 +1,99 @@
+//! Trails are gone along over whole texts.
+
+ghost use Rattle.std.specs.Prelude.{◌≡◌, ◌∷◌, [], Some, slice_get, option_map, IfOk, IfErr};
+ghost use Rattle.pg_value.specs.Grammar.{rule_body};
+ghost use Rattle.pg_table.specs.Tables.{ComesFrom};
+ghost use Rattle.pg_replay.specs.Ends.{IsTheForest, IsFault};
+ghost use Rattle.pg_replay.specs.Halts.{first_state, IsEnd, IsHalt};
+ghost use Rattle.pg_replay.specs.Tasks.{told};
+ghost use Rattle.pg_replay.specs.View.{state_of};
+
+use crate::fault::{Mismatch, ReplayFault, Stop};
+use crate::replayer::Replayer;
+use crate::task::Halt;
+use pg_form::NodeId;
+use pg_table::Table;
+use pg_text::Text;
+use pg_tree::Forest;
+use pg_value::{Grammar, Trail};
+use std::alloc::{AllocError, Global};
+
+/// The forest of the derivation that the trail was kept of, from the start rule over the whole text, under the table: the only
+/// one that is derived with just this trail. It takes no choice of its own (ours).
+///
+/// Where there is none, the first fault from the left is told: the next item doesn't fit the node or a rule is entered again before
+/// anything was taken, the text doesn't fit, characters or items are left over, or a declaration isn't admitted. The operators of an
+/// expression are judged before its first operand. The caller owes that the table comes from the grammar.
+pub fn replay(
+    alloc: Global,
+    grammar: &Grammar,
+    text: &Text,
+    table: &Table,
+    trail: &Trail,
+) -> Result<Forest, ReplayFault>
+    requires { ComesFrom grammar.now table.now }
+    ensures ok { IfOk result (IsTheForest grammar.now text.now table.now trail.now) }
+    ensures err { IfErr result (IsFault grammar.now text.now table.now trail.now) }
+{
+    // That each operator has a digit is known of a table once its operators are read.
+    let _operators = table.operators();
+    let body = start_of(grammar);
+    let mut replayer = begin(alloc, grammar, body, table, trail)?;
+    'turns: for _turn in 0..u64::MAX {
+        match replayer.step(alloc, grammar, text)? {
+            Some(halt) => return halted(replayer, text, halt),
+            None => {}
+        }
+    }
+    Err(ReplayFault::Memory)
+}
+
+/// The body of the start rule.
+fn start_of(grammar: &Grammar) -> NodeId
+    ensures { option_map rule_body (slice_get grammar.now.rules grammar.now.start) ≡ Some result }
+{
+    let start = grammar.start_rule().index();
+    grammar.rules()[start].body
+}
+
+/// The start rule is entered, at the start of the text.
+fn begin<'a>(
+    alloc: Global,
+    grammar: &'a Grammar,
+    body: NodeId,
+    table: &Table,
+    trail: &'a Trail,
+) -> Result<Replayer<'a>, AllocError>
+    ensures { IfOk result (λ replayer. state_of replayer ≡ first_state grammar.now.start body table.now trail.now) }
+{
+    let mut replayer = Replayer {
+        tasks: Vec::new(alloc),
+        place: 0,
+        table: table.copy(alloc)?,
+        forest: Forest::new(alloc),
+        rest: trail.items(),
+        entered: Vec::new(alloc),
+        marks: Vec::new(alloc),
+    };
+    replayer.enter_body(grammar.start_rule())?;
+    replayer.push_node(body)?;
+    Ok(replayer)
+}
+
+/// What is made of the turn that is the last.
+fn halted(replayer: Replayer<'_>, text: &Text, halt: Halt) -> Result<Forest, ReplayFault>
+    ensures ok { IfOk result (IsEnd text.now (told (Some halt) (state_of replayer.entry))) }
+    ensures err { IfErr result (IsHalt text.now (told (Some halt) (state_of replayer.entry))) }
+{
+    let (place, left) = (replayer.place, replayer.rest.len());
+    match halt {
+        Halt::Stopped(why) => Err(ReplayFault::Stopped(Stop { why, place, left })),
+        Halt::Ended => {
+            if place == text.len() && left == 0 {
+                return Ok(replayer.forest);
+            }
+            let why = Mismatch::LeftOver;
+            Err(ReplayFault::Stopped(Stop { why, place, left }))
+        }
+    }
+}
