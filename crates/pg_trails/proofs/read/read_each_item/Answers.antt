@@ -1,0 +1,24 @@
+use Rattle.std.proofs.Common.{◌∙◌, ◌+◌, [], map, take, sym, subst}
+use Rattle.std.proofs.lemmas.Result.{err_from_is_err_and}
+use Rattle.serde_json.specs.View.{view}
+use Rattle.pg_trails.specs.Readings.{GivesEach}
+use Rattle.pg_trails.specs.TrailJson.{item_value}
+use Rattle.pg_trails.proofs.Found.{one_more, all_found, one_refused}
+use Rattle.pg_trails.proofs.read.read_each_item.Goals as goal
+
+pub loop-value-init : goal.loop-value-init
+loop-value-init c = subst (λ found. GivesEach item_value [] found) (sym c.new-trail.ensures) tt
+
+pub returns-in_err-read_item : goal.returns-in_err-read_item
+returns-in_err-read_item c =
+    let p = err_from_is_err_and c.from_residual.result c.from_residual.ensures.1 in
+    rw (p.1, p.2) (one_refused view item_value c.args.list.now c.loop-value.value-index c.value-item.result _ c.loop-value-test.true c.value-item.is c.in_err-read_item.ensures)
+
+pub loop-value-preserved : goal.loop-value-preserved
+loop-value-preserved c =
+    subst (λ found. GivesEach item_value (map view (take (c.loop-value.value-index + 1) c.args.list.now)) found) (sym c.in_ok-push.ensures.ok)
+    (one_more view item_value c.args.list.now c.loop-value.value-index c.value-item.result c.loop-value.trail c.in_ok-read_item.field-0 c.loop-value-test.true c.value-item.is
+    c.loop-value.invariant c.in_ok-read_item.ensures)
+
+pub returns : goal.returns
+returns c = all_found view item_value c.args.list.now c.loop-value.value-index c.loop-value.trail c.loop-value-test.false c.loop-value.invariant

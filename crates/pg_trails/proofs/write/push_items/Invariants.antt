@@ -1,0 +1,10 @@
+use Rattle.std.proofs.Common.{◌≡◌, true, ◌++◌, map, drop}
+use Rattle.serde_json.specs.Written.{items_text}
+use Rattle.serde_json.specs.View.{items_of}
+use Rattle.pg_trails.specs.TrailJson.{item_value}
+use Rattle.pg_trails.proofs.write.push_items.Given as goal
+
+abbrev pub invariant-loop-item : goal.invariant-loop-item
+invariant-loop-item l =
+    l.text.items ++ items_text true (items_of (map item_value (drop l.item-index l.rest)))
+    ≡ l.initial.text.items ++ items_text true (items_of (map item_value l.rest))

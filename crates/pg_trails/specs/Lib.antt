@@ -1,0 +1,3 @@
+pub mod TrailJson
+pub mod Readings
+pub mod Storable

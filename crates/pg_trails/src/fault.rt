@@ -1,0 +1,35 @@
+//! Why bytes are no trail.
+
+ghost use Rattle.std.specs.Prelude.{◌≡◌};
+ghost use Rattle.pg_trails.specs.declared.fault.TrailFault.TheVariants.{Memory};
+
+use std::alloc::{AllocError, AllocFailed};
+use thiserror::Error;
+
+/// Why bytes gave no trail (ours).
+#[derive(Debug, Drop, Error)]
+pub enum TrailFault {
+    /// They are not UTF-8, or no JSON text, or its value is no trail's: another form, a key or a role that isn't there, or a
+    /// number that isn't a whole one from 0 to 18,446,744,073,709,551,615.
+    #[error("not a trail")]
+    NotATrail,
+    /// There was no memory for it.
+    #[error("out of memory")]
+    Memory,
+}
+
+impl From<AllocError> for TrailFault {
+    ghost from_gives = { λ _ e. e ≡ Memory };
+
+    fn from(_e: AllocError) -> TrailFault {
+        TrailFault::Memory
+    }
+}
+
+impl<T: Drop> From<AllocFailed<T>> for TrailFault {
+    ghost from_gives = { λ _ e. e ≡ Memory };
+
+    fn from(_e: AllocFailed<T>) -> TrailFault {
+        TrailFault::Memory
+    }
+}

@@ -1,0 +1,130 @@
+//! The text in JSON of a trail.
+//!
+//! It is compact, and is pushed piece by piece at the end of one buffer. The symbols of operators have the escapes that
+//! `serde_json` writes, so it writes them.
+
+ghost use Rattle.std.specs.Prelude.{◌≡◌, ◌++◌, decimal, IfOk, OnOk};
+ghost use Rattle.serde_json.specs.Data.{string};
+ghost use Rattle.serde_json.specs.Written.{compact_text};
+ghost use Rattle.pg_trails.specs.TrailJson.{role, operator_value, operators_value, item_value, trail_value, trail_json};
+ghost use Rattle.std.specs.Str.{encode_utf8_all};
+
+use itoa::Buffer;
+use pg_text::Characters;
+use pg_value::{AppliedOperator, Fixity, Trail, TrailItem};
+use serde_json::Value;
+use std::alloc::{AllocError, Global};
+
+/// The text in JSON of a trail, with no line end after it. It takes time linear in the trail and its symbols. The only error is that
+/// memory ran out.
+pub fn write_trail(alloc: Global, trail: &Trail) -> Result<Vec<u8>, AllocError>
+    ensures { IfOk result (λ text. text.items ≡ trail_json trail.now) }
+{
+    let mut text = Vec::new(alloc);
+    push_items(alloc, trail.items(), &mut text)?;
+    Ok(text)
+}
+
+/// Pushes the array of the items.
+fn push_items(alloc: Global, items: &[TrailItem], text: &mut Vec<u8>) -> Result<(), AllocError>
+    ensures { OnOk result (text.new.items ≡ text.old.items ++ compact_text (trail_value items.now)) }
+{
+    text.push(b'[')?;
+    if let [first, rest @ ..] = items {
+        push_item(alloc, first, text)?;
+        for item in rest {
+            text.push(b',')?;
+            push_item(alloc, item, text)?;
+        }
+    }
+    text.push(b']')?;
+    Ok(())
+}
+
+/// Pushes the object of an item.
+#[tactic(auto, unfolding(json::specs::Print::escape_byte))]
+fn push_item(alloc: Global, item: &TrailItem, text: &mut Vec<u8>) -> Result<(), AllocError>
+    ensures { OnOk result (text.new.items ≡ text.old.items ++ compact_text (item_value item.now)) }
+{
+    match item {
+        TrailItem::Alt(alternative) => {
+            text.extend_from_slice(b"{\"alt\":")?;
+            push_number(*alternative, text)?;
+        }
+        TrailItem::Rounds(rounds) => {
+            text.extend_from_slice(b"{\"rounds\":")?;
+            push_number(*rounds, text)?;
+        }
+        TrailItem::Ops(operators) => {
+            text.extend_from_slice(b"{\"ops\":")?;
+            push_operators(alloc, operators.as_slice(), text)?;
+        }
+    }
+    text.push(b'}')?;
+    Ok(())
+}
+
+/// Pushes a number in decimal digits.
+fn push_number(number: usize, text: &mut Vec<u8>) -> Result<(), AllocError>
+    ensures { OnOk result (text.new.items ≡ text.old.items ++ decimal number) }
+{
+    let mut digits = Buffer::new();
+    text.extend_from_slice(digits.format(number).as_bytes())
+}
+
+/// Pushes the array of the operators.
+fn push_operators(
+    alloc: Global,
+    operators: &[AppliedOperator],
+    text: &mut Vec<u8>,
+) -> Result<(), AllocError>
+    ensures { OnOk result (text.new.items ≡ text.old.items ++ compact_text (operators_value operators.now)) }
+{
+    text.push(b'[')?;
+    if let [first, rest @ ..] = operators {
+        push_operator(alloc, first, text)?;
+        for operator in rest {
+            text.push(b',')?;
+            push_operator(alloc, operator, text)?;
+        }
+    }
+    text.push(b']')?;
+    Ok(())
+}
+
+/// Pushes the array of an operator's role and symbol.
+#[tactic(auto, unfolding(json::specs::Print::escape_byte))]
+fn push_operator(
+    alloc: Global,
+    operator: &AppliedOperator,
+    text: &mut Vec<u8>,
+) -> Result<(), AllocError>
+    ensures { OnOk result (text.new.items ≡ text.old.items ++ compact_text (operator_value operator.now)) }
+{
+    text.extend_from_slice(b"[\"")?;
+    text.extend_from_slice(role(operator.fixity).as_bytes())?;
+    text.extend_from_slice(b"\",")?;
+    push_symbol(alloc, &operator.symbol, text)?;
+    text.push(b']')?;
+    Ok(())
+}
+
+/// The role of an operator, in a word.
+fn role(fixity: Fixity) -> &'static str
+    ensures { result.now ≡ role fixity }
+{
+    match fixity {
+        Fixity::Prefix => "prefix",
+        Fixity::Infix => "infix",
+        Fixity::Postfix => "postfix",
+    }
+}
+
+/// Pushes the symbol in double quotes.
+fn push_symbol(alloc: Global, symbol: &Characters, text: &mut Vec<u8>) -> Result<(), AllocError>
+    ensures { OnOk result (text.new.items ≡ text.old.items ++ compact_text (string (encode_utf8_all symbol.now))) }
+{
+    let symbol = format!(in alloc; "{symbol}")?;
+    let quoted = Value::String(symbol).to_string(alloc)?;
+    text.extend_from_slice(quoted.as_bytes())
+}
