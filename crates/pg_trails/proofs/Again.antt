@@ -1,7 +1,8 @@
 -- The text of a trail is read as the trail's value.
-use Rattle.std.proofs.Common.{◌≡◌, ◌≤◌, ◌<◌, ◌^◌, ℕ, List, [], ◌∷◌, ◌++◌, Bool, true, false, map, codes, max, Option, Some, option_map, option_and_then, decimal, length, refl, ap, ap₂, sym, ◌∙◌, subst, arith, append-nil}
-use Rattle.std.specs.Str.{encode_utf8_all, IsUtf8, all_scalars}
+use Rattle.std.proofs.Common.{◌≡◌, ◌≤◌, ◌<◌, ◌+◌, ◌-◌, ◌^◌, ℕ, take, drop, get_or, List, [], ◌∷◌, ◌++◌, Bool, true, false, map, codes, max, Option, Some, option_map, option_and_then, decimal, length, refl, ap, ap₂, sym, ◌∙◌, subst, arith, append-nil}
+use Rattle.std.specs.Str.{encode_utf8_all, IsUtf8}
 use Rattle.std.proofs.lemmas.Str.{IsUtf8-append, IsUtf8-nil, IsUtf8-from_ascii}
+use Rattle.std.proofs.lemmas.List.{take_more, take_all}
 use Rattle.std.proofs.lemmas.Fmt.{IsAscii-decimal}
 use Rattle.json.specs.Json as json
 use Rattle.json.specs.Lex.{tokens}
@@ -24,7 +25,7 @@ use Rattle.pg_value.specs.declared.trail.AppliedOperator.{AppliedOperator}
 use Rattle.pg_value.specs.declared.trail.TrailItem.{TrailItem}
 use Rattle.pg_value.specs.declared.trail.TrailItem.TheVariants.{Alt, Rounds, Ops}
 use Rattle.pg_trails.specs.TrailJson.{role, two_texts, operator_value, operators_value, count_value, lone, item_value, trail_value, trail_json, IsTrailText}
-use Rattle.pg_trails.specs.Storable.{HaveSymbols, IsStorable, AreStorable}
+use Rattle.pg_trails.specs.Storable.{AreSymbolsText, IsStorable, AreStorable}
 
 -- the value of the whole text, whose first value and the tokens after it these are
 abbrev whole : Option (json.Json × List Token) → Option Data
@@ -98,9 +99,6 @@ comma_is_utf8 : (later : Bool) → IsUtf8 (comma_if later)
 comma_is_utf8 true = IsUtf8-are_ascii (44 ∷ []) refl
 comma_is_utf8 false = IsUtf8-nil
 
-symbol_is_utf8 : (cs : List ℕ) → all_scalars cs ≡ true → IsUtf8 (encode_utf8_all cs)
-symbol_is_utf8 cs e = (cs, (e, refl))
-
 role_is_utf8 : (f : Fixity) → IsUtf8 (role f)
 role_is_utf8 Prefix = IsUtf8-are_ascii (codes "prefix") refl
 role_is_utf8 Infix = IsUtf8-are_ascii (codes "infix") refl
@@ -114,10 +112,10 @@ lone_is_utf8 : (k : List ℕ) (d : Data) → IsUtf8 k → IsUtf8 (compact_text d
 lone_is_utf8 k d u v = ascii_first (123 ∷ []) _ refl (IsUtf8-append (quoted k) _ (IsUtf8-quoted k u) (ascii_first (58 ∷ []) _ refl
     (IsUtf8-append (compact_text d) _ v (IsUtf8-are_ascii (125 ∷ []) refl))))
 
-operators_are_utf8 : (os : List AppliedOperator) (later : Bool) → HaveSymbols os → IsUtf8 (items_text later (items_of (map operator_value os)))
+operators_are_utf8 : (os : List AppliedOperator) (later : Bool) → AreSymbolsText os → IsUtf8 (items_text later (items_of (map operator_value os)))
 operators_are_utf8 [] later h = IsUtf8-are_ascii (93 ∷ []) refl
 operators_are_utf8 (o ∷ os) later h = IsUtf8-append (comma_if later) _ (comma_is_utf8 later)
-    (IsUtf8-append _ _ (texts_are_utf8 _ _ (role_is_utf8 o.fixity) (symbol_is_utf8 o.symbol h.0)) (operators_are_utf8 os true h.1))
+    (IsUtf8-append _ _ (texts_are_utf8 _ _ (role_is_utf8 o.fixity) h.0) (operators_are_utf8 os true h.1))
 
 item_is_utf8 : (i : TrailItem) → IsStorable i → IsUtf8 (compact_text (item_value i))
 item_is_utf8 (Alt n) fits = lone_is_utf8 (codes "alt") (count_value n) (IsUtf8-are_ascii (codes "alt") refl) (IsUtf8-from_ascii _ (IsAscii-decimal n fits))
@@ -131,3 +129,33 @@ items_are_utf8 (i ∷ is) later fit = IsUtf8-append (comma_if later) _ (comma_is
 
 pub trail_is_text : (t : List TrailItem) → AreStorable t → IsTrailText (trail_json t) t
 trail_is_text t fit = (ascii_first (91 ∷ []) _ refl (items_are_utf8 t false fit), trail_again t fit)
+
+-- ---- what a list holds, one by one
+
+pub symbols_more : (os : List AppliedOperator) (i : ℕ) (o : AppliedOperator) → i < length os → o ≡ get_or os i o → AreSymbolsText (take i os) → IsUtf8 (encode_utf8_all o.symbol)
+    → AreSymbolsText (take (i + 1) os)
+symbols_more os i o within is before this = subst AreSymbolsText (sym (take_more os i o within ∙ ap (λ x. take i os ++ x ∷ []) (sym is))) (symbols_last (take i os) before)
+  where
+    symbols_last : (us : List AppliedOperator) → AreSymbolsText us → AreSymbolsText (us ++ o ∷ [])
+    symbols_last [] h = (this, tt)
+    symbols_last (u ∷ us) h = (h.0, symbols_last us h.1)
+
+pub items_more : (is : List TrailItem) (i : ℕ) (x : TrailItem) → i < length is → x ≡ get_or is i x → AreStorable (take i is) → IsStorable x → AreStorable (take (i + 1) is)
+items_more is i x within same before this = subst AreStorable (sym (take_more is i x within ∙ ap (λ y. take i is ++ y ∷ []) (sym same))) (items_last (take i is) before)
+  where
+    items_last : (us : List TrailItem) → AreStorable us → AreStorable (us ++ x ∷ [])
+    items_last [] h = (this, tt)
+    items_last (u ∷ us) h = (h.0, items_last us h.1)
+
+pub symbols_none : (os : List AppliedOperator) → length os < 1 → AreSymbolsText os
+symbols_none [] few = tt
+symbols_none (x ∷ os) few = absurd (omega arith)
+
+-- a list is its first and the others
+pub symbols_all : (os : List AppliedOperator) (i : ℕ) (o : AppliedOperator) → 1 ≤ length os → o ≡ get_or os 0 o → IsUtf8 (encode_utf8_all o.symbol)
+    → length (take (length os - 1) (drop 1 os)) ≤ i → AreSymbolsText (take i (take (length os - 1) (drop 1 os))) → AreSymbolsText os
+symbols_all [] i o some is this whole rest = absurd (omega arith)
+symbols_all (x ∷ os) i o some is this whole rest = (
+  subst (λ y. IsUtf8 (encode_utf8_all y.symbol)) is this,
+  subst AreSymbolsText (take_all i (take (length (x ∷ os) - 1) os) whole ∙ take_all (length (x ∷ os) - 1) os (omega arith)) rest,
+)

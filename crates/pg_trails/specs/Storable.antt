@@ -1,20 +1,23 @@
 -- Trails whose numbers and symbols are those of a `Trail`, whatever it holds.
-use Rattle.std.specs.Prelude.{◌≡◌, ◌<◌, ◌^◌, List, [], ◌∷◌, true}
-use Rattle.std.specs.Str.{all_scalars}
+use Rattle.std.specs.Prelude.{◌<◌, ◌^◌, List, [], ◌∷◌}
+use Rattle.std.specs.Str.{encode_utf8_all, IsUtf8}
 use Rattle.pg_value.specs.declared.trail.AppliedOperator.{AppliedOperator}
 use Rattle.pg_value.specs.declared.trail.TrailItem.{TrailItem}
 use Rattle.pg_value.specs.declared.trail.TrailItem.TheVariants.{Alt, Rounds, Ops}
 
--- each symbol consists of characters
-abbrev pub HaveSymbols : List AppliedOperator → Type 0
-HaveSymbols [] = Unit {0}
-HaveSymbols (o ∷ os) = (all_scalars o.symbol ≡ true) × HaveSymbols os
+-- an operator's symbol is UTF-8, as what characters spell is
+abbrev pub IsSymbolText : AppliedOperator → Type 0
+IsSymbolText o = IsUtf8 (encode_utf8_all o.symbol)
 
--- a number fits into 64 bits, and symbols consist of characters
+abbrev pub AreSymbolsText : List AppliedOperator → Type 0
+AreSymbolsText [] = Unit {0}
+AreSymbolsText (o ∷ os) = IsSymbolText o × AreSymbolsText os
+
+-- a number fits into 64 bits, and symbols are UTF-8
 abbrev pub IsStorable : TrailItem → Type 0
 IsStorable (Alt k) = k < 2 ^ 64
 IsStorable (Rounds k) = k < 2 ^ 64
-IsStorable (Ops os) = HaveSymbols os
+IsStorable (Ops os) = AreSymbolsText os
 
 abbrev pub AreStorable : List TrailItem → Type 0
 AreStorable [] = Unit {0}

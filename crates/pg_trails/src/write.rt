@@ -3,11 +3,12 @@
 //! It is compact, and is pushed piece by piece at the end of one buffer. The symbols of operators have the escapes that
 //! `serde_json` writes, so it writes them.
 
-ghost use Rattle.std.specs.Prelude.{◌≡◌, ◌++◌, decimal, IfOk, OnOk};
+ghost use Rattle.std.specs.Prelude.{◌≡◌, ◌<◌, ◌^◌, ◌++◌, decimal, string_bytes, IfOk, OnOk};
 ghost use Rattle.serde_json.specs.Data.{string};
 ghost use Rattle.serde_json.specs.Written.{compact_text};
-ghost use Rattle.pg_trails.specs.TrailJson.{role, operator_value, operators_value, item_value, trail_value, trail_json};
-ghost use Rattle.std.specs.Str.{encode_utf8_all};
+ghost use Rattle.pg_trails.specs.TrailJson.{role, operator_value, operators_value, item_value, trail_value, trail_json, IsTrailText};
+ghost use Rattle.pg_trails.specs.Storable.{IsSymbolText, AreSymbolsText, IsStorable, AreStorable};
+ghost use Rattle.std.specs.Str.{encode_utf8_all, IsUtf8};
 
 use itoa::Buffer;
 use pg_text::Characters;
@@ -17,8 +18,10 @@ use std::alloc::{AllocError, Global};
 
 /// The text in JSON of a trail, with no line end after it. It takes time linear in the trail and its symbols. The only error is that
 /// memory ran out.
+#[tactic(auto, using(crate::proofs::Again::trail_is_text))]
 pub fn write_trail(alloc: Global, trail: &Trail) -> Result<Vec<u8>, AllocError>
-    ensures { IfOk result (λ text. text.items ≡ trail_json trail.now) }
+    ensures text { IfOk result (λ text. text.items ≡ trail_json trail.now) }
+    ensures read_again { IfOk result (λ text. IsTrailText text.items trail.now) }
 {
     let mut text = Vec::new(alloc);
     push_items(alloc, trail.items(), &mut text)?;
@@ -26,8 +29,10 @@ pub fn write_trail(alloc: Global, trail: &Trail) -> Result<Vec<u8>, AllocError>
 }
 
 /// Pushes the array of the items.
+#[tactic(auto, using(crate::proofs::Again::items_more))]
 fn push_items(alloc: Global, items: &[TrailItem], text: &mut Vec<u8>) -> Result<(), AllocError>
-    ensures { OnOk result (text.new.items ≡ text.old.items ++ compact_text (trail_value items.now)) }
+    ensures text { OnOk result (text.new.items ≡ text.old.items ++ compact_text (trail_value items.now)) }
+    ensures storable { OnOk result (AreStorable items.now) }
 {
     text.push(b'[')?;
     if let [first, rest @ ..] = items {
@@ -44,7 +49,8 @@ fn push_items(alloc: Global, items: &[TrailItem], text: &mut Vec<u8>) -> Result<
 /// Pushes the object of an item.
 #[tactic(auto, unfolding(json::specs::Print::escape_byte))]
 fn push_item(alloc: Global, item: &TrailItem, text: &mut Vec<u8>) -> Result<(), AllocError>
-    ensures { OnOk result (text.new.items ≡ text.old.items ++ compact_text (item_value item.now)) }
+    ensures text { OnOk result (text.new.items ≡ text.old.items ++ compact_text (item_value item.now)) }
+    ensures storable { OnOk result (IsStorable item.now) }
 {
     match item {
         TrailItem::Alt(alternative) => {
@@ -66,19 +72,22 @@ fn push_item(alloc: Global, item: &TrailItem, text: &mut Vec<u8>) -> Result<(), 
 
 /// Pushes a number in decimal digits.
 fn push_number(number: usize, text: &mut Vec<u8>) -> Result<(), AllocError>
-    ensures { OnOk result (text.new.items ≡ text.old.items ++ decimal number) }
+    ensures text { OnOk result (text.new.items ≡ text.old.items ++ decimal number) }
+    ensures storable { number < 2 ^ 64 }
 {
     let mut digits = Buffer::new();
     text.extend_from_slice(digits.format(number).as_bytes())
 }
 
 /// Pushes the array of the operators.
+#[tactic(auto, using(crate::proofs::Again::symbols_more))]
 fn push_operators(
     alloc: Global,
     operators: &[AppliedOperator],
     text: &mut Vec<u8>,
 ) -> Result<(), AllocError>
-    ensures { OnOk result (text.new.items ≡ text.old.items ++ compact_text (operators_value operators.now)) }
+    ensures text { OnOk result (text.new.items ≡ text.old.items ++ compact_text (operators_value operators.now)) }
+    ensures storable { OnOk result (AreSymbolsText operators.now) }
 {
     text.push(b'[')?;
     if let [first, rest @ ..] = operators {
@@ -99,7 +108,8 @@ fn push_operator(
     operator: &AppliedOperator,
     text: &mut Vec<u8>,
 ) -> Result<(), AllocError>
-    ensures { OnOk result (text.new.items ≡ text.old.items ++ compact_text (operator_value operator.now)) }
+    ensures text { OnOk result (text.new.items ≡ text.old.items ++ compact_text (operator_value operator.now)) }
+    ensures storable { OnOk result (IsSymbolText operator.now) }
 {
     text.extend_from_slice(b"[\"")?;
     text.extend_from_slice(role(operator.fixity).as_bytes())?;
@@ -122,9 +132,18 @@ fn role(fixity: Fixity) -> &'static str
 
 /// Pushes the symbol in double quotes.
 fn push_symbol(alloc: Global, symbol: &Characters, text: &mut Vec<u8>) -> Result<(), AllocError>
-    ensures { OnOk result (text.new.items ≡ text.old.items ++ compact_text (string (encode_utf8_all symbol.now))) }
+    ensures text { OnOk result (text.new.items ≡ text.old.items ++ compact_text (string (encode_utf8_all symbol.now))) }
+    ensures storable { OnOk result (IsUtf8 (encode_utf8_all symbol.now)) }
 {
-    let symbol = format!(in alloc; "{symbol}")?;
+    let symbol = utf8_of(alloc, symbol)?;
     let quoted = Value::String(symbol).to_string(alloc)?;
-    text.extend_from_slice(quoted.as_bytes())
+    text.extend_from_slice(quoted.as_bytes())?;
+    Ok(())
+}
+
+/// The text with these characters.
+fn utf8_of(alloc: Global, characters: &Characters) -> Result<String, AllocError>
+    ensures { IfOk result (λ text. string_bytes text ≡ encode_utf8_all characters.now) }
+{
+    format!(in alloc; "{characters}")
 }
