@@ -1,0 +1,4 @@
+pub mod Steps
+pub mod Costs
+pub mod StepCost
+pub mod Rounds

@@ -1,0 +1,43 @@
+-- Steps: turns of the machine's loop. A node takes one where it is entered and one where its answer is handed on.
+use Rattle.std.specs.Prelude.{◌+◌, ◌-◌, ◌*◌, ◌^◌, ℕ, min, List, [], ◌∷◌, Option, Some, None, slice_get, slice_index_or}
+use Rattle.std.specs.Option.{option_map_or}
+use Rattle.pg_form.specs.declared.form.Leaf.{Leaf}
+use Rattle.pg_form.specs.declared.form.Leaf.TheVariants as leaf
+use Rattle.pg_form.specs.declared.operators_item.OperatorsItem.{OperatorsItem}
+use Rattle.pg_value.specs.Grammar.{Grammar}
+use Rattle.pg_value.specs.declared.grammar.Rule.{Rule}
+
+-- the number at a place; 0 at a place that isn't there
+abbrev pub number_at : List ℕ → ℕ → ℕ
+number_at numbers place = slice_index_or numbers place 0
+
+-- the number, or the greatest that 64 bits hold where it is above
+abbrev pub cut_off : ℕ → ℕ
+cut_off n = min n (2 ^ 64 - 1)
+
+-- the steps of all of these nodes together
+abbrev pub steps_of_all : (ℕ → ℕ) → List ℕ → ℕ
+steps_of_all steps [] = 0
+steps_of_all steps (p ∷ ps) = steps p + steps_of_all steps ps
+
+-- the steps of the rule's body
+abbrev pub body_steps : List Rule → (ℕ → ℕ) → ℕ → ℕ
+body_steps rules steps r = option_map_or (λ rule. steps rule.body) (slice_get rules r) 0
+
+-- the steps of a leaf
+abbrev pub leaf_steps : Leaf ℕ → ℕ
+leaf_steps (leaf.Satisfy class) = 2
+leaf_steps (leaf.String text) = 2
+leaf_steps (leaf.Word word) = 2
+leaf_steps (leaf.NotFollowedBy class) = 2
+leaf_steps leaf.EndOfText = 2
+leaf_steps (leaf.Declare class) = 40
+
+-- how many operators a table may hold: none without an operators item
+abbrev pub operator_limit : Option OperatorsItem → ℕ
+operator_limit None = 0
+operator_limit (Some item) = item.max
+
+-- what the rows of an expression take for each operator and each term: enough for every table that its grammar allows
+abbrev pub row_steps : Grammar → ℕ
+row_steps g = 200 * (operator_limit g.operators + 10)

@@ -1,0 +1,93 @@
+//! The step cost of a grammar: its levels, times its greatest size.
+ghost use Rattle.std.specs.Prelude.{◌≡◌, ℕ, IfOk};
+ghost use Rattle.std.specs.Bool.{OnFalse};
+ghost use Rattle.pg_sets.specs.Sets.{AreSets};
+ghost use Rattle.pg_costs.specs.StepCost.{leaf_levels, node_levels, grammar_levels, greatest_size, IsStepCost};
+ghost use Rattle.pg_costs.specs.Steps.{number_at, cut_off, row_steps};
+
+use crate::costs::node_costs;
+use crate::sizes::node_sizes;
+use crate::totals::{number_at, row_steps};
+use pg_form::{Form, Leaf, Node, RuleId, WordId};
+use pg_sets::Sets;
+use pg_value::Grammar;
+use std::alloc::{AllocError, Global};
+
+/// The step cost of the grammar, K(G), in turns of the machine's loop: a parse takes at most so many for each character of the
+/// text and for its end (ours). 18,446,744,073,709,551,615 where it is above, and where there is none: a rule leads back to itself
+/// before anything is consumed. The caller owes the grammar's sets. The only error is that memory ran out.
+pub fn step_cost(alloc: Global, grammar: &Grammar, sets: &Sets) -> Result<u64, AllocError>
+    requires { AreSets grammar.now sets.now }
+    ensures { IfOk result (λ cost. (k : ℕ) → IsStepCost grammar.now sets.now.nullable k → cost ≡ cut_off k) }
+{
+    if !all_have_ranks(grammar, sets) {
+        return Ok(u64::MAX);
+    }
+    let costs = node_costs(alloc, grammar, sets)?;
+    let sizes = node_sizes(alloc, grammar, &costs)?;
+    let levels = grammar_levels(grammar);
+    let greatest = greatest_size(grammar, &sizes);
+    Ok(levels.saturating_mul(greatest))
+}
+
+/// Whether each rule has a rank. Where one has none the grammar has no step cost, and the rounds of costs would go on.
+fn all_have_ranks(grammar: &Grammar, sets: &Sets) -> bool
+    requires { AreSets grammar.now sets.now }
+    ensures { OnFalse result ((k : ℕ) → IsStepCost grammar.now sets.now.nullable k → ⊥) }
+{
+    for rule in 0..grammar.rules().len() {
+        if sets.rank(RuleId::new(rule)).is_none() {
+            return false;
+        }
+    }
+    true
+}
+
+/// The greatest size of a rule, but at least what the rows of an expression take.
+fn greatest_size(grammar: &Grammar, sizes: &[u64]) -> u64
+    ensures { result ≡ greatest_size (number_at sizes.now) (cut_off (row_steps grammar.now)) grammar.now.rules }
+{
+    let mut greatest = row_steps(grammar);
+    for rule in grammar.rules() {
+        greatest = greatest.max(number_at(sizes, rule.body.index()));
+    }
+    greatest
+}
+
+/// How many runs may stand in one another before anything is consumed.
+fn grammar_levels(grammar: &Grammar) -> u64
+    ensures { result ≡ cut_off (grammar_levels grammar.now) }
+{
+    let mut levels = (grammar.rules().len() as u64).saturating_add(1);
+    for node in grammar.nodes() {
+        levels = levels.saturating_add(node_levels(node));
+    }
+    levels
+}
+
+/// How many of them a node begins.
+fn node_levels(node: &Node) -> u64
+    ensures { result ≡ node_levels node.now }
+{
+    match node {
+        Form::Leaf(leaf) => leaf_levels(leaf),
+        Form::Many(_) => 1,
+        Form::Chain(_, _, _, _) => 2,
+        Form::Expression(_, _) => 30,
+        Form::Seq(_) | Form::Choice(_) | Form::Rule(_) | Form::Around(_, _) => 0,
+    }
+}
+
+/// How many of them a leaf begins.
+fn leaf_levels(leaf: &Leaf<WordId>) -> u64
+    ensures { result ≡ leaf_levels leaf.now }
+{
+    match leaf {
+        Leaf::Declare(_) => 4,
+        Leaf::Satisfy(_)
+        | Leaf::String(_)
+        | Leaf::Word(_)
+        | Leaf::NotFollowedBy(_)
+        | Leaf::EndOfText => 0,
+    }
+}
