@@ -1,5 +1,5 @@
 -- What is answered from bytes to bytes has the exit status that says so.
-use Rattle.std.proofs.Common.{◌≡◌, ℕ, List, true, false, Option, sym, subst, inl, inr}
+use Rattle.std.proofs.Common.{◌≡◌, ℕ, List, Bool, true, false, Option, sym, subst, inl, inr}
 use Rattle.pg_pred.specs.Offer.{Offer}
 use Rattle.pg_language.specs.declared.reading.Reading.{Reading}
 use Rattle.pg_grammar_bench.specs.Checking.{IsChecked}
@@ -8,10 +8,11 @@ use Rattle.pg_grammar_bench.specs.Files.{AreFindingsOf}
 use Rattle.pg_bench.specs.Parsed.{IsParsed, IsErrorOf}
 use Rattle.pg_grammar_bench.specs.Printing.{IsPrinted}
 use Rattle.pg_bench.specs.Probing.{IsProbed}
+use Rattle.pg_bench.specs.Replaying.{IsReplayed}
 use Rattle.pg_grammar_bench.specs.Showing.{IsShownFile}
 use Rattle.pg_grammar_bench.specs.declared.fault.BenchFault.{BenchFault}
-use Rattle.pg_grammar_bench.specs.declared.fault.BenchFault.TheVariants.{File, Refused, Reader, NotUtf8, TooLong, ParseError, Writer, Memory}
-use Rattle.pg.specs.Status.{status_of, IsStatus, yes, no, unusable, out_of_memory, Refuses, IsCheckStatus, IsParseStatus, IsProbeStatus, IsPrintStatus}
+use Rattle.pg_grammar_bench.specs.declared.fault.BenchFault.TheVariants.{File, Refused, Reader, NotUtf8, TooLong, NotATrail, ParseError, Writer, Memory}
+use Rattle.pg.specs.Status.{status_of, IsStatus, yes, no, unusable, out_of_memory, Refuses, IsCheckStatus, IsParseStatus, IsProbeStatus, IsReplayStatus, IsPrintStatus}
 
 -- ---- a check
 
@@ -33,9 +34,9 @@ check_fault_status offer file fault status h is = subst (IsCheckStatus offer fil
 
 -- ---- a parse
 
-pub parsed_status : (offer : Offer) (file : List ℕ) (reader left writer held : Option (List ℕ)) → IsParsed offer file reader left writer held
-    → IsParseStatus offer file reader 0
-parsed_status offer file reader left writer held h = yes (left, h.forest, h.parsed)
+pub parsed_status : (offer : Offer) (file : List ℕ) (reader left : Option (List ℕ)) (with_trail : Bool) (writer held : Option (List ℕ))
+    → IsParsed offer file reader left with_trail writer held → IsParseStatus offer file reader 0
+parsed_status offer file reader left with_trail writer held h = yes (left, h.forest, h.trail, h.parsed)
 
 pub parse_fault_status : (offer : Offer) (file : List ℕ) (reader left : Option (List ℕ)) (fault : BenchFault) (status : ℕ) → IfRefused (AreFindingsOf offer file) fault
     → IfParseError (IsErrorOf offer file reader left) fault → status ≡ status_of fault → IsParseStatus offer file reader status
@@ -49,6 +50,7 @@ parse_fault_status offer file reader left fault status findings error is = subst
     own Reader h k = unusable
     own NotUtf8 h k = unusable
     own TooLong h k = unusable
+    own NotATrail h k = unusable
     own Writer h k = unusable
 
 -- ---- a probe
@@ -61,12 +63,24 @@ pub other_status : (offer : Offer) (file : List ℕ) (reader left writer held : 
     → IsProbed offer file reader left name most reading writer held false → IsProbeStatus offer file reader name most reading 1
 other_status offer file reader left writer held name most reading h = no (left, h.said, h.shown)
 
-pub probe_fault_status : (offer : Offer) (file : List ℕ) (reader : Option (List ℕ)) (name : List ℕ) (most : ℕ) (reading : Reading) (fault : BenchFault) (status : ℕ)
-    → IfRefused (λ findings. ⊥) fault → IfParseError (λ error. ⊥) fault → status ≡ status_of fault → IsProbeStatus offer file reader name most reading status
-probe_fault_status offer file reader name most reading fault status findings error is =
-    subst (IsProbeStatus offer file reader name most reading) (sym is) (own fault findings error)
+-- ---- a replay
+
+pub led_status : (offer : Offer) (file : List ℕ) (reader left writer held : Option (List ℕ)) (name trail : List ℕ)
+    → IsReplayed offer file reader left name trail writer held true → IsReplayStatus offer file reader name trail 0
+led_status offer file reader left writer held name trail h = yes (left, h.said, h.shown)
+
+pub stopped_status : (offer : Offer) (file : List ℕ) (reader left writer held : Option (List ℕ)) (name trail : List ℕ)
+    → IsReplayed offer file reader left name trail writer held false → IsReplayStatus offer file reader name trail 1
+stopped_status offer file reader left writer held name trail h = no (left, h.said, h.shown)
+
+-- ---- what shows a text
+
+-- a fault by which neither a grammar nor a text is refused
+pub shown_fault_status : (Yes No : Type 0) (fault : BenchFault) (status : ℕ)
+    → IfRefused (λ findings. ⊥) fault → IfParseError (λ error. ⊥) fault → status ≡ status_of fault → IsStatus Yes No status
+shown_fault_status Yes No fault status findings error is = subst (IsStatus Yes No) (sym is) (own fault findings error)
   where
-    own : (f : BenchFault) → IfRefused (λ findings. ⊥) f → IfParseError (λ error. ⊥) f → IsProbeStatus offer file reader name most reading (status_of f)
+    own : (f : BenchFault) → IfRefused (λ findings. ⊥) f → IfParseError (λ error. ⊥) f → IsStatus Yes No (status_of f)
     own (Refused refused) h k = absurd h
     own (ParseError e) h k = absurd k
     own Memory h k = out_of_memory
@@ -74,6 +88,7 @@ probe_fault_status offer file reader name most reading fault status findings err
     own Reader h k = unusable
     own NotUtf8 h k = unusable
     own TooLong h k = unusable
+    own NotATrail h k = unusable
     own Writer h k = unusable
 
 -- ---- what prints a grammar or its sets

@@ -2,6 +2,7 @@
 use Rattle.std.specs.Prelude.{ℕ, List, Bool, true, false, Option, ◌⊎◌}
 use Rattle.pg_message.specs.declared.error.ParseError as message
 use Rattle.pg_tree.specs.Trees.{Tree}
+use Rattle.pg_value.specs.declared.trail.TrailItem.{TrailItem}
 use Rattle.pg_pred.specs.Offer.{Offer}
 use Rattle.pg_language.specs.declared.reading.Reading.{Reading}
 use Rattle.pg_predict.specs.Findings.{Finding}
@@ -9,8 +10,10 @@ use Rattle.pg_grammar_bench.specs.Checking.{IsJudgedFile}
 use Rattle.pg_grammar_bench.specs.Files.{AreFindingsOf, SpellsAny}
 use Rattle.pg_bench.specs.Parsed.{IsForestOf, IsErrorOf}
 use Rattle.pg_bench.specs.Probing.{IsShown}
+use Rattle.pg_bench.specs.Showing.{IsShownBy}
+use Rattle.pg_bench.specs.Replaying.{IsReplayOfText}
 use Rattle.pg_grammar_bench.specs.declared.fault.BenchFault.{BenchFault}
-use Rattle.pg_grammar_bench.specs.declared.fault.BenchFault.TheVariants.{File, Refused, Reader, NotUtf8, TooLong, ParseError, Writer, Memory}
+use Rattle.pg_grammar_bench.specs.declared.fault.BenchFault.TheVariants.{File, Refused, Reader, NotUtf8, TooLong, NotATrail, ParseError, Writer, Memory}
 
 -- the exit status of a fault: 1 if the grammar isn't accepted or the text isn't the grammar's, 2 if something can't be used, 3 if memory ran out
 abbrev pub status_of : BenchFault → ℕ
@@ -19,6 +22,7 @@ status_of (Refused refused) = 1
 status_of Reader = 2
 status_of NotUtf8 = 2
 status_of TooLong = 2
+status_of NotATrail = 2
 status_of (ParseError error) = 1
 status_of Writer = 2
 status_of Memory = 3
@@ -40,7 +44,7 @@ IsCheckStatus offer file = IsStatus (Judges offer file true) (Judges offer file 
 
 -- the grammar is accepted, and derives the reader's text
 abbrev pub DerivesReader : Offer → List ℕ → Option (List ℕ) → Type 0
-DerivesReader offer file reader = (left : Option (List ℕ)) × (forest : List Tree) × IsForestOf offer file reader left forest
+DerivesReader offer file reader = (left : Option (List ℕ)) × (forest : List Tree) × (trail : List TrailItem) × IsForestOf offer file reader left forest trail
 
 -- it isn't accepted, or doesn't derive the reader's text
 abbrev pub Refuses : Offer → List ℕ → Option (List ℕ) → Type 0
@@ -61,6 +65,16 @@ AnswersReader offer file reader name most reading accepted =
 abbrev pub IsProbeStatus : Offer → List ℕ → Option (List ℕ) → List ℕ → ℕ → Reading → ℕ → Type 0
 IsProbeStatus offer file reader name most reading =
     IsStatus (AnswersReader offer file reader name most reading true) (AnswersReader offer file reader name most reading false)
+
+-- going along the trail that these bytes are leads to a forest of the reader's text, or stops
+abbrev pub ReplaysReader : Offer → List ℕ → Option (List ℕ) → List ℕ → List ℕ → Bool → Type 0
+ReplaysReader offer file reader name trail accepted =
+    (left : Option (List ℕ)) × (said : List ℕ) × IsShownBy (λ g. IsReplayOfText g name trail) offer file reader left accepted said
+
+-- of a replay: whether it leads to a forest
+abbrev pub IsReplayStatus : Offer → List ℕ → Option (List ℕ) → List ℕ → List ℕ → ℕ → Type 0
+IsReplayStatus offer file reader name trail =
+    IsStatus (ReplaysReader offer file reader name trail true) (ReplaysReader offer file reader name trail false)
 
 -- of what prints a grammar or its sets: that the file spells one
 abbrev pub IsPrintStatus : Offer → List ℕ → ℕ → Type 0

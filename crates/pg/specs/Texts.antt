@@ -2,33 +2,45 @@
 use Rattle.std.specs.Prelude.{ℕ, List, [], ◌++◌, codes}
 use Rattle.pg_message.specs.Printed.{printed}
 use Rattle.pg_predict.specs.Findings.{lines_of}
+use Rattle.pg.specs.declared.reporting.Names.{Names}
 use Rattle.pg_grammar_bench.specs.Texts.{fault_text}
 use Rattle.pg_grammar_bench.specs.declared.fault.BenchFault.{BenchFault}
-use Rattle.pg_grammar_bench.specs.declared.fault.BenchFault.TheVariants.{File, Refused, Reader, NotUtf8, TooLong, ParseError, Writer, Memory}
+use Rattle.pg_grammar_bench.specs.declared.fault.BenchFault.TheVariants.{File, Refused, Reader, NotUtf8, TooLong, NotATrail, ParseError, Writer, Memory}
 
--- what stands before a fault: the grammar file's name, the text's name, or nothing
-abbrev pub front_of : BenchFault → List ℕ → List ℕ → List ℕ
-front_of (File fault) grammar text = grammar ++ codes ":"
-front_of (Refused refused) grammar text = grammar ++ codes ": "
-front_of Reader grammar text = text ++ codes ": "
-front_of NotUtf8 grammar text = text ++ codes ": "
-front_of TooLong grammar text = text ++ codes ": "
-front_of (ParseError error) grammar text = text ++ codes ": "
-front_of Writer grammar text = []
-front_of Memory grammar text = []
+-- the names of the files of a run, as bytes
+pub record FileNames : Type 0 where
+  pub grammar : List ℕ
+  pub text : List ℕ
+  pub trail : List ℕ
+
+abbrev pub names_of : Names → FileNames
+names_of names = record { grammar = names.grammar.now; text = names.text.now; trail = names.trail.now }
+
+-- what stands before a fault: the name of the file that it is about, or nothing
+abbrev pub front_of : BenchFault → FileNames → List ℕ
+front_of (File fault) names = names.grammar ++ codes ":"
+front_of (Refused refused) names = names.grammar ++ codes ": "
+front_of Reader names = names.text ++ codes ": "
+front_of NotUtf8 names = names.text ++ codes ": "
+front_of TooLong names = names.text ++ codes ": "
+front_of NotATrail names = names.trail ++ codes ": "
+front_of (ParseError error) names = names.text ++ codes ": "
+front_of Writer names = []
+front_of Memory names = []
 
 -- the line of a fault in a run over files of these names
-abbrev pub line_of : BenchFault → List ℕ → List ℕ → List ℕ
-line_of fault grammar text = front_of fault grammar text ++ fault_text fault ++ codes "\n"
+abbrev pub line_of : BenchFault → FileNames → List ℕ
+line_of fault names = front_of fault names ++ fault_text fault ++ codes "\n"
 
 -- what is printed of a fault: a line for each finding of a refused grammar, an error as it is printed in a text of this name,
 -- and else the fault's line
-abbrev pub report_of : BenchFault → List ℕ → List ℕ → List ℕ
-report_of (File fault) grammar text = line_of (File fault) grammar text
-report_of (Refused refused) grammar text = lines_of refused.findings
-report_of Reader grammar text = line_of Reader grammar text
-report_of NotUtf8 grammar text = line_of NotUtf8 grammar text
-report_of TooLong grammar text = line_of TooLong grammar text
-report_of (ParseError error) grammar text = printed error text
-report_of Writer grammar text = line_of Writer grammar text
-report_of Memory grammar text = line_of Memory grammar text
+abbrev pub report_of : BenchFault → FileNames → List ℕ
+report_of (File fault) names = line_of (File fault) names
+report_of (Refused refused) names = lines_of refused.findings
+report_of Reader names = line_of Reader names
+report_of NotUtf8 names = line_of NotUtf8 names
+report_of TooLong names = line_of TooLong names
+report_of NotATrail names = line_of NotATrail names
+report_of (ParseError error) names = printed error names.text
+report_of Writer names = line_of Writer names
+report_of Memory names = line_of Memory names

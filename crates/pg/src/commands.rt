@@ -7,11 +7,12 @@
 ghost use Rattle.std.specs.Prelude.{IfOk};
 ghost use Rattle.pg_pred.specs.Offer.{offer_of};
 ghost use Rattle.pg_registry.specs.ProgramOffer.{IsProgramOffer};
-ghost use Rattle.pg.specs.Status.{IsCheckStatus, IsParseStatus, IsProbeStatus, IsPrintStatus};
+ghost use Rattle.pg.specs.Status.{IsCheckStatus, IsParseStatus, IsProbeStatus, IsReplayStatus, IsPrintStatus};
 
-use crate::files::{grammar_alone, inputs};
+use crate::files::{grammar_alone, inputs, inputs_with_trail};
 use crate::printing::{UNUSABLE, print_report};
-use pg_bench::{check_bytes, parse_bytes, print_bytes, probe_bytes, sets_bytes};
+use crate::reporting::Names;
+use pg_bench::{check_bytes, parse_bytes, print_bytes, probe_bytes, replay_bytes, sets_bytes};
 use pg_language::Reading;
 use pg_pred::Registry;
 use pg_registry::UsesRegistry;
@@ -22,7 +23,7 @@ use std::io;
 use std::io::Read;
 use std::rt::Files;
 
-/// The exit status of a grammar that isn't accepted, and of a probe whose answer isn't ok.
+/// The exit status of a grammar that isn't accepted, of a probe whose answer isn't ok, and of a trail that doesn't lead to a forest.
 const NO: u8 = 1;
 
 /// What is asked, and the handle by which files are read and lines printed.
@@ -53,7 +54,11 @@ fn answer<R: AllocGlobal + Files + Print + Eprint>(
 {
     match request {
         Request::Check { grammar } => check_file(rt, grammar, registry),
-        Request::Parse { grammar, text } => parse_files(rt, grammar, text, registry),
+        Request::Parse {
+            grammar,
+            text,
+            trail,
+        } => parse_files(rt, grammar, text, registry, trail),
         Request::Probe {
             grammar,
             text,
@@ -67,6 +72,11 @@ fn answer<R: AllocGlobal + Files + Print + Eprint>(
             };
             probe_files(rt, grammar, text, registry, max_steps, reading)
         }
+        Request::Replay {
+            grammar,
+            text,
+            trail,
+        } => replay_files(rt, grammar, text, trail, registry),
         Request::Print { grammar } => print_file(rt, grammar, registry),
         Request::Sets { grammar } => show_file(rt, grammar, registry),
     }
@@ -97,7 +107,7 @@ fn check_grammar<R: AllocGlobal + Files + Print + Eprint>(
     match check_bytes(rt.alloc(), bytes, registry, &mut writer) {
         Ok(true) => Ok(0),
         Ok(false) => Ok(NO),
-        Err(fault) => print_report(rt, fault, grammar, ""),
+        Err(fault) => print_report(rt, fault, of_grammar(grammar)),
     }
 }
 
@@ -107,9 +117,18 @@ fn parse_files<R: AllocGlobal + Files + Print + Eprint>(
     grammar: &str,
     text: &str,
     registry: &Registry,
+    trail: bool,
 ) -> Result<u8, AllocError> {
     match inputs(rt, grammar, text)? {
-        Some((bytes, file)) => parse_text(rt, bytes.as_slice(), file, grammar, text, registry),
+        Some((bytes, file)) => parse_text(
+            rt,
+            bytes.as_slice(),
+            file,
+            grammar,
+            text,
+            registry,
+            trail,
+        ),
         None => Ok(UNUSABLE),
     }
 }
@@ -122,14 +141,15 @@ fn parse_text<F: Read + Drop, R: AllocGlobal + Files + Print + Eprint>(
     grammar: &str,
     text: &str,
     registry: &Registry,
+    trail: bool,
 ) -> Result<u8, AllocError>
     ensures { IfOk result (IsParseStatus (offer_of registry.now) bytes.now (F.remaining file)) }
 {
     let mut reader = Meter::new(file);
     let mut writer = Meter::new(io::writer(rt));
-    match parse_bytes(rt.alloc(), bytes, registry, &mut reader, &mut writer) {
+    match parse_bytes(rt.alloc(), bytes, registry, &mut reader, &mut writer, trail) {
         Ok(()) => Ok(0),
-        Err(fault) => print_report(rt, fault, grammar, text),
+        Err(fault) => print_report(rt, fault, of_text(grammar, text)),
     }
 }
 
@@ -157,7 +177,7 @@ fn probe_files<R: AllocGlobal + Files + Print + Eprint>(
     }
 }
 
-#[tactic(auto, using(crate::proofs::Statuses::ok_status, crate::proofs::Statuses::other_status, crate::proofs::Statuses::probe_fault_status))]
+#[tactic(auto, using(crate::proofs::Statuses::ok_status, crate::proofs::Statuses::other_status, crate::proofs::Statuses::shown_fault_status))]
 fn probe_text<F: Read + Drop, R: AllocGlobal + Files + Print + Eprint>(
     rt: &R,
     bytes: &[u8],
@@ -184,7 +204,63 @@ fn probe_text<F: Read + Drop, R: AllocGlobal + Files + Print + Eprint>(
     ) {
         Ok(true) => Ok(0),
         Ok(false) => Ok(NO),
-        Err(fault) => print_report(rt, fault, grammar, text),
+        Err(fault) => print_report(rt, fault, of_text(grammar, text)),
+    }
+}
+
+/// Goes along the trail in a file over the text in another, by the grammar in a third.
+fn replay_files<R: AllocGlobal + Files + Print + Eprint>(
+    rt: &R,
+    grammar: &str,
+    text: &str,
+    trail: &str,
+    registry: &Registry,
+) -> Result<u8, AllocError> {
+    match inputs_with_trail(rt, grammar, text, trail)? {
+        Some((bytes, file, items)) => {
+            let names = Names {
+                grammar,
+                text,
+                trail,
+            };
+            replay_text(
+                rt,
+                bytes.as_slice(),
+                file,
+                items.as_slice(),
+                names,
+                registry,
+            )
+        }
+        None => Ok(UNUSABLE),
+    }
+}
+
+#[tactic(auto, using(crate::proofs::Statuses::led_status, crate::proofs::Statuses::stopped_status, crate::proofs::Statuses::shown_fault_status))]
+fn replay_text<F: Read + Drop, R: AllocGlobal + Files + Print + Eprint>(
+    rt: &R,
+    bytes: &[u8],
+    file: F,
+    items: &[u8],
+    names: Names,
+    registry: &Registry,
+) -> Result<u8, AllocError>
+    ensures { IfOk result (IsReplayStatus (offer_of registry.now) bytes.now (F.remaining file) names.entry.text.now items.now) }
+{
+    let mut reader = Meter::new(file);
+    let mut writer = Meter::new(io::writer(rt));
+    match replay_bytes(
+        rt.alloc(),
+        bytes,
+        registry,
+        names.text,
+        &mut reader,
+        items,
+        &mut writer,
+    ) {
+        Ok(true) => Ok(0),
+        Ok(false) => Ok(NO),
+        Err(fault) => print_report(rt, fault, names),
     }
 }
 
@@ -212,7 +288,7 @@ fn print_grammar<R: AllocGlobal + Files + Print + Eprint>(
     let mut writer = Meter::new(io::writer(rt));
     match print_bytes(rt.alloc(), bytes, registry, &mut writer) {
         Ok(()) => Ok(0),
-        Err(fault) => print_report(rt, fault, grammar, ""),
+        Err(fault) => print_report(rt, fault, of_grammar(grammar)),
     }
 }
 
@@ -240,6 +316,20 @@ fn show_grammar<R: AllocGlobal + Files + Print + Eprint>(
     let mut writer = Meter::new(io::writer(rt));
     match sets_bytes(rt.alloc(), bytes, registry, &mut writer) {
         Ok(()) => Ok(0),
-        Err(fault) => print_report(rt, fault, grammar, ""),
+        Err(fault) => print_report(rt, fault, of_grammar(grammar)),
+    }
+}
+
+/// The name of a grammar file that is read alone.
+fn of_grammar(grammar: &str) -> Names<'_> {
+    of_text(grammar, "")
+}
+
+/// The names of a grammar file and of a text.
+fn of_text<'a>(grammar: &'a str, text: &'a str) -> Names<'a> {
+    Names {
+        grammar,
+        text,
+        trail: "",
     }
 }

@@ -12,7 +12,7 @@ use std::fs;
 use std::io::Read;
 use std::rt::Files;
 
-/// The most bytes of a grammar file that are read.
+/// The most bytes of a grammar file, or of a trail, that are read.
 const READ_LIMIT: usize = 67_108_864;
 
 /// The device that is empty when it is read.
@@ -33,19 +33,41 @@ pub fn inputs<R: AllocGlobal + Files + Eprint>(
     grammar: &str,
     text: &str,
 ) -> Result<Option<(Vec<u8>, R::File)>, AllocError> {
-    let Ok(grammar_file) = fs::open(rt, grammar) else {
-        cannot_read(rt, grammar);
+    let Some(grammar_file) = opened(rt, grammar) else {
         return Ok(None);
     };
-    let Ok(text_file) = fs::open(rt, text) else {
-        cannot_read(rt, text);
+    let Some(text_file) = opened(rt, text) else {
         return Ok(None);
     };
-    let Some(bytes) = grammar_bytes(rt, grammar_file)? else {
-        cannot_read(rt, grammar);
+    match contents(rt, grammar_file, grammar)? {
+        Some(bytes) => Ok(Some((bytes, text_file))),
+        None => Ok(None),
+    }
+}
+
+/// The same with the bytes of the trail in a third file, which is read after the grammar's.
+pub fn inputs_with_trail<R: AllocGlobal + Files + Eprint>(
+    rt: &R,
+    grammar: &str,
+    text: &str,
+    trail: &str,
+) -> Result<Option<(Vec<u8>, R::File, Vec<u8>)>, AllocError> {
+    let Some(grammar_file) = opened(rt, grammar) else {
         return Ok(None);
     };
-    Ok(Some((bytes, text_file)))
+    let Some(text_file) = opened(rt, text) else {
+        return Ok(None);
+    };
+    let Some(trail_file) = opened(rt, trail) else {
+        return Ok(None);
+    };
+    let Some(bytes) = contents(rt, grammar_file, grammar)? else {
+        return Ok(None);
+    };
+    match contents(rt, trail_file, trail)? {
+        Some(items) => Ok(Some((bytes, text_file, items))),
+        None => Ok(None),
+    }
 }
 
 /// The bytes of the grammar in a file; none if it can't be opened or read, which is printed.
@@ -53,28 +75,38 @@ pub fn grammar_alone<R: AllocGlobal + Files + Eprint>(
     rt: &R,
     grammar: &str,
 ) -> Result<Option<Vec<u8>>, AllocError> {
-    let Ok(grammar_file) = fs::open(rt, grammar) else {
-        cannot_read(rt, grammar);
-        return Ok(None);
-    };
-    let bytes = grammar_bytes(rt, grammar_file)?;
-    if bytes.is_none() {
-        cannot_read(rt, grammar);
+    match opened(rt, grammar) {
+        Some(file) => contents(rt, file, grammar),
+        None => Ok(None),
     }
-    Ok(bytes)
 }
 
-/// The bytes of an open grammar file, if they can be read and are within the limit: all that it has.
-fn grammar_bytes<R: AllocGlobal + Files, F: Read + Drop>(
+/// The file of this name, open; none if it can't be, which is printed.
+fn opened<R: Files + Eprint>(rt: &R, name: &str) -> Option<R::File> {
+    match fs::open(rt, name) {
+        Ok(file) => Some(file),
+        Err(_) => {
+            cannot_read(rt, name);
+            None
+        }
+    }
+}
+
+/// The bytes of an open file of this name; none if it can't be read, or has more than are read, which is printed.
+fn contents<R: AllocGlobal + Eprint, F: Read + Drop>(
     rt: &R,
     file: F,
+    name: &str,
 ) -> Result<Option<Vec<u8>>, AllocError>
     ensures { IfOk result (λ found. IfSome found (λ bytes. IsAllOf (F.remaining file) bytes.items)) }
 {
     let mut reader = Meter::new(file);
     match read_bytes(rt.alloc(), &mut reader, READ_LIMIT) {
         Ok(bytes) => Ok(Some(bytes)),
-        Err(ReadFault::Reader | ReadFault::TooLong) => Ok(None),
+        Err(ReadFault::Reader | ReadFault::TooLong) => {
+            cannot_read(rt, name);
+            Ok(None)
+        }
         Err(ReadFault::Memory) => Err(AllocError),
     }
 }

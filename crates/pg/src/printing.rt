@@ -3,7 +3,7 @@
 ghost use Rattle.std.specs.Prelude.{◌≡◌, IfOk};
 ghost use Rattle.pg.specs.Status.{status_of};
 
-use crate::reporting::{status, write_report};
+use crate::reporting::{Names, status, write_report};
 use pg_bench::BenchFault;
 use pg_tree::{Meter, WriteFault};
 use std::alloc::AllocError;
@@ -18,24 +18,22 @@ pub const UNUSABLE: u8 = 2;
 pub fn print_report<R: AllocGlobal + Eprint>(
     rt: &R,
     fault: BenchFault,
-    grammar: &str,
-    text: &str,
+    names: Names,
 ) -> Result<u8, AllocError>
     ensures { IfOk result (λ status. status ≡ status_of fault) }
 {
-    print_fault(rt, &fault, grammar, text)
+    print_fault(rt, &fault, names)
 }
 
 fn print_fault<R: AllocGlobal + Eprint>(
     rt: &R,
     fault: &BenchFault,
-    grammar: &str,
-    text: &str,
+    names: Names,
 ) -> Result<u8, AllocError>
     ensures { IfOk result (λ status. status ≡ status_of fault.now) }
 {
     let mut writer = Meter::new(ErrorWriter { rt });
-    match write_report(rt.alloc(), fault, grammar, text, &mut writer) {
+    match write_report(rt.alloc(), fault, names, &mut writer) {
         Ok(()) | Err(WriteFault::Writer) => Ok(status(fault)),
         Err(WriteFault::Memory) => Err(AllocError),
     }

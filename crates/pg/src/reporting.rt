@@ -9,13 +9,21 @@ ghost use Rattle.std.specs.Io.KnownBytes.{Appends};
 ghost use Rattle.pg_tree.specs.Bytes.{AppendsPrefix};
 ghost use Rattle.pg_message.specs.Printed.{printed};
 ghost use Rattle.pg.specs.Status.{status_of};
-ghost use Rattle.pg.specs.Texts.{front_of, line_of, report_of};
+ghost use Rattle.pg.specs.Texts.{front_of, line_of, report_of, names_of};
 
 use pg_bench::BenchFault;
 use pg_message::{ParseError, render};
 use pg_tree::{Meter, WriteFault, write_bytes};
 use std::alloc::{AllocError, Global};
 use std::io::Write;
+
+/// The names of the files of a run, as the caller gave them; those that it has none of are empty.
+#[derive(Clone, Copy)]
+pub struct Names<'a> {
+    pub grammar: &'a str,
+    pub text: &'a str,
+    pub trail: &'a str,
+}
 
 /// Writes the report of a fault in a run over files of these names: a line for each finding of a grammar that is refused, a
 /// parse error as Text.Parsec prints it but for the four differences in docs/DECISIONS.md, and one line for each other fault.
@@ -24,25 +32,25 @@ use std::io::Write;
 pub fn write_report<W: Write>(
     alloc: Global,
     fault: &BenchFault,
-    grammar: &str,
-    text: &str,
+    names: Names,
     writer: &mut Meter<W>,
 ) -> Result<(), WriteFault>
     requires { writer.old.failed ≡ false }
-    ensures ok { OnOk result (Appends (W.contents writer.old.inner) (W.contents writer.new.inner) (report_of fault.now grammar.now text.now)) }
+    ensures ok { OnOk result (Appends (W.contents writer.old.inner) (W.contents writer.new.inner) (report_of fault.now (names_of names.entry))) }
     ensures prefix { IsErrOf result WriteFault.Writer →
-        AppendsPrefix (W.contents writer.old.inner) (W.contents writer.new.inner) (report_of fault.now grammar.now text.now) }
+        AppendsPrefix (W.contents writer.old.inner) (W.contents writer.new.inner) (report_of fault.now (names_of names.entry)) }
     ensures memory { IsErrOf result WriteFault.Memory → writer.new ≡ writer.old }
 {
     match fault {
         BenchFault::Refused(refused) => refused.write_findings(alloc, writer),
-        BenchFault::ParseError(error) => write_error(alloc, error, text, writer),
+        BenchFault::ParseError(error) => write_error(alloc, error, names.text, writer),
         BenchFault::File(_)
         | BenchFault::Reader
         | BenchFault::NotUtf8
         | BenchFault::TooLong
+        | BenchFault::NotATrail
         | BenchFault::Writer
-        | BenchFault::Memory => write_line(alloc, fault, grammar, text, writer),
+        | BenchFault::Memory => write_line(alloc, fault, names, writer),
     }
 }
 
@@ -69,17 +77,16 @@ fn write_error<W: Write>(
 fn write_line<W: Write>(
     alloc: Global,
     fault: &BenchFault,
-    grammar: &str,
-    text: &str,
+    names: Names,
     writer: &mut Meter<W>,
 ) -> Result<(), WriteFault>
     requires { writer.old.failed ≡ false }
-    ensures ok { OnOk result (Appends (W.contents writer.old.inner) (W.contents writer.new.inner) (line_of fault.now grammar.now text.now)) }
+    ensures ok { OnOk result (Appends (W.contents writer.old.inner) (W.contents writer.new.inner) (line_of fault.now (names_of names.entry))) }
     ensures prefix { IsErrOf result WriteFault.Writer →
-        AppendsPrefix (W.contents writer.old.inner) (W.contents writer.new.inner) (line_of fault.now grammar.now text.now) }
+        AppendsPrefix (W.contents writer.old.inner) (W.contents writer.new.inner) (line_of fault.now (names_of names.entry)) }
     ensures memory { IsErrOf result WriteFault.Memory → writer.new ≡ writer.old }
 {
-    let Ok(line) = line(alloc, fault, grammar, text) else {
+    let Ok(line) = line(alloc, fault, names) else {
         return Err(WriteFault::Memory);
     };
     write_bytes(line.as_bytes(), writer)
@@ -95,31 +102,33 @@ pub fn status(fault: &BenchFault) -> u8
         | BenchFault::Reader
         | BenchFault::NotUtf8
         | BenchFault::TooLong
+        | BenchFault::NotATrail
         | BenchFault::Writer => 2,
         BenchFault::Memory => 3,
     }
 }
 
 /// The fault after the name of the file that it is about, if it is about one.
-fn line(alloc: Global, fault: &BenchFault, grammar: &str, text: &str) -> Result<String, AllocError>
-    ensures { IfOk result (λ line. string_bytes line ≡ line_of fault.now grammar.now text.now) }
+fn line(alloc: Global, fault: &BenchFault, names: Names) -> Result<String, AllocError>
+    ensures { IfOk result (λ line. string_bytes line ≡ line_of fault.now (names_of names.entry)) }
 {
-    let (name, mark) = front(fault, grammar, text);
+    let (name, mark) = front(fault, names);
     let line = format!(in alloc; "{name}{mark}{fault}\n")?;
     Ok(line)
 }
 
 /// The name of the file that a fault is about, and the mark after it; both are empty where it is about none.
-fn front<'a>(fault: &BenchFault, grammar: &'a str, text: &'a str) -> (&'a str, &'static str)
-    ensures { result.0.now ++ result.1.now ≡ front_of fault.now grammar.now text.now }
+fn front<'a>(fault: &BenchFault, names: Names<'a>) -> (&'a str, &'static str)
+    ensures { result.0.now ++ result.1.now ≡ front_of fault.now (names_of names.entry) }
 {
     match fault {
-        BenchFault::File(_) => (grammar, ":"),
-        BenchFault::Refused(_) => (grammar, ": "),
+        BenchFault::File(_) => (names.grammar, ":"),
+        BenchFault::Refused(_) => (names.grammar, ": "),
         BenchFault::Reader
         | BenchFault::NotUtf8
         | BenchFault::TooLong
-        | BenchFault::ParseError(_) => (text, ": "),
+        | BenchFault::ParseError(_) => (names.text, ": "),
+        BenchFault::NotATrail => (names.trail, ": "),
         BenchFault::Writer | BenchFault::Memory => ("", ""),
     }
 }

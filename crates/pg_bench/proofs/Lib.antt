@@ -1,4 +1,4 @@
-pub mod Prefixes
-pub mod Shown
 pub mod Parses
-pub mod Probed
+pub mod Shown
+pub mod ShownTexts
+pub mod Replayed

@@ -1,12 +1,15 @@
 -- What a run of an accepted grammar says of a text, in terms of the promise and of the bytes that spell the text.
-use Rattle.std.proofs.Common.{◌≡◌, ℕ, List, Option, None, refl, sym, subst}
+use Rattle.std.proofs.Common.{◌≡◌, ℕ, List, Option, None, Some, refl, sym, ap, ◌∙◌, subst}
 use Rattle.std.specs.Prelude.{IfSome, IfNone}
 use Rattle.std.specs.Io.KnownBytes.{Consumes, IsAtEnd}
 use Rattle.pg_tree.specs.Meter.{Metered}
 use Rattle.pg_tree.specs.Trees.{Tree}
 use Rattle.pg_pred.specs.Offer.{Offer}
 use Rattle.pg_value.specs.Grammar.{Grammar}
-use Rattle.pg_table.specs.Tables.{Table, initial, whole}
+use Rattle.pg_value.specs.declared.trail.TrailItem.{TrailItem}
+use Rattle.pg_table.specs.Tables.{Table, Added, initial, whole}
+use Rattle.pg_table.specs.Tables as tables
+use Rattle.pg_language.specs.Derives.{DerivesText}
 use Rattle.pg_language.specs.Answers.{given}
 use Rattle.pg_language.specs.Errors.{without_position}
 use Rattle.pg_language.specs.WholeTexts.{AnswersText}
@@ -21,7 +24,7 @@ use Rattle.pg_grammar_bench.specs.Files.{IsFaultOfFile, AreFindingsOf}
 use Rattle.pg_grammar_bench.specs.Faults.{IsGrammarRefusal, IfFile, IfRefused}
 use Rattle.pg_grammar_bench.specs.declared.fault.BenchFault.{BenchFault}
 use Rattle.pg_grammar_bench.specs.declared.fault.BenchFault.TheVariants.{File, Refused, Reader, NotUtf8, TooLong, ParseError, Memory}
-use Rattle.pg_bench.specs.Parsed.{IsSpelledBy, IsForestOf, IsForestOfAnswer, IsForestOfBytes, ReadsText}
+use Rattle.pg_bench.specs.Parsed.{IsSpelledBy, IsForestOf, IsForestOfBytes, ReadsText}
 use Rattle.pg_bench.specs.Refusals.{IsErrorOfAnswer, IsWell, IsReadRefusal, IsTextRefusal, IsParseRefusal, IsRunRefusal, IsTextFault, IsForestRefusal}
 use Rattle.pg_derive.specs.LeastSets.{node_sets}
 use Rattle.pg_derive.specs.PredictiveLaws.{LosesNoAlternative, EachRoundConsumes, EachLinkConsumes}
@@ -36,23 +39,20 @@ commits_rightly : (checked : GrammarWithSets) (text : List ℕ) → IsChecked ch
 commits_rightly checked text is choices rounds links =
     record { sets = checked.sets; least = is.sets; choices = choices; rounds = rounds; links = links }
 
-pub found_forest : (checked : GrammarWithSets) (text : List ℕ) (table : Table) (a : Answer) (forest : List Tree) → IsChecked checked
+pub found_forest : (checked : GrammarWithSets) (text : List ℕ) (table : Table) (a : Answer) (s : Success) → IsChecked checked
     → initial checked.grammar ≡ whole table → IfSome a.success (IsOnlyDerivation checked.grammar text table)
     → LosesNoAlternative (given Library checked.grammar text) (node_sets checked.grammar checked.sets) → EachRoundConsumes (given Library checked.grammar text)
-    → EachLinkConsumes (given Library checked.grammar text) → IsForestOfAnswer a forest → IsForestOfText checked.grammar text forest
-found_forest checked text table a forest is initially derived choices rounds links answered =
-    let s = answered.0 in
-    let h = subst (λ o. IfSome o (IsOnlyDerivation checked.grammar text table)) answered.1 derived in
-    subst (IsForestOfText checked.grammar text) (sym answered.2)
-    (record {
+    → EachLinkConsumes (given Library checked.grammar text) → a.success ≡ Some s → IsForestOfText checked.grammar text s.forest s.trail
+found_forest checked text table a s is initially derived choices rounds links answered =
+    let h = subst (λ o. IfSome o (IsOnlyDerivation checked.grammar text table)) answered derived in
+    record {
       table = table;
       is_table = initially;
       after = s.table;
-      trail = s.trail;
       derives = h.derives;
       only = h.only;
       commits = commits_rightly checked text is choices rounds links;
-    })
+    }
 
 found_error : (checked : GrammarWithSets) (text : List ℕ) (table : Table) (a : Answer) → IsChecked checked → initial checked.grammar ≡ whole table
     → a.success ≡ None → IsTextAnswer (given Library checked.grammar text) table a → IsUnderivable checked.grammar text table
@@ -81,10 +81,10 @@ found_refused checked text table a (ParseError error) is initially h refused cho
     subst (IsErrorOfText checked.grammar text) (sym answered.1) (found_error checked text table a is initially answered.0 h underivable choices rounds links)
 found_refused checked text table a _ is initially h refused choices rounds links answered = absurd answered
 
-pub bytes_forest : (g : Grammar) (bytes text : List ℕ) (forest : List Tree) → IsSpelledBy bytes text → IsForestOfText g text forest
-    → IsForestOfBytes g bytes forest
-bytes_forest g bytes text forest spelled h =
-    record { utf8 = spelled.utf8; within = spelled.within; text = subst (λ (t : List ℕ). IsForestOfText g t forest) spelled.same h }
+pub bytes_forest : (g : Grammar) (bytes text : List ℕ) (forest : List Tree) (trail : List TrailItem) → IsSpelledBy bytes text → IsForestOfText g text forest trail
+    → IsForestOfBytes g bytes forest trail
+bytes_forest g bytes text forest trail spelled h =
+    record { utf8 = spelled.utf8; within = spelled.within; text = subst (λ (t : List ℕ). IsForestOfText g t forest trail) spelled.same h }
 
 pub bytes_refused : (g : Grammar) (bytes text : List ℕ) (fault : BenchFault) → IsSpelledBy bytes text → IsRunRefusal g text fault
     → IsParseRefusal g bytes fault
@@ -115,9 +115,9 @@ parse_refused g before after reader left bytes (ParseError error) read end well 
 parse_refused g before after reader left bytes Memory read end well h = tt
 parse_refused g before after reader left bytes _ read end well h = absurd h
 
-pub forest_of_file : (offer : Offer) (file : List ℕ) (reader left : Option (List ℕ)) (g : Grammar) (forest : List Tree) → SpellsWithinLimits offer file g
-    → IsAccepted g → ReadsText reader left (λ bytes. IsForestOfBytes g bytes forest) → IsForestOf offer file reader left forest
-forest_of_file offer file reader left g forest spelled accepted h =
+pub forest_of_file : (offer : Offer) (file : List ℕ) (reader left : Option (List ℕ)) (g : Grammar) (forest : List Tree) (trail : List TrailItem) → SpellsWithinLimits offer file g
+    → IsAccepted g → ReadsText reader left (λ bytes. IsForestOfBytes g bytes forest trail) → IsForestOf offer file reader left forest trail
+forest_of_file offer file reader left g forest trail spelled accepted h =
     record { grammar = g; spelled = spelled; accepted = accepted; bytes = h.0; read = h.1; end = h.2; is = h.3 }
 
 -- what refuses the grammar of a file
@@ -144,3 +144,19 @@ reading_refused_file offer file before after reader left g (ParseError error) sp
     )
 reading_refused_file offer file before after reader left g Memory spelled accepted h = tt
 reading_refused_file offer file before after reader left g _ spelled accepted h = absurd h
+
+-- ---- under a table that is the initial one
+
+-- the text is derived from it
+pub under_table : (g : Grammar) (text : List ℕ) (table : Table) (forest : List Tree) (trail : List TrailItem) → initial g ≡ whole table
+    → IsForestOfText g text forest trail → (after : Table) × DerivesText g text table after forest trail
+under_table g text table forest trail initially h =
+    let same : h.table ≡ table = one_table (sym h.is_table ∙ initially) in
+    (h.after, subst (λ (t : Table). DerivesText g text t h.after forest trail) same h.derives)
+  where
+    table_in : Table → Added → Table
+    table_in other (whole t) = t
+    table_in other (tables.refused k fault) = other
+
+    one_table : {a b : Table} → whole a ≡ whole b → a ≡ b
+    one_table {a} h = ap (table_in a) h

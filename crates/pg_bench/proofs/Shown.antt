@@ -12,8 +12,7 @@ use Rattle.pg_machine.specs.Outcomes.{IsOutcome, outcome_with}
 use Rattle.pg_machine.specs.declared.answer.Success.{Success}
 use Rattle.pg_machine.specs.declared.answer.Outcome as ended
 use Rattle.pg_machine.specs.declared.answer.Outcome.TheVariants.{Answered, StepsUsed, EmptyRound}
-use Rattle.pg_bench.specs.Parsed.{IsSpelledBy}
-use Rattle.pg_bench.specs.Probing.{IsShownOf, IsShownOfText, Shows, is_ok, is_error, is_stuck, is_used_up, error_text, answer_text, outcome_text, is_some, is_ok_outcome}
+use Rattle.pg_bench.specs.Probing.{IsShownOfText, Shows, is_ok, is_error, is_stuck, is_used_up, error_text, answer_text, outcome_text, is_some, is_ok_outcome}
 
 stands : (text : List ℕ) (e : ParseError) → e.position ≡ position_of text e.place → in_text text (without_position e) ≡ e
 stands text e at = subst (λ p. record { place = e.place; position = p; messages = e.messages } ≡ e) at refl
@@ -43,16 +42,4 @@ shown_text g name most reading text table o accepted said initially h ok page =
       table = table;
       is_table = initially;
       shows = subst₂ (Shows (given reading g text) table name most) (sym ok) (sym page) (shows (given reading g text) table name most o h);
-    }
-
--- and on the text that bytes spell
-pub shown_bytes : (g : Grammar) (name : List ℕ) (most : ℕ) (reading : Reading) (bytes text : List ℕ) (accepted : Bool) (said : List ℕ)
-    → IsSpelledBy bytes text → IsShownOfText g name most reading text accepted said → IsShownOf g name most reading bytes accepted said
-shown_bytes g name most reading bytes text accepted said spelled h =
-    record {
-      utf8 = spelled.utf8;
-      within = spelled.within;
-      table = h.table;
-      is_table = h.is_table;
-      shows = subst (λ (t : List ℕ). Shows (given reading g t) h.table name most accepted said) spelled.same h.shows;
     }

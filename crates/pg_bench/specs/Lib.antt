@@ -1,4 +1,7 @@
 pub mod Promise
 pub mod Parsed
 pub mod Refusals
+pub mod Showing
 pub mod Probing
+pub mod Replaying
+pub mod Laws

@@ -1,5 +1,5 @@
 -- What is told by a run from bytes to bytes, with a registry that offers predicates and builders.
-use Rattle.std.specs.Prelude.{◌≡◌, ◌≤◌, ℕ, List, [], ◌∷◌, ◌++◌, length, Option, Some}
+use Rattle.std.specs.Prelude.{◌≡◌, ◌≤◌, ℕ, List, ◌++◌, Bool, true, false, length, Option, codes}
 use Rattle.std.specs.Str.{chars, IsUtf8}
 use Rattle.std.specs.Io.KnownBytes.{Appends, Consumes, IsAtEnd}
 use Rattle.pg_text.specs.declared.text.TheConstants.{LIMIT}
@@ -9,8 +9,8 @@ use Rattle.pg_tree.specs.Json.{json}
 use Rattle.pg_tree.specs.Bytes.{AppendsPrefix}
 use Rattle.pg_pred.specs.Offer.{Offer}
 use Rattle.pg_value.specs.Grammar.{Grammar}
-use Rattle.pg_machine.specs.declared.answer.Answer.{Answer}
-use Rattle.pg_machine.specs.declared.answer.Success.{Success}
+use Rattle.pg_value.specs.declared.trail.TrailItem.{TrailItem}
+use Rattle.pg_trails.specs.TrailJson.{trail_json, IsTrailText}
 use Rattle.pg_making.specs.Spells.{SpellsWithinLimits}
 use Rattle.pg_bench.specs.Promise.{IsAccepted, IsForestOfText, IsErrorOfText}
 
@@ -20,15 +20,11 @@ pub record IsSpelledBy (bytes text : List ℕ) : Type 0 where
   pub within : length (chars bytes) ≤ LIMIT
   pub same : text ≡ chars bytes
 
--- the answer is ok, with this forest
-abbrev pub IsForestOfAnswer : Answer → List Tree → Type 0
-IsForestOfAnswer a forest = (s : Success) × (a.success ≡ Some s) × (forest ≡ s.forest)
-
--- the bytes are a text, not too long, and this is its forest by the grammar
-pub record IsForestOfBytes (g : Grammar) (bytes : List ℕ) (forest : List Tree) : Type 0 where
+-- the bytes are a text, not too long, and this is its forest by the grammar, derived along this trail
+pub record IsForestOfBytes (g : Grammar) (bytes : List ℕ) (forest : List Tree) (trail : List TrailItem) : Type 0 where
   pub utf8 : IsUtf8 bytes
   pub within : length (chars bytes) ≤ LIMIT
-  pub text : IsForestOfText g (chars bytes) forest
+  pub text : IsForestOfText g (chars bytes) forest trail
 
 -- or this is its error
 pub record IsErrorOfBytes (g : Grammar) (bytes : List ℕ) (e : message.ParseError) : Type 0 where
@@ -46,25 +42,42 @@ pub record ParsesReader (offer : Offer) (file : List ℕ) (reader left : Option 
   pub end : IsAtEnd left
   pub is : Is grammar bytes
 
--- this is the forest of the reader's whole bytes by the grammar that the file spells
-abbrev pub IsForestOf : Offer → List ℕ → Option (List ℕ) → Option (List ℕ) → List Tree → Type 0
-IsForestOf offer file reader left forest = ParsesReader offer file reader left (λ g bytes. IsForestOfBytes g bytes forest)
+-- this is the forest of the reader's whole bytes by the grammar that the file spells, derived along this trail
+abbrev pub IsForestOf : Offer → List ℕ → Option (List ℕ) → Option (List ℕ) → List Tree → List TrailItem → Type 0
+IsForestOf offer file reader left forest trail = ParsesReader offer file reader left (λ g bytes. IsForestOfBytes g bytes forest trail)
 
 -- or this is their error
 abbrev pub IsErrorOf : Offer → List ℕ → Option (List ℕ) → Option (List ℕ) → message.ParseError → Type 0
 IsErrorOf offer file reader left e = ParsesReader offer file reader left (λ g bytes. IsErrorOfBytes g bytes e)
 
--- and the forest's JSON and a line feed were written
-pub record IsParsed (offer : Offer) (file : List ℕ) (reader left writer held : Option (List ℕ)) : Type 0 where
-  pub forest : List Tree
-  pub parsed : IsForestOf offer file reader left forest
-  pub written : Appends writer held (json forest ++ 10 ∷ [])
+-- what is written after the forest's JSON: a line feed, and the trail's JSON on a line of its own where it is asked for
+abbrev pub after_forest : Bool → List TrailItem → List ℕ
+after_forest false trail = codes "\n"
+after_forest true trail = codes "\n" ++ (trail_json trail ++ codes "\n")
 
--- or a prefix of them
-pub record IsPartlyWritten (offer : Offer) (file : List ℕ) (reader left writer held : Option (List ℕ)) : Type 0 where
+-- what is written of a parse
+abbrev pub parse_text : Bool → List Tree → List TrailItem → List ℕ
+parse_text with_trail forest trail = json forest ++ after_forest with_trail trail
+
+-- where the trail is asked for, what is written of it is the JSON of this trail, and of no other
+abbrev pub IfRead : Bool → List TrailItem → Type 0
+IfRead false trail = Unit {0}
+IfRead true trail = IsTrailText (trail_json trail) trail
+
+-- this is the forest, with this trail, and it was written, with the trail where that is asked for
+pub record IsParsed (offer : Offer) (file : List ℕ) (reader left : Option (List ℕ)) (with_trail : Bool) (writer held : Option (List ℕ)) : Type 0 where
   pub forest : List Tree
-  pub parsed : IsForestOf offer file reader left forest
-  pub written : AppendsPrefix writer held (json forest ++ 10 ∷ [])
+  pub trail : List TrailItem
+  pub parsed : IsForestOf offer file reader left forest trail
+  pub written : Appends writer held (parse_text with_trail forest trail)
+  pub read : IfRead with_trail trail
+
+-- or a prefix of that was
+pub record IsPartlyWritten (offer : Offer) (file : List ℕ) (reader left : Option (List ℕ)) (with_trail : Bool) (writer held : Option (List ℕ)) : Type 0 where
+  pub forest : List Tree
+  pub trail : List TrailItem
+  pub parsed : IsForestOf offer file reader left forest trail
+  pub written : AppendsPrefix writer held (parse_text with_trail forest trail)
 
 -- the reader's whole bytes have this property
 abbrev pub ReadsText : Option (List ℕ) → Option (List ℕ) → (List ℕ → Type 0) → Type 0

@@ -1,12 +1,8 @@
 -- What is told by a run of a grammar's start rule from bytes to bytes.
-use Rattle.std.specs.Prelude.{◌≡◌, ◌≤◌, ◌<◌, ◌+◌, ◌*◌, ℕ, List, ◌++◌, Bool, true, false, length, Option, Some, None, codes}
+use Rattle.std.specs.Prelude.{◌≡◌, ◌≤◌, ◌<◌, ◌+◌, ◌*◌, ℕ, List, ◌++◌, Bool, true, false, Option, Some, None, codes}
 use Rattle.std.specs.Fmt.{decimal}
-use Rattle.std.specs.Io.KnownBytes.{Appends, Consumes, IsAtEnd}
-use Rattle.std.specs.Str.{chars, IsUtf8}
-use Rattle.pg_text.specs.declared.text.TheConstants.{LIMIT}
 use Rattle.pg_message.specs.Printed.{printed}
 use Rattle.pg_message.specs.declared.error.ParseError.{ParseError}
-use Rattle.pg_tree.specs.Bytes.{AppendsPrefix}
 use Rattle.pg_tree.specs.Json.{json}
 use Rattle.pg_tree.specs.Trees.{Tree}
 use Rattle.pg_pred.specs.Offer.{Offer}
@@ -18,9 +14,9 @@ use Rattle.pg_language.specs.Answers.{Given, given, AnswersStart}
 use Rattle.pg_language.specs.Errors.{Error, in_text}
 use Rattle.pg_language.specs.Outcomes.{Outcome, ok, failed, empty_round}
 use Rattle.pg_language.specs.declared.reading.Reading.{Reading}
-use Rattle.pg_making.specs.Spells.{SpellsWithinLimits}
 use Rattle.pg_machine.specs.declared.answer.Success.{Success}
 use Rattle.pg_machine.specs.declared.answer.Outcome as ended
+use Rattle.pg_bench.specs.Showing.{IsShownBy, IsWrittenBy, IsPartlyWrittenBy}
 use Rattle.pg_machine.specs.declared.answer.Outcome.TheVariants.{Answered, StepsUsed, EmptyRound}
 
 abbrev pub consumption : Bool → List ℕ
@@ -57,38 +53,18 @@ pub record IsShownOfText (g : Grammar) (name : List ℕ) (most : ℕ) (reading :
   pub is_table : initial g ≡ whole table
   pub shows : Shows (given reading g text) table name most accepted said
 
--- the bytes spell a text, not too long, and this is printed of the grammar's run on it under its initial table
-pub record IsShownOf (g : Grammar) (name : List ℕ) (most : ℕ) (reading : Reading) (bytes : List ℕ) (accepted : Bool) (said : List ℕ) : Type 0 where
-  pub utf8 : IsUtf8 bytes
-  pub within : length (chars bytes) ≤ LIMIT
-  pub table : Table
-  pub is_table : initial g ≡ whole table
-  pub shows : Shows (given reading g (chars bytes)) table name most accepted said
-
 -- the file spells a grammar, and this is printed of its run on the reader's whole bytes
-pub record IsShown (offer : Offer) (file : List ℕ) (reader left : Option (List ℕ)) (name : List ℕ) (most : ℕ) (reading : Reading) (accepted : Bool)
-    (said : List ℕ) : Type 0 where
-  pub grammar : Grammar
-  pub spelled : SpellsWithinLimits offer file grammar
-  pub bytes : List ℕ
-  pub read : Consumes reader left bytes
-  pub end : IsAtEnd left
-  pub shown : IsShownOf grammar name most reading bytes accepted said
+abbrev pub IsShown : Offer → List ℕ → Option (List ℕ) → Option (List ℕ) → List ℕ → ℕ → Reading → Bool → List ℕ → Type 0
+IsShown offer file reader left name most reading = IsShownBy (λ g. IsShownOfText g name most reading) offer file reader left
 
 -- and it was written
-pub record IsProbed (offer : Offer) (file : List ℕ) (reader left : Option (List ℕ)) (name : List ℕ) (most : ℕ) (reading : Reading)
-    (writer held : Option (List ℕ)) (accepted : Bool) : Type 0 where
-  pub said : List ℕ
-  pub shown : IsShown offer file reader left name most reading accepted said
-  pub written : Appends writer held said
+abbrev pub IsProbed : Offer → List ℕ → Option (List ℕ) → Option (List ℕ) → List ℕ → ℕ → Reading → Option (List ℕ) → Option (List ℕ) → Bool → Type 0
+IsProbed offer file reader left name most reading writer held = IsWrittenBy (λ g. IsShownOfText g name most reading) offer file reader left writer held
 
 -- or a prefix of it
-pub record IsPartlyProbed (offer : Offer) (file : List ℕ) (reader left : Option (List ℕ)) (name : List ℕ) (most : ℕ) (reading : Reading)
-    (writer held : Option (List ℕ)) : Type 0 where
-  pub accepted : Bool
-  pub said : List ℕ
-  pub shown : IsShown offer file reader left name most reading accepted said
-  pub written : AppendsPrefix writer held said
+abbrev pub IsPartlyProbed : Offer → List ℕ → Option (List ℕ) → Option (List ℕ) → List ℕ → ℕ → Reading → Option (List ℕ) → Option (List ℕ) → Type 0
+IsPartlyProbed offer file reader left name most reading writer held =
+    IsPartlyWrittenBy (λ g. IsShownOfText g name most reading) offer file reader left writer held
 
 -- ---- the page of an outcome of the machine
 

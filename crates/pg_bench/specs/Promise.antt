@@ -30,12 +30,11 @@ pub record CommitsRightly (g : Grammar) (text : List ℕ) : Type 0 where
   pub rounds : EachRoundConsumes (given Library g text)
   pub links : EachLinkConsumes (given Library g text)
 
--- under the initial table the grammar derives the text to this forest, and has no second derivation of it
-pub record IsForestOfText (g : Grammar) (text : List ℕ) (forest : List Tree) : Type 0 where
+-- under the initial table the grammar derives the text to this forest along this trail, and has no second derivation of it
+pub record IsForestOfText (g : Grammar) (text : List ℕ) (forest : List Tree) (trail : List TrailItem) : Type 0 where
   pub table : Table
   pub is_table : initial g ≡ whole table
   pub after : Table
-  pub trail : List TrailItem
   pub derives : DerivesText g text table after forest trail
   pub only : (other : Table) (others : List Tree) (items : List TrailItem) → DerivesText g text table other others items →
       (after ≡ other) × (forest ≡ others) × (trail ≡ items)

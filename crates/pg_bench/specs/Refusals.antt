@@ -62,35 +62,45 @@ IsTextFault g before after reader left =
       parse_error = λ error. IsWell before after × ReadsText reader left (λ bytes. IsErrorOfBytes g bytes error);
     })
 
--- and probing it
-abbrev pub IsProbeFault : {R : Type 0} → Metered R → Metered R → Option (List ℕ) → Option (List ℕ) → BenchFault → Type 0
-IsProbeFault before after reader left =
+-- what showing a text refuses with: that there is no trail, only where this is claimed
+abbrev pub IsShowRefusal : Type 0 → BenchFault → Type 0
+IsShowRefusal NoTrail = Claimed (record memory_alone { not_a_trail = NoTrail })
+
+-- and the text that these bytes spell
+abbrev pub IsBytesRefusal : Type 0 → List ℕ → BenchFault → Type 0
+IsBytesRefusal NoTrail bytes =
+    Claimed (record memory_alone { not_utf8 = ¬ (IsUtf8 bytes); too_long = IsUtf8 bytes × (LIMIT < length (chars bytes)); not_a_trail = NoTrail })
+
+-- and what a reader gives
+abbrev pub IsShowFault : {R : Type 0} → Type 0 → Metered R → Metered R → Option (List ℕ) → Option (List ℕ) → BenchFault → Type 0
+IsShowFault NoTrail before after reader left =
     Claimed (record memory_alone {
       reader = IsUnread before after;
       not_utf8 = IsWell before after × ReadsText reader left (λ bytes. ¬ (IsUtf8 bytes));
       too_long = IsWell before after × ReadsText reader left (λ bytes. IsUtf8 bytes × (LIMIT < length (chars bytes)));
+      not_a_trail = IsWell before after × NoTrail;
     })
 
--- what a run refuses with before it writes, by a grammar of this kind that a file spells: with findings or with an error only
--- where this is claimed of them
-abbrev pub IsFilesRefusal : {R : Type 0} → (Grammar → Type 0) → (List Finding → Type 0) → (message.ParseError → Type 0) → Offer → List ℕ
+-- what a run refuses with before it writes, by a grammar of this kind that a file spells: with findings, with an error or for want
+-- of a trail only where this is claimed of them
+abbrev pub IsFilesRefusal : {R : Type 0} → (Grammar → Type 0) → (List Finding → Type 0) → (message.ParseError → Type 0) → Type 0 → Offer → List ℕ
     → Metered R → Metered R → Option (List ℕ) → Option (List ℕ) → BenchFault → Type 0
-IsFilesRefusal Is Finds Errs offer file before after reader left =
+IsFilesRefusal Is Finds Errs NoTrail offer file before after reader left =
     Claimed (record memory_alone {
       file = λ fault. IsFaultOfFile offer file fault × (after ≡ before);
       refused = λ findings. Finds findings × (after ≡ before);
       reader = SpellsSome Is offer file × IsUnread before after;
       not_utf8 = SpellsSome Is offer file × IsWell before after × ReadsText reader left (λ bytes. ¬ (IsUtf8 bytes));
       too_long = SpellsSome Is offer file × IsWell before after × ReadsText reader left (λ bytes. IsUtf8 bytes × (LIMIT < length (chars bytes)));
+      not_a_trail = SpellsSome Is offer file × IsWell before after × NoTrail;
       parse_error = λ error. SpellsSome Is offer file × IsWell before after × Errs error;
     })
 
 -- parsing does so
 abbrev pub IsForestRefusal : {R : Type 0} → Offer → List ℕ → Metered R → Metered R → Option (List ℕ) → Option (List ℕ) → BenchFault → Type 0
 IsForestRefusal offer file before after reader left =
-    IsFilesRefusal IsAccepted (AreFindingsOf offer file) (IsErrorOf offer file reader left) offer file before
-    after reader left
+    IsFilesRefusal IsAccepted (AreFindingsOf offer file) (IsErrorOf offer file reader left) ⊥ offer file before after reader left
 
--- and probing, whatever the grammar
-abbrev pub IsProbeRefusal : {R : Type 0} → Offer → List ℕ → Metered R → Metered R → Option (List ℕ) → Option (List ℕ) → BenchFault → Type 0
-IsProbeRefusal = IsFilesRefusal (λ g. Unit {0}) (λ findings. ⊥) (λ error. ⊥)
+-- and showing, whatever the grammar
+abbrev pub IsShownRefusal : {R : Type 0} → Type 0 → Offer → List ℕ → Metered R → Metered R → Option (List ℕ) → Option (List ℕ) → BenchFault → Type 0
+IsShownRefusal NoTrail = IsFilesRefusal (λ g. Unit {0}) (λ findings. ⊥) (λ error. ⊥) NoTrail

@@ -1,7 +1,7 @@
 //! From bytes to bytes: what the program does with a grammar file and a text, once they are open.
 //!
-//! `parse_bytes` parses the text that a reader gives and writes its forest, and `probe_bytes` runs the start rule on it and
-//! writes what Parsec would answer. The crate below has what reads no text: `check_bytes` writes whether a grammar is
+//! `parse_bytes` parses the text that a reader gives and writes its forest, `probe_bytes` runs the start rule on it and writes what
+//! Parsec would answer, and `replay_bytes` goes along a trail over it. The crate below has what reads no text: `check_bytes` writes whether a grammar is
 //! accepted, or all that is wrong with it, `print_bytes` writes a grammar in canonical form, and `sets_bytes` its sets. All
 //! contracts speak of the bytes that were read and written and of what these spell, derive and answer. The predicates and
 //! builders that a file may name come in a registry.
@@ -9,12 +9,17 @@
 
 mod initial;
 mod input;
+mod laws;
 mod page;
 mod parse;
 mod probe;
+mod replay;
+mod showing;
 #[cfg(test)]
 mod tests;
 
+pub use laws::parsed_trails_replay;
 pub use parse::parse_bytes;
 pub use pg_grammar_bench::{BenchFault, check_bytes, print_bytes, sets_bytes};
 pub use probe::probe_bytes;
+pub use replay::replay_bytes;

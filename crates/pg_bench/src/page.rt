@@ -1,12 +1,17 @@
-//! What is printed of a run's outcome.
+//! What is printed of a run's outcome, and of a trail.
 
-ghost use Rattle.std.specs.Prelude.{◌≡◌, IfOk};
+ghost use Rattle.std.specs.Prelude.{◌≡◌, ◌++◌, codes, IfOk};
+ghost use Rattle.std.specs.String.{string_bytes};
 ghost use Rattle.pg_message.specs.Printed.{printed};
+ghost use Rattle.pg_tree.specs.Json.{json};
+ghost use Rattle.pg_bench.specs.Replaying.{mismatch_text, item_text, stop_text};
 ghost use Rattle.pg_bench.specs.Probing.{consumption, ok_text, error_text, answer_text, outcome_text, is_some, is_ok_outcome};
 
 use pg_machine::{Answer, Outcome, Success};
 use pg_message::{ParseError, render};
-use pg_tree::{Meter, write_bytes, write_json};
+use pg_replay::{Mismatch, Stop};
+use pg_text::{Pos, Text};
+use pg_tree::{Forest, Meter, write_bytes, write_json};
 use std::alloc::{AllocError, Global};
 
 /// Whether the outcome is an ok answer.
@@ -44,8 +49,15 @@ fn ok_page(alloc: Global, consumed: bool, success: &Success) -> Result<Vec<u8>, 
 {
     let word = consumption(consumed);
     let head = format!(in alloc; "{word} ok\nplace {}\n", success.place)?;
-    let mut page = Meter::new(head.into_bytes());
-    if write_json(alloc, &success.forest, &mut page).is_err() {
+    forest_after(alloc, head.into_bytes(), &success.forest)
+}
+
+/// The forest's JSON and a line feed, after what is there.
+fn forest_after(alloc: Global, head: Vec<u8>, forest: &Forest) -> Result<Vec<u8>, AllocError>
+    ensures { IfOk result (λ page. page.items ≡ head.items ++ (json forest.now ++ codes "\n")) }
+{
+    let mut page = Meter::new(head);
+    if write_json(alloc, forest, &mut page).is_err() {
         return Err(AllocError);
     }
     if write_bytes(b"\n", &mut page).is_err() {
@@ -72,4 +84,52 @@ fn consumption(consumed: bool) -> &'static str
     ensures { result.now ≡ consumption consumed }
 {
     if consumed { "consumed" } else { "empty" }
+}
+
+/// What is printed of a forest.
+pub fn forest_page(alloc: Global, forest: &Forest) -> Result<Vec<u8>, AllocError>
+    ensures { IfOk result (λ page. page.items ≡ json forest.now ++ codes "\n") }
+{
+    forest_after(alloc, Vec::new(alloc), forest)
+}
+
+/// What is printed of the stop of a trail of so many items on a text of this name.
+#[tactic(auto, using(crate::proofs::Replayed::position_within))]
+pub fn stop_page(
+    alloc: Global,
+    text: &Text,
+    items: usize,
+    stop: &Stop,
+    name: &str,
+) -> Result<Vec<u8>, AllocError>
+    ensures { IfOk result (λ page. page.items ≡ stop_text name.now text.now items stop.now) }
+{
+    // That a stop lies in the text is not among what `replay` promises.
+    let Pos { line, column } = text.position(stop.place.min(text.len()));
+    let why = mismatch(stop.why);
+    let item = item_text(alloc, stop.left, items)?;
+    let page = format!(in alloc; "{name}:{line}:{column}: {why}, {item}\n")?;
+    Ok(page.into_bytes())
+}
+
+/// The next item, from 1, where so many of all are left.
+fn item_text(alloc: Global, left: usize, all: usize) -> Result<String, AllocError>
+    ensures { IfOk result (λ text. string_bytes text ≡ item_text left all) }
+{
+    if left == 0 {
+        return format!(in alloc; "after all {all} items");
+    }
+    let number = all.saturating_sub(left) + 1;
+    format!(in alloc; "item {number} of {all}")
+}
+
+fn mismatch(why: Mismatch) -> &'static str
+    ensures { result.now ≡ mismatch_text why }
+{
+    match why {
+        Mismatch::ItemDiffers => "Y1 item doesn't fit",
+        Mismatch::TextDiffers => "Y2 text doesn't fit",
+        Mismatch::LeftOver => "Y3 text or items left over",
+        Mismatch::NotAdmitted => "Y4 declaration not admitted",
+    }
 }

@@ -1,10 +1,10 @@
-//! From the bytes of a grammar file and of a text to the bytes of the text's forest.
+//! From the bytes of a grammar file and of a text to the bytes of the text's forest, and of the trail of its derivation.
 //!
 //! The steps come one after another: the grammar file is read and its grammar checked, then the text is read, then it is
-//! parsed, and only then the forest is written. So a refusal by an earlier step has neither read nor written what a later
+//! parsed, and only then is anything written. So a refusal by an earlier step has neither read nor written what a later
 //! one would have.
 
-ghost use Rattle.std.specs.Prelude.{◌≡◌, ◌≤◌, ◌<◌, ◌+◌, ◌*◌, ◌⊎◌, [], ◌∷◌, ◌++◌, false, true, length, IfOk, IfErr, OnOk, IsErrOf};
+ghost use Rattle.std.specs.Prelude.{◌≡◌, ◌≤◌, ◌<◌, ◌+◌, ◌*◌, ◌⊎◌, ◌++◌, false, true, length, Some, IfOk, IfErr, OnOk, IsErrOf};
 ghost use Rattle.std.specs.Str.{chars, IsUtf8};
 ghost use Rattle.std.specs.Io.KnownBytes.{Appends};
 ghost use Rattle.pg_pred.specs.Offer.{offer_of};
@@ -15,23 +15,25 @@ ghost use Rattle.pg_tree.specs.Bytes.{AppendsPrefix};
 ghost use Rattle.pg_making.specs.Spells.{HasInitialTable};
 ghost use Rattle.pg_bench.specs.Promise.{IsAccepted, IsForestOfText};
 ghost use Rattle.pg_grammar_bench.specs.Files.{AreFindingsOf, IsFaultOfFile, SpellsSome};
-ghost use Rattle.pg_bench.specs.Parsed.{IsParsed, IsForestOf, IsForestOfAnswer, IsForestOfBytes, IsErrorOf, ReadsText, IsPartlyWritten};
-ghost use Rattle.pg_grammar_bench.specs.Faults.{IfRefused, IfParseError, IsWriteRefusal, IsBeforeReading, IsAfterFile, IsAfterReading, IfFile, IsBeforeWriting};
+ghost use Rattle.pg_bench.specs.Parsed.{IsParsed, IsForestOf, IsForestOfBytes, IsErrorOf, ReadsText, IsPartlyWritten, after_forest, parse_text, IfRead};
+ghost use Rattle.pg_grammar_bench.specs.Faults.{IfRefused, IfParseError, IfNotATrail, IsWriteRefusal, IsBeforeReading, IsAfterFile, IsAfterReading, IfFile, IsBeforeWriting, IsMemory};
 ghost use Rattle.pg_bench.specs.Refusals.{IsForestRefusal, IsErrorOfAnswer, IsTextFault, IsParseRefusal, IsRunRefusal, IsWell};
 
 use crate::initial::initial_table;
 use crate::input::{read_text, text_of};
 use pg_grammar_bench::{BenchFault, checked_of};
-use pg_machine::{Answer, run};
+use pg_machine::{Answer, Success, run};
 use pg_pred::Registry;
 use pg_predict::Checked;
 use pg_text::{LIMIT, Text};
+use pg_trails::write_trail;
 use pg_tree::{Forest, Meter, WriteFault, write_bytes, write_json};
-use std::alloc::Global;
+use pg_value::Trail;
+use std::alloc::{AllocError, Global};
 use std::io::{Read, Write};
 
-/// Parses the text that a reader gives by the grammar that a file spells, and writes the forest's JSON and a line feed.
-/// A grammar is run only where nothing is wrong with it. Then a text has a forest exactly where the grammar derives it under
+/// Parses the text that a reader gives by the grammar that a file spells, and writes the forest's JSON and a line feed; `with_trail`
+/// the JSON of the derivation's trail too, and a line feed. Both lines are in memory before the first byte is written. A grammar is run only where nothing is wrong with it. Then a text has a forest exactly where the grammar derives it under
 /// its initial table, it is that forest that is written, and there is no second derivation. The registry has the predicates
 /// and builders that the file may name.
 ///
@@ -46,12 +48,14 @@ pub fn parse_bytes<R: Read, W: Write>(
     registry: &Registry,
     reader: &mut Meter<R>,
     writer: &mut Meter<W>,
+    with_trail: bool,
 ) -> Result<(), BenchFault>
     requires reader { reader.old.failed ≡ false }
     requires writer { writer.old.failed ≡ false }
 
-    // The whole of the reader's bytes is a text that the grammar derives, in one way, and its forest was written.
-    ensures ok { OnOk result (IsParsed (offer_of registry.now) grammar.now (R.remaining reader.old.inner) (R.remaining reader.new.inner)
+    // The whole of the reader's bytes is a text that the grammar derives, in one way, and its forest was written, with the trail
+    // where it is asked for.
+    ensures ok { OnOk result (IsParsed (offer_of registry.now) grammar.now (R.remaining reader.old.inner) (R.remaining reader.new.inner) with_trail
         (W.contents writer.old.inner) (W.contents writer.new.inner)) }
 
     // A fault of the file comes first, and every other one only where the file spells a grammar: one that is refused with all
@@ -75,6 +79,9 @@ pub fn parse_bytes<R: Read, W: Write>(
     ensures parse_error { IfErr result (IfParseError (IsErrorOf (offer_of registry.now) grammar.now
         (R.remaining reader.old.inner) (R.remaining reader.new.inner))) }
 
+    // No trail is read.
+    ensures no_trail { IfErr result (IfNotATrail ⊥) }
+
     // In every other case the reader didn't fail, and didn't give more.
     ensures reader_stays { OnOk result (reader.new.failed ≡ false) }
     ensures reader_well { IfErr result (λ fault. IsAfterReading fault → reader.new.failed ≡ false) }
@@ -83,124 +90,162 @@ pub fn parse_bytes<R: Read, W: Write>(
 
     // The writer failed after a prefix of what it was to be given, and in every other case was given nothing.
     ensures writer { IsErrOf result BenchFault.Writer → writer.new.failed ≡ true }
-    ensures prefix { IsErrOf result BenchFault.Writer → IsPartlyWritten (offer_of registry.now) grammar.now (R.remaining reader.old.inner) (R.remaining reader.new.inner)
+    ensures prefix { IsErrOf result BenchFault.Writer → IsPartlyWritten (offer_of registry.now) grammar.now (R.remaining reader.old.inner) (R.remaining reader.new.inner) with_trail
         (W.contents writer.old.inner) (W.contents writer.new.inner) }
     ensures writer_stays { OnOk result (writer.new.failed ≡ false) }
     ensures unwritten { IfErr result (λ fault. IsBeforeWriting fault → writer.new ≡ writer.old) }
 
     ensures asked { reader.new.calls ≤ saturating_sum reader.old.calls (4 * LIMIT + 1) }
 {
-    match forest_of_files(alloc, grammar, registry, reader) {
-        Ok(forest) => write_line(alloc, &forest, writer),
+    match parse_of_files(alloc, grammar, registry, reader) {
+        Ok(parse) => write_parse(alloc, &parse, with_trail, writer),
         Err(fault) => Err(fault),
     }
 }
 
-/// The forest of the text that a reader gives, by the grammar that a file spells.
+/// The parse of the text that a reader gives, by the grammar that a file spells.
 #[tactic(auto, using(crate::proofs::Parses::accepted_grammar, crate::proofs::Parses::forest_of_file, crate::proofs::Parses::grammar_refused, crate::proofs::Parses::reading_refused_file))]
-fn forest_of_files<R: Read>(
+fn parse_of_files<R: Read>(
     alloc: Global,
     grammar: &[u8],
     registry: &Registry,
     reader: &mut Meter<R>,
-) -> Result<Forest, BenchFault>
+) -> Result<Success, BenchFault>
     requires { reader.old.failed ≡ false }
-    ensures ok { IfOk result (IsForestOf (offer_of registry.now) grammar.now (R.remaining reader.old.inner) (R.remaining reader.new.inner)) }
+    ensures ok { IfOk result (λ s. IsForestOf (offer_of registry.now) grammar.now (R.remaining reader.old.inner) (R.remaining reader.new.inner) s.forest s.trail) }
     ensures well { OnOk result (IsWell reader.old reader.new) }
     ensures err { IfErr result (IsForestRefusal (offer_of registry.now) grammar.now reader.old reader.new
         (R.remaining reader.old.inner) (R.remaining reader.new.inner)) }
     ensures asked { reader.new.calls ≤ saturating_sum reader.old.calls (4 * LIMIT + 1) }
 {
     let checked = checked_of(alloc, grammar, registry)?;
-    match forest_of_reader(alloc, &checked, registry, reader) {
-        Ok(forest) => Ok(forest),
+    match parse_of_reader(alloc, &checked, registry, reader) {
+        Ok(parse) => Ok(parse),
         Err(fault) => Err(fault),
     }
 }
 
-/// The forest of the text that a reader gives.
+/// The parse of the text that a reader gives.
 #[tactic(auto, using(crate::proofs::Parses::read_refused, crate::proofs::Parses::parse_refused))]
-fn forest_of_reader<R: Read>(
+fn parse_of_reader<R: Read>(
     alloc: Global,
     checked: &Checked,
     registry: &Registry,
     reader: &mut Meter<R>,
-) -> Result<Forest, BenchFault>
+) -> Result<Success, BenchFault>
     requires fits { Fits (offer_of registry.now) checked.now.grammar }
     requires table { HasInitialTable checked.now.grammar }
     requires reader { reader.old.failed ≡ false }
-    ensures ok { IfOk result (λ forest. ReadsText (R.remaining reader.old.inner) (R.remaining reader.new.inner)
-        (λ bytes. IsForestOfBytes checked.now.grammar bytes forest)) }
+    ensures ok { IfOk result (λ s. ReadsText (R.remaining reader.old.inner) (R.remaining reader.new.inner)
+        (λ bytes. IsForestOfBytes checked.now.grammar bytes s.forest s.trail)) }
     ensures well { OnOk result (IsWell reader.old reader.new) }
     ensures err { IfErr result (IsTextFault checked.now.grammar reader.old reader.new (R.remaining reader.old.inner) (R.remaining reader.new.inner)) }
     ensures asked { reader.new.calls ≤ saturating_sum reader.old.calls (4 * LIMIT + 1) }
 {
     let bytes = read_text(alloc, reader)?;
-    forest_of(alloc, checked, registry, bytes.as_slice())
+    parse_of(alloc, checked, registry, bytes.as_slice())
 }
 
-/// The forest of the text that bytes spell.
+/// The parse of the text that bytes spell.
 #[tactic(auto, using(crate::proofs::Parses::bytes_forest, crate::proofs::Parses::bytes_refused, crate::proofs::Parses::text_refused))]
-fn forest_of(
+fn parse_of(
     alloc: Global,
     checked: &Checked,
     registry: &Registry,
     bytes: &[u8],
-) -> Result<Forest, BenchFault>
+) -> Result<Success, BenchFault>
     requires fits { Fits (offer_of registry.now) checked.now.grammar }
     requires table { HasInitialTable checked.now.grammar }
-    ensures ok { IfOk result (IsForestOfBytes checked.now.grammar bytes.now) }
+    ensures ok { IfOk result (λ s. IsForestOfBytes checked.now.grammar bytes.now s.forest s.trail) }
     ensures err { IfErr result (IsParseRefusal checked.now.grammar bytes.now) }
 {
     let text = text_of(alloc, bytes)?;
-    forest_of_text(alloc, checked, registry, &text)
+    parse_of_text(alloc, checked, registry, &text)
 }
 
-/// The forest of a text.
+/// The parse of a text.
 #[tactic(auto, using(crate::proofs::Parses::found_forest, crate::proofs::Parses::found_refused))]
-fn forest_of_text(
+fn parse_of_text(
     alloc: Global,
     checked: &Checked,
     registry: &Registry,
     text: &Text,
-) -> Result<Forest, BenchFault>
+) -> Result<Success, BenchFault>
     requires fits { Fits (offer_of registry.now) checked.now.grammar }
     requires table { HasInitialTable checked.now.grammar }
-    ensures ok { IfOk result (IsForestOfText checked.now.grammar text.now) }
+    ensures ok { IfOk result (λ s. IsForestOfText checked.now.grammar text.now s.forest s.trail) }
     ensures err { IfErr result (IsRunRefusal checked.now.grammar text.now) }
 {
     let table = initial_table(alloc, checked.grammar())?;
     match run(alloc, checked, text, &table, registry) {
-        Ok(answer) => forest_of_answer(answer),
+        Ok(answer) => parse_of_answer(answer),
         Err(_) => Err(BenchFault::Memory),
     }
 }
 
-/// The forest of an ok answer, or the error of another.
-fn forest_of_answer(answer: Answer) -> Result<Forest, BenchFault>
-    ensures ok { IfOk result (IsForestOfAnswer answer) }
+/// What an ok answer gives, or the error of another.
+fn parse_of_answer(answer: Answer) -> Result<Success, BenchFault>
+    ensures ok { IfOk result (λ s. answer.success ≡ Some s) }
     ensures err { IfErr result (IsErrorOfAnswer answer) }
 {
     let Answer { error, success, .. } = answer;
     match success {
-        Some(success) => Ok(success.forest),
+        Some(success) => Ok(success),
         None => Err(BenchFault::ParseError(error)),
     }
 }
 
-/// Writes the forest's JSON and a line feed.
-fn write_line<W: Write>(
+/// Writes the forest's JSON and a line feed, and the trail's where it is asked for.
+fn write_parse<W: Write>(
     alloc: Global,
-    forest: &Forest,
+    parse: &Success,
+    with_trail: bool,
     writer: &mut Meter<W>,
 ) -> Result<(), BenchFault>
     requires { writer.old.failed ≡ false }
-    ensures ok { OnOk result (Appends (W.contents writer.old.inner) (W.contents writer.new.inner) (json forest.now ++ 10 ∷ [])) }
+    ensures ok { OnOk result (Appends (W.contents writer.old.inner) (W.contents writer.new.inner) (parse_text with_trail parse.now.forest parse.now.trail)) }
+    ensures read { OnOk result (IfRead with_trail parse.now.trail) }
     ensures stays { OnOk result (writer.new.failed ≡ false) }
     ensures err { IfErr result IsWriteRefusal }
     ensures failed { IsErrOf result BenchFault.Writer → writer.new.failed ≡ true }
     ensures prefix { IsErrOf result BenchFault.Writer →
-        AppendsPrefix (W.contents writer.old.inner) (W.contents writer.new.inner) (json forest.now ++ 10 ∷ []) }
+        AppendsPrefix (W.contents writer.old.inner) (W.contents writer.new.inner) (parse_text with_trail parse.now.forest parse.now.trail) }
+    ensures memory { IsErrOf result BenchFault.Memory → writer.new ≡ writer.old }
+{
+    match after_forest(alloc, &parse.trail, with_trail) {
+        Ok(rest) => write_lines(alloc, &parse.forest, rest.as_slice(), writer),
+        Err(_) => Err(BenchFault::Memory),
+    }
+}
+
+/// What is written after the forest's JSON: a line feed, and the trail on a line of its own where it is asked for.
+fn after_forest(alloc: Global, trail: &Trail, with_trail: bool) -> Result<Vec<u8>, AllocError>
+    ensures text { IfOk result (λ rest. rest.items ≡ after_forest with_trail trail.now) }
+    ensures read { OnOk result (IfRead with_trail trail.now) }
+{
+    let mut rest = Vec::from_slice(alloc, b"\n")?;
+    if with_trail {
+        let trail = write_trail(alloc, trail)?;
+        rest.extend_from_slice(trail.as_slice())?;
+        rest.push(b'\n')?;
+    }
+    Ok(rest)
+}
+
+/// Writes the forest's JSON, and then the rest.
+fn write_lines<W: Write>(
+    alloc: Global,
+    forest: &Forest,
+    rest: &[u8],
+    writer: &mut Meter<W>,
+) -> Result<(), BenchFault>
+    requires { writer.old.failed ≡ false }
+    ensures ok { OnOk result (Appends (W.contents writer.old.inner) (W.contents writer.new.inner) (json forest.now ++ rest.now)) }
+    ensures stays { OnOk result (writer.new.failed ≡ false) }
+    ensures err { IfErr result IsWriteRefusal }
+    ensures failed { IsErrOf result BenchFault.Writer → writer.new.failed ≡ true }
+    ensures prefix { IsErrOf result BenchFault.Writer →
+        AppendsPrefix (W.contents writer.old.inner) (W.contents writer.new.inner) (json forest.now ++ rest.now) }
     ensures memory { IsErrOf result BenchFault.Memory → writer.new ≡ writer.old }
 {
     match write_json(alloc, forest, writer) {
@@ -208,7 +253,7 @@ fn write_line<W: Write>(
         Err(WriteFault::Writer) => return Err(BenchFault::Writer),
         Err(WriteFault::Memory) => return Err(BenchFault::Memory),
     }
-    match write_bytes(b"\n", writer) {
+    match write_bytes(rest, writer) {
         Ok(()) => Ok(()),
         Err(WriteFault::Writer) => Err(BenchFault::Writer),
         Err(WriteFault::Memory) => Err(BenchFault::Memory),

@@ -1,24 +1,17 @@
 //! From the bytes of a grammar file and of a text to what the grammar's start rule answers, as Parsec would.
 
-ghost use Rattle.std.specs.Prelude.{◌≡◌, ◌≤◌, ◌<◌, ◌+◌, ◌*◌, ◌⊎◌, false, true, length, IfOk, IfErr, OnOk, OnErr, IsErrOf};
+ghost use Rattle.std.specs.Prelude.{◌≡◌, ◌≤◌, ◌<◌, ◌+◌, ◌*◌, ◌⊎◌, false, true, length, IfOk, IfErr, OnOk, IsErrOf};
 ghost use Rattle.std.specs.Str.{chars, IsUtf8};
-ghost use Rattle.std.specs.Io.KnownBytes.{Appends};
 ghost use Rattle.pg_pred.specs.Offer.{offer_of};
-ghost use Rattle.pg_value.specs.Fits.{Fits};
-ghost use Rattle.pg_making.specs.Spells.{HasInitialTable};
-ghost use Rattle.pg_table.specs.Tables.{initial, whole};
-ghost use Rattle.pg_tree.specs.Bytes.{AppendsPrefix};
 ghost use Rattle.pg_tree.specs.Meter.{saturating_sum};
 ghost use Rattle.pg_grammar_bench.specs.Files.{IsFaultOfFile, SpellsAny};
 ghost use Rattle.pg_bench.specs.Parsed.{ReadsText};
-ghost use Rattle.pg_grammar_bench.specs.Faults.{IsAfterFile, IsAfterReading, IsFileFault, IfFile, IfParseError, IfRefused, IsMemory, IsBeforeWriting};
-ghost use Rattle.pg_bench.specs.Refusals.{IsTextRefusal, IsProbeFault, IsProbeRefusal, IsWell};
-ghost use Rattle.pg_bench.specs.Probing.{IsProbed, IsPartlyProbed, IsShown, IsShownOf, IsShownOfText, is_ok_outcome, outcome_text};
+ghost use Rattle.pg_grammar_bench.specs.Faults.{IsAfterFile, IsAfterReading, IsFileFault, IfFile, IfParseError, IfRefused, IfNotATrail, IsMemory, IsBeforeWriting};
+ghost use Rattle.pg_bench.specs.Probing.{IsProbed, IsPartlyProbed, is_ok_outcome, outcome_text};
 
-use crate::initial::initial_table;
-use crate::input::{read_text, text_of};
 use crate::page::{is_ok, page_of};
-use pg_grammar_bench::{BenchFault, grammar_of, write_page};
+use crate::showing::{Shown, ShowsText, shown_of_files, write_shown};
+use pg_grammar_bench::BenchFault;
 use pg_language::Reading;
 use pg_machine::{Outcome, probe};
 use pg_pred::Registry;
@@ -74,6 +67,7 @@ pub fn probe_bytes<R: Read, W: Write>(
     // No grammar is refused, and that a parser answers an error is no fault.
     ensures unchecked { IfErr result (IfRefused (λ findings. ⊥)) }
     ensures parsed { IfErr result (IfParseError (λ error. ⊥)) }
+    ensures no_trail { IfErr result (IfNotATrail ⊥) }
 
     // In every other case the reader didn't fail, and didn't give more.
     ensures reader_stays { OnOk result (reader.new.failed ≡ false) }
@@ -90,154 +84,53 @@ pub fn probe_bytes<R: Read, W: Write>(
 
     ensures asked { reader.new.calls ≤ saturating_sum reader.old.calls (4 * LIMIT + 1) }
 {
-    match shown_of_files(alloc, grammar, registry, name, reader, max_steps, reading) {
+    let probing = Probing {
+        name,
+        max_steps,
+        reading,
+    };
+    match shown_of_files(alloc, grammar, registry, &probing, reader) {
         Ok(shown) => write_shown(&shown, writer),
         Err(fault) => Err(fault),
     }
 }
 
-/// What is printed of a run, and whether its answer is ok.
+/// A probe in so many steps at most, in this reading, of a text of this name.
 #[derive(Drop)]
-struct Shown {
-    accepted: bool,
-    page: Vec<u8>,
-}
-
-/// Writes what is printed of a run, and says whether its answer is ok.
-fn write_shown<W: Write>(shown: &Shown, writer: &mut Meter<W>) -> Result<bool, BenchFault>
-    requires { writer.old.failed ≡ false }
-    ensures accepted { IfOk result (λ accepted. accepted ≡ shown.now.accepted) }
-    ensures ok { OnOk result (Appends (W.contents writer.old.inner) (W.contents writer.new.inner) shown.now.page.items) }
-    ensures stays { OnOk result (writer.new.failed ≡ false) }
-    ensures only { OnErr result (IsErrOf result BenchFault.Writer) }
-    ensures failed { OnErr result (writer.new.failed ≡ true) }
-    ensures prefix { OnErr result (AppendsPrefix (W.contents writer.old.inner) (W.contents writer.new.inner) shown.now.page.items) }
-{
-    match write_page(shown.page.as_slice(), writer) {
-        Ok(()) => Ok(shown.accepted),
-        Err(fault) => Err(fault),
-    }
-}
-
-/// What is printed of the run of a file's start rule on the text that a reader gives.
-#[tactic(auto, using(crate::proofs::Probed::file_refused, crate::proofs::Probed::probe_refused, crate::proofs::Probed::shown_file))]
-fn shown_of_files<R: Read>(
-    alloc: Global,
-    grammar: &[u8],
-    registry: &Registry,
-    name: &str,
-    reader: &mut Meter<R>,
+struct Probing<'a> {
+    name: &'a str,
     max_steps: u64,
     reading: Reading,
-) -> Result<Shown, BenchFault>
-    requires { reader.old.failed ≡ false }
-    ensures ok { IfOk result (λ shown. IsShown (offer_of registry.now) grammar.now (R.remaining reader.old.inner) (R.remaining reader.new.inner)
-        name.now max_steps reading shown.accepted shown.page.items) }
-    ensures well { OnOk result (IsWell reader.old reader.new) }
-    ensures err { IfErr result (IsProbeRefusal (offer_of registry.now) grammar.now reader.old reader.new
-        (R.remaining reader.old.inner) (R.remaining reader.new.inner)) }
-    ensures asked { reader.new.calls ≤ saturating_sum reader.old.calls (4 * LIMIT + 1) }
-{
-    let grammar = grammar_of(alloc, grammar, registry)?;
-    match shown_of_reader(alloc, &grammar, registry, name, reader, max_steps, reading) {
-        Ok(shown) => Ok(shown),
-        Err(fault) => Err(fault),
-    }
 }
 
-/// What is printed of the run of a grammar's start rule on the text that a reader gives.
-#[tactic(auto, using(crate::proofs::Probed::read_unprobed, crate::proofs::Probed::text_unprobed))]
-fn shown_of_reader<R: Read>(
-    alloc: Global,
-    grammar: &Grammar,
-    registry: &Registry,
-    name: &str,
-    reader: &mut Meter<R>,
-    max_steps: u64,
-    reading: Reading,
-) -> Result<Shown, BenchFault>
-    requires fits { Fits (offer_of registry.now) grammar.now }
-    requires table { HasInitialTable grammar.now }
-    requires reader { reader.old.failed ≡ false }
-    ensures ok { IfOk result (λ shown. ReadsText (R.remaining reader.old.inner) (R.remaining reader.new.inner)
-        (λ bytes. IsShownOf grammar.now name.now max_steps reading bytes shown.accepted shown.page.items)) }
-    ensures well { OnOk result (IsWell reader.old reader.new) }
-    ensures err { IfErr result (IsProbeFault reader.old reader.new (R.remaining reader.old.inner) (R.remaining reader.new.inner)) }
-    ensures asked { reader.new.calls ≤ saturating_sum reader.old.calls (4 * LIMIT + 1) }
-{
-    let bytes = read_text(alloc, reader)?;
-    shown_of(
-        alloc,
-        grammar,
-        registry,
-        name,
-        bytes.as_slice(),
-        max_steps,
-        reading,
-    )
-}
+impl ShowsText for Probing<'_> {
+    ghost use Rattle.pg_bench.specs.Probing.{IsShownOfText};
 
-/// What is printed of the run of a grammar's start rule on the text that bytes spell.
-#[tactic(auto, using(crate::proofs::Shown::shown_bytes))]
-fn shown_of(
-    alloc: Global,
-    grammar: &Grammar,
-    registry: &Registry,
-    name: &str,
-    bytes: &[u8],
-    max_steps: u64,
-    reading: Reading,
-) -> Result<Shown, BenchFault>
-    requires fits { Fits (offer_of registry.now) grammar.now }
-    requires table { HasInitialTable grammar.now }
-    ensures ok { IfOk result (λ shown. IsShownOf grammar.now name.now max_steps reading bytes.now shown.accepted shown.page.items) }
-    ensures err { IfErr result (IsTextRefusal bytes.now) }
-{
-    let text = text_of(alloc, bytes)?;
-    shown_of_text(alloc, grammar, registry, name, &text, max_steps, reading)
-}
+    ghost Shows = { λ probing g. IsShownOfText g probing.name.now probing.max_steps probing.reading };
 
-/// What is printed of the run of a grammar's start rule on a text.
-fn shown_of_text(
-    alloc: Global,
-    grammar: &Grammar,
-    registry: &Registry,
-    name: &str,
-    text: &Text,
-    max_steps: u64,
-    reading: Reading,
-) -> Result<Shown, BenchFault>
-    requires fits { Fits (offer_of registry.now) grammar.now }
-    requires table { HasInitialTable grammar.now }
-    ensures ok { IfOk result (λ shown. IsShownOfText grammar.now name.now max_steps reading text.now shown.accepted shown.page.items) }
-    ensures err { IfErr result IsMemory }
-{
-    let table = initial_table(alloc, grammar)?;
-    shown_under(
-        alloc, grammar, registry, name, text, &table, max_steps, reading,
-    )
-}
+    ghost NoTrail = { λ probing. ⊥ };
 
-/// The same under the grammar's initial table.
-#[tactic(auto, using(crate::proofs::Shown::shown_text))]
-fn shown_under(
-    alloc: Global,
-    grammar: &Grammar,
-    registry: &Registry,
-    name: &str,
-    text: &Text,
-    table: &Table,
-    max_steps: u64,
-    reading: Reading,
-) -> Result<Shown, BenchFault>
-    requires fits { Fits (offer_of registry.now) grammar.now }
-    requires initial { initial grammar.now ≡ whole table.now }
-    ensures ok { IfOk result (λ shown. IsShownOfText grammar.now name.now max_steps reading text.now shown.accepted shown.page.items) }
-    ensures err { IfErr result IsMemory }
-{
-    match probe(alloc, grammar, text, table, registry, max_steps, reading) {
-        Ok(outcome) => shown_of_outcome(alloc, &outcome, name),
-        Err(_) => Err(BenchFault::Memory),
+    #[tactic(auto, using(crate::proofs::Shown::shown_text))]
+    fn show(
+        &self,
+        alloc: Global,
+        grammar: &Grammar,
+        registry: &Registry,
+        text: &Text,
+        table: &Table,
+    ) -> Result<Shown, BenchFault> {
+        match probe(
+            alloc,
+            grammar,
+            text,
+            table,
+            registry,
+            self.max_steps,
+            self.reading,
+        ) {
+            Ok(outcome) => shown_of_outcome(alloc, &outcome, self.name),
+            Err(_) => Err(BenchFault::Memory),
+        }
     }
 }
 

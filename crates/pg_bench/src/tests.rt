@@ -4,6 +4,7 @@ ghost use Rattle.std.specs.Prelude.{◌≡◌, false};
 
 use crate::parse::parse_bytes;
 use crate::probe::probe_bytes;
+use crate::replay::replay_bytes;
 use pg_class::Class;
 use pg_grammar_bench::{BenchFault, print_bytes};
 use pg_language::Reading;
@@ -83,7 +84,7 @@ fn parsed<R: Read, W: Write>(
     let Ok(registry) = Registry::new(Vec::new(alloc), Vec::new(alloc)) else {
         unreachable!()
     };
-    match parse_bytes(alloc, grammar, &registry, reader, writer) {
+    match parse_bytes(alloc, grammar, &registry, reader, writer, false) {
         Err(BenchFault::Memory) => Err(AllocError),
         outcome => Ok(outcome),
     }
@@ -113,6 +114,26 @@ fn writes_the_forest_of_a_text(rt: HostRuntime) -> Result<(), Fail> {
     Ok(())
 }
 
+/// The trail of the text is written after its forest, and leads to the forest again.
+#[test]
+fn replays_the_trail_of_a_parse(rt: HostRuntime) -> Result<(), Fail> {
+    let alloc = rt.alloc();
+    let registry = Registry::new(Vec::new(alloc), Vec::new(alloc))?;
+    let mut reader = Meter::new(b"(7)".as_slice());
+    let mut writer = Meter::new(Vec::<u8>::new(alloc));
+    let parsed = parse_bytes(alloc, GRAMMAR, &registry, &mut reader, &mut writer, true);
+    assert!(rt; parsed.is_ok());
+    let written = writer.into_inner();
+    let (forest, trail) = written.as_slice().split_at(FOREST.len());
+    assert!(rt; forest == FOREST);
+    let mut again = Meter::new(b"(7)".as_slice());
+    let mut page = Meter::new(Vec::<u8>::new(alloc));
+    let replayed = replay_bytes(alloc, GRAMMAR, &registry, "t", &mut again, trail, &mut page);
+    assert!(rt; matches!(replayed, Ok(true)));
+    assert!(rt; page.into_inner().as_slice() == FOREST);
+    Ok(())
+}
+
 #[test]
 fn does_not_ask_the_reader_where_the_file_is_at_fault(rt: HostRuntime) -> Result<(), Fail> {
     let (outcome, calls, written) = asked(rt.alloc(), b"start a;")?;
@@ -137,7 +158,7 @@ fn does_not_ask_the_reader_where_an_operand_can_be_empty(rt: HostRuntime) -> Res
         fails_at: 1,
     });
     let mut writer = Meter::new(Vec::<u8>::new(alloc));
-    match parse_bytes(alloc, grammar, &registry, &mut reader, &mut writer) {
+    match parse_bytes(alloc, grammar, &registry, &mut reader, &mut writer, false) {
         Err(BenchFault::Memory) => Err(AllocError)?,
         outcome => assert!(rt; matches!(outcome, Err(BenchFault::Refused(_)))),
     }
@@ -244,7 +265,7 @@ fn asks_the_predicates_and_builders(rt: HostRuntime) -> Result<(), Fail> {
     let grammar = b"start a; a = build(pair, \"p\", seq(satisfy(either), satisfy(not either)));";
     let mut reader = Meter::new(b"\xc3\xa9y".as_slice());
     let mut writer = Meter::new(Vec::<u8>::new(alloc));
-    match parse_bytes(alloc, grammar, &registry, &mut reader, &mut writer) {
+    match parse_bytes(alloc, grammar, &registry, &mut reader, &mut writer, false) {
         Err(BenchFault::Memory) => Err(AllocError)?,
         outcome => assert!(rt; outcome.is_ok()),
     }
@@ -265,7 +286,7 @@ fn writes_nothing_where_a_builder_wants_memory(rt: HostRuntime) -> Result<(), Fa
     let grammar = b"start a; a = build(none, string(\"x\"));";
     let mut reader = Meter::new(b"x".as_slice());
     let mut writer = Meter::new(Vec::<u8>::new(alloc));
-    let outcome = parse_bytes(alloc, grammar, &registry, &mut reader, &mut writer);
+    let outcome = parse_bytes(alloc, grammar, &registry, &mut reader, &mut writer, false);
     assert!(rt; matches!(outcome, Err(BenchFault::Memory)));
     assert!(rt; writer.into_inner().is_empty());
     Ok(())

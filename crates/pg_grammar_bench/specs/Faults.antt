@@ -5,7 +5,7 @@ use Rattle.pg_file.specs.declared.fault.FileFault.{FileFault}
 use Rattle.pg_value.specs.Grammar.{Grammar}
 use Rattle.pg_predict.specs.Findings.{Finding, AreFindings}
 use Rattle.pg_grammar_bench.specs.declared.fault.BenchFault.{BenchFault}
-use Rattle.pg_grammar_bench.specs.declared.fault.BenchFault.TheVariants.{File, Refused, Reader, NotUtf8, TooLong, ParseError, Writer, Memory}
+use Rattle.pg_grammar_bench.specs.declared.fault.BenchFault.TheVariants.{File, Refused, Reader, NotUtf8, TooLong, NotATrail, ParseError, Writer, Memory}
 
 -- ---- the order
 
@@ -17,8 +17,9 @@ step_of (Refused refused) = 2
 step_of Reader = 3
 step_of NotUtf8 = 4
 step_of TooLong = 5
-step_of (ParseError error) = 6
-step_of Writer = 7
+step_of NotATrail = 6
+step_of (ParseError error) = 7
+step_of Writer = 8
 
 abbrev pub IsSo : Bool → Type 0
 IsSo true = Unit {0}
@@ -34,7 +35,7 @@ IsFileFault = IsOfSteps 1 1
 
 -- a fault that is judged once the grammar file is read, and its grammar isn't refused
 abbrev pub IsAfterFile : BenchFault → Type 0
-IsAfterFile = IsOfSteps 3 7
+IsAfterFile = IsOfSteps 3 8
 
 -- a fault before the reader is asked for the first time, unless memory runs out
 abbrev pub IsBeforeReading : BenchFault → Type 0
@@ -42,11 +43,11 @@ IsBeforeReading = IsOfSteps 1 2
 
 -- a fault that is judged once the text is read
 abbrev pub IsAfterReading : BenchFault → Type 0
-IsAfterReading = IsOfSteps 4 7
+IsAfterReading = IsOfSteps 4 8
 
 -- a fault before the first byte is written, or want of memory
 abbrev pub IsBeforeWriting : BenchFault → Type 0
-IsBeforeWriting = IsOfSteps 0 6
+IsBeforeWriting = IsOfSteps 0 7
 
 -- ---- what is claimed of faults
 
@@ -57,6 +58,7 @@ pub record Claims : Type 1 where
   pub reader : Type 0
   pub not_utf8 : Type 0
   pub too_long : Type 0
+  pub not_a_trail : Type 0
   pub parse_error : message.ParseError → Type 0
   pub writer : Type 0
   pub memory : Type 0
@@ -68,6 +70,7 @@ Claimed of (Refused refused) = of.refused refused.findings
 Claimed of Reader = of.reader
 Claimed of NotUtf8 = of.not_utf8
 Claimed of TooLong = of.too_long
+Claimed of NotATrail = of.not_a_trail
 Claimed of (ParseError error) = of.parse_error error
 Claimed of Writer = of.writer
 Claimed of Memory = of.memory
@@ -81,6 +84,7 @@ memory_alone =
       reader = ⊥;
       not_utf8 = ⊥;
       too_long = ⊥;
+      not_a_trail = ⊥;
       parse_error = λ error. ⊥;
       writer = ⊥;
       memory = Unit {0};
@@ -95,6 +99,7 @@ any_fault =
       reader = Unit {0};
       not_utf8 = Unit {0};
       too_long = Unit {0};
+      not_a_trail = Unit {0};
       parse_error = λ error. Unit {0};
       writer = Unit {0};
       memory = Unit {0};
@@ -111,6 +116,10 @@ IfRefused Claim = Claimed (record any_fault { refused = Claim })
 -- what is claimed of the error, where the text doesn't parse
 abbrev pub IfParseError : (message.ParseError → Type 0) → BenchFault → Type 0
 IfParseError Claim = Claimed (record any_fault { parse_error = Claim })
+
+-- what is claimed where there is no trail
+abbrev pub IfNotATrail : Type 0 → BenchFault → Type 0
+IfNotATrail Claim = Claimed (record any_fault { not_a_trail = Claim })
 
 -- ---- which step refuses with which fault
 

@@ -2,7 +2,7 @@
 use Rattle.std.specs.Prelude.{ℕ, List, codes}
 use Rattle.pg_file.specs.Texts as file
 use Rattle.pg_grammar_bench.specs.declared.fault.BenchFault.{BenchFault}
-use Rattle.pg_grammar_bench.specs.declared.fault.BenchFault.TheVariants.{File, Refused, Reader, NotUtf8, TooLong, ParseError, Writer, Memory}
+use Rattle.pg_grammar_bench.specs.declared.fault.BenchFault.TheVariants.{File, Refused, Reader, NotUtf8, TooLong, NotATrail, ParseError, Writer, Memory}
 
 -- a fault without the file that it is about. Findings and parse errors have lines of their own; here stands a word for them
 abbrev pub fault_text : BenchFault → List ℕ
@@ -11,6 +11,7 @@ fault_text (Refused refused) = codes "not accepted"
 fault_text Reader = codes "X1 cannot read"
 fault_text NotUtf8 = codes "P1 not UTF-8"
 fault_text TooLong = codes "P2 text too long"
+fault_text NotATrail = codes "not a trail"
 fault_text (ParseError error) = codes "no parse"
 fault_text Writer = codes "W1 cannot write"
 fault_text Memory = codes "out of memory"

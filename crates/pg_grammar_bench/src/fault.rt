@@ -30,6 +30,8 @@ pub enum BenchFault {
     NotUtf8,
     /// The text has over 1,048,576 characters.
     TooLong,
+    /// The bytes that are to be a trail's JSON aren't.
+    NotATrail,
     /// The grammar doesn't derive the text; this is the error of its start rule, or of the end that was to come after it.
     ParseError(ParseError),
     /// The writer answered an error or took nothing. A prefix of the result may have been written.
@@ -48,6 +50,7 @@ impl fmt::Display for BenchFault {
             BenchFault::Reader => f.write_str("X1 cannot read"),
             BenchFault::NotUtf8 => f.write_str("P1 not UTF-8"),
             BenchFault::TooLong => f.write_str("P2 text too long"),
+            BenchFault::NotATrail => f.write_str("not a trail"),
             BenchFault::ParseError(_) => f.write_str("no parse"),
             BenchFault::Writer => f.write_str("W1 cannot write"),
             BenchFault::Memory => f.write_str("out of memory"),

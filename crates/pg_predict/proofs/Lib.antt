@@ -2,6 +2,7 @@ pub mod Least
 pub mod FirstMeetings
 pub mod AllBelow
 pub mod MetSets
+pub mod Ends
 pub mod Chains
 pub mod Numbered
 pub mod Pairs

@@ -1,6 +1,6 @@
 -- The set of what a start meets, as it is gathered.
 use Rattle.std.proofs.Common.{◌≡◌, ℕ, zero, suc, ◌+◌, ◌<◌, ◌≤◌, Bool, true, false, List, [], ◌∷◌, ◌++◌, length-append, Some, slice_get, slice_set, length, length-set, replicate, refl, sym, ap, subst, ◌∙◌, inl, inr, arith}
-use Rattle.std.specs.Prelude.{◌↔◌, IsTrue}
+use Rattle.std.specs.Prelude.{◌↔◌}
 use Rattle.std.proofs.lemmas.Bool.{cases_eq, true≢false}
 use Rattle.std.proofs.lemmas.List.{length-replicate}
 use Rattle.std.proofs.lemmas.Option.{same_Some, slice_get_within}
@@ -48,17 +48,17 @@ met_in starts start k one met before there meets =
     }
 
 pub met_out : (starts : List ListedStart) (start : StartKind) (k : ℕ) (one : ListedStart) (met : List Bool) → MetSoFar starts start k met → slice_get starts k ≡ Some one
-    → Apart start one.start → MetSoFar starts start (k + 1) met
-met_out starts start k one met before there apart =
+    → ((Apart start one.start → ⊥) → ⊥) → MetSoFar starts start (k + 1) met
+met_out starts start k one met before there told =
     record {
       long = before.long;
       told = λ t other below at.
           elim (cases_eq t k) [
             | inl same ↦
                 let as_one : one ≡ other = same_Some one other (sym there ∙ (sym (ap (slice_get starts) same) ∙ at)) in
-                let is = subst (λ (x : ListedStart). Apart start x.start) as_one apart in
+                let is = subst (λ (x : ListedStart). (Apart start x.start → ⊥) → ⊥) as_one told in
                 let least : k ≤ t = omega arith in
-                (λ h. absurd (true≢false (sym h ∙ before.rest t least)), λ h. absurd (h is))
+                (λ h. absurd (true≢false (sym h ∙ before.rest t least)), λ h. absurd (is h))
             | inr ne ↦ before.told t other (omega arith) at
           ];
       rest = λ t more. before.rest t (omega arith);
@@ -110,11 +110,3 @@ meetings_all starts count meetings are all = record {
   long = are.long ∙ all;
   met = λ s listed at. let inside = slice_get_within starts s listed at in are.met s listed (omega arith) at;
 }
-
--- ---- tests
-
-pub told_false : {P : Type 0} (b : Bool) → b ≡ false → (IsTrue b ↔ P) → P → ⊥
-told_false b e says p = true≢false (sym (says.1 p) ∙ e)
-
-pub told_true : {P : Type 0} (b : Bool) → b ≡ true → (IsTrue b ↔ P) → P
-told_true b e says = says.0 e

@@ -8,6 +8,7 @@ pub mod Judged
 pub mod Suspects
 pub mod Questions
 pub mod Shown
+pub mod Bounds
 pub mod Texts
 pub mod Writing
 pub mod Refusals

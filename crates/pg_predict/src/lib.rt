@@ -7,6 +7,7 @@
 //! sets; one that isn't keeps what its findings are found by, and each is found anew when it is written (`lines.rt`).
 #![tactic(auto)]
 
+mod bounds;
 mod checked;
 mod checking;
 mod choices;

@@ -1,9 +1,13 @@
 //! For each start of a grammar those that it meets: that aren't apart from it.
 //!
-//! Whether two starts are apart is asked here alone, of each pair, and kept as a bit.
-ghost use Rattle.std.specs.Prelude.{IfOk};
+//! Whether two starts are apart is asked here alone, of each pair, and kept as a bit. Most pairs are told apart by their
+//! bounds (`bounds.rt`).
+ghost use Rattle.std.specs.Prelude.{◌↔◌, IfOk, IsTrue};
+ghost use Rattle.pg_start.specs.Apart.{Apart};
+ghost use Rattle.pg_predict.specs.Bounds.{BeginsWith, AreBoundsOf, AreBounds};
 ghost use Rattle.pg_predict.specs.Shown.{IsMetSet, AreMeetings};
 
+use crate::bounds::{Bounds, bounds_of, bounds_of_starts, dont_overlap};
 use pg_bit_set::BitSet;
 use pg_own_starts::ListedStart;
 use pg_start::{Start, apart};
@@ -13,9 +17,10 @@ use std::alloc::{AllocError, Global};
 pub(crate) fn met_starts(alloc: Global, starts: &[ListedStart]) -> Result<Vec<BitSet>, AllocError>
     ensures { IfOk result (λ meetings. AreMeetings starts.now meetings.items) }
 {
+    let bounds = bounds_of_starts(alloc, starts)?;
     let mut meetings = Vec::new(alloc);
     for listed in starts {
-        meetings.push(met_by(alloc, starts, &listed.start)?)?;
+        meetings.push(met_within(alloc, starts, bounds.as_slice(), &listed.start)?)?;
     }
     Ok(meetings)
 }
@@ -28,11 +33,36 @@ pub(crate) fn met_by(
 ) -> Result<BitSet, AllocError>
     ensures { IfOk result (λ met. IsMetSet starts.now start.now met) }
 {
+    let bounds = bounds_of_starts(alloc, starts)?;
+    met_within(alloc, starts, bounds.as_slice(), start)
+}
+
+/// The same, of starts with their bounds.
+fn met_within(
+    alloc: Global,
+    starts: &[ListedStart],
+    bounds: &[Option<Bounds>],
+    start: &Start,
+) -> Result<BitSet, AllocError>
+    requires { AreBounds starts.now bounds.now }
+    ensures { IfOk result (λ met. IsMetSet starts.now start.now met) }
+{
+    let own = bounds_of(start);
     let mut met = BitSet::new(alloc, starts.len())?;
-    for (number, other) in starts.iter().enumerate() {
-        if !apart(start, &other.start) {
+    for (number, others) in bounds.iter().enumerate() {
+        if meets(start, &own, &starts[number].start, others) {
             met.insert(number);
         }
     }
     Ok(met)
+}
+
+/// Whether a start meets another: whether they aren't apart. The bounds are those of the two.
+#[inline]
+fn meets(start: &Start, own: &Option<Bounds>, other: &Start, others: &Option<Bounds>) -> bool
+    requires own { AreBoundsOf (BeginsWith start.now) own.now }
+    requires other { AreBoundsOf (BeginsWith other.now) others.now }
+    ensures { IsTrue result ↔ (Apart start.now other.now → ⊥) }
+{
+    !dont_overlap(own, others) && !apart(start, other)
 }

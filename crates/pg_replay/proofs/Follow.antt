@@ -21,7 +21,8 @@ use Rattle.pg_language.specs.Onward.{LeadsOn}
 use Rattle.pg_language.proofs.Onward.{leads_on}
 use Rattle.pg_replay.specs.Refusals as refusal
 use Rattle.pg_replay.specs.Refusals.{still_entered, if_no_item, IsEntered, ChoosesNone, CountsNone}
-use Rattle.pg_replay.specs.Tasks.{OnTask, node, parts, rounds, more_rounds, links, operand, fold, marked, operator_symbol, application, unmark, close, leave, State, Turn, on, stops, ended, part_turn, numbered_turn, choice_turn, many_turn, is_entered, rule_turn, form_turn, node_turn, parts_turn, rounds_turn, is_unchanged, more_turn, closed_table, closed_forest, without_newest, turn}
+use Rattle.pg_replay.specs.Tasks.{OnTask, node, parts, rounds, more_rounds, links, operand, fold, marked, operator_symbol, application, unmark, close, leave, State, Turn, on, stops, ended, part_turn, numbered_turn, choice_turn, many_turn, is_place, is_known, is_entered, rule_turn, form_turn, node_turn, parts_turn, rounds_turn, is_unchanged, more_turn, closed_table, closed_forest, without_newest, turn}
+use Rattle.pg_replay.proofs.Known.{AreKnown}
 use Rattle.pg_replay.proofs.Items.{positive, no_count_at_end, no_count_for_choice, no_count_for_operators}
 use Rattle.pg_replay.proofs.LeavesFollow.{leaf_follows}
 use Rattle.pg_replay.proofs.ProperTables.{IsProper}
@@ -69,11 +70,11 @@ module _ (g : Grammar) (text : List ℕ) where
   nothing_again p zero a d = derives.no_round
   nothing_again p (suc n) a d = derives.first_round d (nothing_again p n a d)
 
-  no_tree_more : (v w : List Tree) → length v ≡ length (v ++ w) → w ≡ []
+  pub no_tree_more : (v w : List Tree) → length v ≡ length (v ++ w) → w ≡ []
   no_tree_more v [] e = refl
   no_tree_more v (t ∷ w) e = let more = length-append v (t ∷ w) in absurd (omega arith)
 
-  no_item_more : (x rest : List TrailItem) → length (x ++ rest) ≡ length rest → x ≡ []
+  pub no_item_more : (x rest : List TrailItem) → length (x ++ rest) ≡ length rest → x ≡ []
   no_item_more [] rest e = refl
   no_item_more (i ∷ x) rest e = let more = length-append (i ∷ x) rest in absurd (omega arith)
 
@@ -223,21 +224,33 @@ module _ (g : Grammar) (text : List ℕ) where
       go true (i ∷ u) = refl
       go false u = refl
 
-  rule_leads : (ms : List ℕ) (p r : ℕ) (named : declared.Rule) (ts : List OnTask) (entered : List ℕ) (a : Spot) (v : List Tree) (items : List TrailItem) (e : End) →
+  rule_leads : (ms : List ℕ) (p r place trees count : ℕ) (named : declared.Rule) (ts : List OnTask) (entered : List ℕ) (a : Spot) (v : List Tree) (items : List TrailItem) (e : End) →
       slice_get g.nodes p ≡ Some (form.Rule r) → slice_get g.rules r ≡ Some named → (IsEntered r entered → ⊥) →
-      Leads g text ms (node named.body ∷ leave ∷ ts) (r ∷ entered) a v items e → Leads g text ms (node p ∷ ts) entered a v items e
-  rule_leads ms p r named ts entered a v items e is there new (refuses (refuses_node h)) = refuses (refuses_node (refusal.at_node is (refusal.rule new there h)))
-  rule_leads ms p r named ts entered a v items e is there new (does (does_node d) (refuses h)) = elim h [ ]
-  rule_leads ms p r named ts entered a v items e is there new (does {b = b} {x = x} {u = u} (does_node d) (does {items = rest} does_leave k)) =
+      Leads g text ms (node named.body ∷ leave r place trees count ∷ ts) (r ∷ entered) a v items e → Leads g text ms (node p ∷ ts) entered a v items e
+  rule_leads ms p r place trees count named ts entered a v items e is there new (refuses (refuses_node h)) = refuses (refuses_node (refusal.at_node is (refusal.rule new there h)))
+  rule_leads ms p r place trees count named ts entered a v items e is there new (does (does_node d) (refuses h)) = elim h [ ]
+  rule_leads ms p r place trees count named ts entered a v items e is there new (does {b = b} {x = x} {u = u} (does_node d) (does {items = rest} does_leave k)) =
       does (does_node (derives.at_node is (derives.rule there d)))
       (subst (λ o. Leads g text ms ts o b x rest e) (left_rule r a b u entered) k)
 
-  rule_follows : (p r : ℕ) (named : Option declared.Rule) (s : State) → slice_get g.nodes p ≡ Some (form.Rule r) → slice_get g.rules r ≡ named →
+  -- a body that takes nothing and gives no tree
+  known_leads : (p r : ℕ) (named : declared.Rule) (s : State) (e : End) → slice_get g.nodes p ≡ Some (form.Rule r) → slice_get g.rules r ≡ Some named →
+      Derives g text named.body (spot_of s) (spot_of s) [] [] → StateLeads g text s e → TaskLeads g text (node p) s e
+  known_leads p r named s e is there d k = stayed (node p) s e (does_node (derives.at_node is (derives.rule there d))) refl k
+
+  here_known : (r i : ℕ) (known : List (Option ℕ)) (x : Option (Option ℕ)) → slice_get known r ≡ x → is_place i x ≡ true → slice_get known r ≡ Some (Some i)
+  here_known r i known None e h = absurd cc
+  here_known r i known (Some None) e h = absurd cc
+  here_known r i known (Some (Some j)) e h = e ∙ ap (λ k. Some (Some k)) (eqb-true j i h)
+
+  rule_follows : (p r : ℕ) (named : Option declared.Rule) (s : State) → slice_get g.nodes p ≡ Some (form.Rule r) → slice_get g.rules r ≡ named → AreKnown g text s.known →
       Follows g text (node p) s (rule_turn r named s)
-  rule_follows p r None s is there = refuses (refuses_node (refusal.at_node is (refusal.no_rule there)))
-  rule_follows p r (Some named) s is there = follows_if g text (node p) s (is_entered r s.entered) _ _
+  rule_follows p r None s is there known = refuses (refuses_node (refusal.at_node is (refusal.no_rule there)))
+  rule_follows p r (Some named) s is there known = follows_if g text (node p) s (is_known r s) _ _
+      (λ h. λ e k. known_leads p r named s e is there (known r s.place (here_known r s.place s.known (slice_get s.known r) refl h) named there s.table) k)
+      (λ l. follows_if g text (node p) s (is_entered r s.entered) _ _
       (λ h. refuses (refuses_node (refusal.at_node is (refusal.again (found_entered r s.entered h)))))
-      (λ h. λ e k. rule_leads s.marks p r named s.tasks s.entered (spot_of s) s.forest s.rest e is there (not_entered r s.entered h) k)
+      (λ h. λ e k. rule_leads s.marks p r s.place (length s.forest) (length s.rest) named s.tasks s.entered (spot_of s) s.forest s.rest e is there (not_entered r s.entered h) k))
 
   -- ---- forms around a part
 
@@ -282,19 +295,19 @@ module _ (g : Grammar) (text : List ℕ) where
 
   -- ---- forms
 
-  pub form_follows : (p : ℕ) (n : Node) (s : State) → slice_get g.nodes p ≡ Some n → IsProper s.table → Follows g text (node p) s (form_turn g text n s)
-  form_follows p (form.Leaf l) s is proper = leaf_follows g text p s l is
-  form_follows p (form.Seq ps) s is proper = λ e k. seq_leads s.marks p ps s.tasks s.entered (spot_of s) s.forest s.rest e is k
-  form_follows p (form.Choice ps) s is proper = choice_follows p ps s.rest s is refl
-  form_follows p (form.Many q) s is proper = many_follows p q s.rest s is refl
-  form_follows p (form.Chain side used q r) s is proper = chain_follows g text p (record { side = side; used = used; part = q; separator = r }) s.rest s is refl
-  form_follows p (form.Rule r) s is proper = rule_follows p r (slice_get g.rules r) s is refl
-  form_follows p (form.Expression builders q) s is proper = expression_follows g text builders p q s.rest s is refl proper
-  form_follows p (form.Around k q) s is proper = λ e m. around_leads s.marks p q k s.tasks s.entered (spot_of s) s.forest s.rest e is m
+  pub form_follows : (p : ℕ) (n : Node) (s : State) → slice_get g.nodes p ≡ Some n → IsProper s.table → AreKnown g text s.known → Follows g text (node p) s (form_turn g text n s)
+  form_follows p (form.Leaf l) s is proper known = leaf_follows g text p s l is
+  form_follows p (form.Seq ps) s is proper known = λ e k. seq_leads s.marks p ps s.tasks s.entered (spot_of s) s.forest s.rest e is k
+  form_follows p (form.Choice ps) s is proper known = choice_follows p ps s.rest s is refl
+  form_follows p (form.Many q) s is proper known = many_follows p q s.rest s is refl
+  form_follows p (form.Chain side used q r) s is proper known = chain_follows g text p (record { side = side; used = used; part = q; separator = r }) s.rest s is refl
+  form_follows p (form.Rule r) s is proper known = rule_follows p r (slice_get g.rules r) s is refl known
+  form_follows p (form.Expression builders q) s is proper known = expression_follows g text builders p q s.rest s is refl proper
+  form_follows p (form.Around k q) s is proper known = λ e m. around_leads s.marks p q k s.tasks s.entered (spot_of s) s.forest s.rest e is m
 
-  node_follows : (p : ℕ) (n : Option Node) (s : State) → slice_get g.nodes p ≡ n → IsProper s.table → Follows g text (node p) s (node_turn g text n s)
-  node_follows p None s is proper = refuses (refuses_node (refusal.no_node is))
-  node_follows p (Some n) s is proper = form_follows p n s is proper
+  node_follows : (p : ℕ) (n : Option Node) (s : State) → slice_get g.nodes p ≡ n → IsProper s.table → AreKnown g text s.known → Follows g text (node p) s (node_turn g text n s)
+  node_follows p None s is proper known = refuses (refuses_node (refusal.no_node is))
+  node_follows p (Some n) s is proper known = form_follows p n s is proper known
 
   -- a term of an expression
   term_more : (p : ℕ) (ts : List OnTask) (ms entered : List ℕ) (a : Spot) (v : List Tree) (items : List TrailItem) (e : End) →
@@ -302,17 +315,17 @@ module _ (g : Grammar) (text : List ℕ) where
   term_more p ts ms entered a v items e (refuses (refuses_node h)) = refuses (refuses_term h)
   term_more p ts ms entered a v items e (does (does_node d) k) = does (does_term d) k
 
-  pub task_follows : (t : OnTask) (s : State) → IsProper s.table → Follows g text t s (turn g text t s)
-  task_follows (node p) s proper = node_follows p (slice_get g.nodes p) s refl proper
-  task_follows (parts ps) s proper = parts_follow ps s
-  task_follows (rounds p n) s proper = rounds_follow p n s
-  task_follows (more_rounds p n place trees count) s proper = more_follow p n place trees count s
-  task_follows (links c n trees) s proper = links_follow g text c n trees s
-  task_follows (operand c n trees) s proper = operand_follows g text c n trees s
-  task_follows (fold used trees) s proper = λ e h. does does_fold h
-  task_follows (close k from trees operators) s proper = λ e h. does does_close h
-  task_follows (marked p) s proper = λ e k. term_more p s.tasks s.marks s.entered (spot_of s) s.forest s.rest e k
-  task_follows (operator_symbol o) s proper = symbol_follows g text o s
-  task_follows (application builders o) s proper = λ e h. does does_application h
-  task_follows unmark s proper = λ e h. does does_unmark h
-  task_follows leave s proper = λ e h. does does_leave h
+  pub task_follows : (t : OnTask) (s : State) → IsProper s.table → AreKnown g text s.known → Follows g text t s (turn g text t s)
+  task_follows (node p) s proper known = node_follows p (slice_get g.nodes p) s refl proper known
+  task_follows (parts ps) s proper known = parts_follow ps s
+  task_follows (rounds p n) s proper known = rounds_follow p n s
+  task_follows (more_rounds p n place trees count) s proper known = more_follow p n place trees count s
+  task_follows (links c n trees) s proper known = links_follow g text c n trees s
+  task_follows (operand c n trees) s proper known = operand_follows g text c n trees s
+  task_follows (fold used trees) s proper known = λ e h. does does_fold h
+  task_follows (close k from trees operators) s proper known = λ e h. does does_close h
+  task_follows (marked p) s proper known = λ e k. term_more p s.tasks s.marks s.entered (spot_of s) s.forest s.rest e k
+  task_follows (operator_symbol o) s proper known = symbol_follows g text o s
+  task_follows (application builders o) s proper known = λ e h. does does_application h
+  task_follows unmark s proper known = λ e h. does does_unmark h
+  task_follows (leave r place trees count) s proper known = λ e h. does does_leave h

@@ -36,7 +36,7 @@ pub data Does (g : Grammar) (text : List ℕ) : List ℕ → List ℕ → OnTask
   does_fold : {ms : List ℕ} {used : BuilderUse} {trees : ℕ} {a : Spot} {v : List Tree} → Does g text ms ms (fold used trees) a v a (folded_after used.shape trees v) []
   does_close : {ms : List ℕ} {k : Around} {from trees operators : ℕ} {a : Spot} {v : List Tree} →
       Does g text ms ms (close k from trees operators) a v (record { place = a.place; table = closed_table k operators a.table }) (closed_forest k text from a.place trees v) []
-  does_leave : {ms : List ℕ} {a : Spot} {v : List Tree} → Does g text ms ms leave a v a v []
+  does_leave : {ms : List ℕ} {r place trees count : ℕ} {a : Spot} {v : List Tree} → Does g text ms ms (leave r place trees count) a v a v []
   does_term : {ms : List ℕ} {p : ℕ} {a b : Spot} {v w : List Tree} {u : List TrailItem} → Derives g text p a b w u → Does g text ms (length v ∷ ms) (marked p) a v b (v ++ w) u
   does_symbol : {ms : List ℕ} {item : OperatorsItem} {o : AppliedOperator} {a : Spot} {v : List Tree} {j : ℕ} → g.operators ≡ Some item → IsOperatorAt g text item o.symbol a.place j →
       Does g text ms ms (operator_symbol o) a v (at a j) v []
@@ -75,7 +75,7 @@ entered_after (marked p) a b u entered = still_entered a b u entered
 entered_after (operator_symbol o) a b u entered = still_entered a b u entered
 entered_after (application builders o) a b u entered = entered
 entered_after unmark a b u entered = entered
-entered_after leave a b u entered = without_newest entered
+entered_after (leave r place trees count) a b u entered = without_newest entered
 
 -- the tasks lead to this end
 pub data Leads (g : Grammar) (text : List ℕ) : List ℕ → List OnTask → List ℕ → Spot → List Tree → List TrailItem → End → Type 0 where

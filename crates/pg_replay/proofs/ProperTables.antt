@@ -34,7 +34,7 @@ use Rattle.pg_fitting.specs.Judge.{known_in, judgement}
 use Rattle.pg_language.specs.Declarations.{Declaration, no_keyword, no_digit, no_symbol, declared, declaration_at}
 use Rattle.pg_language.proofs.DeclarationsDerived.{declaration_stands}
 use Rattle.pg_language.proofs.DeclarationsDerived.{Stands as IsStanding}
-use Rattle.pg_replay.specs.Tasks.{Chain, OnTask, node, parts, rounds, more_rounds, links, operand, fold, marked, operator_symbol, application, unmark, close, leave, State, Turn, on, stops, ended, takes, stays_if, declares, declared_turn, declare_turn, leaf_turn, part_turn, numbered_turn, choice_turn, many_turn, chain_turn, steps_turn, operators_turn, expression_turn, operator_end, ended_turn, symbol_turn, is_entered, rule_turn, form_turn, node_turn, parts_turn, rounds_turn, is_unchanged, links_turn, with_links, operand_turn, closed_table, close_turn, turn, turn_by, with_tasks}
+use Rattle.pg_replay.specs.Tasks.{Chain, OnTask, node, parts, rounds, more_rounds, links, operand, fold, marked, operator_symbol, application, unmark, close, leave, State, Turn, on, stops, ended, takes, stays_if, declares, declared_turn, declare_turn, leaf_turn, part_turn, numbered_turn, choice_turn, many_turn, chain_turn, steps_turn, operators_turn, expression_turn, operator_end, ended_turn, symbol_turn, is_known, is_entered, rule_turn, form_turn, node_turn, parts_turn, rounds_turn, is_unchanged, links_turn, with_links, operand_turn, closed_table, close_turn, turn, turn_by, with_tasks}
 
 pub record IsProper (table : Table) : Type 0 where
   pub told : AreTold table.operators
@@ -212,7 +212,7 @@ module _ (g : Grammar) (text : List ℕ) where
 
   rule_proper : (r : ℕ) (named : Option declared_rule.Rule) (s : State) → IsProper s.table → ProperTurn (rule_turn r named s)
   rule_proper r None s h = tt
-  rule_proper r (Some named) s h = proper_if (is_entered r s.entered) _ _ tt h
+  rule_proper r (Some named) s h = proper_if (is_known r s) _ _ h (proper_if (is_entered r s.entered) _ _ tt h)
 
   form_proper : (n : Node) (s : State) → IsProper s.table → ProperTurn (form_turn g text n s)
   form_proper (form.Leaf l) s h = leaf_proper l s h
@@ -265,7 +265,7 @@ module _ (g : Grammar) (text : List ℕ) where
   turn_proper (operator_symbol o) s h = symbol_proper g.operators o s h
   turn_proper (application builders o) s h = h
   turn_proper unmark s h = h
-  turn_proper leave s h = h
+  turn_proper (leave r place trees items) s h = h
 
   pub next_proper : (ts : List OnTask) (s : State) → IsProper s.table → ProperTurn (turn_by g text ts s)
   next_proper [] s h = tt

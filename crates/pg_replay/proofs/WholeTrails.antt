@@ -18,6 +18,8 @@ use Rattle.pg_replay.specs.Tasks.{OnTask, node, State, Turn, on, stops, ended, t
 use Rattle.pg_replay.proofs.Leads.{End, arrived, halted, Leads, no_task, does, refuses, does_node, refuses_node, spot_of, StateLeads, Follows}
 use Rattle.pg_replay.proofs.ProperTables.{IsProper, ProperTurn, next_proper}
 use Rattle.pg_replay.proofs.Follow.{task_follows}
+use Rattle.pg_replay.proofs.Known.{AreKnown, none_known}
+use Rattle.pg_replay.proofs.OpenRules.{TellsTruth, tells_on}
 use Rattle.pg_replay.proofs.OneForest.{only_forest, none_where_stopped}
 
 -- what the tasks of a state lead to is what comes of the next turn
@@ -31,22 +33,28 @@ followed g text t ts s (on after) e h = h
 followed g text t ts s (stops why place rest) e h = h
 followed g text t ts s (ended after) e h = absurd h
 
-comes : (g : Grammar) (text : List ℕ) (ts : List OnTask) (s : State) → IsProper s.table → ComesOf g text ts s (turn_by g text ts s)
-comes g text [] s proper = (refl, refl)
-comes g text (t ∷ ts) s proper = followed g text t ts s (turn g text t (with_tasks ts s)) refl (task_follows g text t (with_tasks ts s) proper)
+comes : (g : Grammar) (text : List ℕ) (ts : List OnTask) (s : State) → IsProper s.table → AreKnown g text s.known → ComesOf g text ts s (turn_by g text ts s)
+comes g text [] s proper known = (refl, refl)
+comes g text (t ∷ ts) s proper known = followed g text t ts s (turn g text t (with_tasks ts s)) refl (task_follows g text t (with_tasks ts s) proper known)
 
--- every end of the one state is one of the other, and its table is proper
+-- every end of the one state is one of the other, its table is proper, and it tells the truth
 pub record Onward (g : Grammar) (text : List ℕ) (now first : State) : Type 0 where
   pub ends : (e : End) → StateLeads g text now e → StateLeads g text first e
   pub proper : IsProper now.table
+  pub truth : TellsTruth g text now
 
-pub stays_onward : (g : Grammar) (text : List ℕ) (s : State) → IsProper s.table → Onward g text s s
-stays_onward g text s proper = record { ends = λ e h. h; proper = proper }
+pub stays_onward : (g : Grammar) (text : List ℕ) (body : ℕ) (table : Table) (items : List TrailItem) (s : State) → IsProper table → s ≡ first_state g body table items → Onward g text s s
+stays_onward g text body table items s proper is = record {
+  ends = λ e h. h;
+  proper = subst (λ (s : State). IsProper s.table) (sym is) proper;
+  truth = subst (TellsTruth g text) (sym is) (record { known = none_known g text (length g.rules); ends = (tt, tt) });
+}
 
 pub turned_onward : (g : Grammar) (text : List ℕ) (s after first : State) → on after ≡ next_turn g text s → Onward g text s first → Onward g text after first
 turned_onward g text s after first e h = record {
-  ends = λ end k. h.ends end (subst (ComesOf g text s.tasks s) (sym e) (comes g text s.tasks s h.proper) end k);
+  ends = λ end k. h.ends end (subst (ComesOf g text s.tasks s) (sym e) (comes g text s.tasks s h.proper h.truth.known) end k);
   proper = subst ProperTurn (sym e) (next_proper g text s.tasks s h.proper);
+  truth = tells_on g text s.tasks s after e h.proper h.truth.known h.truth.ends;
 }
 
 abbrev spot_at : ℕ → Table → Spot
@@ -69,11 +77,11 @@ module _ (g : Grammar) (text : List ℕ) (table : Table) (items : List TrailItem
   halted_start ms named entered v all s there e (does d h) = elim h [ ]
 
   pub whole_derived : (named : declared.Rule) (x : Turn) (s : State) (forest : List Tree) → slice_get g.rules g.start ≡ Some named → x ≡ next_turn g text s → IsEnd text x forest →
-      Onward g text s (first_state g.start named.body table items) → IsDerived g text table items forest
+      Onward g text s (first_state g named.body table items) → IsDerived g text table items forest
   whole_derived named (on after) s forest there e h k = absurd h
   whole_derived named (stops why place rest) s forest there e h k = absurd h
   whole_derived named (ended after) s forest there e h k =
-      let c : ComesOf g text s.tasks s (ended after) = subst (ComesOf g text s.tasks s) (sym e) (comes g text s.tasks s k.proper) in
+      let c : ComesOf g text s.tasks s (ended after) = subst (ComesOf g text s.tasks s) (sym e) (comes g text s.tasks s k.proper k.truth.known) in
       let lead : StateLeads g text s (arrived (spot_of s) s.forest s.rest) =
       subst (λ ts. Leads g text s.marks ts s.entered (spot_of s) s.forest s.rest (arrived (spot_of s) s.forest s.rest)) (sym c.0) no_task in
       let r = arrived_start [] named (g.start ∷ []) [] s.forest items s.rest (spot_of s) (k.ends (arrived (spot_of s) s.forest s.rest) lead) refl in
@@ -93,10 +101,10 @@ module _ (g : Grammar) (text : List ℕ) (table : Table) (items : List TrailItem
       }
 
   whole_stop : (named : declared.Rule) (x : Turn) (s : State) (t : declared_stop.Stop) → slice_get g.rules g.start ≡ Some named → x ≡ next_turn g text s → IsStopOf text x t →
-      Onward g text s (first_state g.start named.body table items) → IsTold g text table items t
+      Onward g text s (first_state g named.body table items) → IsTold g text table items t
   whole_stop named (on after) s t there e h k = absurd h
   whole_stop named (stops why place rest) s t there e h k =
-      let c : ComesOf g text s.tasks s (stops why place rest) = subst (ComesOf g text s.tasks s) (sym e) (comes g text s.tasks s k.proper) in
+      let c : ComesOf g text s.tasks s (stops why place rest) = subst (ComesOf g text s.tasks s) (sym e) (comes g text s.tasks s k.proper k.truth.known) in
       let at : Stops g text table items (stop_with (stop_told why place (length rest)) rest) = halted_start [] named (g.start ∷ []) [] items _ there refl (k.ends _ c) in
       record {
         rest = rest;
@@ -104,7 +112,7 @@ module _ (g : Grammar) (text : List ℕ) (table : Table) (items : List TrailItem
         stops = subst (λ z. Stops g text table items (stop_with z rest)) (sym h) at;
       }
   whole_stop named (ended after) s t there e h k =
-      let c : ComesOf g text s.tasks s (ended after) = subst (ComesOf g text s.tasks s) (sym e) (comes g text s.tasks s k.proper) in
+      let c : ComesOf g text s.tasks s (ended after) = subst (ComesOf g text s.tasks s) (sym e) (comes g text s.tasks s k.proper k.truth.known) in
       let lead : StateLeads g text s (arrived (spot_of s) s.forest s.rest) =
       subst (λ ts. Leads g text s.marks ts s.entered (spot_of s) s.forest s.rest (arrived (spot_of s) s.forest s.rest)) (sym c.0) no_task in
       let r = arrived_start [] named (g.start ∷ []) [] s.forest items s.rest (spot_of s) (k.ends (arrived (spot_of s) s.forest s.rest) lead) refl in
@@ -117,7 +125,7 @@ module _ (g : Grammar) (text : List ℕ) (table : Table) (items : List TrailItem
       }
 
   whole_fault : (named : declared.Rule) (x : Turn) (s : State) (fault : ReplayFault) → IsProper table → slice_get g.rules g.start ≡ Some named → x ≡ next_turn g text s → IsHalt text x fault →
-      Onward g text s (first_state g.start named.body table items) → IsFault g text table items fault
+      Onward g text s (first_state g named.body table items) → IsFault g text table items fault
   whole_fault named x s Memory proper there e h k = tt
   whole_fault named x s (Stopped t) proper there e h k = let told = whole_stop named x s t there e h k in (told, none_where_stopped g text table items proper (record { why = t.why; place = t.place; rest = told.rest }) told.stops)
 
@@ -128,18 +136,18 @@ some_rule (Some named) body e = let same : named.body ≡ body = cc in (named, (
 
 module _ (g : Grammar) (text : List ℕ) (table : Table) (items : List TrailItem) (body : ℕ) (x : Turn) (s first : State) (proper : IsProper table) where
   -- where the run began with the start rule's body, its end is the only derivation
-  pub derived_from : (forest : List Tree) → option_map rule_body (slice_get g.rules g.start) ≡ Some body → first ≡ first_state g.start body table items →
+  pub derived_from : (forest : List Tree) → option_map rule_body (slice_get g.rules g.start) ≡ Some body → first ≡ first_state g body table items →
       x ≡ next_turn g text s → Onward g text s first → IsEnd text x forest → IsTheForest g text table items forest
   derived_from forest there is e k h =
       let rule = some_rule (slice_get g.rules g.start) body there in
-      let begun : first ≡ first_state g.start rule.0.body table items = is ∙ ap (λ b. first_state g.start b table items) (sym rule.1.1) in
+      let begun : first ≡ first_state g rule.0.body table items = is ∙ ap (λ b. first_state g b table items) (sym rule.1.1) in
       let derived = whole_derived g text table items rule.0 x s forest rule.1.0 e h (subst (Onward g text s) begun k) in
       record { derived = derived; only = λ other y. only_forest g text table items proper other forest y derived }
 
   -- or the place where it stops
-  pub fault_from : (fault : ReplayFault) → option_map rule_body (slice_get g.rules g.start) ≡ Some body → first ≡ first_state g.start body table items →
+  pub fault_from : (fault : ReplayFault) → option_map rule_body (slice_get g.rules g.start) ≡ Some body → first ≡ first_state g body table items →
       x ≡ next_turn g text s → Onward g text s first → IsHalt text x fault → IsFault g text table items fault
   fault_from fault there is e k h =
       let rule = some_rule (slice_get g.rules g.start) body there in
-      let begun : first ≡ first_state g.start rule.0.body table items = is ∙ ap (λ b. first_state g.start b table items) (sym rule.1.1) in
+      let begun : first ≡ first_state g rule.0.body table items = is ∙ ap (λ b. first_state g b table items) (sym rule.1.1) in
       whole_fault g text table items rule.0 x s fault proper rule.1.0 e h (subst (Onward g text s) begun k)

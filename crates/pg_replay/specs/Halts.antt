@@ -1,6 +1,7 @@
 -- What is made of the end of all tasks.
-use Rattle.std.specs.Prelude.{◌≡◌, ℕ, List, [], ◌∷◌, length}
+use Rattle.std.specs.Prelude.{◌≡◌, ℕ, List, [], ◌∷◌, length, replicate, None}
 use Rattle.pg_tree.specs.Trees.{Tree}
+use Rattle.pg_value.specs.Grammar.{Grammar}
 use Rattle.pg_value.specs.declared.trail.TrailItem.{TrailItem}
 use Rattle.pg_table.specs.Tables.{Table}
 use Rattle.pg_replay.specs.declared.fault.Mismatch.{Mismatch}
@@ -10,9 +11,18 @@ use Rattle.pg_replay.specs.declared.fault.ReplayFault.{ReplayFault}
 use Rattle.pg_replay.specs.declared.fault.ReplayFault.TheVariants.{Stopped, Memory}
 use Rattle.pg_replay.specs.Tasks.{State, Turn, on, stops, ended, node}
 
--- the state before a node of a rule that was entered is gone along
-abbrev pub first_state : ℕ → ℕ → Table → List TrailItem → State
-first_state rule body table items = record { tasks = node body ∷ []; place = 0; table = table; forest = []; rest = items; entered = rule ∷ []; marks = [] }
+-- the state before the body of the start rule is gone along, of which nothing is known
+abbrev pub first_state : Grammar → ℕ → Table → List TrailItem → State
+first_state g body table items = record {
+  tasks = node body ∷ [];
+  place = 0;
+  table = table;
+  forest = [];
+  rest = items;
+  entered = g.start ∷ [];
+  marks = [];
+  known = replicate (length g.rules) None;
+}
 
 -- all tasks are done, and nothing is left over
 abbrev pub IsEnd : List ℕ → Turn → List Tree → Type 0

@@ -3,4 +3,5 @@ pub mod Ends
 pub mod Tasks
 pub mod View
 pub mod Halts
+pub mod Turns
 pub mod Laws

@@ -1,5 +1,5 @@
 -- What is left to do while a trail is gone along, as a list of tasks, and what one task does to what was derived so far.
-use Rattle.std.specs.Prelude.{◌+◌, ◌-◌, ◌==◌, ◌&&◌, not, if◌then◌else◌, ℕ, List, [], ◌∷◌, ◌++◌, Bool, true, false, Option, Some, None, slice_get, length, take, drop, map}
+use Rattle.std.specs.Prelude.{◌+◌, ◌-◌, ◌==◌, ◌&&◌, not, if◌then◌else◌, ℕ, List, [], ◌∷◌, ◌++◌, Bool, true, false, Option, Some, None, slice_get, length, take, drop, map, set}
 use Rattle.std.specs.List.{list_any}
 use Rattle.std.specs.Str.{bytes_eq, encode_utf8_all}
 use Rattle.pg_tree.specs.Trees.{Tree}
@@ -71,11 +71,12 @@ pub data OnTask : Type 0 where
   unmark : OnTask
   -- what a form makes of its part, which began at the place, with so many trees and operators before it
   close : Around → (place trees operators : ℕ) → OnTask
-  -- the body of a rule ends
-  leave : OnTask
+  -- the body of a rule ends, which began at the place, with so many trees before it and so many items left
+  leave : (rule place trees items : ℕ) → OnTask
 
 -- the tasks, the next one first, the place and the table, the forest so far, the items left, and the rules entered since
--- something was last taken, the newest first, and how many trees there are before each operand that isn't applied yet, the newest first
+-- something was last taken, the newest first, how many trees there are before each operand that isn't applied yet, the newest first,
+-- and for each rule the place where its body was last found to take nothing and to give no tree, if it was
 pub record State : Type 0 where
   pub tasks : List OnTask
   pub place : ℕ
@@ -84,6 +85,7 @@ pub record State : Type 0 where
   pub rest : List TrailItem
   pub entered : List ℕ
   pub marks : List ℕ
+  pub known : List (Option ℕ)
 
 -- what doing a task comes to
 pub data Turn : Type 0 where
@@ -100,27 +102,31 @@ told (Some Ended) s = ended s
 
 -- one task more
 abbrev pub with_task : OnTask → State → State
-with_task t s = record { tasks = t ∷ s.tasks; place = s.place; table = s.table; forest = s.forest; rest = s.rest; entered = s.entered; marks = s.marks }
+with_task t s = record { tasks = t ∷ s.tasks; place = s.place; table = s.table; forest = s.forest; rest = s.rest; entered = s.entered; marks = s.marks; known = s.known }
 
 -- other marks
 abbrev pub with_marks : List ℕ → State → State
-with_marks marks s = record { tasks = s.tasks; place = s.place; table = s.table; forest = s.forest; rest = s.rest; entered = s.entered; marks = marks }
+with_marks marks s = record { tasks = s.tasks; place = s.place; table = s.table; forest = s.forest; rest = s.rest; entered = s.entered; marks = marks; known = s.known }
 
 -- the trees and the table changed
 abbrev pub with_forest : List Tree → Table → State → State
-with_forest forest table s = record { tasks = s.tasks; place = s.place; table = table; forest = forest; rest = s.rest; entered = s.entered; marks = s.marks }
+with_forest forest table s = record { tasks = s.tasks; place = s.place; table = table; forest = forest; rest = s.rest; entered = s.entered; marks = s.marks; known = s.known }
 
 -- the rules that are open changed
 abbrev pub with_entered : List ℕ → State → State
-with_entered entered s = record { tasks = s.tasks; place = s.place; table = s.table; forest = s.forest; rest = s.rest; entered = entered; marks = s.marks }
+with_entered entered s = record { tasks = s.tasks; place = s.place; table = s.table; forest = s.forest; rest = s.rest; entered = entered; marks = s.marks; known = s.known }
+
+-- what is known of rules changed
+abbrev pub with_known : List (Option ℕ) → State → State
+with_known known s = record { tasks = s.tasks; place = s.place; table = s.table; forest = s.forest; rest = s.rest; entered = s.entered; marks = s.marks; known = known }
 
 -- an item was taken
 abbrev pub after_item : List TrailItem → State → State
-after_item rest s = record { tasks = s.tasks; place = s.place; table = s.table; forest = s.forest; rest = rest; entered = []; marks = s.marks }
+after_item rest s = record { tasks = s.tasks; place = s.place; table = s.table; forest = s.forest; rest = rest; entered = []; marks = s.marks; known = s.known }
 
 -- at another place, where no rule is open unless it is the same
 abbrev pub moved_to : ℕ → State → State
-moved_to place s = record { tasks = s.tasks; place = place; table = s.table; forest = s.forest; rest = s.rest; entered = if s.place == place then s.entered else []; marks = s.marks }
+moved_to place s = record { tasks = s.tasks; place = place; table = s.table; forest = s.forest; rest = s.rest; entered = if s.place == place then s.entered else []; marks = s.marks; known = s.known }
 
 -- without the newest, if there is one
 abbrev pub without_newest : List ℕ → List ℕ
@@ -227,7 +233,7 @@ step_task builders p (an_application o) = application builders o
 
 -- the tasks come before the others
 abbrev pub with_steps : OperatorBuilders → ℕ → List Step → State → State
-with_steps builders p steps s = record { tasks = map (step_task builders p) steps ++ s.tasks; place = s.place; table = s.table; forest = s.forest; rest = s.rest; entered = s.entered; marks = s.marks }
+with_steps builders p steps s = record { tasks = map (step_task builders p) steps ++ s.tasks; place = s.place; table = s.table; forest = s.forest; rest = s.rest; entered = s.entered; marks = s.marks; known = s.known }
 
 -- the steps of the tree that fits, if there is one
 abbrev pub steps_turn : OperatorBuilders → ℕ → Option (List Step) → List TrailItem → State → Turn
@@ -294,10 +300,22 @@ application_turn builders o s = on (applied_under builders o (marks_after o.fixi
 abbrev pub is_entered : ℕ → List ℕ → Bool
 is_entered r entered = list_any (λ q. q == r) entered
 
+-- whether that place is this one
+abbrev pub is_place : ℕ → Option (Option ℕ) → Bool
+is_place i None = false
+is_place i (Some None) = false
+is_place i (Some (Some j)) = j == i
+
+-- whether the rule's body is known to take nothing here and to give no tree
+abbrev pub is_known : ℕ → State → Bool
+is_known r s = is_place s.place (slice_get s.known r)
+
+-- a body that is known to take nothing isn't gone along again
 abbrev pub rule_turn : ℕ → Option declared.Rule → State → Turn
 rule_turn r None s = stops ItemDiffers s.place s.rest
-rule_turn r (Some named) s = if is_entered r s.entered then stops ItemDiffers s.place s.rest
-    else on (with_task (node named.body) (with_task leave (with_entered (r ∷ s.entered) s)))
+rule_turn r (Some named) s = if is_known r s then on s
+    else if is_entered r s.entered then stops ItemDiffers s.place s.rest
+    else on (with_task (node named.body) (with_task (leave r s.place (length s.forest) (length s.rest)) (with_entered (r ∷ s.entered) s)))
 
 abbrev pub form_turn : Grammar → List ℕ → Node → State → Turn
 form_turn g text (form.Leaf l) s = leaf_turn g text l s
@@ -327,6 +345,13 @@ is_unchanged place trees items s = (place == s.place) && ((trees == length s.for
 -- where a round takes and gives nothing, the others do so too
 abbrev pub more_turn : (part left place trees items : ℕ) → State → Turn
 more_turn p n place trees items s = if is_unchanged place trees items s then on s else rounds_turn p n s
+
+-- what is known after a body that began there
+abbrev pub known_after : (rule place trees items : ℕ) → State → List (Option ℕ)
+known_after r place trees items s = if is_unchanged place trees items s then set s.known r (Some s.place) else s.known
+
+abbrev pub leave_turn : (rule place trees items : ℕ) → State → Turn
+leave_turn r place trees items s = on (with_known (known_after r place trees items s) (with_entered (without_newest s.entered) s))
 
 abbrev pub links_turn : Chain → ℕ → ℕ → State → Turn
 links_turn c n trees s = if n == 0 then on s else on (with_task (node c.separator) (with_task (operand c (n - 1) trees) s))
@@ -375,11 +400,11 @@ turn g text (marked p) s = on (with_task (node p) (with_marks (length s.forest �
 turn g text (operator_symbol o) s = symbol_turn g text g.operators o s
 turn g text (application builders o) s = application_turn builders o s
 turn g text unmark s = on (with_marks (without_newest s.marks) s)
-turn g text leave s = on (with_entered (without_newest s.entered) s)
+turn g text (leave r place trees items) s = leave_turn r place trees items s
 
 -- the tasks, without the first
 abbrev pub with_tasks : List OnTask → State → State
-with_tasks tasks s = record { tasks = tasks; place = s.place; table = s.table; forest = s.forest; rest = s.rest; entered = s.entered; marks = s.marks }
+with_tasks tasks s = record { tasks = tasks; place = s.place; table = s.table; forest = s.forest; rest = s.rest; entered = s.entered; marks = s.marks; known = s.known }
 
 -- doing the next task
 abbrev pub turn_by : Grammar → List ℕ → List OnTask → State → Turn

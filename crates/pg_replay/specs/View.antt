@@ -22,7 +22,7 @@ task_of (task.Symbol o) = operator_symbol o.now
 task_of (task.Application builders o) = application builders.now o.now
 task_of task.Unmark = unmark
 task_of (task.Close around place trees operators) = close around.now place trees operators
-task_of task.Leave = leave
+task_of (task.Leave rule place trees items) = leave rule place trees items
 
 -- the next task stands last in the code
 abbrev pub tasks_on : List OnTask → List Task → List OnTask
@@ -41,4 +41,5 @@ state_of r = record {
   rest = r.rest.now;
   entered = reverse r.entered.items;
   marks = reverse r.marks.items;
+  known = r.known.items;
 }

@@ -1,7 +1,7 @@
 //! What was derived so far, and what is left to do.
 
-ghost use Rattle.std.specs.Prelude.{◌≡◌, ◌∷◌, [], reverse, length, OnOk};
-ghost use Rattle.pg_replay.specs.Tasks.{node as one_node, parts as all_parts, rounds as some_rounds, more_rounds as some_more, links as some_links, operand as one_operand, fold as one_fold, marked, operator_symbol as one_symbol, application as one_application, unmark as end_mark, close, leave, with_task, with_entered, after_item, moved_to, without_newest, with_marks, first_mark};
+ghost use Rattle.std.specs.Prelude.{◌≡◌, ◌∷◌, [], reverse, length, set, Some, OnOk};
+ghost use Rattle.pg_replay.specs.Tasks.{node as one_node, parts as all_parts, rounds as some_rounds, more_rounds as some_more, links as some_links, operand as one_operand, fold as one_fold, marked, operator_symbol as one_symbol, application as one_application, unmark as end_mark, close, leave, with_task, with_entered, after_item, moved_to, without_newest, with_marks, first_mark, with_known, is_known};
 ghost use Rattle.pg_replay.specs.View.{state_of, chain_of};
 
 use crate::task::{Chain, Task};
@@ -26,6 +26,9 @@ pub struct Replayer<'a> {
     pub entered: Vec<RuleId>,
     /// How many trees there are before each operand that isn't applied yet; the newest last.
     pub marks: Vec<usize>,
+    /// For each rule, by its number, the place where its body was last found to take nothing from text and trail and to give no
+    /// tree, if it was: there it does so again.
+    pub known: Vec<Option<usize>>,
 }
 
 impl<'a> Replayer<'a> {
@@ -195,13 +198,19 @@ impl<'a> Replayer<'a> {
         Ok(())
     }
 
-    /// The end of a rule's body is.
+    /// The end of the rule's body is, which begins here.
     #[tactic(auto, using(crate::proofs::Stack::task_pushed))]
-    pub(crate) fn push_leave(&mut self) -> Result<(), AllocError>
-        ensures { OnOk result (state_of self.new ≡ with_task leave (state_of self.old)) }
+    pub(crate) fn push_leave(&mut self, rule: RuleId) -> Result<(), AllocError>
+        ensures { OnOk result (state_of self.new ≡ with_task (leave rule self.old.place (length self.old.forest) (length self.old.rest.now)) (state_of self.old)) }
     {
+        let (place, trees, items) = (self.place, self.forest.len(), self.rest.len());
         self.tasks.reserve(1)?;
-        self.tasks.push_reserved(Task::Leave);
+        self.tasks.push_reserved(Task::Leave {
+            rule,
+            place,
+            trees,
+            items,
+        });
         Ok(())
     }
 
@@ -230,6 +239,26 @@ impl<'a> Replayer<'a> {
     {
         self.entered.push(rule)?;
         Ok(())
+    }
+
+    /// Here the rule's body takes nothing and gives no tree.
+    pub(crate) fn keep(&mut self, rule: RuleId)
+        ensures { state_of self.new ≡ with_known (set self.old.known.items rule (Some self.old.place)) (state_of self.old) }
+    {
+        let number = rule.index();
+        if number < self.known.len() {
+            self.known[number] = Some(self.place);
+        }
+    }
+
+    /// Whether it is known to do so here.
+    pub(crate) fn is_known(&self, rule: RuleId) -> bool
+        ensures { result ≡ is_known rule (state_of self.now) }
+    {
+        match self.known.get(rule.index()) {
+            Some(Some(place)) => *place == self.place,
+            Some(None) | None => false,
+        }
     }
 
     /// The newest rule ends, if it is still open.

@@ -59,7 +59,7 @@ impl Replayer<'_> {
     }
 
     /// Whether nothing was taken, and no tree was given, since then.
-    fn is_unchanged(&self, place: usize, trees: usize, items: usize) -> bool
+    pub(crate) fn is_unchanged(&self, place: usize, trees: usize, items: usize) -> bool
         ensures { result ≡ is_unchanged place trees items (state_of self.now) }
     {
         place == self.place && trees == self.forest.len() && items == self.rest.len()

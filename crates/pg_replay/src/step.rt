@@ -3,7 +3,7 @@
 ghost use Rattle.std.specs.Prelude.{◌≡◌, ◌==◌, ◌∷◌, ◌++◌, [], slice_get, length, take, drop, reverse, Some, IfOk, OnOk, option_copied};
 ghost use Rattle.pg_tree.specs.Built.{built};
 ghost use Rattle.pg_language.specs.Derives.{span};
-ghost use Rattle.pg_replay.specs.Tasks.{on, told, node as one_node, close, with_task, node_turn, form_turn, choice_turn, numbered_turn, rule_turn, is_entered, parts_turn, closed_table, closed_forest, close_turn, turn, next_turn};
+ghost use Rattle.pg_replay.specs.Tasks.{on, told, node as one_node, close, with_task, node_turn, form_turn, choice_turn, numbered_turn, rule_turn, leave_turn, is_entered, parts_turn, closed_table, closed_forest, close_turn, turn, next_turn};
 ghost use Rattle.pg_replay.specs.View.{state_of, task_of};
 
 use crate::fault::Mismatch;
@@ -103,8 +103,13 @@ impl<'a> Replayer<'a> {
                 trees,
                 operators,
             } => self.close(alloc, text, around, place, trees, operators),
-            Task::Leave => {
-                self.leave_body();
+            Task::Leave {
+                rule,
+                place,
+                trees,
+                items,
+            } => {
+                self.leave(rule, place, trees, items);
                 Ok(None)
             }
         }
@@ -203,22 +208,35 @@ impl<'a> Replayer<'a> {
         }
     }
 
-    /// A rule is entered, unless it is open.
+    /// A rule is entered, unless it is known to take nothing here and to give no tree, or it is open.
     fn enter_rule(&mut self, grammar: &'a Grammar, rule: RuleId) -> Result<Option<Halt>, AllocError>
         ensures { IfOk result (λ halt. told halt (state_of self.new) ≡
             rule_turn rule (slice_get grammar.now.rules rule) (state_of self.old)) }
     {
         match grammar.rules().get(rule.index()) {
             Some(named) => {
+                if self.is_known(rule) {
+                    return Ok(None);
+                }
                 if self.is_entered(rule) {
                     return Ok(Some(Halt::Stopped(Mismatch::ItemDiffers)));
                 }
                 self.enter_body(rule)?;
-                self.push_leave()?;
+                self.push_leave(rule)?;
                 self.go_on(named.body)
             }
             None => Ok(Some(Halt::Stopped(Mismatch::ItemDiffers))),
         }
+    }
+
+    /// The rule's body ends: where it took nothing and gave no tree, that is known from then on.
+    fn leave(&mut self, rule: RuleId, place: usize, trees: usize, items: usize)
+        ensures { on (state_of self.new) ≡ leave_turn rule place trees items (state_of self.old) }
+    {
+        if self.is_unchanged(place, trees, items) {
+            self.keep(rule);
+        }
+        self.leave_body();
     }
 
     /// Whether the rule was entered since something was last taken, and hasn't ended.

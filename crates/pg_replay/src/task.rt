@@ -1,7 +1,7 @@
 //! What is left to do while a trail is gone along.
 
 use crate::fault::Mismatch;
-use pg_form::{Around, BuilderUse, NodeId, OperatorBuilders, Side};
+use pg_form::{Around, BuilderUse, NodeId, OperatorBuilders, RuleId, Side};
 use pg_value::AppliedOperator;
 
 /// A chain: from which side it is folded by which builder, its operand and its separator.
@@ -74,8 +74,13 @@ pub enum Task<'a> {
         trees: usize,
         operators: usize,
     },
-    /// The body of a rule ends.
-    Leave,
+    /// The body of a rule ends, which began at the place, with so many trees before it and so many items left.
+    Leave {
+        rule: RuleId,
+        place: usize,
+        trees: usize,
+        items: usize,
+    },
 }
 
 /// Why the next task isn't done.

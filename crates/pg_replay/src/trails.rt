@@ -6,6 +6,7 @@ ghost use Rattle.pg_table.specs.Tables.{ComesFrom};
 ghost use Rattle.pg_replay.specs.Ends.{IsTheForest, IsFault};
 ghost use Rattle.pg_replay.specs.Halts.{first_state, IsEnd, IsHalt};
 ghost use Rattle.pg_replay.specs.Tasks.{told};
+ghost use Rattle.pg_replay.specs.Turns.{Halts, Halts-prop};
 ghost use Rattle.pg_replay.specs.View.{state_of};
 
 use crate::fault::{Mismatch, ReplayFault, Stop};
@@ -35,17 +36,45 @@ pub fn replay(
     ensures ok { IfOk result (IsTheForest grammar.now text.now table.now trail.now) }
     ensures err { IfErr result (IsFault grammar.now text.now table.now trail.now) }
 {
-    // That each operator has a digit is known of a table once its operators are read.
-    let _operators = table.operators();
-    let body = start_of(grammar);
-    let mut replayer = begin(alloc, grammar, body, table, trail)?;
-    'turns: for _turn in 0..u64::MAX {
-        match replayer.step(alloc, grammar, text)? {
-            Some(halt) => return halted(replayer, text, halt),
-            None => {}
+    // The parts of a node stand after it, as is known of a grammar's nodes once they are read.
+    let _nodes = grammar.nodes();
+    let journey = Journey {
+        grammar,
+        text,
+        table,
+        trail,
+    };
+    journey.forest(alloc)
+}
+
+/// A trail that is gone along over a text, which comes to an end.
+#[derive(Drop)]
+struct Journey<'a> {
+    grammar: &'a Grammar,
+    text: &'a Text,
+    table: &'a Table,
+    trail: &'a Trail,
+    ghost halts: { Halts grammar.now text.now table.now trail.now } by { Halts-prop grammar.now text.now table.now trail.now },
+}
+
+impl Journey<'_> {
+    /// The forest to which the trail leads.
+    fn forest(&self, alloc: Global) -> Result<Forest, ReplayFault>
+        requires { ComesFrom self.now.grammar.now self.now.table.now }
+        ensures ok { IfOk result (IsTheForest self.now.grammar.now self.now.text.now self.now.table.now self.now.trail.now) }
+        ensures err { IfErr result (IsFault self.now.grammar.now self.now.text.now self.now.table.now self.now.trail.now) }
+    {
+        // That each operator has a digit is known of a table once its operators are read.
+        let _operators = self.table.operators();
+        let body = start_of(self.grammar);
+        let mut replayer = begin(alloc, self.grammar, body, self.table, self.trail)?;
+        'turns: loop {
+            match replayer.step(alloc, self.grammar, self.text)? {
+                Some(halt) => return halted(replayer, self.text, halt),
+                None => {}
+            }
         }
     }
-    Err(ReplayFault::Memory)
 }
 
 /// The body of the start rule.
@@ -64,7 +93,7 @@ fn begin<'a>(
     table: &Table,
     trail: &'a Trail,
 ) -> Result<Replayer<'a>, AllocError>
-    ensures { IfOk result (λ replayer. state_of replayer ≡ first_state grammar.now.start body table.now trail.now) }
+    ensures { IfOk result (λ replayer. state_of replayer ≡ first_state grammar.now body table.now trail.now) }
 {
     let mut replayer = Replayer {
         tasks: Vec::new(alloc),
@@ -74,6 +103,7 @@ fn begin<'a>(
         rest: trail.items(),
         entered: Vec::new(alloc),
         marks: Vec::new(alloc),
+        known: vec![in alloc; None; grammar.rules().len()]?,
     };
     replayer.enter_body(grammar.start_rule())?;
     replayer.push_node(body)?;

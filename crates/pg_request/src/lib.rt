@@ -33,6 +33,11 @@ const HELP_OF_PROBE: &str =
 
 Example: pgw probe --steps 1000 examples/lost-alternative.g examples/lost-alternative.txt";
 
+const HELP_OF_REPLAY: &str =
+    "Exit status: 0 the trail leads to a forest, 1 it doesn't, 2 trouble (words or files that can't be used), 3 out of memory
+
+Example: pgw replay examples/digit.g examples/digit.txt examples/digit.trail";
+
 const HELP_OF_PRINT: &str =
     "Exit status: 0 printed, 2 trouble (words or files that can't be used), 3 out of memory
 
@@ -50,10 +55,11 @@ pub enum Request<'a> {
     Check {
         grammar: &'a str,
     },
-    /// Parse the text by the grammar, and print the forest.
+    /// Parse the text by the grammar, and print the forest, and the trail of its derivation too.
     Parse {
         grammar: &'a str,
         text: &'a str,
+        trail: bool,
     },
     /// Run the start rule on the text in so many steps at most, in the report's reading of choice or in the library's, and
     /// print what it answers.
@@ -62,6 +68,12 @@ pub enum Request<'a> {
         text: &'a str,
         max_steps: u64,
         report: bool,
+    },
+    /// Go along the trail over the text, with no search, and print the forest.
+    Replay {
+        grammar: &'a str,
+        text: &'a str,
+        trail: &'a str,
     },
     /// Print the grammar in canonical form.
     Print {
@@ -97,7 +109,8 @@ fn with_reading_commands<'a>(
 ) -> Result<Command<'a>, AllocError> {
     let program = with_command(program, check_command(alloc))?;
     let program = with_command(program, parse_command(alloc))?;
-    with_command(program, probe_command(alloc))
+    let program = with_command(program, probe_command(alloc))?;
+    with_command(program, replay_command(alloc))
 }
 
 /// Adds what shows a grammar.
@@ -127,7 +140,8 @@ fn check_command<'a>(alloc: Global) -> Result<Command<'a>, AllocError> {
 fn parse_command<'a>(alloc: Global) -> Result<Command<'a>, AllocError> {
     let command = Command::new(alloc, "parse")
         .about("Parses a text by a grammar and prints the trees as JSON")
-        .after_help(HELP_OF_PARSE);
+        .after_help(HELP_OF_PARSE)
+        .arg(trail(alloc))?;
     with_grammar_and_text(alloc, command)
 }
 
@@ -140,6 +154,17 @@ fn probe_command<'a>(alloc: Global) -> Result<Command<'a>, AllocError> {
     with_grammar_and_text(alloc, command)
 }
 
+fn replay_command<'a>(alloc: Global) -> Result<Command<'a>, AllocError> {
+    let command = Command::new(alloc, "replay")
+        .about("Goes along a trail that parse printed, with no search, and prints the trees")
+        .after_help(HELP_OF_REPLAY);
+    with_grammar_and_text(alloc, command)?.arg(file(
+        alloc,
+        "trail",
+        "The file with the trail, as JSON",
+    ))
+}
+
 /// Adds the words that name the grammar file and the file with the text.
 fn with_grammar_and_text<'a>(
     alloc: Global,
@@ -148,6 +173,14 @@ fn with_grammar_and_text<'a>(
     command
         .arg(file(alloc, "grammar", "The grammar file"))?
         .arg(file(alloc, "text", "The file with the text, in UTF-8"))
+}
+
+/// The word that asks for the trail.
+fn trail<'a>(alloc: Global) -> Arg<'a> {
+    Arg::new(alloc, "trail")
+        .long("trail")
+        .action(ArgAction::SetTrue)
+        .help("Prints on a second line what the derivation chose, for replay")
 }
 
 /// The word that bounds the steps.
@@ -200,6 +233,7 @@ pub fn request_of<'a>(matches: &ArgMatches<'a>) -> Option<Request<'a>> {
         }),
         "parse" => parse_request(found),
         "probe" => probe_request(found),
+        "replay" => replay_request(found),
         "print" => Some(Request::Print {
             grammar: found.get_str("grammar")?,
         }),
@@ -214,6 +248,7 @@ fn parse_request<'a>(found: &ArgMatches<'a>) -> Option<Request<'a>> {
     Some(Request::Parse {
         grammar: found.get_str("grammar")?,
         text: found.get_str("text")?,
+        trail: found.get_flag("trail"),
     })
 }
 
@@ -223,5 +258,13 @@ fn probe_request<'a>(found: &ArgMatches<'a>) -> Option<Request<'a>> {
         text: found.get_str("text")?,
         max_steps: found.get_one("steps")?,
         report: found.get_flag("report"),
+    })
+}
+
+fn replay_request<'a>(found: &ArgMatches<'a>) -> Option<Request<'a>> {
+    Some(Request::Replay {
+        grammar: found.get_str("grammar")?,
+        text: found.get_str("text")?,
+        trail: found.get_str("trail")?,
     })
 }

@@ -9,7 +9,12 @@ use std::test::Fail;
 /// What is written of a fault in a run over files of these names.
 fn written(alloc: Global, fault: &BenchFault, grammar: &str, text: &str) -> Result<Vec<u8>, Fail> {
     let mut writer = Meter::new(Vec::<u8>::new(alloc));
-    write_report(alloc, fault, grammar, text, &mut writer)?;
+    let names = Names {
+        grammar,
+        text,
+        trail: "trail",
+    };
+    write_report(alloc, fault, names, &mut writer)?;
     Ok(writer.into_inner())
 }
 
@@ -32,6 +37,14 @@ fn names_the_place_in_the_grammar_file(rt: HostRuntime) -> Result<(), Fail> {
 fn names_the_text_where_it_is_at_fault(rt: HostRuntime) -> Result<(), Fail> {
     let told = written(rt.alloc(), &BenchFault::Reader, "g", "dir/t")?;
     assert_eq!(rt; told.as_slice(), b"dir/t: X1 cannot read\n".as_slice());
+    Ok(())
+}
+
+#[test]
+fn names_the_trail_that_is_none(rt: HostRuntime) -> Result<(), Fail> {
+    let told = written(rt.alloc(), &BenchFault::NotATrail, "g", "t")?;
+    assert_eq!(rt; told.as_slice(), b"trail: not a trail\n".as_slice());
+    assert_eq!(rt; status(&BenchFault::NotATrail), 2);
     Ok(())
 }
 

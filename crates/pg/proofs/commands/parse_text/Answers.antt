@@ -8,7 +8,7 @@ use Rattle.pg.proofs.commands.parse_text.Goals as goal
 pub returns-in-Ok : goal.returns-in-Ok
 returns-in-Ok g c =
     subst (λ file. IsParseStatus (offer_of c.args.registry.now) c.args.bytes.now (g.F.Read.remaining file) 0) c.new-reader.ensures.inner
-    (parsed_status _ _ _ _ _ _ c.in-Ok.ensures.ok)
+    (parsed_status _ _ _ _ _ _ _ c.in-Ok.ensures.ok)
 
 pub returns : goal.returns
 returns g c =

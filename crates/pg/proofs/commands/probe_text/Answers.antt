@@ -2,7 +2,7 @@ use Rattle.std.proofs.Common.{subst}
 use Rattle.std.proofs.lemmas.Result.{IfOk-weaker}
 use Rattle.pg_pred.specs.Offer.{offer_of}
 use Rattle.pg.specs.Status.{IsProbeStatus}
-use Rattle.pg.proofs.Statuses.{ok_status, other_status, probe_fault_status}
+use Rattle.pg.proofs.Statuses.{ok_status, other_status, shown_fault_status}
 use Rattle.pg.proofs.commands.probe_text.Goals as goal
 
 pub returns-in-Ok-true : goal.returns-in-Ok-true
@@ -18,4 +18,4 @@ returns-in-Ok-false g c =
 pub returns : goal.returns
 returns g c =
     IfOk-weaker c.print_report.result _ _
-    (λ status is. probe_fault_status _ _ _ _ _ _ c.in-Err.fault status c.in-Err.ensures.unchecked c.in-Err.ensures.parsed is) c.print_report.ensures
+    (λ status is. shown_fault_status _ _ c.in-Err.fault status c.in-Err.ensures.unchecked c.in-Err.ensures.parsed is) c.print_report.ensures

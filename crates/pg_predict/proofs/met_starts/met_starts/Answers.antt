@@ -11,7 +11,7 @@ loop-listed-preserved c =
     let inside : k < length starts = omega arith in
     let there = slice_get_read starts (length starts) k one refl inside c.listed-item.is in
     subst (MeetingsSoFar starts (k + 1)) (sym c.in_ok-push.ensures.items)
-    (meetings_more starts k one c.in_ok-met_by.field-0 c.loop-listed.meetings.items c.loop-listed.invariant there c.in_ok-met_by.ensures)
+    (meetings_more starts k one c.in_ok-met_within.field-0 c.loop-listed.meetings.items c.loop-listed.invariant there c.in_ok-met_within.ensures)
 
 pub returns : goal.returns
 returns c = meetings_all c.args.starts.now c.loop-listed.listed-index c.loop-listed.meetings.items c.loop-listed.invariant (omega arith)

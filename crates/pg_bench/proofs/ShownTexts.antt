@@ -1,0 +1,79 @@
+-- What showing a text gives and refuses with, by its steps.
+use Rattle.std.proofs.Common.{◌≡◌, ℕ, List, Bool, Option, refl, sym, subst}
+use Rattle.std.specs.Io.KnownBytes.{Consumes, IsAtEnd}
+use Rattle.pg_tree.specs.Meter.{Metered}
+use Rattle.pg_pred.specs.Offer.{Offer}
+use Rattle.pg_value.specs.Grammar.{Grammar}
+use Rattle.pg_making.specs.Spells.{SpellsWithinLimits}
+use Rattle.pg_grammar_bench.specs.Files.{IsFaultOfFile}
+use Rattle.pg_grammar_bench.specs.Faults.{IsFileRefusal, IsMemory, IfFile}
+use Rattle.pg_grammar_bench.specs.declared.fault.BenchFault.{BenchFault}
+use Rattle.pg_grammar_bench.specs.declared.fault.BenchFault.TheVariants.{File, Reader, NotUtf8, TooLong, NotATrail, Memory}
+use Rattle.pg_bench.specs.Parsed.{IsSpelledBy, ReadsText}
+use Rattle.pg_bench.specs.Showing.{IsShownBy, IsShownOf}
+use Rattle.pg_bench.specs.Refusals.{IsWell, IsReadRefusal, IsTextRefusal, IsShowRefusal, IsBytesRefusal, IsShowFault, IsShownRefusal}
+
+pub memory_unshown : (NoTrail : Type 0) (fault : BenchFault) → IsMemory fault → IsShowRefusal NoTrail fault
+memory_unshown NoTrail Memory h = tt
+memory_unshown NoTrail _ h = absurd h
+
+-- ---- the text that bytes spell
+
+pub shown_bytes : (Shows : List ℕ → Bool → List ℕ → Type 0) (bytes text : List ℕ) (accepted : Bool) (said : List ℕ) → IsSpelledBy bytes text
+    → Shows text accepted said → IsShownOf Shows bytes accepted said
+shown_bytes Shows bytes text accepted said spelled h =
+    record { utf8 = spelled.utf8; within = spelled.within; shows = subst (λ (t : List ℕ). Shows t accepted said) spelled.same h }
+
+pub text_unshown : (NoTrail : Type 0) (bytes : List ℕ) (fault : BenchFault) → IsTextRefusal bytes fault → IsBytesRefusal NoTrail bytes fault
+text_unshown NoTrail bytes NotUtf8 h = h
+text_unshown NoTrail bytes TooLong h = h
+text_unshown NoTrail bytes Memory h = tt
+text_unshown NoTrail bytes _ h = absurd h
+
+pub show_unshown : (NoTrail : Type 0) (bytes : List ℕ) (fault : BenchFault) → IsShowRefusal NoTrail fault → IsBytesRefusal NoTrail bytes fault
+show_unshown NoTrail bytes NotATrail h = h
+show_unshown NoTrail bytes Memory h = tt
+show_unshown NoTrail bytes _ h = absurd h
+
+-- ---- what a reader gives
+
+pub read_unshown : {R : Type 0} (NoTrail : Type 0) (before after : Metered R) (reader left : Option (List ℕ)) (fault : BenchFault)
+    → IsReadRefusal before after fault → IsShowFault NoTrail before after reader left fault
+read_unshown NoTrail before after reader left Reader h = h
+read_unshown NoTrail before after reader left Memory h = tt
+read_unshown NoTrail before after reader left _ h = absurd h
+
+pub bytes_unshown : {R : Type 0} (NoTrail : Type 0) (before after : Metered R) (reader left : Option (List ℕ)) (bytes : List ℕ) (fault : BenchFault)
+    → Consumes reader left bytes → IsAtEnd left → IsWell before after → IsBytesRefusal NoTrail bytes fault → IsShowFault NoTrail before after reader left fault
+bytes_unshown NoTrail before after reader left bytes NotUtf8 read end well h = (well, (bytes, read, end, h))
+bytes_unshown NoTrail before after reader left bytes TooLong read end well h = (well, (bytes, read, end, h))
+bytes_unshown NoTrail before after reader left bytes NotATrail read end well h = (well, h)
+bytes_unshown NoTrail before after reader left bytes Memory read end well h = tt
+bytes_unshown NoTrail before after reader left bytes _ read end well h = absurd h
+
+-- ---- by the grammar that a file spells
+
+-- what refuses the grammar
+pub file_refused : {R : Type 0} (NoTrail : Type 0) (offer : Offer) (file : List ℕ) (before : Metered R) (reader left : Option (List ℕ)) (fault : BenchFault)
+    → IsFileRefusal fault → IfFile (IsFaultOfFile offer file) fault → IsShownRefusal NoTrail offer file before before reader left fault
+file_refused NoTrail offer file before reader left (File fault) h is = (is, refl)
+file_refused NoTrail offer file before reader left Memory h is = tt
+file_refused NoTrail offer file before reader left _ h is = absurd h
+
+-- what refuses a text
+pub show_refused : {R : Type 0} (NoTrail : Type 0) (offer : Offer) (file : List ℕ) (before after : Metered R) (reader left : Option (List ℕ)) (g : Grammar)
+    (fault : BenchFault) → SpellsWithinLimits offer file g → IsShowFault NoTrail before after reader left fault
+    → IsShownRefusal NoTrail offer file before after reader left fault
+show_refused NoTrail offer file before after reader left g Reader spelled h = ((g, spelled, tt), h)
+show_refused NoTrail offer file before after reader left g NotUtf8 spelled h = ((g, spelled, tt), h.0, h.1)
+show_refused NoTrail offer file before after reader left g TooLong spelled h = ((g, spelled, tt), h.0, h.1)
+show_refused NoTrail offer file before after reader left g NotATrail spelled h = ((g, spelled, tt), h.0, h.1)
+show_refused NoTrail offer file before after reader left g Memory spelled h = tt
+show_refused NoTrail offer file before after reader left g _ spelled h = absurd h
+
+-- and what is shown of one
+pub shown_file : (Shows : Grammar → List ℕ → Bool → List ℕ → Type 0) (offer : Offer) (file : List ℕ) (reader left : Option (List ℕ)) (g : Grammar)
+    (accepted : Bool) (said : List ℕ) → SpellsWithinLimits offer file g
+    → ReadsText reader left (λ bytes. IsShownOf (Shows g) bytes accepted said) → IsShownBy Shows offer file reader left accepted said
+shown_file Shows offer file reader left g accepted said spelled h =
+    record { grammar = g; spelled = spelled; bytes = h.0; read = h.1; end = h.2; shown = h.3 }

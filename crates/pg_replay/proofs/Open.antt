@@ -1,0 +1,96 @@
+-- Of each rule that was entered and hasn't ended, its end tells truly when it was entered: what was derived since is derived by its body.
+use Rattle.std.proofs.Common.{◌≡◌, ℕ, List, [], ◌∷◌, ◌++◌, length, refl, sym, ap, ◌∙◌, subst, append-nil, append_assoc}
+use Rattle.std.specs.Prelude.{Option, Some, slice_get}
+use Rattle.pg_tree.specs.Trees.{Tree}
+use Rattle.pg_value.specs.Grammar.{Grammar}
+use Rattle.pg_value.specs.declared.grammar.Rule as declared
+use Rattle.pg_value.specs.declared.trail.TrailItem.{TrailItem}
+use Rattle.pg_language.specs.Derives.{Spot, Derives}
+use Rattle.pg_replay.specs.Tasks.{OnTask, node, parts, rounds, more_rounds, links, operand, fold, marked, operator_symbol, application, unmark, close, leave, State, Turn, on, stops, ended}
+use Rattle.pg_replay.proofs.Leads.{arrived, Leads, no_task, does, does_node, spot_of}
+
+-- the rule's body derives a stretch up to the spot, which began at the place, after so many trees, with so many items left
+pub record HasDerived (g : Grammar) (text : List ℕ) (r place trees count : ℕ) (b : Spot) (forest : List Tree) (rest : List TrailItem) : Type 0 where
+  pub named : declared.Rule
+  pub there : slice_get g.rules r ≡ Some named
+  pub from : Spot
+  pub before : List Tree
+  pub given : List Tree
+  pub taken : List TrailItem
+  pub derived : Derives g text named.body from b given taken
+  pub at_place : from.place ≡ place
+  pub after_trees : length before ≡ trees
+  pub made : forest ≡ before ++ given
+  pub counted : length (taken ++ rest) ≡ count
+
+-- so it does wherever the tasks before its end lead to
+abbrev pub IsTrueAfter : Grammar → List ℕ → State → List OnTask → OnTask → Type 0
+IsTrueAfter g text s above (node p) = Unit {0}
+IsTrueAfter g text s above (parts ps) = Unit {0}
+IsTrueAfter g text s above (rounds p n) = Unit {0}
+IsTrueAfter g text s above (more_rounds p n place trees count) = Unit {0}
+IsTrueAfter g text s above (links c n trees) = Unit {0}
+IsTrueAfter g text s above (operand c n trees) = Unit {0}
+IsTrueAfter g text s above (fold used trees) = Unit {0}
+IsTrueAfter g text s above (marked p) = Unit {0}
+IsTrueAfter g text s above (operator_symbol o) = Unit {0}
+IsTrueAfter g text s above (application builders o) = Unit {0}
+IsTrueAfter g text s above unmark = Unit {0}
+IsTrueAfter g text s above (close k place trees operators) = Unit {0}
+IsTrueAfter g text s above (leave r place trees count) = (b : Spot) (x : List Tree) (rest : List TrailItem) →
+    Leads g text s.marks above s.entered (spot_of s) s.forest s.rest (arrived b x rest) → HasDerived g text r place trees count b x rest
+
+-- all ends of rules among the tasks, which come after others, tell the truth
+abbrev pub AreTrueAfter : Grammar → List ℕ → State → List OnTask → List OnTask → Type 0
+AreTrueAfter g text s above [] = Unit {0}
+AreTrueAfter g text s above (t ∷ ts) = IsTrueAfter g text s above t × AreTrueAfter g text s (above ++ t ∷ []) ts
+
+-- tasks after tasks
+pub true_after_both : (g : Grammar) (text : List ℕ) (s : State) (above ts more : List OnTask) → AreTrueAfter g text s above ts → AreTrueAfter g text s (above ++ ts) more →
+    AreTrueAfter g text s above (ts ++ more)
+true_after_both g text s above [] more h k = subst (λ a. AreTrueAfter g text s a more) (append-nil above) k
+true_after_both g text s above (t ∷ ts) more h k =
+    (h.0, true_after_both g text s (above ++ t ∷ []) ts more h.1 (subst (λ a. AreTrueAfter g text s a more) (sym (append_assoc above (t ∷ []) ts)) k))
+
+-- where these tasks of one state lead nowhere but where a task of another does, what is true after the task is true after those
+module _ (g : Grammar) (text : List ℕ) (t : OnTask) (new : List OnTask) (s z : State)
+    (follow : (above : List OnTask) (b : Spot) (x : List Tree) (rest : List TrailItem) →
+    Leads g text z.marks (new ++ above) z.entered (spot_of z) z.forest z.rest (arrived b x rest) →
+    Leads g text s.marks (t ∷ above) s.entered (spot_of s) s.forest s.rest (arrived b x rest)) where
+  one_true : (above : List OnTask) (u : OnTask) → IsTrueAfter g text s (t ∷ above) u → IsTrueAfter g text z (new ++ above) u
+  one_true above (leave r place trees count) h = λ b x rest k. h b x rest (follow above b x rest k)
+  one_true above (node p) h = tt
+  one_true above (parts ps) h = tt
+  one_true above (rounds p n) h = tt
+  one_true above (more_rounds p n place trees count) h = tt
+  one_true above (links c n trees) h = tt
+  one_true above (operand c n trees) h = tt
+  one_true above (fold used trees) h = tt
+  one_true above (marked p) h = tt
+  one_true above (operator_symbol o) h = tt
+  one_true above (application builders o) h = tt
+  one_true above unmark h = tt
+  one_true above (close k place trees operators) h = tt
+
+  pub all_true : (above ts : List OnTask) → AreTrueAfter g text s (t ∷ above) ts → AreTrueAfter g text z (new ++ above) ts
+  all_true above [] h = tt
+  all_true above (u ∷ ts) h =
+      (one_true above u h.0, subst (λ a. AreTrueAfter g text z a ts) (sym (append_assoc new above (u ∷ []))) (all_true (above ++ u ∷ []) ts h.1))
+
+-- a rule that is entered
+module _ (g : Grammar) (text : List ℕ) (r : ℕ) (named : declared.Rule) (there : slice_get g.rules r ≡ Some named) where
+  pub entered_true : (ms entered : List ℕ) (a b : Spot) (v x : List Tree) (items rest : List TrailItem) →
+      Leads g text ms (node named.body ∷ []) entered a v items (arrived b x rest) → HasDerived g text r a.place (length v) (length items) b x rest
+  entered_true ms entered a b v x items rest (does {u = u} (does_node {w = w} d) no_task) = record {
+    named = named;
+    there = there;
+    from = a;
+    before = v;
+    given = w;
+    taken = u;
+    derived = d;
+    at_place = refl;
+    after_trees = refl;
+    made = refl;
+    counted = refl;
+  }

@@ -1,0 +1,3 @@
+start a;
+# Parsec never takes the second string.
+a = choice(string("ab"), string("ac"));

@@ -1,0 +1,2 @@
+start a;
+a = choice(seq(a, string("x")), string("x"));

@@ -1,0 +1,2 @@
+start a;
+a = seq(many(seq(skip(string("x")), seq())), many(seq()), string("y"));
