@@ -69,7 +69,7 @@ fn node_cost(grammar: &Grammar, sets: &Sets, costs: &[u64], node: &Node) -> u64
 }
 
 /// The cost of a node around a part, by those of other nodes.
-fn around_cost(grammar: &Grammar, costs: &[u64], around: &Around, part: NodeId) -> u64
+pub fn around_cost(grammar: &Grammar, costs: &[u64], around: &Around, part: NodeId) -> u64
     ensures { result ≡ cut_off (around_cost grammar.now (number_at costs.now) around.now part) }
 {
     if tries_ended_string(grammar.nodes(), around, part) {

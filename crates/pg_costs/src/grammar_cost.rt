@@ -1,7 +1,8 @@
 //! The step cost of a grammar: its levels, times its greatest size.
-ghost use Rattle.std.specs.Prelude.{◌≡◌, ℕ, IfOk};
+ghost use Rattle.std.specs.Prelude.{◌≡◌, ℕ, IfOk, MatchOption};
 ghost use Rattle.std.specs.Bool.{OnFalse};
 ghost use Rattle.pg_sets.specs.Sets.{AreSets};
+ghost use Rattle.pg_costs.specs.Rounds.{AreCutCosts};
 ghost use Rattle.pg_costs.specs.StepCost.{leaf_levels, node_levels, grammar_levels, greatest_size, IsStepCost};
 ghost use Rattle.pg_costs.specs.Steps.{number_at, cut_off, row_steps};
 
@@ -28,6 +29,26 @@ pub fn step_cost(alloc: Global, grammar: &Grammar, sets: &Sets) -> Result<u64, A
     let levels = grammar_levels(grammar);
     let greatest = greatest_size(grammar, &sizes);
     Ok(levels.saturating_mul(greatest))
+}
+
+/// For each node its cost, in turns of the machine's loop: what a run of it that consumes nothing takes at most (ours).
+/// 18,446,744,073,709,551,615 where it is above. None where a rule leads back to itself before anything is consumed, so that no numbers
+/// are the costs. The caller owes the grammar's sets. The only error is that memory ran out.
+pub fn costs_of_nodes(
+    alloc: Global,
+    grammar: &Grammar,
+    sets: &Sets,
+) -> Result<Option<Vec<u64>>, AllocError>
+    requires { AreSets grammar.now sets.now }
+    ensures { IfOk result (λ found. MatchOption found
+        ((k : ℕ) → IsStepCost grammar.now sets.now.nullable k → ⊥)
+        (λ costs. AreCutCosts grammar.now sets.now.nullable costs.items)) }
+{
+    if all_have_ranks(grammar, sets) {
+        Ok(Some(node_costs(alloc, grammar, sets)?))
+    } else {
+        Ok(None)
+    }
 }
 
 /// Whether each rule has a rank. Where one has none the grammar has no step cost, and the rounds of costs would go on.

@@ -9,4 +9,6 @@ mod grammar_cost;
 mod sizes;
 mod totals;
 
-pub use grammar_cost::step_cost;
+pub use costs::around_cost;
+pub use grammar_cost::{costs_of_nodes, step_cost};
+pub use totals::{leaf_steps, number_at, row_steps, steps_of_all};

@@ -8,7 +8,7 @@ use pg_sets::Sets;
 use pg_value::Grammar;
 
 /// The number at a place; 0 at a place that isn't there.
-pub(crate) fn number_at(numbers: &[u64], place: usize) -> u64
+pub fn number_at(numbers: &[u64], place: usize) -> u64
     ensures { result ≡ number_at numbers.now place }
 {
     match numbers.get(place) {
@@ -18,7 +18,7 @@ pub(crate) fn number_at(numbers: &[u64], place: usize) -> u64
 }
 
 /// The steps of all of these nodes together.
-pub(crate) fn steps_of_all(steps: &[u64], parts: &[NodeId]) -> u64
+pub fn steps_of_all(steps: &[u64], parts: &[NodeId]) -> u64
     ensures { result ≡ cut_off (steps_of_all (number_at steps.now) parts.now) }
 {
     let mut total: u64 = 0;
@@ -53,7 +53,7 @@ pub(crate) fn body_steps(grammar: &Grammar, steps: &[u64], rule: RuleId) -> u64
 }
 
 /// The steps of a leaf.
-pub(crate) fn leaf_steps(leaf: &Leaf<WordId>) -> u64
+pub fn leaf_steps(leaf: &Leaf<WordId>) -> u64
     ensures { result ≡ leaf_steps leaf.now }
 {
     match leaf {
@@ -67,7 +67,7 @@ pub(crate) fn leaf_steps(leaf: &Leaf<WordId>) -> u64
 }
 
 /// What the rows of an expression take for each operator and each term.
-pub(crate) fn row_steps(grammar: &Grammar) -> u64
+pub fn row_steps(grammar: &Grammar) -> u64
     ensures { result ≡ cut_off (row_steps grammar.now) }
 {
     let limit = match grammar.operators_item() {

@@ -1,5 +1,5 @@
 -- What takes nothing from text and trail doesn't ask for the table.
-use Rattle.std.proofs.Common.{◌≡◌, ◌+◌, ◌≤◌, ℕ, List, [], ◌∷◌, ◌++◌, refl, sym, ap, ◌∙◌, subst, arith, length}
+use Rattle.std.proofs.Common.{◌≡◌, ℕ, List, [], ◌∷◌, ◌++◌, refl, sym, subst, arith}
 use Rattle.pg_tree.specs.Trees.{Tree}
 use Rattle.pg_form.specs.Forms.{Node}
 use Rattle.pg_form.specs.declared.form.Form.TheVariants as form
@@ -17,7 +17,7 @@ use Rattle.pg_replay.proofs.Within.{declared_within}
 abbrev spot_at : ℕ → Table → Spot
 spot_at place table = record { place = place; table = table }
 
-no_items : (x y : List TrailItem) → x ++ y ≡ [] → (x ≡ []) × (y ≡ [])
+pub no_items : (x y : List TrailItem) → x ++ y ≡ [] → (x ≡ []) × (y ≡ [])
 no_items [] y e = (refl, e)
 no_items (i ∷ x) y e = absurd cc
 

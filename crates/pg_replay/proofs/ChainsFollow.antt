@@ -1,8 +1,7 @@
 -- Chains: the operand, the rounds and the folds lead to what the chain does.
-use Rattle.std.proofs.Common.{◌≡◌, ◌==◌, ◌≤◌, ◌-◌, ℕ, zero, suc, List, [], ◌∷◌, ◌++◌, refl, sym, ap, ◌∙◌, subst, eqb-true, length, append_assoc, arith}
+use Rattle.std.proofs.Common.{◌≡◌, ◌==◌, ◌≤◌, ◌-◌, ℕ, suc, List, [], ◌∷◌, ◌++◌, refl, sym, ap, ◌∙◌, subst, eqb-true, length, append_assoc, arith}
 use Rattle.std.specs.Prelude.{Some, slice_get}
 use Rattle.pg_tree.specs.Trees.{Tree}
-use Rattle.pg_tree.specs.declared.shape.Shape.{Shape}
 use Rattle.pg_form.specs.declared.form.Form.TheVariants as form
 use Rattle.pg_form.specs.declared.side.Side.{Side}
 use Rattle.pg_form.specs.declared.side.Side.TheVariants.{Left, Right}
@@ -17,7 +16,7 @@ use Rattle.pg_replay.specs.Refusals.{Stop, still_entered, RefusesLinks}
 use Rattle.pg_replay.specs.Tasks.{Chain, OnTask, node, links, operand, fold, State, folded_after, with_links, chain_turn, links_turn, operand_turn}
 use Rattle.pg_replay.proofs.ChainTrees.{chained, chained_on, chained_folded}
 use Rattle.pg_replay.proofs.Items.{positive, no_count_at_end, no_count_for_choice, no_count_for_operators}
-use Rattle.pg_replay.proofs.Leads.{End, Does, Leads, does, refuses, does_node, does_links, does_operand, does_fold, refuses_node, refuses_links, refuses_operand, refuses_after_operand, spot_of, StateLeads, TaskLeads, Follows, follows_if, still_here, still_none, still_after_item, still_twice, links_onward}
+use Rattle.pg_replay.proofs.Leads.{End, Leads, does, refuses, does_node, does_links, does_operand, does_fold, refuses_node, refuses_links, refuses_operand, refuses_after_operand, spot_of, TaskLeads, Follows, follows_if, still_here, still_none, still_after_item, still_twice, links_onward}
 
 module _ (g : Grammar) (text : List ℕ) where
   -- ---- rounds

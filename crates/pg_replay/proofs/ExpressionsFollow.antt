@@ -1,5 +1,5 @@
 -- Expressions: the steps of the tree that fits lead to what the expression does.
-use Rattle.std.proofs.Common.{◌≡◌, ◌==◌, ◌+◌, ℕ, Bool, true, false, List, [], ◌∷◌, ◌++◌, refl, sym, ap, ◌∙◌, subst, length, take, drop, append_assoc, if◌then◌else◌}
+use Rattle.std.proofs.Common.{◌≡◌, ◌+◌, ℕ, Bool, true, false, List, [], ◌∷◌, ◌++◌, refl, sym, ap, ◌∙◌, subst, length, drop, append_assoc, if◌then◌else◌}
 use Rattle.std.specs.Prelude.{Option, None, Some, slice_get, map}
 use Rattle.std.specs.Str.{bytes_eq, encode_utf8_all}
 use Rattle.std.proofs.lemmas.List.{map-append}
@@ -19,16 +19,15 @@ use Rattle.pg_value.specs.declared.trail.TrailItem.{TrailItem}
 use Rattle.pg_value.specs.declared.trail.TrailItem.TheVariants.{Alt, Rounds, Ops}
 use Rattle.pg_table.specs.Fitting.{Expression, term, prefixed, postfixed, joined, IsFitting}
 use Rattle.pg_table.specs.Trails.{applied, operators_read}
-use Rattle.pg_fitting.specs.Steps.{Step, a_term, a_symbol, an_application, steps_of, IsJudged}
+use Rattle.pg_fitting.specs.Steps.{Step, a_symbol, an_application, steps_of, IsJudged}
 use Rattle.pg_fitting.specs.Judge.{known_in, judgement}
 use Rattle.pg_fitting.proofs.Sound.{judgement_true}
 use Rattle.pg_language.specs.Runs.{run_at, past_run, IsOperatorAt}
 use Rattle.pg_language.specs.Derives as derives
 use Rattle.pg_language.specs.Derives.{Spot, at, DerivesExpression, a_term as derives_term, a_prefix, a_postfix, an_infix}
-use Rattle.pg_replay.specs.declared.fault.Mismatch.TheVariants.{TextDiffers}
 use Rattle.pg_replay.specs.Refusals as refusal
 use Rattle.pg_replay.specs.Refusals.{Stop, stop, FitsNone, still_entered, RefusesExpression}
-use Rattle.pg_replay.specs.Tasks.{OnTask, node, operator_symbol, application, unmark, marked, State, on, stops, step_task, operators_turn, steps_turn, expression_turn, operator_end, ended_turn, symbol_turn, built_after}
+use Rattle.pg_replay.specs.Tasks.{OnTask, node, operator_symbol, application, unmark, marked, State, step_task, operators_turn, steps_turn, expression_turn, ended_turn, symbol_turn, built_after}
 use Rattle.pg_replay.proofs.ProperTables.{IsProper}
 use Rattle.pg_replay.proofs.Leads.{End, halted, Leads, does, refuses, does_node, does_term, does_symbol, does_application, does_unmark, refuses_node, refuses_term, refuses_symbol, spot_of, TaskLeads, Follows, still_none, still_after_item}
 

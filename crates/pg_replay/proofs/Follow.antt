@@ -15,14 +15,14 @@ use Rattle.pg_value.specs.declared.trail.TrailItem.TheVariants.{Alt, Rounds, Ops
 use Rattle.pg_table.specs.Tables.{Table, admit_fault, with_operator, whole, added_unless, added_from, first_operators}
 use Rattle.pg_table.specs.declared.fault.AdmitFault.{AdmitFault}
 use Rattle.pg_language.specs.Derives as derives
-use Rattle.pg_language.specs.Derives.{Spot, Derives, DerivesParts, DerivesRounds, made_by, table_by, left_by}
+use Rattle.pg_language.specs.Derives.{Spot, leaf_of, Derives, DerivesParts, DerivesRounds, made_by, table_by, left_by}
 use Rattle.std.proofs.Math.Seq.{take-append_seam, drop-append_seam}
 use Rattle.pg_language.specs.Onward.{LeadsOn}
 use Rattle.pg_language.proofs.Onward.{leads_on}
 use Rattle.pg_replay.specs.Refusals as refusal
 use Rattle.pg_replay.specs.Refusals.{still_entered, if_no_item, IsEntered, ChoosesNone, CountsNone}
-use Rattle.pg_replay.specs.Tasks.{OnTask, node, parts, rounds, more_rounds, links, operand, fold, marked, operator_symbol, application, unmark, close, leave, State, Turn, on, stops, ended, part_turn, numbered_turn, choice_turn, many_turn, is_place, is_known, is_entered, rule_turn, form_turn, node_turn, parts_turn, rounds_turn, is_unchanged, more_turn, closed_table, closed_forest, without_newest, turn}
-use Rattle.pg_replay.proofs.Known.{AreKnown}
+use Rattle.pg_replay.specs.Tasks.{OnTask, node, parts, rounds, more_rounds, links, operand, fold, marked, operator_symbol, application, unmark, close, leave, State, Turn, on, stops, ended, part_turn, numbered_turn, choice_turn, many_turn, is_place, is_known, is_entered, rule_turn, around_turn, form_turn, node_turn, parts_turn, rounds_turn, is_unchanged, more_turn, closed_table, closed_forest, without_newest, turn}
+use Rattle.pg_replay.proofs.Known.{AreKnown, AreBlank, IsSo}
 use Rattle.pg_replay.proofs.Items.{positive, no_count_at_end, no_count_for_choice, no_count_for_operators}
 use Rattle.pg_replay.proofs.LeavesFollow.{leaf_follows}
 use Rattle.pg_replay.proofs.ProperTables.{IsProper}
@@ -284,28 +284,38 @@ module _ (g : Grammar) (text : List ℕ) where
   forest_closed k from to v w =
       ap (λ x. x ++ made_by k text from to (drop (length v) (v ++ w))) (take-append_seam v w) ∙ ap (λ x. v ++ made_by k text from to x) (drop-append_seam v w)
 
-  around_leads : (ms : List ℕ) (p q : ℕ) (k : Around) (ts : List OnTask) (entered : List ℕ) (a : Spot) (v : List Tree) (items : List TrailItem) (e : End) → slice_get g.nodes p ≡ Some (form.Around k q) →
-      Leads g text ms (node q ∷ close k a.place (length v) (length a.table.operators) ∷ ts) entered a v items e → Leads g text ms (node p ∷ ts) entered a v items e
-  around_leads ms p q k ts entered a v items e is (refuses (refuses_node h)) = refuses (refuses_node (refusal.at_node is (refusal.around h)))
-  around_leads ms p q k ts entered a v items e is (does (does_node d) (refuses h)) = elim h [ ]
-  around_leads ms p q k ts entered a v items e is (does {b = b} {u = u} (does_node {w = w} d) (does {items = rest} does_close m)) =
+  around_leads : (ms : List ℕ) (p q count : ℕ) (k : Around) (ts : List OnTask) (entered : List ℕ) (a : Spot) (v : List Tree) (items : List TrailItem) (e : End) → slice_get g.nodes p ≡ Some (form.Around k q) →
+      Leads g text ms (node q ∷ close k p a.place (length v) (length a.table.operators) count ∷ ts) entered a v items e → Leads g text ms (node p ∷ ts) entered a v items e
+  around_leads ms p q count k ts entered a v items e is (refuses (refuses_node h)) = refuses (refuses_node (refusal.at_node is (refusal.around h)))
+  around_leads ms p q count k ts entered a v items e is (does (does_node d) (refuses h)) = elim h [ ]
+  around_leads ms p q count k ts entered a v items e is (does {b = b} {u = u} (does_node {w = w} d) (does {items = rest} does_close m)) =
       does (does_node (derives.at_node is (derives.around d)))
       (subst (λ x. Leads g text ms ts (still_entered a b u entered) (left_by k a b) x rest e) (forest_closed k a.place b.place v w)
       (subst (λ t. Leads g text ms ts (still_entered a b u entered) (spot_at b.place t) (closed_forest k text a.place b.place (length v) (v ++ w)) rest e) (table_closed k a b (leads_on d)) m))
 
+  -- an empty leaf
+  blank_leads : (p : ℕ) (s : State) (e : End) → Derives g text p (spot_of s) (spot_of s) (leaf_of [] ∷ []) [] →
+      Leads g text s.marks s.tasks s.entered (spot_of s) (s.forest ++ leaf_of [] ∷ []) s.rest e → TaskLeads g text (node p) s e
+  blank_leads p s e d k = does (does_node d) (subst (λ x. Leads g text s.marks s.tasks x (spot_of s) (s.forest ++ leaf_of [] ∷ []) s.rest e) (sym (still_here (spot_of s) s.entered)) k)
+
+  around_follows : (p q : ℕ) (k : Around) (s : State) → slice_get g.nodes p ≡ Some (form.Around k q) → AreBlank g text s.blank → Follows g text (node p) s (around_turn k p q s)
+  around_follows p q k s is blank = follows_if g text (node p) s (is_place s.place (slice_get s.blank p)) _ _
+      (λ h. λ e m. blank_leads p s e (blank p s.place (here_known p s.place s.blank (slice_get s.blank p) refl h) s.table) m)
+      (λ h. λ e m. around_leads s.marks p q (length s.rest) k s.tasks s.entered (spot_of s) s.forest s.rest e is m)
+
   -- ---- forms
 
-  pub form_follows : (p : ℕ) (n : Node) (s : State) → slice_get g.nodes p ≡ Some n → IsProper s.table → AreKnown g text s.known → Follows g text (node p) s (form_turn g text n s)
+  pub form_follows : (p : ℕ) (n : Node) (s : State) → slice_get g.nodes p ≡ Some n → IsProper s.table → IsSo g text s.known s.blank → Follows g text (node p) s (form_turn g text p n s)
   form_follows p (form.Leaf l) s is proper known = leaf_follows g text p s l is
   form_follows p (form.Seq ps) s is proper known = λ e k. seq_leads s.marks p ps s.tasks s.entered (spot_of s) s.forest s.rest e is k
   form_follows p (form.Choice ps) s is proper known = choice_follows p ps s.rest s is refl
   form_follows p (form.Many q) s is proper known = many_follows p q s.rest s is refl
   form_follows p (form.Chain side used q r) s is proper known = chain_follows g text p (record { side = side; used = used; part = q; separator = r }) s.rest s is refl
-  form_follows p (form.Rule r) s is proper known = rule_follows p r (slice_get g.rules r) s is refl known
+  form_follows p (form.Rule r) s is proper known = rule_follows p r (slice_get g.rules r) s is refl known.0
   form_follows p (form.Expression builders q) s is proper known = expression_follows g text builders p q s.rest s is refl proper
-  form_follows p (form.Around k q) s is proper known = λ e m. around_leads s.marks p q k s.tasks s.entered (spot_of s) s.forest s.rest e is m
+  form_follows p (form.Around k q) s is proper known = around_follows p q k s is known.1
 
-  node_follows : (p : ℕ) (n : Option Node) (s : State) → slice_get g.nodes p ≡ n → IsProper s.table → AreKnown g text s.known → Follows g text (node p) s (node_turn g text n s)
+  node_follows : (p : ℕ) (n : Option Node) (s : State) → slice_get g.nodes p ≡ n → IsProper s.table → IsSo g text s.known s.blank → Follows g text (node p) s (node_turn g text p n s)
   node_follows p None s is proper known = refuses (refuses_node (refusal.no_node is))
   node_follows p (Some n) s is proper known = form_follows p n s is proper known
 
@@ -315,7 +325,7 @@ module _ (g : Grammar) (text : List ℕ) where
   term_more p ts ms entered a v items e (refuses (refuses_node h)) = refuses (refuses_term h)
   term_more p ts ms entered a v items e (does (does_node d) k) = does (does_term d) k
 
-  pub task_follows : (t : OnTask) (s : State) → IsProper s.table → AreKnown g text s.known → Follows g text t s (turn g text t s)
+  pub task_follows : (t : OnTask) (s : State) → IsProper s.table → IsSo g text s.known s.blank → Follows g text t s (turn g text t s)
   task_follows (node p) s proper known = node_follows p (slice_get g.nodes p) s refl proper known
   task_follows (parts ps) s proper known = parts_follow ps s
   task_follows (rounds p n) s proper known = rounds_follow p n s
@@ -323,7 +333,7 @@ module _ (g : Grammar) (text : List ℕ) where
   task_follows (links c n trees) s proper known = links_follow g text c n trees s
   task_follows (operand c n trees) s proper known = operand_follows g text c n trees s
   task_follows (fold used trees) s proper known = λ e h. does does_fold h
-  task_follows (close k from trees operators) s proper known = λ e h. does does_close h
+  task_follows (close k p from trees operators count) s proper known = λ e h. does does_close h
   task_follows (marked p) s proper known = λ e k. term_more p s.tasks s.marks s.entered (spot_of s) s.forest s.rest e k
   task_follows (operator_symbol o) s proper known = symbol_follows g text o s
   task_follows (application builders o) s proper known = λ e h. does does_application h

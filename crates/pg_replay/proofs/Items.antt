@@ -2,7 +2,7 @@
 use Rattle.std.proofs.Common.{◌≡◌, ◌==◌, ◌-◌, ℕ, zero, suc, false, List, [], ◌∷◌, arith}
 use Rattle.pg_value.specs.declared.trail.TrailItem.{TrailItem}
 use Rattle.pg_value.specs.declared.trail.AppliedOperator.{AppliedOperator}
-use Rattle.pg_value.specs.declared.trail.TrailItem.TheVariants.{Alt, Rounds, Ops}
+use Rattle.pg_value.specs.declared.trail.TrailItem.TheVariants.{Alt, Ops}
 use Rattle.pg_replay.specs.Refusals.{CountsNone}
 
 pub positive : (k : ℕ) → (k == 0) ≡ false → k ≡ suc (k - 1)

@@ -34,8 +34,8 @@ pub data Does (g : Grammar) (text : List ℕ) : List ℕ → List ℕ → OnTask
   does_operand : {ms : List ℕ} {c : Chain} {n trees : ℕ} {a b d : Spot} {v w : List Tree} {ls : List Link} {t u : List TrailItem} → Derives g text c.part a b w t → DerivesLinks g text c.part c.separator n b d ls u →
       Does g text ms ms (operand c n trees) a v d (chained_on c.side c.used.shape trees v w ls) (t ++ u)
   does_fold : {ms : List ℕ} {used : BuilderUse} {trees : ℕ} {a : Spot} {v : List Tree} → Does g text ms ms (fold used trees) a v a (folded_after used.shape trees v) []
-  does_close : {ms : List ℕ} {k : Around} {from trees operators : ℕ} {a : Spot} {v : List Tree} →
-      Does g text ms ms (close k from trees operators) a v (record { place = a.place; table = closed_table k operators a.table }) (closed_forest k text from a.place trees v) []
+  does_close : {ms : List ℕ} {k : Around} {p from trees operators count : ℕ} {a : Spot} {v : List Tree} →
+      Does g text ms ms (close k p from trees operators count) a v (record { place = a.place; table = closed_table k operators a.table }) (closed_forest k text from a.place trees v) []
   does_leave : {ms : List ℕ} {r place trees count : ℕ} {a : Spot} {v : List Tree} → Does g text ms ms (leave r place trees count) a v a v []
   does_term : {ms : List ℕ} {p : ℕ} {a b : Spot} {v w : List Tree} {u : List TrailItem} → Derives g text p a b w u → Does g text ms (length v ∷ ms) (marked p) a v b (v ++ w) u
   does_symbol : {ms : List ℕ} {item : OperatorsItem} {o : AppliedOperator} {a : Spot} {v : List Tree} {j : ℕ} → g.operators ≡ Some item → IsOperatorAt g text item o.symbol a.place j →
@@ -70,7 +70,7 @@ entered_after (more_rounds p n place trees count) a b u entered = still_entered 
 entered_after (links c n trees) a b u entered = still_entered a b u entered
 entered_after (operand c n trees) a b u entered = still_entered a b u entered
 entered_after (fold used trees) a b u entered = entered
-entered_after (close k from trees operators) a b u entered = entered
+entered_after (close k p from trees operators count) a b u entered = entered
 entered_after (marked p) a b u entered = still_entered a b u entered
 entered_after (operator_symbol o) a b u entered = still_entered a b u entered
 entered_after (application builders o) a b u entered = entered

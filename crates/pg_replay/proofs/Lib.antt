@@ -12,6 +12,7 @@ pub mod ChainsFollow
 pub mod ExpressionsFollow
 pub mod Follow
 pub mod AnyTable
+pub mod NoText
 pub mod Sized
 pub mod SameReads
 pub mod SameDerivation

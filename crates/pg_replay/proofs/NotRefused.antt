@@ -1,26 +1,24 @@
 -- A trail along which a derivation goes stops nowhere in it.
-use Rattle.std.proofs.Common.{◌≡◌, ◌≤◌, ◌+◌, ◌==◌, ℕ, zero, suc, Bool, true, false, List, [], ◌∷◌, ◌++◌, refl, sym, ap, subst, ◌∙◌, eqb-true, arith, append_assoc, append-nil, if◌then◌else◌}
-use Rattle.std.specs.Prelude.{Some, slice_get, length}
+use Rattle.std.proofs.Common.{◌≡◌, ◌≤◌, ◌+◌, ◌==◌, ℕ, zero, suc, Bool, true, false, List, [], ◌∷◌, ◌++◌, refl, sym, ap, subst, ◌∙◌, eqb-true, arith, append_assoc, if◌then◌else◌}
+use Rattle.std.specs.Prelude.{Some, slice_get}
 use Rattle.pg_tree.specs.Trees.{Tree}
-use Rattle.pg_form.specs.Operators.{Operator}
 use Rattle.pg_form.specs.Forms.{Node}
 use Rattle.pg_form.specs.declared.operators_item.OperatorsItem.{OperatorsItem}
 use Rattle.pg_form.specs.declared.used.OperatorBuilders.{OperatorBuilders}
 use Rattle.pg_value.specs.Grammar.{Grammar}
 use Rattle.pg_value.specs.declared.grammar.Rule as declared
 use Rattle.pg_value.specs.declared.trail.TrailItem.{TrailItem}
-use Rattle.pg_value.specs.declared.trail.TrailItem.TheVariants.{Alt, Rounds, Ops}
-use Rattle.pg_table.specs.Fitting.{Expression, IsFitting}
+use Rattle.pg_table.specs.Fitting.{Expression}
 use Rattle.pg_table.specs.Trails.{operators_read}
 use Rattle.pg_language.specs.Runs.{IsOperatorAt}
-use Rattle.pg_language.specs.Derives.{Spot, at, Link, Derives, DerivesExpression}
+use Rattle.pg_language.specs.Derives.{Spot, at, Link}
 use Rattle.pg_language.specs.Onward.{LeadsOn}
 use Rattle.pg_language.proofs.Onward.{leads_on, expression_on, joins}
 use Rattle.pg_replay.specs.Refusals as refusal
 use Rattle.pg_replay.specs.Refusals.{Stop, if_no_item, still_entered, IsEntered, Refuses, RefusesForm, RefusesParts, RefusesRounds, RefusesLinks, RefusesExpression}
 use Rattle.pg_replay.proofs.ProperTables.{IsProper}
 use Rattle.pg_replay.proofs.SameReads.{not_unread}
-use Rattle.pg_replay.proofs.SameDerivation.{Same, same, same_expression, same_rest, proper_on, one_tree, one_end}
+use Rattle.pg_replay.proofs.SameDerivation.{same, same_expression, same_rest, proper_on, one_tree, one_end}
 use Rattle.pg_replay.proofs.Sized as sized
 use Rattle.pg_replay.proofs.Sized.{Sized, SizedForm, SizedParts, SizedRounds, SizedLinks, SizedExpression, sized as with_size, sized_expression, plain, plain_expression}
 

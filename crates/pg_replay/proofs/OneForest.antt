@@ -1,12 +1,12 @@
 -- Along a trail over a whole text there is one forest at most, and where there is one, nothing stops.
-use Rattle.std.proofs.Common.{◌≡◌, ◌≤◌, ◌++◌, ℕ, zero, suc, List, [], ◌∷◌, refl, sym, ap, subst, ◌∙◌, append-nil, arith}
-use Rattle.std.specs.Prelude.{Some, slice_get, length}
+use Rattle.std.proofs.Common.{◌≡◌, ◌++◌, ℕ, zero, suc, List, [], ◌∷◌, refl, sym, ap, subst, ◌∙◌, append-nil, arith}
+use Rattle.std.specs.Prelude.{length}
 use Rattle.pg_tree.specs.Trees.{Tree}
 use Rattle.pg_value.specs.Grammar.{Grammar}
 use Rattle.pg_value.specs.declared.grammar.Rule as declared
 use Rattle.pg_value.specs.declared.trail.TrailItem.{TrailItem}
 use Rattle.pg_table.specs.Tables.{Table}
-use Rattle.pg_language.specs.Derives.{Spot, Derives, DerivesText}
+use Rattle.pg_language.specs.Derives.{Spot, Derives}
 use Rattle.pg_replay.specs.Refusals.{Stop, Refuses}
 use Rattle.pg_replay.specs.Ends.{IsDerived, beginning, Stops, in_start, left_over, HasNoForest}
 use Rattle.pg_replay.proofs.ProperTables.{IsProper}

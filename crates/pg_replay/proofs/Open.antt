@@ -1,29 +1,38 @@
--- Of each rule that was entered and hasn't ended, its end tells truly when it was entered: what was derived since is derived by its body.
-use Rattle.std.proofs.Common.{◌≡◌, ℕ, List, [], ◌∷◌, ◌++◌, length, refl, sym, ap, ◌∙◌, subst, append-nil, append_assoc}
-use Rattle.std.specs.Prelude.{Option, Some, slice_get}
+-- Of each rule, and of each form around a part, that was entered and hasn't ended, its end tells truly when it was entered: what was
+-- derived since is derived by its body or part.
+use Rattle.std.proofs.Common.{◌≡◌, ℕ, List, [], ◌∷◌, ◌++◌, length, refl, sym, subst, append-nil, append_assoc}
+use Rattle.std.specs.Prelude.{Some, slice_get}
 use Rattle.pg_tree.specs.Trees.{Tree}
+use Rattle.pg_form.specs.declared.form.Around.{Around}
+use Rattle.pg_form.specs.declared.form.Form.TheVariants as form
 use Rattle.pg_value.specs.Grammar.{Grammar}
 use Rattle.pg_value.specs.declared.grammar.Rule as declared
 use Rattle.pg_value.specs.declared.trail.TrailItem.{TrailItem}
 use Rattle.pg_language.specs.Derives.{Spot, Derives}
-use Rattle.pg_replay.specs.Tasks.{OnTask, node, parts, rounds, more_rounds, links, operand, fold, marked, operator_symbol, application, unmark, close, leave, State, Turn, on, stops, ended}
+use Rattle.pg_replay.specs.Tasks.{OnTask, node, parts, rounds, more_rounds, links, operand, fold, marked, operator_symbol, application, unmark, close, leave, State}
 use Rattle.pg_replay.proofs.Leads.{arrived, Leads, no_task, does, does_node, spot_of}
 
--- the rule's body derives a stretch up to the spot, which began at the place, after so many trees, with so many items left
-pub record HasDerived (g : Grammar) (text : List ℕ) (r place trees count : ℕ) (b : Spot) (forest : List Tree) (rest : List TrailItem) : Type 0 where
-  pub named : declared.Rule
-  pub there : slice_get g.rules r ≡ Some named
+-- the node derives a stretch up to the spot, which began at the place, after so many trees, with so many items left
+pub record HasDerived (g : Grammar) (text : List ℕ) (q place trees count : ℕ) (b : Spot) (forest : List Tree) (rest : List TrailItem) : Type 0 where
   pub from : Spot
   pub before : List Tree
   pub given : List Tree
   pub taken : List TrailItem
-  pub derived : Derives g text named.body from b given taken
+  pub derived : Derives g text q from b given taken
   pub at_place : from.place ≡ place
   pub after_trees : length before ≡ trees
   pub made : forest ≡ before ++ given
   pub counted : length (taken ++ rest) ≡ count
 
--- so it does wherever the tasks before its end lead to
+-- the body of the rule does
+abbrev pub BodyDerived : Grammar → List ℕ → (r place trees count : ℕ) → Spot → List Tree → List TrailItem → Type 0
+BodyDerived g text r place trees count b x rest = (named : declared.Rule) × (slice_get g.rules r ≡ Some named) × HasDerived g text named.body place trees count b x rest
+
+-- the part of the form around it at the node does
+abbrev pub PartDerived : Grammar → List ℕ → Around → (p place trees count : ℕ) → Spot → List Tree → List TrailItem → Type 0
+PartDerived g text k p place trees count b x rest = (q : ℕ) × (slice_get g.nodes p ≡ Some (form.Around k q)) × HasDerived g text q place trees count b x rest
+
+-- so they do wherever the tasks before their end lead to
 abbrev pub IsTrueAfter : Grammar → List ℕ → State → List OnTask → OnTask → Type 0
 IsTrueAfter g text s above (node p) = Unit {0}
 IsTrueAfter g text s above (parts ps) = Unit {0}
@@ -36,11 +45,12 @@ IsTrueAfter g text s above (marked p) = Unit {0}
 IsTrueAfter g text s above (operator_symbol o) = Unit {0}
 IsTrueAfter g text s above (application builders o) = Unit {0}
 IsTrueAfter g text s above unmark = Unit {0}
-IsTrueAfter g text s above (close k place trees operators) = Unit {0}
+IsTrueAfter g text s above (close k p place trees operators count) = (b : Spot) (x : List Tree) (rest : List TrailItem) →
+    Leads g text s.marks above s.entered (spot_of s) s.forest s.rest (arrived b x rest) → PartDerived g text k p place trees count b x rest
 IsTrueAfter g text s above (leave r place trees count) = (b : Spot) (x : List Tree) (rest : List TrailItem) →
-    Leads g text s.marks above s.entered (spot_of s) s.forest s.rest (arrived b x rest) → HasDerived g text r place trees count b x rest
+    Leads g text s.marks above s.entered (spot_of s) s.forest s.rest (arrived b x rest) → BodyDerived g text r place trees count b x rest
 
--- all ends of rules among the tasks, which come after others, tell the truth
+-- all ends among the tasks, which come after others, tell the truth
 abbrev pub AreTrueAfter : Grammar → List ℕ → State → List OnTask → List OnTask → Type 0
 AreTrueAfter g text s above [] = Unit {0}
 AreTrueAfter g text s above (t ∷ ts) = IsTrueAfter g text s above t × AreTrueAfter g text s (above ++ t ∷ []) ts
@@ -70,27 +80,24 @@ module _ (g : Grammar) (text : List ℕ) (t : OnTask) (new : List OnTask) (s z :
   one_true above (operator_symbol o) h = tt
   one_true above (application builders o) h = tt
   one_true above unmark h = tt
-  one_true above (close k place trees operators) h = tt
+  one_true above (close k p place trees operators count) h = λ b x rest m. h b x rest (follow above b x rest m)
 
   pub all_true : (above ts : List OnTask) → AreTrueAfter g text s (t ∷ above) ts → AreTrueAfter g text z (new ++ above) ts
   all_true above [] h = tt
   all_true above (u ∷ ts) h =
       (one_true above u h.0, subst (λ a. AreTrueAfter g text z a ts) (sym (append_assoc new above (u ∷ []))) (all_true (above ++ u ∷ []) ts h.1))
 
--- a rule that is entered
-module _ (g : Grammar) (text : List ℕ) (r : ℕ) (named : declared.Rule) (there : slice_get g.rules r ≡ Some named) where
-  pub entered_true : (ms entered : List ℕ) (a b : Spot) (v x : List Tree) (items rest : List TrailItem) →
-      Leads g text ms (node named.body ∷ []) entered a v items (arrived b x rest) → HasDerived g text r a.place (length v) (length items) b x rest
-  entered_true ms entered a b v x items rest (does {u = u} (does_node {w = w} d) no_task) = record {
-    named = named;
-    there = there;
-    from = a;
-    before = v;
-    given = w;
-    taken = u;
-    derived = d;
-    at_place = refl;
-    after_trees = refl;
-    made = refl;
-    counted = refl;
-  }
+-- a node that is entered
+pub entered_true : (g : Grammar) (text : List ℕ) (q : ℕ) (ms entered : List ℕ) (a b : Spot) (v x : List Tree) (items rest : List TrailItem) →
+    Leads g text ms (node q ∷ []) entered a v items (arrived b x rest) → HasDerived g text q a.place (length v) (length items) b x rest
+entered_true g text q ms entered a b v x items rest (does {u = u} (does_node {w = w} d) no_task) = record {
+  from = a;
+  before = v;
+  given = w;
+  taken = u;
+  derived = d;
+  at_place = refl;
+  after_trees = refl;
+  made = refl;
+  counted = refl;
+}

@@ -1,5 +1,5 @@
 -- In every table that a replay comes to, each operator can be declared, and its symbol and side tell it.
-use Rattle.std.proofs.Common.{◌≡◌, ◌⊎◌, ◌≤◌, ◌==◌, ℕ, zero, suc, Bool, true, false, not, ◌&&◌, ◌||◌, List, [], ◌∷◌, ◌++◌, length, take, inl, inr, refl, sym, ap, subst, ◌∙◌, if◌then◌else◌}
+use Rattle.std.proofs.Common.{◌≡◌, ◌⊎◌, ◌==◌, ℕ, zero, suc, Bool, true, false, not, ◌&&◌, ◌||◌, List, [], ◌∷◌, ◌++◌, length, take, inl, inr, refl, sym, ap, ◌∙◌, if◌then◌else◌}
 use Rattle.std.specs.Prelude.{Option, None, Some, slice_get, nat_lt, nat_le}
 use Rattle.std.specs.Cmp.Derive.{both_true}
 use Rattle.std.specs.List.{AllByRecursion, list_any}
@@ -34,7 +34,7 @@ use Rattle.pg_fitting.specs.Judge.{known_in, judgement}
 use Rattle.pg_language.specs.Declarations.{Declaration, no_keyword, no_digit, no_symbol, declared, declaration_at}
 use Rattle.pg_language.proofs.DeclarationsDerived.{declaration_stands}
 use Rattle.pg_language.proofs.DeclarationsDerived.{Stands as IsStanding}
-use Rattle.pg_replay.specs.Tasks.{Chain, OnTask, node, parts, rounds, more_rounds, links, operand, fold, marked, operator_symbol, application, unmark, close, leave, State, Turn, on, stops, ended, takes, stays_if, declares, declared_turn, declare_turn, leaf_turn, part_turn, numbered_turn, choice_turn, many_turn, chain_turn, steps_turn, operators_turn, expression_turn, operator_end, ended_turn, symbol_turn, is_known, is_entered, rule_turn, form_turn, node_turn, parts_turn, rounds_turn, is_unchanged, links_turn, with_links, operand_turn, closed_table, close_turn, turn, turn_by, with_tasks}
+use Rattle.pg_replay.specs.Tasks.{Chain, OnTask, node, parts, rounds, more_rounds, links, operand, fold, marked, operator_symbol, application, unmark, close, leave, State, Turn, on, stops, ended, takes, stays_if, declares, declared_turn, declare_turn, leaf_turn, part_turn, choice_turn, many_turn, chain_turn, steps_turn, operators_turn, expression_turn, operator_end, ended_turn, symbol_turn, is_place, is_known, is_entered, rule_turn, around_turn, form_turn, node_turn, parts_turn, is_unchanged, with_links, closed_table, turn, turn_by, with_tasks}
 
 pub record IsProper (table : Table) : Type 0 where
   pub told : AreTold table.operators
@@ -214,19 +214,22 @@ module _ (g : Grammar) (text : List ℕ) where
   rule_proper r None s h = tt
   rule_proper r (Some named) s h = proper_if (is_known r s) _ _ h (proper_if (is_entered r s.entered) _ _ tt h)
 
-  form_proper : (n : Node) (s : State) → IsProper s.table → ProperTurn (form_turn g text n s)
-  form_proper (form.Leaf l) s h = leaf_proper l s h
-  form_proper (form.Seq ps) s h = h
-  form_proper (form.Choice ps) s h = choice_proper ps s.rest s h
-  form_proper (form.Many p) s h = many_proper p s.rest s h
-  form_proper (form.Chain side used p q) s h = chain_proper (record { side = side; used = used; part = p; separator = q }) s.rest s h
-  form_proper (form.Rule r) s h = rule_proper r (slice_get g.rules r) s h
-  form_proper (form.Expression builders p) s h = expression_proper builders p s.rest s h
-  form_proper (form.Around k p) s h = h
+  around_proper : (k : Around) (p q : ℕ) (s : State) → IsProper s.table → ProperTurn (around_turn k p q s)
+  around_proper k p q s h = proper_if (is_place s.place (slice_get s.blank p)) _ _ h h
 
-  node_proper : (n : Option Node) (s : State) → IsProper s.table → ProperTurn (node_turn g text n s)
-  node_proper None s h = tt
-  node_proper (Some n) s h = form_proper n s h
+  form_proper : (p : ℕ) (n : Node) (s : State) → IsProper s.table → ProperTurn (form_turn g text p n s)
+  form_proper p (form.Leaf l) s h = leaf_proper l s h
+  form_proper p (form.Seq ps) s h = h
+  form_proper p (form.Choice ps) s h = choice_proper ps s.rest s h
+  form_proper p (form.Many q) s h = many_proper q s.rest s h
+  form_proper p (form.Chain side used q r) s h = chain_proper (record { side = side; used = used; part = q; separator = r }) s.rest s h
+  form_proper p (form.Rule r) s h = rule_proper r (slice_get g.rules r) s h
+  form_proper p (form.Expression builders q) s h = expression_proper builders q s.rest s h
+  form_proper p (form.Around k q) s h = around_proper k p q s h
+
+  node_proper : (p : ℕ) (n : Option Node) (s : State) → IsProper s.table → ProperTurn (node_turn g text p n s)
+  node_proper p None s h = tt
+  node_proper p (Some n) s h = form_proper p n s h
 
   parts_proper : (ps : List ℕ) (s : State) → IsProper s.table → ProperTurn (parts_turn ps s)
   parts_proper [] s h = h
@@ -253,14 +256,14 @@ module _ (g : Grammar) (text : List ℕ) where
   close_proper kind.Local operators table h = proper_first operators table h
 
   turn_proper : (t : OnTask) (s : State) → IsProper s.table → ProperTurn (turn g text t s)
-  turn_proper (node p) s h = node_proper (slice_get g.nodes p) s h
+  turn_proper (node p) s h = node_proper p (slice_get g.nodes p) s h
   turn_proper (parts ps) s h = parts_proper ps s h
   turn_proper (rounds p n) s h = proper_if (n == 0) _ _ h h
   turn_proper (more_rounds p n place trees items) s h = proper_if (is_unchanged place trees items s) _ _ h (proper_if (n == 0) _ _ h h)
   turn_proper (links c n trees) s h = proper_if (n == 0) _ _ h h
   turn_proper (operand c n trees) s h = links_proper c.side c n trees s h
   turn_proper (fold used trees) s h = h
-  turn_proper (close k place trees operators) s h = close_proper k operators s.table h
+  turn_proper (close k p place trees operators items) s h = close_proper k operators s.table h
   turn_proper (marked p) s h = h
   turn_proper (operator_symbol o) s h = symbol_proper g.operators o s h
   turn_proper (application builders o) s h = h

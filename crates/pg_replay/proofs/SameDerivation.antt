@@ -1,20 +1,17 @@
 -- Along one trail there is one derivation: where two take the items of one trail from one spot, they end at one spot, with one
 -- forest, the same items and the same size.
-use Rattle.std.proofs.Common.{◌≡◌, ◌+◌, ℕ, zero, suc, List, [], ◌∷◌, ◌++◌, length, refl, sym, ap, subst, ◌∙◌, append_assoc}
-use Rattle.std.specs.Prelude.{Some, slice_get}
+use Rattle.std.proofs.Common.{◌≡◌, ◌+◌, ℕ, suc, List, [], ◌∷◌, ◌++◌, length, refl, sym, ap, subst, ◌∙◌, append_assoc}
+use Rattle.std.specs.Prelude.{Some}
 use Rattle.std.specs.List.{AllByRecursion}
 use Rattle.pg_tree.specs.Trees.{Tree}
 use Rattle.pg_form.specs.Operators.{Operator, IsOperator}
 use Rattle.pg_form.specs.Forms.{Node}
 use Rattle.pg_form.specs.declared.operators_item.OperatorsItem.{OperatorsItem}
 use Rattle.pg_form.specs.declared.used.OperatorBuilders.{OperatorBuilders}
-use Rattle.pg_form.specs.declared.side.Side.{Side}
-use Rattle.pg_tree.specs.declared.shape.Shape.{Shape}
 use Rattle.pg_value.specs.Grammar.{Grammar}
 use Rattle.pg_value.specs.declared.grammar.Rule as declared
 use Rattle.pg_value.specs.declared.trail.TrailItem.{TrailItem}
-use Rattle.pg_value.specs.declared.trail.TrailItem.TheVariants.{Alt, Rounds, Ops}
-use Rattle.pg_table.specs.Fitting.{Expression, IsAmong, IsFitting}
+use Rattle.pg_table.specs.Fitting.{Expression, IsFitting}
 use Rattle.pg_table.specs.Trails.{operators_read}
 use Rattle.pg_table.specs.Tables.{Table, whole, added_unless, added_from, admit_fault, with_operator}
 use Rattle.pg_table.specs.declared.fault.AdmitFault.{AdmitFault}
@@ -28,7 +25,7 @@ use Rattle.pg_language.specs.Derives.{Spot, at, Link, folded, applied, made_by, 
 use Rattle.pg_language.specs.Onward.{LeadsOn}
 use Rattle.pg_language.proofs.Onward.{leads_on, expression_on}
 use Rattle.pg_replay.proofs.ProperTables.{IsProper, proper_with}
-use Rattle.pg_replay.proofs.SameReads.{SameRead, same_read}
+use Rattle.pg_replay.proofs.SameReads.{same_read}
 use Rattle.pg_replay.proofs.Sized as sized
 use Rattle.pg_replay.proofs.Sized.{Sized, SizedForm, SizedParts, SizedRounds, SizedLinks, SizedExpression, plain, plain_expression}
 

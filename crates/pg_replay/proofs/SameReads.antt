@@ -1,6 +1,5 @@
 -- A leaf is read in one way, and where it is, it doesn't refuse.
 use Rattle.std.proofs.Common.{◌≡◌, ℕ, suc, List, [], ◌∷◌, refl, sym, ap, subst, ◌∙◌, length}
-use Rattle.std.specs.Prelude.{Some, slice_get}
 use Rattle.pg_tree.specs.Trees.{Tree}
 use Rattle.pg_form.specs.Operators.{Operator}
 use Rattle.pg_form.specs.declared.class.ClassPart.{ClassPart}
@@ -14,7 +13,7 @@ use Rattle.pg_language.specs.Declarations.{declared}
 use Rattle.pg_language.specs.Derives.{Spot, after, leaf_of, declaration_tree, Reads, satisfy, string, word, not_followed_by, end_of_text, declare}
 use Rattle.pg_language.proofs.KeywordsRead.{declaration_read}
 use Rattle.pg_replay.specs.declared.fault.Mismatch.{Mismatch}
-use Rattle.pg_replay.specs.Refusals.{HasDeclarationAt, LeafRefuses, text_differs, not_admitted}
+use Rattle.pg_replay.specs.Refusals.{LeafRefuses, text_differs, not_admitted}
 
 -- both end at the same spot, with the same forest
 pub record SameRead (b c : Spot) (v w : List Tree) : Type 0 where

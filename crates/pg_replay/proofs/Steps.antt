@@ -1,12 +1,11 @@
 -- The steps of a tree are tasks, which stand in the code the other way round.
-use Rattle.std.proofs.Common.{◌≡◌, ℕ, List, [], ◌∷◌, ◌++◌, refl, sym, ap, ◌∙◌, append_assoc}
+use Rattle.std.proofs.Common.{◌≡◌, ℕ, List, [], ◌∷◌, ◌++◌, refl, ap, ◌∙◌, append_assoc}
 use Rattle.std.specs.Prelude.{map}
 use Rattle.std.proofs.lemmas.List.{map-append}
 use Rattle.pg_form.specs.declared.used.OperatorBuilders.{OperatorBuilders}
-use Rattle.pg_fitting.specs.Steps.{Step}
 use Rattle.pg_fitting.specs.declared.step.Step as declared
 use Rattle.pg_fitting.specs.Judge.{step_of}
-use Rattle.pg_replay.specs.Tasks.{OnTask, State, step_task, with_task, with_tasks, with_steps}
+use Rattle.pg_replay.specs.Tasks.{State, step_task, with_task, with_tasks, with_steps}
 
 pub no_steps : (builders : OperatorBuilders) (p : ℕ) (s : State) → with_steps builders p (map step_of []) s ≡ s
 no_steps builders p s = refl

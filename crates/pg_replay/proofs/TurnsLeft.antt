@@ -1,8 +1,7 @@
 -- How many turns are left falls with each of them.
-use Rattle.std.proofs.Common.{◌≡◌, ◌<◌, ◌≤◌, ℕ, zero, suc, List, true, false, refl, sym, ap, ◌∙◌, subst, arith, if◌then◌else◌}
-use Rattle.std.specs.Prelude.{Option, Some, None, slice_get, option_map}
+use Rattle.std.proofs.Common.{◌≡◌, ◌<◌, ◌≤◌, ℕ, zero, suc, List, refl, sym, ap, ◌∙◌, subst, arith, if◌then◌else◌}
+use Rattle.std.specs.Prelude.{Some, slice_get, option_map}
 use Rattle.pg_value.specs.Grammar.{Grammar, rule_body}
-use Rattle.pg_value.specs.declared.grammar.Rule as declared
 use Rattle.pg_value.specs.declared.trail.TrailItem.{TrailItem}
 use Rattle.pg_table.specs.Tables.{Table}
 use Rattle.pg_replay.specs.Halts.{first_state}

@@ -12,13 +12,13 @@ use Rattle.pg_replay.specs.declared.fault.ReplayFault.{ReplayFault}
 use Rattle.pg_replay.specs.declared.fault.ReplayFault.TheVariants.{Stopped, Memory}
 use Rattle.pg_replay.specs.declared.fault.Mismatch.TheVariants.{LeftOver}
 use Rattle.pg_replay.specs.Refusals.{Stop, Refuses}
-use Rattle.pg_replay.specs.Ends.{IsDerived, beginning, Stops, in_start, left_over, IsTold, HasNoForest, IsTheForest, IsFault}
+use Rattle.pg_replay.specs.Ends.{IsDerived, beginning, Stops, in_start, left_over, IsTold, IsTheForest, IsFault}
 use Rattle.pg_replay.specs.Halts.{first_state, IsEnd, IsStopOf, IsHalt, stop_told}
 use Rattle.pg_replay.specs.Tasks.{OnTask, node, State, Turn, on, stops, ended, turn, turn_by, next_turn, with_tasks}
 use Rattle.pg_replay.proofs.Leads.{End, arrived, halted, Leads, no_task, does, refuses, does_node, refuses_node, spot_of, StateLeads, Follows}
 use Rattle.pg_replay.proofs.ProperTables.{IsProper, ProperTurn, next_proper}
 use Rattle.pg_replay.proofs.Follow.{task_follows}
-use Rattle.pg_replay.proofs.Known.{AreKnown, none_known}
+use Rattle.pg_replay.proofs.Known.{IsSo, none_known}
 use Rattle.pg_replay.proofs.OpenRules.{TellsTruth, tells_on}
 use Rattle.pg_replay.proofs.OneForest.{only_forest, none_where_stopped}
 
@@ -33,7 +33,7 @@ followed g text t ts s (on after) e h = h
 followed g text t ts s (stops why place rest) e h = h
 followed g text t ts s (ended after) e h = absurd h
 
-comes : (g : Grammar) (text : List ℕ) (ts : List OnTask) (s : State) → IsProper s.table → AreKnown g text s.known → ComesOf g text ts s (turn_by g text ts s)
+comes : (g : Grammar) (text : List ℕ) (ts : List OnTask) (s : State) → IsProper s.table → IsSo g text s.known s.blank → ComesOf g text ts s (turn_by g text ts s)
 comes g text [] s proper known = (refl, refl)
 comes g text (t ∷ ts) s proper known = followed g text t ts s (turn g text t (with_tasks ts s)) refl (task_follows g text t (with_tasks ts s) proper known)
 
@@ -47,7 +47,7 @@ pub stays_onward : (g : Grammar) (text : List ℕ) (body : ℕ) (table : Table) 
 stays_onward g text body table items s proper is = record {
   ends = λ e h. h;
   proper = subst (λ (s : State). IsProper s.table) (sym is) proper;
-  truth = subst (TellsTruth g text) (sym is) (record { known = none_known g text (length g.rules); ends = (tt, tt) });
+  truth = subst (TellsTruth g text) (sym is) (record { known = none_known g text (length g.rules) (length g.nodes); ends = (tt, tt) });
 }
 
 pub turned_onward : (g : Grammar) (text : List ℕ) (s after first : State) → on after ≡ next_turn g text s → Onward g text s first → Onward g text after first

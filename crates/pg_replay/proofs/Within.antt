@@ -1,5 +1,5 @@
 -- What leaves and operators take lies in the text.
-use Rattle.std.proofs.Common.{◌≡◌, ◌+◌, ◌-◌, ◌<◌, ◌≤◌, ℕ, suc, Bool, true, false, List, [], ◌∷◌, refl, sym, ap, ◌∙◌, arith, if◌then◌else◌, length}
+use Rattle.std.proofs.Common.{◌≡◌, ◌+◌, ◌-◌, ◌<◌, ◌≤◌, ℕ, suc, Bool, true, false, List, ◌∷◌, refl, ap, arith, if◌then◌else◌, length}
 use Rattle.std.specs.Prelude.{Option, Some, None, slice_get}
 use Rattle.std.specs.List.{list_any}
 use Rattle.std.specs.Str.{bytes_eq}
@@ -11,7 +11,7 @@ use Rattle.pg_form.specs.declared.class.ClassPart.{ClassPart}
 use Rattle.pg_form.specs.declared.operators_item.OperatorsItem.{OperatorsItem}
 use Rattle.pg_form.specs.declared.word_item.WordItem.{WordItem}
 use Rattle.pg_value.specs.Grammar.{Grammar}
-use Rattle.pg_language.specs.Runs.{run_at, past_run, stands_at, keyword, IsDeclarationAt}
+use Rattle.pg_language.specs.Runs.{run_at, past_run, stands_at, IsDeclarationAt}
 use Rattle.pg_replay.specs.Tasks.{next_in, satisfied, spelled, unreserved, word_from, word_by, operator_end}
 use Rattle.pg_replay.proofs.Characters.{stands_short, run_short}
 

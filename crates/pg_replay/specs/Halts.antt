@@ -22,6 +22,7 @@ first_state g body table items = record {
   entered = g.start ∷ [];
   marks = [];
   known = replicate (length g.rules) None;
+  blank = replicate (length g.nodes) None;
 }
 
 -- all tasks are done, and nothing is left over

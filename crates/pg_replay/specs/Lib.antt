@@ -1,5 +1,6 @@
 pub mod Refusals
 pub mod Ends
+pub mod States
 pub mod Tasks
 pub mod View
 pub mod Halts

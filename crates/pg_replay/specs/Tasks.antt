@@ -1,10 +1,11 @@
--- What is left to do while a trail is gone along, as a list of tasks, and what one task does to what was derived so far.
+-- What one task does to what was derived so far.
 use Rattle.std.specs.Prelude.{◌+◌, ◌-◌, ◌==◌, ◌&&◌, not, if◌then◌else◌, ℕ, List, [], ◌∷◌, ◌++◌, Bool, true, false, Option, Some, None, slice_get, length, take, drop, map, set}
 use Rattle.std.specs.List.{list_any}
 use Rattle.std.specs.Str.{bytes_eq, encode_utf8_all}
 use Rattle.pg_tree.specs.Trees.{Tree}
 use Rattle.pg_tree.specs.Built.{built}
 use Rattle.pg_tree.specs.declared.shape.Shape.{Shape}
+use Rattle.pg_tree.specs.declared.shape.Shape.TheVariants as shaped
 use Rattle.pg_form.specs.ClassItems.{has_character}
 use Rattle.pg_value.specs.Grammar.{Grammar}
 use Rattle.pg_form.specs.Operators.{Operator}
@@ -34,104 +35,8 @@ use Rattle.pg_fitting.specs.Judge.{known_in, judgement}
 use Rattle.pg_language.specs.Runs.{run_at, past_run, stands_at}
 use Rattle.pg_language.specs.Declarations.{Declaration, no_keyword, no_digit, no_symbol, declared, declaration_at}
 use Rattle.pg_language.specs.Derives.{leaf_of, declaration_tree, made_by}
-use Rattle.pg_replay.specs.declared.fault.Mismatch.{Mismatch}
 use Rattle.pg_replay.specs.declared.fault.Mismatch.TheVariants.{ItemDiffers, TextDiffers, NotAdmitted}
-use Rattle.pg_replay.specs.declared.task.Halt.{Halt}
-use Rattle.pg_replay.specs.declared.task.Halt.TheVariants.{Stopped, Ended}
-
--- a chain: from which side it is folded by which builder, its operand and its separator
-pub record Chain : Type 0 where
-  pub side : Side
-  pub used : BuilderUse
-  pub part : ℕ
-  pub separator : ℕ
-
-pub data OnTask : Type 0 where
-  -- a node
-  node : ℕ → OnTask
-  -- the parts of a sequence
-  parts : List ℕ → OnTask
-  -- so many rounds of a node
-  rounds : (part left : ℕ) → OnTask
-  -- so many rounds more, after one that began at the place, with so many trees before it and so many items left
-  more_rounds : (part left place trees items : ℕ) → OnTask
-  -- so many rounds of a chain: a separator and an operand each, where the trees to be folded come after so many
-  links : Chain → (left trees : ℕ) → OnTask
-  -- the operand after a separator, and then so many rounds
-  operand : Chain → (left trees : ℕ) → OnTask
-  -- the trees after so many are made into one
-  fold : BuilderUse → (trees : ℕ) → OnTask
-  -- a term of an expression, whose trees begin the next operand
-  marked : ℕ → OnTask
-  -- the symbol of an operator
-  operator_symbol : AppliedOperator → OnTask
-  -- the operator is applied to the trees of its operands
-  application : OperatorBuilders → AppliedOperator → OnTask
-  -- the last operand ends the expression
-  unmark : OnTask
-  -- what a form makes of its part, which began at the place, with so many trees and operators before it
-  close : Around → (place trees operators : ℕ) → OnTask
-  -- the body of a rule ends, which began at the place, with so many trees before it and so many items left
-  leave : (rule place trees items : ℕ) → OnTask
-
--- the tasks, the next one first, the place and the table, the forest so far, the items left, and the rules entered since
--- something was last taken, the newest first, how many trees there are before each operand that isn't applied yet, the newest first,
--- and for each rule the place where its body was last found to take nothing and to give no tree, if it was
-pub record State : Type 0 where
-  pub tasks : List OnTask
-  pub place : ℕ
-  pub table : Table
-  pub forest : List Tree
-  pub rest : List TrailItem
-  pub entered : List ℕ
-  pub marks : List ℕ
-  pub known : List (Option ℕ)
-
--- what doing a task comes to
-pub data Turn : Type 0 where
-  on : State → Turn
-  -- at this place, with these items left
-  stops : Mismatch → ℕ → List TrailItem → Turn
-  -- nothing is left to do
-  ended : State → Turn
-
-abbrev pub told : Option Halt → State → Turn
-told None s = on s
-told (Some (Stopped why)) s = stops why s.place s.rest
-told (Some Ended) s = ended s
-
--- one task more
-abbrev pub with_task : OnTask → State → State
-with_task t s = record { tasks = t ∷ s.tasks; place = s.place; table = s.table; forest = s.forest; rest = s.rest; entered = s.entered; marks = s.marks; known = s.known }
-
--- other marks
-abbrev pub with_marks : List ℕ → State → State
-with_marks marks s = record { tasks = s.tasks; place = s.place; table = s.table; forest = s.forest; rest = s.rest; entered = s.entered; marks = marks; known = s.known }
-
--- the trees and the table changed
-abbrev pub with_forest : List Tree → Table → State → State
-with_forest forest table s = record { tasks = s.tasks; place = s.place; table = table; forest = forest; rest = s.rest; entered = s.entered; marks = s.marks; known = s.known }
-
--- the rules that are open changed
-abbrev pub with_entered : List ℕ → State → State
-with_entered entered s = record { tasks = s.tasks; place = s.place; table = s.table; forest = s.forest; rest = s.rest; entered = entered; marks = s.marks; known = s.known }
-
--- what is known of rules changed
-abbrev pub with_known : List (Option ℕ) → State → State
-with_known known s = record { tasks = s.tasks; place = s.place; table = s.table; forest = s.forest; rest = s.rest; entered = s.entered; marks = s.marks; known = known }
-
--- an item was taken
-abbrev pub after_item : List TrailItem → State → State
-after_item rest s = record { tasks = s.tasks; place = s.place; table = s.table; forest = s.forest; rest = rest; entered = []; marks = s.marks; known = s.known }
-
--- at another place, where no rule is open unless it is the same
-abbrev pub moved_to : ℕ → State → State
-moved_to place s = record { tasks = s.tasks; place = place; table = s.table; forest = s.forest; rest = s.rest; entered = if s.place == place then s.entered else []; marks = s.marks; known = s.known }
-
--- without the newest, if there is one
-abbrev pub without_newest : List ℕ → List ℕ
-without_newest [] = []
-without_newest (newest ∷ others) = others
+pub use Rattle.pg_replay.specs.States.{Chain, OnTask, node, parts, rounds, more_rounds, links, operand, fold, marked, operator_symbol, application, unmark, close, leave, State, Turn, on, stops, ended, told, with_task, with_marks, with_forest, with_entered, with_known, with_blank, after_item, moved_to, without_newest, with_tasks}
 
 -- ---- leaves
 
@@ -233,7 +138,7 @@ step_task builders p (an_application o) = application builders o
 
 -- the tasks come before the others
 abbrev pub with_steps : OperatorBuilders → ℕ → List Step → State → State
-with_steps builders p steps s = record { tasks = map (step_task builders p) steps ++ s.tasks; place = s.place; table = s.table; forest = s.forest; rest = s.rest; entered = s.entered; marks = s.marks; known = s.known }
+with_steps builders p steps s = record { tasks = map (step_task builders p) steps ++ s.tasks; place = s.place; table = s.table; forest = s.forest; rest = s.rest; entered = s.entered; marks = s.marks; known = s.known; blank = s.blank }
 
 -- the steps of the tree that fits, if there is one
 abbrev pub steps_turn : OperatorBuilders → ℕ → Option (List Step) → List TrailItem → State → Turn
@@ -317,19 +222,46 @@ rule_turn r (Some named) s = if is_known r s then on s
     else if is_entered r s.entered then stops ItemDiffers s.place s.rest
     else on (with_task (node named.body) (with_task (leave r s.place (length s.forest) (length s.rest)) (with_entered (r ∷ s.entered) s)))
 
-abbrev pub form_turn : Grammar → List ℕ → Node → State → Turn
-form_turn g text (form.Leaf l) s = leaf_turn g text l s
-form_turn g text (form.Seq ps) s = on (with_task (parts ps) s)
-form_turn g text (form.Choice ps) s = choice_turn ps s.rest s
-form_turn g text (form.Many p) s = many_turn p s.rest s
-form_turn g text (form.Chain side used p q) s = chain_turn (record { side = side; used = used; part = p; separator = q }) s.rest s
-form_turn g text (form.Rule r) s = rule_turn r (slice_get g.rules r) s
-form_turn g text (form.Expression builders p) s = expression_turn g builders p s.rest s
-form_turn g text (form.Around k p) s = on (with_task (node p) (with_task (close k s.place (length s.forest) (length s.table.operators)) s))
+-- ---- forms around a part
 
-abbrev pub node_turn : Grammar → List ℕ → Option Node → State → Turn
-node_turn g text None s = stops ItemDiffers s.place s.rest
-node_turn g text (Some n) s = form_turn g text n s
+-- a form that is known to take nothing here and to make an empty leaf of it isn't gone along again
+abbrev pub around_turn : Around → (node part : ℕ) → State → Turn
+around_turn k p q s = if is_place s.place (slice_get s.blank p) then on (with_forest (s.forest ++ leaf_of [] ∷ []) s.table s)
+    else on (with_task (node q) (with_task (close k p s.place (length s.forest) (length s.table.operators) (length s.rest)) s))
+
+-- whether the shape joins texts to a leaf
+abbrev pub joins : Shape → Bool
+joins (shaped.Node label) = false
+joins shaped.Symbol = false
+joins shaped.Join = true
+joins (shaped.Flat label) = false
+
+-- whether the form makes an empty leaf of a part that takes nothing
+abbrev pub makes_empty_leaf : Around → Bool
+makes_empty_leaf kind.Try = false
+makes_empty_leaf kind.Text = true
+makes_empty_leaf kind.Skip = false
+makes_empty_leaf (kind.Build used symbol) = joins used.shape
+makes_empty_leaf (kind.Label message) = false
+makes_empty_leaf kind.Local = false
+
+-- what is known after the form at a node, whose part began there
+abbrev pub blank_after : Around → (node place items : ℕ) → State → List (Option ℕ)
+blank_after k p place items s = if makes_empty_leaf k && ((place == s.place) && (items == length s.rest)) then set s.blank p (Some s.place) else s.blank
+
+abbrev pub form_turn : Grammar → List ℕ → ℕ → Node → State → Turn
+form_turn g text p (form.Leaf l) s = leaf_turn g text l s
+form_turn g text p (form.Seq ps) s = on (with_task (parts ps) s)
+form_turn g text p (form.Choice ps) s = choice_turn ps s.rest s
+form_turn g text p (form.Many q) s = many_turn q s.rest s
+form_turn g text p (form.Chain side used q r) s = chain_turn (record { side = side; used = used; part = q; separator = r }) s.rest s
+form_turn g text p (form.Rule r) s = rule_turn r (slice_get g.rules r) s
+form_turn g text p (form.Expression builders q) s = expression_turn g builders q s.rest s
+form_turn g text p (form.Around k q) s = around_turn k p q s
+
+abbrev pub node_turn : Grammar → List ℕ → ℕ → Option Node → State → Turn
+node_turn g text p None s = stops ItemDiffers s.place s.rest
+node_turn g text p (Some n) s = form_turn g text p n s
 
 abbrev pub parts_turn : List ℕ → State → Turn
 parts_turn [] s = on s
@@ -383,28 +315,25 @@ closed_table kind.Local operators table = first_operators operators table
 abbrev pub closed_forest : Around → List ℕ → ℕ → ℕ → ℕ → List Tree → List Tree
 closed_forest k text from to trees forest = take trees forest ++ made_by k text from to (drop trees forest)
 
-abbrev pub close_turn : List ℕ → Around → ℕ → ℕ → ℕ → State → Turn
-close_turn text k place trees operators s = on (with_forest (closed_forest k text place s.place trees s.forest) (closed_table k operators s.table) s)
+abbrev pub close_turn : List ℕ → Around → (node place trees operators items : ℕ) → State → Turn
+close_turn text k p place trees operators items s =
+    on (with_blank (blank_after k p place items s) (with_forest (closed_forest k text place s.place trees s.forest) (closed_table k operators s.table) s))
 
 -- doing the task, after which the others are left
 abbrev pub turn : Grammar → List ℕ → OnTask → State → Turn
-turn g text (node p) s = node_turn g text (slice_get g.nodes p) s
+turn g text (node p) s = node_turn g text p (slice_get g.nodes p) s
 turn g text (parts ps) s = parts_turn ps s
 turn g text (rounds p n) s = rounds_turn p n s
 turn g text (more_rounds p n place trees items) s = more_turn p n place trees items s
 turn g text (links c n trees) s = links_turn c n trees s
 turn g text (operand c n trees) s = operand_turn c n trees s
 turn g text (fold used trees) s = fold_turn used trees s
-turn g text (close k place trees operators) s = close_turn text k place trees operators s
+turn g text (close k p place trees operators items) s = close_turn text k p place trees operators items s
 turn g text (marked p) s = on (with_task (node p) (with_marks (length s.forest ∷ s.marks) s))
 turn g text (operator_symbol o) s = symbol_turn g text g.operators o s
 turn g text (application builders o) s = application_turn builders o s
 turn g text unmark s = on (with_marks (without_newest s.marks) s)
 turn g text (leave r place trees items) s = leave_turn r place trees items s
-
--- the tasks, without the first
-abbrev pub with_tasks : List OnTask → State → State
-with_tasks tasks s = record { tasks = tasks; place = s.place; table = s.table; forest = s.forest; rest = s.rest; entered = s.entered; marks = s.marks; known = s.known }
 
 -- doing the next task
 abbrev pub turn_by : Grammar → List ℕ → List OnTask → State → Turn

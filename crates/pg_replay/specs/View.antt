@@ -16,12 +16,12 @@ task_of (task.Rounds part left) = rounds part left
 task_of (task.MoreRounds part left place trees items) = more_rounds part left place trees items
 task_of (task.Links side used part separator left trees) = links (record { side = side; used = used.now; part = part; separator = separator }) left trees
 task_of (task.Operand side used part separator left trees) = operand (record { side = side; used = used.now; part = part; separator = separator }) left trees
-task_of (task.Fold used trees) = fold used.now trees
+task_of (task.Fold side used trees) = fold used.now trees
 task_of (task.Term p) = marked p
 task_of (task.Symbol o) = operator_symbol o.now
 task_of (task.Application builders o) = application builders.now o.now
 task_of task.Unmark = unmark
-task_of (task.Close around place trees operators) = close around.now place trees operators
+task_of (task.Close around p place trees operators items) = close around.now p place trees operators items
 task_of (task.Leave rule place trees items) = leave rule place trees items
 
 -- the next task stands last in the code
@@ -42,4 +42,5 @@ state_of r = record {
   entered = reverse r.entered.items;
   marks = reverse r.marks.items;
   known = r.known.items;
+  blank = r.blank.items;
 }

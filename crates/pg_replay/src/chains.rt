@@ -6,7 +6,7 @@ ghost use Rattle.pg_replay.specs.View.{state_of, chain_of};
 
 use crate::fault::Mismatch;
 use crate::replayer::Replayer;
-use crate::step::build;
+use crate::step::{build, build_stretch};
 use crate::task::{Chain, Halt};
 use pg_form::{BuilderUse, Side};
 use pg_value::TrailItem;
@@ -14,13 +14,18 @@ use std::alloc::{AllocError, Global};
 
 impl<'a> Replayer<'a> {
     /// The next item counts the rounds; the first operand comes before them.
-    pub(crate) fn begin_chain(&mut self, chain: &Chain<'a>) -> Result<Option<Halt>, AllocError>
+    pub(crate) fn begin_chain(
+        &mut self,
+        alloc: Global,
+        chain: &Chain<'a>,
+    ) -> Result<Option<Halt>, AllocError>
         ensures { IfOk result (λ halt. told halt (state_of self.new) ≡ chain_turn (chain_of chain.now) self.old.rest.now (state_of self.old)) }
     {
         match self.rest.split_first() {
             Some((TrailItem::Rounds(left), rest)) => {
                 let (left, trees) = (*left, self.forest.len());
                 self.take_item(rest);
+                self.forest.open(alloc)?;
                 self.push_links(chain, left, trees)?;
                 self.go_on(chain.part)
             }
@@ -40,6 +45,7 @@ impl<'a> Replayer<'a> {
         ensures { IfOk result (λ halt. told halt (state_of self.new) ≡ links_turn (chain_of chain.now) left trees (state_of self.old)) }
     {
         if left == 0 {
+            self.forest.close(trees)?;
             return Ok(None);
         }
         let left = left - 1;
@@ -50,19 +56,21 @@ impl<'a> Replayer<'a> {
     /// The operand, and then the folding and the other rounds.
     pub(crate) fn operand(
         &mut self,
+        alloc: Global,
         chain: &Chain<'a>,
         left: usize,
         trees: usize,
     ) -> Result<Option<Halt>, AllocError>
         ensures { IfOk result (λ halt. told halt (state_of self.new) ≡ operand_turn (chain_of chain.now) left trees (state_of self.old)) }
     {
-        self.push_after_operand(chain, left, trees)?;
+        self.push_after_operand(alloc, chain, left, trees)?;
         self.go_on(chain.part)
     }
 
     /// From the left the operand is folded with all before it first, and from the right with all after it, last.
     fn push_after_operand(
         &mut self,
+        alloc: Global,
         chain: &Chain<'a>,
         left: usize,
         trees: usize,
@@ -72,11 +80,12 @@ impl<'a> Replayer<'a> {
         match chain.side {
             Side::Left => {
                 self.push_links(chain, left, trees)?;
-                self.push_fold(chain.used, trees)
+                self.push_fold(chain.side, chain.used, trees)
             }
             Side::Right => {
                 let later = self.forest.len();
-                self.push_fold(chain.used, trees)?;
+                self.forest.open(alloc)?;
+                self.push_fold(chain.side, chain.used, trees)?;
                 self.push_links(chain, left, later)
             }
         }
@@ -86,12 +95,16 @@ impl<'a> Replayer<'a> {
     pub(crate) fn fold(
         &mut self,
         alloc: Global,
+        side: Side,
         used: &BuilderUse,
         trees: usize,
     ) -> Result<Option<Halt>, AllocError>
         ensures { IfOk result (λ halt. told halt (state_of self.new) ≡ fold_turn used.now trees (state_of self.old)) }
     {
-        build(alloc, &used.shape, "", trees, &mut self.forest)?;
+        match side {
+            Side::Left => build_stretch(alloc, &used.shape, "", trees, &mut self.forest)?,
+            Side::Right => build(alloc, &used.shape, "", trees, &mut self.forest)?,
+        }
         Ok(None)
     }
 }

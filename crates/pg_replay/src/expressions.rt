@@ -8,7 +8,7 @@ ghost use Rattle.pg_replay.specs.View.{state_of};
 use crate::fault::Mismatch;
 use crate::operators::{operator_end, utf8};
 use crate::replayer::Replayer;
-use crate::step::build;
+use crate::step::build_stretch;
 use crate::task::Halt;
 use pg_fitting::{Step, fitting_steps};
 use pg_form::{BuilderUse, NodeId, OperatorBuilders};
@@ -171,7 +171,7 @@ impl<'a> Replayer<'a> {
     {
         let trees = self.newest_mark();
         let symbol = utf8(alloc, symbol)?;
-        build(alloc, &used.shape, symbol.as_str(), trees, &mut self.forest)
+        build_stretch(alloc, &used.shape, symbol.as_str(), trees, &mut self.forest)
     }
 }
 

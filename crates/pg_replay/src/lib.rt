@@ -1,6 +1,7 @@
 //! Going along a trail over a text, with no search, to the tree of the derivation that it was kept of.
 #![tactic(auto)]
 
+mod around;
 mod chains;
 mod expressions;
 mod fault;

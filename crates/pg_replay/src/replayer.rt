@@ -5,9 +5,9 @@ ghost use Rattle.pg_replay.specs.Tasks.{node as one_node, parts as all_parts, ro
 ghost use Rattle.pg_replay.specs.View.{state_of, chain_of};
 
 use crate::task::{Chain, Task};
-use pg_form::{Around, BuilderUse, NodeId, OperatorBuilders, RuleId};
+use pg_form::{Around, BuilderUse, NodeId, OperatorBuilders, RuleId, Side};
 use pg_table::Table;
-use pg_tree::Forest;
+use pg_tree::ForestTape;
 use pg_value::{AppliedOperator, TrailItem};
 use std::alloc::{AllocError, Global};
 
@@ -19,7 +19,7 @@ pub struct Replayer<'a> {
     pub place: usize,
     /// The operators in force there.
     pub table: Table,
-    pub forest: Forest,
+    pub forest: ForestTape,
     /// The items that aren't taken yet.
     pub rest: &'a [TrailItem],
     /// The rules that were entered since something was last taken, and that haven't ended; the newest last.
@@ -29,6 +29,9 @@ pub struct Replayer<'a> {
     /// For each rule, by its number, the place where its body was last found to take nothing from text and trail and to give no
     /// tree, if it was: there it does so again.
     pub known: Vec<Option<usize>>,
+    /// For each node, by its number, the place where the form there was last found to take nothing and to make an empty leaf of
+    /// it, if it was.
+    pub blank: Vec<Option<usize>>,
 }
 
 impl<'a> Replayer<'a> {
@@ -125,11 +128,16 @@ impl<'a> Replayer<'a> {
 
     /// The folding of the trees after so many is.
     #[tactic(auto, using(crate::proofs::Stack::task_pushed))]
-    pub(crate) fn push_fold(&mut self, used: &'a BuilderUse, trees: usize) -> Result<(), AllocError>
+    pub(crate) fn push_fold(
+        &mut self,
+        side: Side,
+        used: &'a BuilderUse,
+        trees: usize,
+    ) -> Result<(), AllocError>
         ensures { OnOk result (state_of self.new ≡ with_task (one_fold used.now trees) (state_of self.old)) }
     {
         self.tasks.reserve(1)?;
-        self.tasks.push_reserved(Task::Fold { used, trees });
+        self.tasks.push_reserved(Task::Fold { side, used, trees });
         Ok(())
     }
 
@@ -178,22 +186,25 @@ impl<'a> Replayer<'a> {
         Ok(())
     }
 
-    /// What the form makes of its part is, with so many operators before it.
+    /// What the form at the node makes of its part is, which begins here with so many operators before it.
     #[tactic(auto, using(crate::proofs::Stack::task_pushed))]
     pub(crate) fn push_close(
         &mut self,
+        node: NodeId,
         around: &'a Around,
         operators: usize,
     ) -> Result<(), AllocError>
-        ensures { OnOk result (state_of self.new ≡ with_task (close around.now self.old.place (length self.old.forest) operators) (state_of self.old)) }
+        ensures { OnOk result (state_of self.new ≡ with_task (close around.now node self.old.place (length self.old.forest) operators (length self.old.rest.now)) (state_of self.old)) }
     {
-        let (place, trees) = (self.place, self.forest.len());
+        let (place, trees, items) = (self.place, self.forest.len(), self.rest.len());
         self.tasks.reserve(1)?;
         self.tasks.push_reserved(Task::Close {
             around,
+            node,
             place,
             trees,
             operators,
+            items,
         });
         Ok(())
     }
@@ -268,22 +279,34 @@ impl<'a> Replayer<'a> {
     {
         let _rule = self.entered.pop();
     }
+
     /// The next operand begins.
     #[tactic(auto, using(crate::proofs::Stack::rule_entered))]
-    pub(crate) fn mark(&mut self) -> Result<(), AllocError>
+    pub(crate) fn mark(&mut self, alloc: Global) -> Result<(), AllocError>
         ensures { OnOk result (state_of self.new ≡ with_marks (length self.old.forest ∷ reverse self.old.marks.items) (state_of self.old)) }
     {
         let trees = self.forest.len();
+        self.forest.open(alloc)?;
         self.marks.push(trees)?;
         Ok(())
     }
 
-    /// The newest operand is one with the operand before it, or ends.
+    /// The newest operand is one with the operand before it, or ends the expression.
     #[tactic(auto, using(crate::proofs::Stack::rule_left))]
     pub(crate) fn unmark(&mut self)
         ensures { state_of self.new ≡ with_marks (without_newest (reverse self.old.marks.items)) (state_of self.old) }
     {
         let _mark = self.marks.pop();
+    }
+
+    /// The last operand is all of the expression.
+    pub(crate) fn end_operand(&mut self) -> Result<(), AllocError>
+        ensures { OnOk result (state_of self.new ≡ with_marks (without_newest (reverse self.old.marks.items)) (state_of self.old)) }
+    {
+        let trees = self.newest_mark();
+        self.forest.close(trees)?;
+        self.unmark();
+        Ok(())
     }
 
     /// How many trees there are before the newest operand.

@@ -2,17 +2,15 @@
 
 ghost use Rattle.std.specs.Prelude.{◌≡◌, ◌==◌, ◌∷◌, ◌++◌, [], slice_get, length, take, drop, reverse, Some, IfOk, OnOk, option_copied};
 ghost use Rattle.pg_tree.specs.Built.{built};
-ghost use Rattle.pg_language.specs.Derives.{span};
-ghost use Rattle.pg_replay.specs.Tasks.{on, told, node as one_node, close, with_task, node_turn, form_turn, choice_turn, numbered_turn, rule_turn, leave_turn, is_entered, parts_turn, closed_table, closed_forest, close_turn, turn, next_turn};
+ghost use Rattle.pg_replay.specs.Tasks.{on, told, node as one_node, with_task, node_turn, form_turn, choice_turn, numbered_turn, rule_turn, leave_turn, is_entered, parts_turn, turn, next_turn};
 ghost use Rattle.pg_replay.specs.View.{state_of, task_of};
 
 use crate::fault::Mismatch;
 use crate::replayer::Replayer;
-use crate::task::{Chain, Halt, Task};
-use pg_form::{Around, Form, Node, NodeId, RuleId};
-use pg_table::Table;
+use crate::task::{Chain, Closing, Halt, Task};
+use pg_form::{Form, Node, NodeId, RuleId};
 use pg_text::Text;
-use pg_tree::{Forest, Shape, built};
+use pg_tree::{Forest, ForestTape, Shape, built};
 use pg_value::{Grammar, TrailItem};
 use std::alloc::{AllocError, Global};
 
@@ -84,25 +82,37 @@ impl<'a> Replayer<'a> {
                     part,
                     separator,
                 };
-                self.operand(&chain, left, trees)
+                self.operand(alloc, &chain, left, trees)
             }
-            Task::Fold { used, trees } => self.fold(alloc, used, trees),
+            Task::Fold { side, used, trees } => self.fold(alloc, side, used, trees),
             Task::Term(part) => {
-                self.mark()?;
+                self.mark(alloc)?;
                 self.go_on(part)
             }
             Task::Symbol(operator) => Ok(self.symbol(grammar, text, operator)),
             Task::Application { builders, operator } => self.apply(alloc, builders, operator),
             Task::Unmark => {
-                self.unmark();
+                self.end_operand()?;
                 Ok(None)
             }
             Task::Close {
                 around,
+                node,
                 place,
                 trees,
                 operators,
-            } => self.close(alloc, text, around, place, trees, operators),
+                items,
+            } => {
+                let closing = Closing {
+                    around,
+                    node,
+                    place,
+                    trees,
+                    operators,
+                    items,
+                };
+                self.close(alloc, text, &closing)
+            }
             Task::Leave {
                 rule,
                 place,
@@ -124,7 +134,7 @@ impl<'a> Replayer<'a> {
         node: NodeId,
     ) -> Result<Option<Halt>, AllocError>
         ensures { IfOk result (λ halt. told halt (state_of self.new) ≡
-            node_turn grammar.now text.now (slice_get grammar.now.nodes node) (state_of self.old)) }
+            node_turn grammar.now text.now node (slice_get grammar.now.nodes node) (state_of self.old)) }
     {
         match node_at(grammar.nodes(), node.index()) {
             Some(form) => self.enter_form(alloc, grammar, text, node, form),
@@ -142,7 +152,7 @@ impl<'a> Replayer<'a> {
         form: &'a Node,
     ) -> Result<Option<Halt>, AllocError>
         requires { slice_get grammar.now.nodes node ≡ Some form.now }
-        ensures { IfOk result (λ halt. told halt (state_of self.new) ≡ form_turn grammar.now text.now form.now (state_of self.old)) }
+        ensures { IfOk result (λ halt. told halt (state_of self.new) ≡ form_turn grammar.now text.now node form.now (state_of self.old)) }
     {
         match form {
             Form::Leaf(leaf) => self.leaf(alloc, grammar, text, node, leaf),
@@ -153,13 +163,16 @@ impl<'a> Replayer<'a> {
             Form::Choice(parts) => self.choose(parts.as_slice()),
             Form::Many(part) => self.begin_rounds(*part),
             Form::Rule(rule) => self.enter_rule(grammar, *rule),
-            Form::Around(around, part) => self.enter_around(around, *part),
-            Form::Chain(side, used, part, separator) => self.begin_chain(&Chain {
-                side: *side,
-                used,
-                part: *part,
-                separator: *separator,
-            }),
+            Form::Around(around, part) => self.enter_around(alloc, node, around, *part),
+            Form::Chain(side, used, part, separator) => {
+                let chain = Chain {
+                    side: *side,
+                    used,
+                    part: *part,
+                    separator: *separator,
+                };
+                self.begin_chain(alloc, &chain)
+            }
             Form::Expression(builders, part) => self.begin_expression(
                 alloc, grammar, builders, *part,
             ),
@@ -247,16 +260,6 @@ impl<'a> Replayer<'a> {
         is_among(self.entered.as_slice(), rule)
     }
 
-    /// A form around a part: the part, and then what is made of it.
-    fn enter_around(&mut self, around: &'a Around, part: NodeId) -> Result<Option<Halt>, AllocError>
-        ensures { IfOk result (λ halt. told halt (state_of self.new) ≡
-            on (with_task (one_node part) (with_task (close around.now self.old.place (length self.old.forest) (length self.old.table.operators)) (state_of self.old)))) }
-    {
-        let operators = self.table.operators().len();
-        self.push_close(around, operators)?;
-        self.go_on(part)
-    }
-
     /// The first part, and then the others.
     fn part(&mut self, parts: &'a [NodeId]) -> Result<Option<Halt>, AllocError>
         ensures { IfOk result (λ halt. told halt (state_of self.new) ≡ parts_turn parts.now (state_of self.old)) }
@@ -269,32 +272,6 @@ impl<'a> Replayer<'a> {
             None => Ok(None),
         }
     }
-
-    /// What the form makes of its part, which began at the place, with so many trees and operators before it.
-    fn close(
-        &mut self,
-        alloc: Global,
-        text: &Text,
-        around: &Around,
-        place: usize,
-        trees: usize,
-        operators: usize,
-    ) -> Result<Option<Halt>, AllocError>
-        ensures { IfOk result (λ halt. told halt (state_of self.new) ≡
-            close_turn text.now around.now place trees operators (state_of self.old)) }
-    {
-        close_forest(
-            alloc,
-            text,
-            around,
-            place,
-            self.place,
-            trees,
-            &mut self.forest,
-        )?;
-        close_table(around, operators, &mut self.table);
-        Ok(None)
-    }
 }
 
 /// The node with this number, if there is one.
@@ -304,63 +281,42 @@ fn node_at(nodes: &[Node], number: usize) -> Option<&Node>
     nodes.get(number)
 }
 
-/// What a form makes of the trees after so many.
-fn close_forest(
-    alloc: Global,
-    text: &Text,
-    around: &Around,
-    from: usize,
-    to: usize,
-    trees: usize,
-    forest: &mut Forest,
-) -> Result<(), AllocError>
-    ensures { OnOk result (forest.new ≡ closed_forest around.now text.now from to trees forest.old) }
-{
-    match around {
-        Around::Try | Around::Label(_) | Around::Local => Ok(()),
-        Around::Text => {
-            forest.cut(trees.min(forest.len()));
-            forest.push_leaf(span(text.characters(), from, to))?;
-            Ok(())
-        }
-        Around::Skip => {
-            forest.cut(trees.min(forest.len()));
-            Ok(())
-        }
-        Around::Build(used, symbol) => build(alloc, &used.shape, symbol.as_str(), trees, forest),
-    }
-}
-
-/// The characters between the places.
-fn span(characters: &[char], from: usize, to: usize) -> &[char]
-    ensures { result.now ≡ span characters.now from to }
-{
-    let to = to.min(characters.len());
-    &characters[from.min(to)..to]
-}
-
 /// The trees after so many are made into one.
 pub(crate) fn build(
     alloc: Global,
     shape: &Shape,
     symbol: &str,
     trees: usize,
-    forest: &mut Forest,
+    forest: &mut ForestTape,
 ) -> Result<(), AllocError>
     ensures { OnOk result (forest.new ≡ take trees forest.old ++ built shape.now symbol.now (drop trees forest.old) ∷ []) }
 {
-    let kids = forest.split_off(trees.min(forest.len()))?;
+    let kids = kids_after(alloc, trees, forest)?;
     forest.push(built(alloc, shape, symbol, kids)?)
 }
 
-/// What was declared in a part ends with `local`.
-fn close_table(around: &Around, operators: usize, table: &mut Table)
-    ensures { table.new ≡ closed_table around.now operators table.old }
+/// The same, and the tree begins a stretch: it is taken again where an operator or a link comes before or after it, without being
+/// gone through.
+pub(crate) fn build_stretch(
+    alloc: Global,
+    shape: &Shape,
+    symbol: &str,
+    trees: usize,
+    forest: &mut ForestTape,
+) -> Result<(), AllocError>
+    ensures { OnOk result (forest.new ≡ take trees forest.old ++ built shape.now symbol.now (drop trees forest.old) ∷ []) }
 {
-    match around {
-        Around::Try | Around::Text | Around::Skip | Around::Build(_, _) | Around::Label(_) => {}
-        Around::Local => table.cut(operators),
-    }
+    let kids = kids_after(alloc, trees, forest)?;
+    forest.open(alloc)?;
+    forest.push(built(alloc, shape, symbol, kids)?)
+}
+
+/// Takes the trees after so many.
+fn kids_after(alloc: Global, trees: usize, forest: &mut ForestTape) -> Result<Forest, AllocError>
+    ensures forest { OnOk result (forest.new ≡ take trees forest.old) }
+    ensures kids { IfOk result (λ kids. kids ≡ drop trees forest.old) }
+{
+    forest.split_off(alloc, trees.min(forest.len()))
 }
 
 /// Whether the rule is one of these.

@@ -13,6 +13,18 @@ pub struct Chain<'a> {
     pub separator: NodeId,
 }
 
+/// A form around a part: its node, the place where the part began, with so many trees and operators before it and so many items
+/// left.
+#[derive(Drop)]
+pub struct Closing<'a> {
+    pub around: &'a Around,
+    pub node: NodeId,
+    pub place: usize,
+    pub trees: usize,
+    pub operators: usize,
+    pub items: usize,
+}
+
 /// What is left to do: a node, or the rest of one that was entered.
 #[derive(Drop)]
 pub enum Task<'a> {
@@ -51,8 +63,9 @@ pub enum Task<'a> {
         left: usize,
         trees: usize,
     },
-    /// The trees after so many are made into one.
+    /// The trees after so many are made into one; from the left that one is folded again.
     Fold {
+        side: Side,
         used: &'a BuilderUse,
         trees: usize,
     },
@@ -67,12 +80,15 @@ pub enum Task<'a> {
     },
     /// The last operand ends the expression.
     Unmark,
-    /// What a form makes of its part, which began at the place, with so many trees and operators before it.
+    /// What the form at a node makes of its part, which began at the place, with so many trees and operators before it and so
+    /// many items left.
     Close {
         around: &'a Around,
+        node: NodeId,
         place: usize,
         trees: usize,
         operators: usize,
+        items: usize,
     },
     /// The body of a rule ends, which began at the place, with so many trees before it and so many items left.
     Leave {

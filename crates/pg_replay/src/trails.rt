@@ -15,7 +15,7 @@ use crate::task::Halt;
 use pg_form::NodeId;
 use pg_table::Table;
 use pg_text::Text;
-use pg_tree::Forest;
+use pg_tree::{Forest, ForestTape};
 use pg_value::{Grammar, Trail};
 use std::alloc::{AllocError, Global};
 
@@ -99,11 +99,12 @@ fn begin<'a>(
         tasks: Vec::new(alloc),
         place: 0,
         table: table.copy(alloc)?,
-        forest: Forest::new(alloc),
+        forest: ForestTape::new(alloc),
         rest: trail.items(),
         entered: Vec::new(alloc),
         marks: Vec::new(alloc),
         known: vec![in alloc; None; grammar.rules().len()]?,
+        blank: vec![in alloc; None; grammar.nodes().len()]?,
     };
     replayer.enter_body(grammar.start_rule())?;
     replayer.push_node(body)?;
@@ -120,7 +121,8 @@ fn halted(replayer: Replayer<'_>, text: &Text, halt: Halt) -> Result<Forest, Rep
         Halt::Stopped(why) => Err(ReplayFault::Stopped(Stop { why, place, left })),
         Halt::Ended => {
             if place == text.len() && left == 0 {
-                return Ok(replayer.forest);
+                let forest = replayer.forest.into_forest()?;
+                return Ok(forest);
             }
             let why = Mismatch::LeftOver;
             Err(ReplayFault::Stopped(Stop { why, place, left }))

@@ -1,0 +1,10 @@
+pub mod Found
+pub mod Parts
+pub mod Classes
+pub mod Words
+pub mod Rules
+pub mod Starts
+pub mod Claims
+pub mod Lists
+pub mod Written
+pub mod Again

@@ -1,0 +1,5 @@
+pub mod Readings
+pub mod Claims
+pub mod Certificates
+pub mod Values
+pub mod Fitting

@@ -1,0 +1,3 @@
+pub mod OneByOne
+pub mod Origin
+pub mod Standing

@@ -1,0 +1,175 @@
+//! Forms around a part: the part, and then what is made of what it gave.
+
+ghost use Rattle.std.specs.Prelude.{◌≡◌, ◌∷◌, ◌++◌, [], length, set, slice_get, Some, IfOk, OnOk};
+ghost use Rattle.pg_language.specs.Derives.{span};
+ghost use Rattle.pg_replay.specs.Tasks.{told, with_blank, is_place, around_turn, joins, makes_empty_leaf, blank_after, closed_table, closed_forest, close_turn};
+ghost use Rattle.pg_replay.specs.View.{state_of};
+
+use crate::replayer::Replayer;
+use crate::step::build;
+use crate::task::{Closing, Halt};
+use pg_form::{Around, NodeId};
+use pg_table::Table;
+use pg_text::Text;
+use pg_tree::{ForestTape, Shape};
+use std::alloc::{AllocError, Global};
+
+impl<'a> Replayer<'a> {
+    /// The part, and then what is made of it, unless the form at this node is known to take nothing here and to make an empty
+    /// leaf of it.
+    pub(crate) fn enter_around(
+        &mut self,
+        alloc: Global,
+        node: NodeId,
+        around: &'a Around,
+        part: NodeId,
+    ) -> Result<Option<Halt>, AllocError>
+        ensures { IfOk result (λ halt. told halt (state_of self.new) ≡ around_turn around.now node part (state_of self.old)) }
+    {
+        if self.is_blank(node) {
+            self.forest.push_leaf(&[])?;
+            return Ok(None);
+        }
+        let operators = self.table.operators().len();
+        open_forest(alloc, around, &mut self.forest)?;
+        self.push_close(node, around, operators)?;
+        self.go_on(part)
+    }
+
+    /// What the form makes of its part.
+    pub(crate) fn close(
+        &mut self,
+        alloc: Global,
+        text: &Text,
+        closing: &Closing<'a>,
+    ) -> Result<Option<Halt>, AllocError>
+        ensures { IfOk result (λ halt. told halt (state_of self.new) ≡
+            close_turn text.now closing.now.around.now closing.now.node closing.now.place closing.now.trees closing.now.operators closing.now.items (state_of self.old)) }
+    {
+        let Closing {
+            around,
+            node,
+            place,
+            trees,
+            operators,
+            items,
+        } = closing;
+        close_forest(
+            alloc,
+            text,
+            around,
+            *place,
+            self.place,
+            *trees,
+            &mut self.forest,
+        )?;
+        close_table(around, *operators, &mut self.table);
+        self.note_blank(around, *node, *place, *items);
+        Ok(None)
+    }
+
+    /// Where nothing was taken and an empty leaf is made of that, this is known from then on.
+    fn note_blank(&mut self, around: &Around, node: NodeId, place: usize, items: usize)
+        ensures { state_of self.new ≡ with_blank (blank_after around.now node place items (state_of self.old)) (state_of self.old) }
+    {
+        if makes_empty_leaf(around) && place == self.place && items == self.rest.len() {
+            self.keep_blank(node);
+        }
+    }
+
+    /// Here the form at the node takes nothing and makes an empty leaf of it.
+    fn keep_blank(&mut self, node: NodeId)
+        ensures { state_of self.new ≡ with_blank (set self.old.blank.items node (Some self.old.place)) (state_of self.old) }
+    {
+        let number = node.index();
+        if number < self.blank.len() {
+            self.blank[number] = Some(self.place);
+        }
+    }
+
+    /// Whether it is known to do so here.
+    fn is_blank(&self, node: NodeId) -> bool
+        ensures { result ≡ is_place self.now.place (slice_get self.now.blank.items node) }
+    {
+        match self.blank.get(node.index()) {
+            Some(Some(place)) => *place == self.place,
+            Some(None) | None => false,
+        }
+    }
+}
+
+/// Whether the form makes an empty leaf of a part that takes nothing.
+fn makes_empty_leaf(around: &Around) -> bool
+    ensures { result ≡ makes_empty_leaf around.now }
+{
+    match around {
+        Around::Text => true,
+        Around::Build(used, _) => joins(&used.shape),
+        Around::Try | Around::Skip | Around::Label(_) | Around::Local => false,
+    }
+}
+
+/// Whether the shape joins texts to a leaf.
+fn joins(shape: &Shape) -> bool
+    ensures { result ≡ joins shape.now }
+{
+    match shape {
+        Shape::Join => true,
+        Shape::Node(_) | Shape::Symbol | Shape::Flat(_) => false,
+    }
+}
+
+/// Where a form builds a tree, the trees that it is built of begin here.
+fn open_forest(alloc: Global, around: &Around, forest: &mut ForestTape) -> Result<(), AllocError>
+    ensures { forest.new ≡ forest.old }
+{
+    match around {
+        Around::Try | Around::Text | Around::Skip | Around::Label(_) | Around::Local => Ok(()),
+        Around::Build(_, _) => forest.open(alloc),
+    }
+}
+
+/// What a form makes of the trees after so many.
+fn close_forest(
+    alloc: Global,
+    text: &Text,
+    around: &Around,
+    from: usize,
+    to: usize,
+    trees: usize,
+    forest: &mut ForestTape,
+) -> Result<(), AllocError>
+    ensures { OnOk result (forest.new ≡ closed_forest around.now text.now from to trees forest.old) }
+{
+    match around {
+        Around::Try | Around::Label(_) | Around::Local => Ok(()),
+        Around::Text => {
+            forest.cut(trees.min(forest.len()));
+            forest.push_leaf(span(text.characters(), from, to))?;
+            Ok(())
+        }
+        Around::Skip => {
+            forest.cut(trees.min(forest.len()));
+            Ok(())
+        }
+        Around::Build(used, symbol) => build(alloc, &used.shape, symbol.as_str(), trees, forest),
+    }
+}
+
+/// The characters between the places.
+fn span(characters: &[char], from: usize, to: usize) -> &[char]
+    ensures { result.now ≡ span characters.now from to }
+{
+    let to = to.min(characters.len());
+    &characters[from.min(to)..to]
+}
+
+/// What was declared in a part ends with `local`.
+fn close_table(around: &Around, operators: usize, table: &mut Table)
+    ensures { table.new ≡ closed_table around.now operators table.old }
+{
+    match around {
+        Around::Try | Around::Text | Around::Skip | Around::Build(_, _) | Around::Label(_) => {}
+        Around::Local => table.cut(operators),
+    }
+}

@@ -1,0 +1,5 @@
+pub mod OnePass
+pub mod Locality
+pub mod Covered
+pub mod Enough
+pub mod Costly

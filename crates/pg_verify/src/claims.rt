@@ -1,0 +1,37 @@
+//! What is claimed of a rule, by its number.
+
+ghost use Rattle.std.specs.Prelude.{◌≡◌};
+ghost use Rattle.pg_verify.specs.Claimed.{claimed_nullable, claimed_rank, claimed_cost};
+
+use pg_certificate::RuleClaim;
+use pg_form::RuleId;
+
+/// Whether the rule is claimed to be nullable; one without a claim isn't.
+pub fn claimed_nullable(claims: &[RuleClaim], rule: RuleId) -> bool
+    ensures { result ≡ claimed_nullable claims.now rule }
+{
+    match claims.get(rule.index()) {
+        Some(claim) => claim.nullable,
+        None => false,
+    }
+}
+
+/// The rank that is claimed of the rule; 0 for one without a claim.
+pub fn claimed_rank(claims: &[RuleClaim], rule: RuleId) -> u32
+    ensures { result ≡ claimed_rank claims.now rule }
+{
+    match claims.get(rule.index()) {
+        Some(claim) => claim.rank,
+        None => 0,
+    }
+}
+
+/// The cost that is claimed of the rule's body; 0 for one without a claim.
+pub fn claimed_cost(claims: &[RuleClaim], rule: RuleId) -> u64
+    ensures { result ≡ claimed_cost claims.now rule }
+{
+    match claims.get(rule.index()) {
+        Some(claim) => claim.cost,
+        None => 0,
+    }
+}
