@@ -78,6 +78,7 @@ ESCAPED = {"n": "\n", "t": "\t", "r": "\r", '"': '"', "\\": "\\"}
 BASE_FORMS = "satisfy string seq choice many chainl1 chainr1 try notFollowedBy eof word expr declare text skip build label local"
 SHORT_FORMS = "many1 option between sepBy sepBy1 endBy"
 FORMS = (BASE_FORMS + " " + SHORT_FORMS).split()
+MOST_OPERATORS = 64
 BUILDERS = {"chainl1": 1, "chainr1": 1, "build": 1, "expr": 3}
 
 
@@ -99,7 +100,8 @@ def characters_of(literal):
 
 
 class Grammar:
-    """Word items, operators, gap and start as they are read; rules as pairs of a name and the number of a node.
+    """Word items, operators, gap, how many operators there may be and start as they are read; rules as pairs of a name and the
+    number of a node.
 
     A node is a triple of a form's word, the numbers of its parts, and what else the form has.
     """
@@ -108,6 +110,7 @@ class Grammar:
         self.words = {}
         self.operators = None
         self.gap = None
+        self.most_operators = 0
         self.start = None
         self.rules = {}
         self.nodes = []
@@ -180,8 +183,7 @@ class Reader:
         self.take("name", "gap")
         self.grammar.gap = (0, self.class_expression())
         self.grammar.operators = (2, operator, operator, self.reserved())
-        if self.taken("name", "max"):
-            self.take("number")
+        self.grammar.most_operators = int(self.take("number")) if self.taken("name", "max") else MOST_OPERATORS
 
     def reserved(self):
         """The reserved texts, in their order; their set is what matters."""

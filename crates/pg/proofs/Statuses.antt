@@ -1,26 +1,30 @@
 -- What is answered from bytes to bytes has the exit status that says so.
-use Rattle.std.proofs.Common.{◌≡◌, ℕ, List, Bool, true, false, Option, sym, subst, inl, inr}
+use Rattle.std.proofs.Common.{◌≡◌, ◌⊎◌, ℕ, List, Bool, true, false, Option, Result, Ok, Err, sym, subst, inl, inr}
+use Rattle.std.specs.Prelude.{IfErr, OnOk}
+use Rattle.std.specs.String.{string_bytes}
 use Rattle.pg_pred.specs.Offer.{Offer}
 use Rattle.pg_language.specs.declared.reading.Reading.{Reading}
 use Rattle.pg_grammar_bench.specs.Checking.{IsChecked}
-use Rattle.pg_grammar_bench.specs.Faults.{IsPageRefusal, IfRefused, IfParseError}
+use Rattle.pg_grammar_bench.specs.Faults.{IsPageRefusal, IsVerifyRefusal, IfNotVerified, IfRefused, IfParseError}
 use Rattle.pg_grammar_bench.specs.Files.{AreFindingsOf}
+use Rattle.pg_bench.specs.declared.done.Done.{Done}
 use Rattle.pg_bench.specs.Parsed.{IsParsed, IsErrorOf}
 use Rattle.pg_grammar_bench.specs.Printing.{IsPrinted}
 use Rattle.pg_bench.specs.Probing.{IsProbed}
 use Rattle.pg_bench.specs.Replaying.{IsReplayed}
 use Rattle.pg_grammar_bench.specs.Showing.{IsShownFile}
+use Rattle.pg_grammar_bench.specs.Verifying.{IsVerifiedFile, IsVerdictOf}
 use Rattle.pg_grammar_bench.specs.declared.fault.BenchFault.{BenchFault}
-use Rattle.pg_grammar_bench.specs.declared.fault.BenchFault.TheVariants.{File, Refused, Reader, NotUtf8, TooLong, NotATrail, ParseError, Writer, Memory}
-use Rattle.pg.specs.Status.{status_of, IsStatus, yes, no, unusable, out_of_memory, Refuses, IsCheckStatus, IsParseStatus, IsProbeStatus, IsReplayStatus, IsPrintStatus}
+use Rattle.pg_grammar_bench.specs.declared.fault.BenchFault.TheVariants.{File, Refused, Reader, NotUtf8, TooLong, NotATrail, NotVerified, ParseError, Writer, Memory}
+use Rattle.pg.specs.Status.{status_of, status_of_verdict, IsStatus, yes, no, unusable, out_of_memory, Refuses, IsCheckStatus, IsParseStatus, IsProbeStatus, IsReplayStatus, IsPrintStatus, IsVerifyStatus}
 
 -- ---- a check
 
-pub accepted_status : (offer : Offer) (file : List ℕ) (writer held : Option (List ℕ)) → IsChecked offer file writer held true → IsCheckStatus offer file 0
-accepted_status offer file writer held h = yes (h.said, h.judged)
+pub accepted_status : (offer : Offer) (file : List ℕ) (asked : Bool) (writer held : Option (List ℕ)) → IsChecked offer file asked writer held true → IsCheckStatus offer file 0
+accepted_status offer file asked writer held h = yes (asked, h.said, h.judged)
 
-pub refused_status : (offer : Offer) (file : List ℕ) (writer held : Option (List ℕ)) → IsChecked offer file writer held false → IsCheckStatus offer file 1
-refused_status offer file writer held h = no (h.said, h.judged)
+pub refused_status : (offer : Offer) (file : List ℕ) (asked : Bool) (writer held : Option (List ℕ)) → IsChecked offer file asked writer held false → IsCheckStatus offer file 1
+refused_status offer file asked writer held h = no (asked, h.said, h.judged)
 
 pub check_fault_status : (offer : Offer) (file : List ℕ) (fault : BenchFault) (status : ℕ) → IsPageRefusal fault → status ≡ status_of fault
     → IsCheckStatus offer file status
@@ -32,26 +36,47 @@ check_fault_status offer file fault status h is = subst (IsCheckStatus offer fil
     own Memory h = out_of_memory
     own _ h = absurd h
 
+-- ---- a judgement of a certificate
+
+pub verdict_status : {T : Type 0} (offer : Offer) (file certificate : List ℕ) (verdict : Result T BenchFault) (status : ℕ)
+    → OnOk verdict (IsVerifiedFile offer file certificate) → IfErr verdict IsVerifyRefusal → IfErr verdict (IfNotVerified (IsVerdictOf offer file certificate))
+    → (status ≡ 2) ⊎ (status ≡ status_of_verdict verdict) → IsVerifyStatus offer file certificate status
+verdict_status offer file certificate verdict status ok refusal refuted (inl failed) = subst (IsVerifyStatus offer file certificate) (sym failed) unusable
+verdict_status offer file certificate verdict status ok refusal refuted (inr is) = subst (IsVerifyStatus offer file certificate) (sym is) (own verdict ok refusal refuted)
+  where
+    of : (f : BenchFault) → IsVerifyRefusal f → IfNotVerified (IsVerdictOf offer file certificate) f → IsVerifyStatus offer file certificate (status_of f)
+    of (File f) h k = unusable
+    of (NotVerified verdict) h k = no (string_bytes verdict, k)
+    of Memory h k = out_of_memory
+    of _ h k = absurd h
+
+    own : {T : Type 0} (v : Result T BenchFault) → OnOk v (IsVerifiedFile offer file certificate) → IfErr v IsVerifyRefusal
+        → IfErr v (IfNotVerified (IsVerdictOf offer file certificate)) → IsVerifyStatus offer file certificate (status_of_verdict v)
+    own (Ok x) ok h k = yes ok
+    own (Err f) ok h k = of f h k
+
 -- ---- a parse
 
-pub parsed_status : (offer : Offer) (file : List ℕ) (reader left : Option (List ℕ)) (with_trail : Bool) (writer held : Option (List ℕ))
-    → IsParsed offer file reader left with_trail writer held → IsParseStatus offer file reader 0
-parsed_status offer file reader left with_trail writer held h = yes (left, h.forest, h.trail, h.parsed)
+pub parsed_status : (offer : Offer) (file : List ℕ) (reader left : Option (List ℕ)) (with_trail : Bool) (writer held : Option (List ℕ)) (done : Done)
+    → IsParsed offer file reader left with_trail writer held done → IsParseStatus offer file reader 0
+parsed_status offer file reader left with_trail writer held done h = yes (left, h.forest, h.trail, done, h.parsed)
 
 pub parse_fault_status : (offer : Offer) (file : List ℕ) (reader left : Option (List ℕ)) (fault : BenchFault) (status : ℕ) → IfRefused (AreFindingsOf offer file) fault
-    → IfParseError (IsErrorOf offer file reader left) fault → status ≡ status_of fault → IsParseStatus offer file reader status
-parse_fault_status offer file reader left fault status findings error is = subst (IsParseStatus offer file reader) (sym is) (own fault findings error)
+    → IfParseError (IsErrorOf offer file reader left) fault → IfNotVerified (λ verdict. ⊥) fault → status ≡ status_of fault → IsParseStatus offer file reader status
+parse_fault_status offer file reader left fault status findings error judged is = subst (IsParseStatus offer file reader) (sym is) (own fault findings error judged)
   where
-    own : (f : BenchFault) → IfRefused (AreFindingsOf offer file) f → IfParseError (IsErrorOf offer file reader left) f → IsParseStatus offer file reader (status_of f)
-    own (Refused refused) h k = no (inl (refused.findings, h))
-    own (ParseError e) h k = no (inr (left, e, k))
-    own Memory h k = out_of_memory
-    own (File f) h k = unusable
-    own Reader h k = unusable
-    own NotUtf8 h k = unusable
-    own TooLong h k = unusable
-    own NotATrail h k = unusable
-    own Writer h k = unusable
+    own : (f : BenchFault) → IfRefused (AreFindingsOf offer file) f → IfParseError (IsErrorOf offer file reader left) f → IfNotVerified (λ verdict. ⊥) f
+        → IsParseStatus offer file reader (status_of f)
+    own (Refused refused) h k v = no (inl (refused.findings, h))
+    own (ParseError e) h k v = no (inr (left, e, k))
+    own (NotVerified verdict) h k v = absurd v
+    own Memory h k v = out_of_memory
+    own (File f) h k v = unusable
+    own Reader h k v = unusable
+    own NotUtf8 h k v = unusable
+    own TooLong h k v = unusable
+    own NotATrail h k v = unusable
+    own Writer h k v = unusable
 
 -- ---- a probe
 
@@ -77,19 +102,20 @@ stopped_status offer file reader left writer held name trail h = no (left, h.sai
 
 -- a fault by which neither a grammar nor a text is refused
 pub shown_fault_status : (Yes No : Type 0) (fault : BenchFault) (status : ℕ)
-    → IfRefused (λ findings. ⊥) fault → IfParseError (λ error. ⊥) fault → status ≡ status_of fault → IsStatus Yes No status
-shown_fault_status Yes No fault status findings error is = subst (IsStatus Yes No) (sym is) (own fault findings error)
+    → IfRefused (λ findings. ⊥) fault → IfParseError (λ error. ⊥) fault → IfNotVerified (λ verdict. ⊥) fault → status ≡ status_of fault → IsStatus Yes No status
+shown_fault_status Yes No fault status findings error judged is = subst (IsStatus Yes No) (sym is) (own fault findings error judged)
   where
-    own : (f : BenchFault) → IfRefused (λ findings. ⊥) f → IfParseError (λ error. ⊥) f → IsStatus Yes No (status_of f)
-    own (Refused refused) h k = absurd h
-    own (ParseError e) h k = absurd k
-    own Memory h k = out_of_memory
-    own (File f) h k = unusable
-    own Reader h k = unusable
-    own NotUtf8 h k = unusable
-    own TooLong h k = unusable
-    own NotATrail h k = unusable
-    own Writer h k = unusable
+    own : (f : BenchFault) → IfRefused (λ findings. ⊥) f → IfParseError (λ error. ⊥) f → IfNotVerified (λ verdict. ⊥) f → IsStatus Yes No (status_of f)
+    own (Refused refused) h k v = absurd h
+    own (ParseError e) h k v = absurd k
+    own (NotVerified verdict) h k v = absurd v
+    own Memory h k v = out_of_memory
+    own (File f) h k v = unusable
+    own Reader h k v = unusable
+    own NotUtf8 h k v = unusable
+    own TooLong h k v = unusable
+    own NotATrail h k v = unusable
+    own Writer h k v = unusable
 
 -- ---- what prints a grammar or its sets
 

@@ -1,5 +1,5 @@
 -- What the program answers to its caller: the exit status, and what that says of the files.
-use Rattle.std.specs.Prelude.{ℕ, List, Bool, true, false, Option, ◌⊎◌}
+use Rattle.std.specs.Prelude.{ℕ, List, Bool, true, false, Option, Result, Ok, Err, ◌⊎◌}
 use Rattle.pg_message.specs.declared.error.ParseError as message
 use Rattle.pg_tree.specs.Trees.{Tree}
 use Rattle.pg_value.specs.declared.trail.TrailItem.{TrailItem}
@@ -8,14 +8,16 @@ use Rattle.pg_language.specs.declared.reading.Reading.{Reading}
 use Rattle.pg_predict.specs.Findings.{Finding}
 use Rattle.pg_grammar_bench.specs.Checking.{IsJudgedFile}
 use Rattle.pg_grammar_bench.specs.Files.{AreFindingsOf, SpellsAny}
+use Rattle.pg_grammar_bench.specs.Verifying.{IsVerifiedFile, IsVerdictOf}
+use Rattle.pg_bench.specs.declared.done.Done.{Done}
 use Rattle.pg_bench.specs.Parsed.{IsForestOf, IsErrorOf}
 use Rattle.pg_bench.specs.Probing.{IsShown}
 use Rattle.pg_bench.specs.Showing.{IsShownBy}
 use Rattle.pg_bench.specs.Replaying.{IsReplayOfText}
 use Rattle.pg_grammar_bench.specs.declared.fault.BenchFault.{BenchFault}
-use Rattle.pg_grammar_bench.specs.declared.fault.BenchFault.TheVariants.{File, Refused, Reader, NotUtf8, TooLong, NotATrail, ParseError, Writer, Memory}
+use Rattle.pg_grammar_bench.specs.declared.fault.BenchFault.TheVariants.{File, Refused, Reader, NotUtf8, TooLong, NotATrail, NotVerified, ParseError, Writer, Memory}
 
--- the exit status of a fault: 1 if the grammar isn't accepted or the text isn't the grammar's, 2 if something can't be used, 3 if memory ran out
+-- the exit status of a fault: 1 if the grammar isn't accepted, a certificate doesn't show that it is, or the text isn't the grammar's, 2 if something can't be used, 3 if memory ran out
 abbrev pub status_of : BenchFault → ℕ
 status_of (File fault) = 2
 status_of (Refused refused) = 1
@@ -23,9 +25,15 @@ status_of Reader = 2
 status_of NotUtf8 = 2
 status_of TooLong = 2
 status_of NotATrail = 2
+status_of (NotVerified verdict) = 1
 status_of (ParseError error) = 1
 status_of Writer = 2
 status_of Memory = 3
+
+-- and of what is found of a certificate
+abbrev pub status_of_verdict : {T : Type 0} → Result T BenchFault → ℕ
+status_of_verdict (Ok x) = 0
+status_of_verdict (Err fault) = status_of fault
 
 -- the exit status of a command: yes, no, something can't be used, or memory ran out
 pub data IsStatus (Yes No : Type 0) : ℕ → Type 0 where
@@ -36,15 +44,19 @@ pub data IsStatus (Yes No : Type 0) : ℕ → Type 0 where
 
 -- the check of a grammar file says this
 abbrev pub Judges : Offer → List ℕ → Bool → Type 0
-Judges offer file accepted = (said : List ℕ) × IsJudgedFile offer file accepted said
+Judges offer file accepted = (asked : Bool) × (said : List ℕ) × IsJudgedFile offer file asked accepted said
 
 -- of a check: whether the grammar is accepted
 abbrev pub IsCheckStatus : Offer → List ℕ → ℕ → Type 0
 IsCheckStatus offer file = IsStatus (Judges offer file true) (Judges offer file false)
 
--- the grammar is accepted, and derives the reader's text
+-- of a judgement of a certificate: it shows that the grammar is accepted, or this is why it doesn't
+abbrev pub IsVerifyStatus : Offer → List ℕ → List ℕ → ℕ → Type 0
+IsVerifyStatus offer file certificate = IsStatus (IsVerifiedFile offer file certificate) ((said : List ℕ) × IsVerdictOf offer file certificate said)
+
+-- the grammar is accepted, and derives the reader's text, within so many steps
 abbrev pub DerivesReader : Offer → List ℕ → Option (List ℕ) → Type 0
-DerivesReader offer file reader = (left : Option (List ℕ)) × (forest : List Tree) × (trail : List TrailItem) × IsForestOf offer file reader left forest trail
+DerivesReader offer file reader = (left : Option (List ℕ)) × (forest : List Tree) × (trail : List TrailItem) × (done : Done) × IsForestOf offer file reader left forest trail done
 
 -- it isn't accepted, or doesn't derive the reader's text
 abbrev pub Refuses : Offer → List ℕ → Option (List ℕ) → Type 0

@@ -5,7 +5,7 @@ use Rattle.pg_predict.specs.Findings.{lines_of}
 use Rattle.pg.specs.declared.reporting.Names.{Names}
 use Rattle.pg_grammar_bench.specs.Texts.{fault_text}
 use Rattle.pg_grammar_bench.specs.declared.fault.BenchFault.{BenchFault}
-use Rattle.pg_grammar_bench.specs.declared.fault.BenchFault.TheVariants.{File, Refused, Reader, NotUtf8, TooLong, NotATrail, ParseError, Writer, Memory}
+use Rattle.pg_grammar_bench.specs.declared.fault.BenchFault.TheVariants.{File, Refused, Reader, NotUtf8, TooLong, NotATrail, NotVerified, ParseError, Writer, Memory}
 
 -- the names of the files of a run, as bytes
 pub record FileNames : Type 0 where
@@ -24,6 +24,7 @@ front_of Reader names = names.text ++ codes ": "
 front_of NotUtf8 names = names.text ++ codes ": "
 front_of TooLong names = names.text ++ codes ": "
 front_of NotATrail names = names.trail ++ codes ": "
+front_of (NotVerified verdict) names = []
 front_of (ParseError error) names = names.text ++ codes ": "
 front_of Writer names = []
 front_of Memory names = []
@@ -41,6 +42,7 @@ report_of Reader names = line_of Reader names
 report_of NotUtf8 names = line_of NotUtf8 names
 report_of TooLong names = line_of TooLong names
 report_of NotATrail names = line_of NotATrail names
+report_of (NotVerified verdict) names = line_of (NotVerified verdict) names
 report_of (ParseError error) names = printed error names.text
 report_of Writer names = line_of Writer names
 report_of Memory names = line_of Memory names

@@ -7,12 +7,14 @@
 ghost use Rattle.std.specs.Prelude.{IfOk};
 ghost use Rattle.pg_pred.specs.Offer.{offer_of};
 ghost use Rattle.pg_registry.specs.ProgramOffer.{IsProgramOffer};
-ghost use Rattle.pg.specs.Status.{IsCheckStatus, IsParseStatus, IsProbeStatus, IsReplayStatus, IsPrintStatus};
+ghost use Rattle.pg.specs.Status.{IsCheckStatus, IsParseStatus, IsProbeStatus, IsReplayStatus, IsPrintStatus, IsVerifyStatus};
 
-use crate::files::{grammar_alone, inputs, inputs_with_trail};
-use crate::printing::{UNUSABLE, print_report};
+use crate::files::{grammar_alone, grammar_with_certificate, inputs, inputs_with_trail};
+use crate::printing::{UNUSABLE, print_report, print_verdict};
 use crate::reporting::Names;
-use pg_bench::{check_bytes, parse_bytes, print_bytes, probe_bytes, replay_bytes, sets_bytes};
+use pg_bench::{
+    check_bytes, parse_bytes, print_bytes, probe_bytes, replay_bytes, sets_bytes, verify_bytes,
+};
 use pg_language::Reading;
 use pg_pred::Registry;
 use pg_registry::UsesRegistry;
@@ -53,7 +55,14 @@ fn answer<R: AllocGlobal + Files + Print + Eprint>(
     requires { IsProgramOffer (offer_of registry.now) }
 {
     match request {
-        Request::Check { grammar } => check_file(rt, grammar, registry),
+        Request::Check {
+            grammar,
+            certificate,
+        } => check_file(rt, grammar, registry, certificate),
+        Request::Verify {
+            grammar,
+            certificate,
+        } => verify_files(rt, grammar, certificate, registry),
         Request::Parse {
             grammar,
             text,
@@ -82,14 +91,15 @@ fn answer<R: AllocGlobal + Files + Print + Eprint>(
     }
 }
 
-/// Prints whether the grammar in a file is accepted, or what is wrong with it.
+/// Prints whether the grammar in a file is accepted, or its certificate where that is asked for, or what is wrong with it.
 fn check_file<R: AllocGlobal + Files + Print + Eprint>(
     rt: &R,
     grammar: &str,
     registry: &Registry,
+    certificate: bool,
 ) -> Result<u8, AllocError> {
     match grammar_alone(rt, grammar)? {
-        Some(bytes) => check_grammar(rt, bytes.as_slice(), grammar, registry),
+        Some(bytes) => check_grammar(rt, bytes.as_slice(), grammar, registry, certificate),
         None => Ok(UNUSABLE),
     }
 }
@@ -100,15 +110,44 @@ fn check_grammar<R: AllocGlobal + Files + Print + Eprint>(
     bytes: &[u8],
     grammar: &str,
     registry: &Registry,
+    certificate: bool,
 ) -> Result<u8, AllocError>
     ensures { IfOk result (IsCheckStatus (offer_of registry.now) bytes.now) }
 {
     let mut writer = Meter::new(io::writer(rt));
-    match check_bytes(rt.alloc(), bytes, registry, &mut writer) {
+    match check_bytes(rt.alloc(), bytes, registry, &mut writer, certificate) {
         Ok(true) => Ok(0),
         Ok(false) => Ok(NO),
         Err(fault) => print_report(rt, fault, of_grammar(grammar)),
     }
+}
+
+/// Prints whether the certificate in a file shows that the grammar in another is accepted, or why it doesn't.
+fn verify_files<R: AllocGlobal + Files + Print + Eprint>(
+    rt: &R,
+    grammar: &str,
+    certificate: &str,
+    registry: &Registry,
+) -> Result<u8, AllocError> {
+    match grammar_with_certificate(rt, grammar, certificate)? {
+        Some((bytes, claims)) => {
+            verify_grammar(rt, bytes.as_slice(), claims.as_slice(), grammar, registry)
+        }
+        None => Ok(UNUSABLE),
+    }
+}
+
+fn verify_grammar<R: AllocGlobal + Print + Eprint>(
+    rt: &R,
+    bytes: &[u8],
+    certificate: &[u8],
+    grammar: &str,
+    registry: &Registry,
+) -> Result<u8, AllocError>
+    ensures { IfOk result (IsVerifyStatus (offer_of registry.now) bytes.now certificate.now) }
+{
+    let verdict = verify_bytes(rt.alloc(), bytes, registry, certificate);
+    print_verdict(rt, verdict, of_grammar(grammar))
 }
 
 /// Parses the text in a file by the grammar in another.
@@ -148,7 +187,7 @@ fn parse_text<F: Read + Drop, R: AllocGlobal + Files + Print + Eprint>(
     let mut reader = Meter::new(file);
     let mut writer = Meter::new(io::writer(rt));
     match parse_bytes(rt.alloc(), bytes, registry, &mut reader, &mut writer, trail) {
-        Ok(()) => Ok(0),
+        Ok(_) => Ok(0),
         Err(fault) => print_report(rt, fault, of_text(grammar, text)),
     }
 }

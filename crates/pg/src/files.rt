@@ -12,7 +12,7 @@ use std::fs;
 use std::io::Read;
 use std::rt::Files;
 
-/// The most bytes of a grammar file, or of a trail, that are read.
+/// The most bytes of a grammar file, of a trail or of a certificate that are read.
 const READ_LIMIT: usize = 67_108_864;
 
 /// The device that is empty when it is read.
@@ -66,6 +66,28 @@ pub fn inputs_with_trail<R: AllocGlobal + Files + Eprint>(
     };
     match contents(rt, trail_file, trail)? {
         Some(items) => Ok(Some((bytes, text_file, items))),
+        None => Ok(None),
+    }
+}
+
+/// The bytes of the grammar in a file and of a certificate of it in another, which is read after the grammar's. Both are opened before
+/// either is read; none if one can't be, which is printed.
+pub fn grammar_with_certificate<R: AllocGlobal + Files + Eprint>(
+    rt: &R,
+    grammar: &str,
+    certificate: &str,
+) -> Result<Option<(Vec<u8>, Vec<u8>)>, AllocError> {
+    let Some(grammar_file) = opened(rt, grammar) else {
+        return Ok(None);
+    };
+    let Some(certificate_file) = opened(rt, certificate) else {
+        return Ok(None);
+    };
+    let Some(bytes) = contents(rt, grammar_file, grammar)? else {
+        return Ok(None);
+    };
+    match contents(rt, certificate_file, certificate)? {
+        Some(claims) => Ok(Some((bytes, claims))),
         None => Ok(None),
     }
 }

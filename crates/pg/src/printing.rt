@@ -1,11 +1,11 @@
-//! What goes to standard error, and the exit status that goes with it.
+//! What goes to standard error, and what is found of a certificate to standard output, with the exit status that goes with it.
 
-ghost use Rattle.std.specs.Prelude.{◌≡◌, IfOk};
-ghost use Rattle.pg.specs.Status.{status_of};
+ghost use Rattle.std.specs.Prelude.{◌≡◌, ◌⊎◌, IfOk};
+ghost use Rattle.pg.specs.Status.{status_of, status_of_verdict};
 
 use crate::reporting::{Names, status, write_report};
 use pg_bench::BenchFault;
-use pg_tree::{Meter, WriteFault};
+use pg_tree::{Meter, WriteFault, write_bytes};
 use std::alloc::AllocError;
 use std::fmt::Display;
 use std::io;
@@ -36,6 +36,61 @@ fn print_fault<R: AllocGlobal + Eprint>(
     match write_report(rt.alloc(), fault, names, &mut writer) {
         Ok(()) | Err(WriteFault::Writer) => Ok(status(fault)),
         Err(WriteFault::Memory) => Err(AllocError),
+    }
+}
+
+/// Prints what was found of a certificate: `accepted`, or why it shows nothing, on standard output; and every other fault as its report.
+pub fn print_verdict<R: AllocGlobal + Print + Eprint>(
+    rt: &R,
+    verdict: Result<(), BenchFault>,
+    names: Names,
+) -> Result<u8, AllocError>
+    ensures { IfOk result (λ status. (status ≡ UNUSABLE) ⊎ (status ≡ status_of_verdict verdict)) }
+{
+    match verdict {
+        Ok(()) => print_accepted(rt, names),
+        Err(fault) => print_refuted(rt, fault, names),
+    }
+}
+
+/// Prints `accepted`.
+fn print_accepted<R: AllocGlobal + Print + Eprint>(rt: &R, names: Names) -> Result<u8, AllocError>
+    ensures { IfOk result (λ status. (status ≡ UNUSABLE) ⊎ (status ≡ 0)) }
+{
+    let mut writer = Meter::new(io::writer(rt));
+    match write_bytes(b"accepted\n", &mut writer) {
+        Ok(()) => Ok(0),
+        Err(WriteFault::Writer) => print_report(rt, BenchFault::Writer, names),
+        Err(WriteFault::Memory) => Err(AllocError),
+    }
+}
+
+/// Prints why a certificate shows nothing.
+fn print_refuted<R: AllocGlobal + Print + Eprint>(
+    rt: &R,
+    fault: BenchFault,
+    names: Names,
+) -> Result<u8, AllocError>
+    ensures { IfOk result (λ status. (status ≡ UNUSABLE) ⊎ (status ≡ status_of fault)) }
+{
+    match fault {
+        BenchFault::NotVerified(_) => {
+            let mut writer = Meter::new(io::writer(rt));
+            match write_report(rt.alloc(), &fault, names, &mut writer) {
+                Ok(()) => Ok(status(&fault)),
+                Err(WriteFault::Writer) => print_report(rt, BenchFault::Writer, names),
+                Err(WriteFault::Memory) => Err(AllocError),
+            }
+        }
+        BenchFault::File(_)
+        | BenchFault::Refused(_)
+        | BenchFault::Reader
+        | BenchFault::NotUtf8
+        | BenchFault::TooLong
+        | BenchFault::NotATrail
+        | BenchFault::ParseError(_)
+        | BenchFault::Writer
+        | BenchFault::Memory => print_report(rt, fault, names),
     }
 }
 

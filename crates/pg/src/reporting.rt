@@ -49,6 +49,7 @@ pub fn write_report<W: Write>(
         | BenchFault::NotUtf8
         | BenchFault::TooLong
         | BenchFault::NotATrail
+        | BenchFault::NotVerified(_)
         | BenchFault::Writer
         | BenchFault::Memory => write_line(alloc, fault, names, writer),
     }
@@ -97,7 +98,7 @@ pub fn status(fault: &BenchFault) -> u8
     ensures { result ≡ status_of fault.now }
 {
     match fault {
-        BenchFault::Refused(_) | BenchFault::ParseError(_) => 1,
+        BenchFault::Refused(_) | BenchFault::NotVerified(_) | BenchFault::ParseError(_) => 1,
         BenchFault::File(_)
         | BenchFault::Reader
         | BenchFault::NotUtf8
@@ -129,7 +130,7 @@ fn front<'a>(fault: &BenchFault, names: Names<'a>) -> (&'a str, &'static str)
         | BenchFault::TooLong
         | BenchFault::ParseError(_) => (names.text, ": "),
         BenchFault::NotATrail => (names.trail, ": "),
-        BenchFault::Writer | BenchFault::Memory => ("", ""),
+        BenchFault::NotVerified(_) | BenchFault::Writer | BenchFault::Memory => ("", ""),
     }
 }
 

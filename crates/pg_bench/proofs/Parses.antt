@@ -1,5 +1,5 @@
 -- What a run of an accepted grammar says of a text, in terms of the promise and of the bytes that spell the text.
-use Rattle.std.proofs.Common.{◌≡◌, ℕ, List, Option, None, Some, refl, sym, ap, ◌∙◌, subst}
+use Rattle.std.proofs.Common.{◌≡◌, ◌≤◌, ◌+◌, ◌*◌, ℕ, length, List, Option, None, Some, refl, sym, ap, ◌∙◌, subst}
 use Rattle.std.specs.Prelude.{IfSome, IfNone}
 use Rattle.std.specs.Io.KnownBytes.{Consumes, IsAtEnd}
 use Rattle.pg_tree.specs.Meter.{Metered}
@@ -12,11 +12,11 @@ use Rattle.pg_table.specs.Tables as tables
 use Rattle.pg_language.specs.Derives.{DerivesText}
 use Rattle.pg_language.specs.Answers.{given}
 use Rattle.pg_language.specs.Errors.{without_position}
-use Rattle.pg_language.specs.WholeTexts.{AnswersText}
+use Rattle.pg_language.specs.Outcomes.{ok}
 use Rattle.pg_language.specs.declared.reading.Reading.TheVariants.{Library}
 use Rattle.pg_making.specs.Spells.{SpellsWithinLimits}
 use Rattle.pg_machine.specs.CheckedRuns.{IsTextAnswer, IsOnlyDerivation, IsUnderivable}
-use Rattle.pg_machine.specs.Outcomes.{outcome_with}
+use Rattle.pg_machine.specs.Outcomes.{outcome_of, outcome_with}
 use Rattle.pg_machine.specs.declared.answer.Answer.{Answer}
 use Rattle.pg_machine.specs.declared.answer.Success.{Success}
 use Rattle.pg_predict.specs.Checked.{GrammarWithSets, IsChecked}
@@ -28,7 +28,8 @@ use Rattle.pg_bench.specs.Parsed.{IsSpelledBy, IsForestOf, IsForestOfBytes, Read
 use Rattle.pg_bench.specs.Refusals.{IsErrorOfAnswer, IsWell, IsReadRefusal, IsTextRefusal, IsParseRefusal, IsRunRefusal, IsTextFault, IsForestRefusal}
 use Rattle.pg_derive.specs.LeastSets.{node_sets}
 use Rattle.pg_derive.specs.PredictiveLaws.{LosesNoAlternative, EachRoundConsumes, EachLinkConsumes}
-use Rattle.pg_bench.specs.Promise.{IsAccepted, CommitsRightly, IsForestOfText, IsErrorOfText}
+use Rattle.pg_bench.specs.declared.done.Done.{Done}
+use Rattle.pg_bench.specs.Promise.{IsAccepted, IsAnsweredIn, CommitsRightly, IsForestOfText, IsErrorOfText}
 
 pub accepted_grammar : (checked : GrammarWithSets) → IsChecked checked → IsAccepted checked.grammar
 accepted_grammar checked is = record { faultless = is.faultless }
@@ -39,52 +40,75 @@ commits_rightly : (checked : GrammarWithSets) (text : List ℕ) → IsChecked ch
 commits_rightly checked text is choices rounds links =
     record { sets = checked.sets; least = is.sets; choices = choices; rounds = rounds; links = links }
 
-pub found_forest : (checked : GrammarWithSets) (text : List ℕ) (table : Table) (a : Answer) (s : Success) → IsChecked checked
-    → initial checked.grammar ≡ whole table → IfSome a.success (IsOnlyDerivation checked.grammar text table)
+answered_in : (checked : GrammarWithSets) (text : List ℕ) (table : Table) (a : Answer) → IsChecked checked → IsTextAnswer (given Library checked.grammar text) table a
+    → a.steps ≤ checked.cost * (length text + 1) → IsAnsweredIn checked.grammar text table (outcome_of a) (record { steps = a.steps; cost = checked.cost })
+answered_in checked text table a is h few = record {
+  nodes = h.nodes;
+  answers = h.answers;
+  steps = h.steps;
+  cost = record { marks = checked.sets.nullable; nullable = is.sets.nullable; cost = is.cost };
+  few = few;
+}
+
+pub found_forest : (checked : GrammarWithSets) (text : List ℕ) (table : Table) (a : Answer) (s : Success) (done : Done) → IsChecked checked
+    → initial checked.grammar ≡ whole table → IsTextAnswer (given Library checked.grammar text) table a → a.steps ≤ checked.cost * (length text + 1)
+    → IfSome a.success (IsOnlyDerivation checked.grammar text table)
     → LosesNoAlternative (given Library checked.grammar text) (node_sets checked.grammar checked.sets) → EachRoundConsumes (given Library checked.grammar text)
-    → EachLinkConsumes (given Library checked.grammar text) → a.success ≡ Some s → IsForestOfText checked.grammar text s.forest s.trail
-found_forest checked text table a s is initially derived choices rounds links answered =
-    let h = subst (λ o. IfSome o (IsOnlyDerivation checked.grammar text table)) answered derived in
+    → EachLinkConsumes (given Library checked.grammar text) → a.success ≡ Some s → done ≡ record { steps = a.steps; cost = checked.cost }
+    → IsForestOfText checked.grammar text s.forest s.trail done
+found_forest checked text table a s done is initially reply few derived choices rounds links answered took =
+    let g = checked.grammar in
+    let h = subst (λ o. IfSome o (IsOnlyDerivation g text table)) answered derived in
+    let taken : Done = record { steps = a.steps; cost = checked.cost } in
+    let shown = subst (λ o. IsAnsweredIn g text table (outcome_with a.consumed (without_position a.error) o) taken) answered (answered_in checked text table a is reply few) in
     record {
       table = table;
       is_table = initially;
       after = s.table;
+      consumed = a.consumed;
+      error = without_position a.error;
+      answered =
+          subst (IsAnsweredIn g text table (ok a.consumed (record { place = length text; table = s.table }) s.forest s.trail (without_position a.error))) (sym took)
+          (subst (λ (n : ℕ). IsAnsweredIn g text table (ok a.consumed (record { place = n; table = s.table }) s.forest s.trail (without_position a.error)) taken) h.end shown);
       derives = h.derives;
       only = h.only;
       commits = commits_rightly checked text is choices rounds links;
     }
 
 found_error : (checked : GrammarWithSets) (text : List ℕ) (table : Table) (a : Answer) → IsChecked checked → initial checked.grammar ≡ whole table
-    → a.success ≡ None → IsTextAnswer (given Library checked.grammar text) table a → IsUnderivable checked.grammar text table
+    → a.success ≡ None → IsTextAnswer (given Library checked.grammar text) table a → a.steps ≤ checked.cost * (length text + 1) → IsUnderivable checked.grammar text table
     → LosesNoAlternative (given Library checked.grammar text) (node_sets checked.grammar checked.sets) → EachRoundConsumes (given Library checked.grammar text)
     → EachLinkConsumes (given Library checked.grammar text) → IsErrorOfText checked.grammar text a.error
-found_error checked text table a is initially none h underivable choices rounds links =
+found_error checked text table a is initially none h few underivable choices rounds links =
+    let taken : Done = record { steps = a.steps; cost = checked.cost } in
     record {
       table = table;
       is_table = initially;
       none = underivable;
       consumed = a.consumed;
       error = without_position a.error;
-      nodes = h.nodes;
-      answers = subst (λ (s : Option Success). AnswersText (given Library checked.grammar text) table (outcome_with a.consumed (without_position a.error) s) h.nodes) none h.answers;
+      done = taken;
+      answered =
+          subst (λ (s : Option Success). IsAnsweredIn checked.grammar text table (outcome_with a.consumed (without_position a.error) s) taken) none
+          (answered_in checked text table a is h few);
       stands = subst (λ p. record { place = a.error.place; position = p; messages = a.error.messages } ≡ a.error) h.position refl;
       commits = commits_rightly checked text is choices rounds links;
     }
 
 pub found_refused : (checked : GrammarWithSets) (text : List ℕ) (table : Table) (a : Answer) (fault : BenchFault) → IsChecked checked
-    → initial checked.grammar ≡ whole table → IsTextAnswer (given Library checked.grammar text) table a
+    → initial checked.grammar ≡ whole table → IsTextAnswer (given Library checked.grammar text) table a → a.steps ≤ checked.cost * (length text + 1)
     → IfNone a.success (IsUnderivable checked.grammar text table)
     → LosesNoAlternative (given Library checked.grammar text) (node_sets checked.grammar checked.sets) → EachRoundConsumes (given Library checked.grammar text)
     → EachLinkConsumes (given Library checked.grammar text) → IsErrorOfAnswer a fault → IsRunRefusal checked.grammar text fault
-found_refused checked text table a (ParseError error) is initially h refused choices rounds links answered =
+found_refused checked text table a (ParseError error) is initially h few refused choices rounds links answered =
     let underivable = subst (λ o. IfNone o (IsUnderivable checked.grammar text table)) answered.0 refused in
-    subst (IsErrorOfText checked.grammar text) (sym answered.1) (found_error checked text table a is initially answered.0 h underivable choices rounds links)
-found_refused checked text table a _ is initially h refused choices rounds links answered = absurd answered
+    subst (IsErrorOfText checked.grammar text) (sym answered.1) (found_error checked text table a is initially answered.0 h few underivable choices rounds links)
+found_refused checked text table a _ is initially h few refused choices rounds links answered = absurd answered
 
-pub bytes_forest : (g : Grammar) (bytes text : List ℕ) (forest : List Tree) (trail : List TrailItem) → IsSpelledBy bytes text → IsForestOfText g text forest trail
-    → IsForestOfBytes g bytes forest trail
-bytes_forest g bytes text forest trail spelled h =
-    record { utf8 = spelled.utf8; within = spelled.within; text = subst (λ (t : List ℕ). IsForestOfText g t forest trail) spelled.same h }
+pub bytes_forest : (g : Grammar) (bytes text : List ℕ) (forest : List Tree) (trail : List TrailItem) (done : Done) → IsSpelledBy bytes text
+    → IsForestOfText g text forest trail done → IsForestOfBytes g bytes forest trail done
+bytes_forest g bytes text forest trail done spelled h =
+    record { utf8 = spelled.utf8; within = spelled.within; text = subst (λ (t : List ℕ). IsForestOfText g t forest trail done) spelled.same h }
 
 pub bytes_refused : (g : Grammar) (bytes text : List ℕ) (fault : BenchFault) → IsSpelledBy bytes text → IsRunRefusal g text fault
     → IsParseRefusal g bytes fault
@@ -115,9 +139,10 @@ parse_refused g before after reader left bytes (ParseError error) read end well 
 parse_refused g before after reader left bytes Memory read end well h = tt
 parse_refused g before after reader left bytes _ read end well h = absurd h
 
-pub forest_of_file : (offer : Offer) (file : List ℕ) (reader left : Option (List ℕ)) (g : Grammar) (forest : List Tree) (trail : List TrailItem) → SpellsWithinLimits offer file g
-    → IsAccepted g → ReadsText reader left (λ bytes. IsForestOfBytes g bytes forest trail) → IsForestOf offer file reader left forest trail
-forest_of_file offer file reader left g forest trail spelled accepted h =
+pub forest_of_file : (offer : Offer) (file : List ℕ) (reader left : Option (List ℕ)) (g : Grammar) (forest : List Tree) (trail : List TrailItem) (done : Done)
+    → SpellsWithinLimits offer file g → IsAccepted g → ReadsText reader left (λ bytes. IsForestOfBytes g bytes forest trail done)
+    → IsForestOf offer file reader left forest trail done
+forest_of_file offer file reader left g forest trail done spelled accepted h =
     record { grammar = g; spelled = spelled; accepted = accepted; bytes = h.0; read = h.1; end = h.2; is = h.3 }
 
 -- what refuses the grammar of a file
@@ -148,9 +173,9 @@ reading_refused_file offer file before after reader left g _ spelled accepted h 
 -- ---- under a table that is the initial one
 
 -- the text is derived from it
-pub under_table : (g : Grammar) (text : List ℕ) (table : Table) (forest : List Tree) (trail : List TrailItem) → initial g ≡ whole table
-    → IsForestOfText g text forest trail → (after : Table) × DerivesText g text table after forest trail
-under_table g text table forest trail initially h =
+pub under_table : (g : Grammar) (text : List ℕ) (table : Table) (forest : List Tree) (trail : List TrailItem) (done : Done) → initial g ≡ whole table
+    → IsForestOfText g text forest trail done → (after : Table) × DerivesText g text table after forest trail
+under_table g text table forest trail done initially h =
     let same : h.table ≡ table = one_table (sym h.is_table ∙ initially) in
     (h.after, subst (λ (t : Table). DerivesText g text t h.after forest trail) same h.derives)
   where

@@ -12,6 +12,7 @@ use Rattle.pg_value.specs.Grammar.{Grammar}
 use Rattle.pg_value.specs.declared.trail.TrailItem.{TrailItem}
 use Rattle.pg_trails.specs.TrailJson.{trail_json, IsTrailText}
 use Rattle.pg_making.specs.Spells.{SpellsWithinLimits}
+use Rattle.pg_bench.specs.declared.done.Done.{Done}
 use Rattle.pg_bench.specs.Promise.{IsAccepted, IsForestOfText, IsErrorOfText}
 
 -- the bytes spell the text, which isn't too long
@@ -20,11 +21,11 @@ pub record IsSpelledBy (bytes text : List ℕ) : Type 0 where
   pub within : length (chars bytes) ≤ LIMIT
   pub same : text ≡ chars bytes
 
--- the bytes are a text, not too long, and this is its forest by the grammar, derived along this trail
-pub record IsForestOfBytes (g : Grammar) (bytes : List ℕ) (forest : List Tree) (trail : List TrailItem) : Type 0 where
+-- the bytes are a text, not too long, and this is its forest by the grammar, derived along this trail, after so many steps
+pub record IsForestOfBytes (g : Grammar) (bytes : List ℕ) (forest : List Tree) (trail : List TrailItem) (done : Done) : Type 0 where
   pub utf8 : IsUtf8 bytes
   pub within : length (chars bytes) ≤ LIMIT
-  pub text : IsForestOfText g (chars bytes) forest trail
+  pub text : IsForestOfText g (chars bytes) forest trail done
 
 -- or this is its error
 pub record IsErrorOfBytes (g : Grammar) (bytes : List ℕ) (e : message.ParseError) : Type 0 where
@@ -42,9 +43,9 @@ pub record ParsesReader (offer : Offer) (file : List ℕ) (reader left : Option 
   pub end : IsAtEnd left
   pub is : Is grammar bytes
 
--- this is the forest of the reader's whole bytes by the grammar that the file spells, derived along this trail
-abbrev pub IsForestOf : Offer → List ℕ → Option (List ℕ) → Option (List ℕ) → List Tree → List TrailItem → Type 0
-IsForestOf offer file reader left forest trail = ParsesReader offer file reader left (λ g bytes. IsForestOfBytes g bytes forest trail)
+-- this is the forest of the reader's whole bytes by the grammar that the file spells, derived along this trail, after so many steps
+abbrev pub IsForestOf : Offer → List ℕ → Option (List ℕ) → Option (List ℕ) → List Tree → List TrailItem → Done → Type 0
+IsForestOf offer file reader left forest trail done = ParsesReader offer file reader left (λ g bytes. IsForestOfBytes g bytes forest trail done)
 
 -- or this is their error
 abbrev pub IsErrorOf : Offer → List ℕ → Option (List ℕ) → Option (List ℕ) → message.ParseError → Type 0
@@ -64,11 +65,11 @@ abbrev pub IfRead : Bool → List TrailItem → Type 0
 IfRead false trail = Unit {0}
 IfRead true trail = IsTrailText (trail_json trail) trail
 
--- this is the forest, with this trail, and it was written, with the trail where that is asked for
-pub record IsParsed (offer : Offer) (file : List ℕ) (reader left : Option (List ℕ)) (with_trail : Bool) (writer held : Option (List ℕ)) : Type 0 where
+-- this is the forest, with this trail, after so many steps, and it was written, with the trail where that is asked for
+pub record IsParsed (offer : Offer) (file : List ℕ) (reader left : Option (List ℕ)) (with_trail : Bool) (writer held : Option (List ℕ)) (done : Done) : Type 0 where
   pub forest : List Tree
   pub trail : List TrailItem
-  pub parsed : IsForestOf offer file reader left forest trail
+  pub parsed : IsForestOf offer file reader left forest trail done
   pub written : Appends writer held (parse_text with_trail forest trail)
   pub read : IfRead with_trail trail
 
@@ -76,7 +77,8 @@ pub record IsParsed (offer : Offer) (file : List ℕ) (reader left : Option (Lis
 pub record IsPartlyWritten (offer : Offer) (file : List ℕ) (reader left : Option (List ℕ)) (with_trail : Bool) (writer held : Option (List ℕ)) : Type 0 where
   pub forest : List Tree
   pub trail : List TrailItem
-  pub parsed : IsForestOf offer file reader left forest trail
+  pub done : Done
+  pub parsed : IsForestOf offer file reader left forest trail done
   pub written : AppendsPrefix writer held (parse_text with_trail forest trail)
 
 -- the reader's whole bytes have this property

@@ -1,6 +1,6 @@
--- What is promised of a text: it gets a forest exactly where the grammar derives it, and then the only one, and nothing is lost
--- on the way.
-use Rattle.std.specs.Prelude.{◌≡◌, ℕ, List, Bool}
+-- What is promised of a text: it gets a forest exactly where the grammar derives it, and then the only one, within so many steps, and
+-- nothing is lost on the way.
+use Rattle.std.specs.Prelude.{◌≡◌, ◌≤◌, ◌+◌, ◌-◌, ◌*◌, ◌^◌, ℕ, min, List, Bool, length}
 use Rattle.pg_message.specs.declared.error.ParseError.{ParseError}
 use Rattle.pg_tree.specs.Trees.{Tree}
 use Rattle.pg_value.specs.Grammar.{Grammar}
@@ -9,15 +9,16 @@ use Rattle.pg_language.specs.Derives.{DerivesText}
 use Rattle.pg_table.specs.Tables.{Table, initial, whole}
 use Rattle.pg_language.specs.Answers.{given}
 use Rattle.pg_language.specs.Errors.{Error, in_text}
-use Rattle.pg_language.specs.Outcomes.{failed}
+use Rattle.pg_language.specs.Outcomes.{Outcome, ok, failed}
 use Rattle.pg_language.specs.WholeTexts.{AnswersText}
 use Rattle.pg_language.specs.declared.reading.Reading.TheVariants.{Library}
 use Rattle.pg_sets.specs.Sets.{Sets, AreSets}
-use Rattle.pg_predict.specs.Conditions.{IsFaultless}
+use Rattle.pg_predict.specs.Conditions.{IsFaultless, HasStepCost}
 use Rattle.pg_derive.specs.LeastSets.{node_sets}
 use Rattle.pg_derive.specs.PredictiveLaws.{LosesNoAlternative, EachRoundConsumes, EachLinkConsumes}
+use Rattle.pg_bench.specs.declared.done.Done.{Done}
 
--- nothing is wrong at any node of the grammar
+-- nothing is wrong at any node of the grammar, and its step cost is within the limit
 pub record IsAccepted (g : Grammar) : Type 0 where
   pub faultless : IsFaultless g
 
@@ -30,11 +31,24 @@ pub record CommitsRightly (g : Grammar) (text : List ℕ) : Type 0 where
   pub rounds : EachRoundConsumes (given Library g text)
   pub links : EachLinkConsumes (given Library g text)
 
+-- The start rule, with the end after it, answers the text so under the table. It enters some nodes, and a run takes two steps for
+-- each, but one for the first, which are counted up to the greatest number that 64 bits hold. They are no more than the grammar's
+-- step cost for each character of the text and for its end.
+pub record IsAnsweredIn (g : Grammar) (text : List ℕ) (table : Table) (o : Outcome) (done : Done) : Type 0 where
+  pub nodes : ℕ
+  pub answers : AnswersText (given Library g text) table o nodes
+  pub steps : done.steps ≡ min (2 * nodes - 1) (2 ^ 64 - 1)
+  pub cost : HasStepCost g done.cost
+  pub few : done.steps ≤ done.cost * (length text + 1)
+
 -- under the initial table the grammar derives the text to this forest along this trail, and has no second derivation of it
-pub record IsForestOfText (g : Grammar) (text : List ℕ) (forest : List Tree) (trail : List TrailItem) : Type 0 where
+pub record IsForestOfText (g : Grammar) (text : List ℕ) (forest : List Tree) (trail : List TrailItem) (done : Done) : Type 0 where
   pub table : Table
   pub is_table : initial g ≡ whole table
   pub after : Table
+  pub consumed : Bool
+  pub error : Error
+  pub answered : IsAnsweredIn g text table (ok consumed (record { place = length text; table = after }) forest trail error) done
   pub derives : DerivesText g text table after forest trail
   pub only : (other : Table) (others : List Tree) (items : List TrailItem) → DerivesText g text table other others items →
       (after ≡ other) × (forest ≡ others) × (trail ≡ items)
@@ -47,7 +61,7 @@ pub record IsErrorOfText (g : Grammar) (text : List ℕ) (e : ParseError) : Type
   pub none : (after : Table) (forest : List Tree) (trail : List TrailItem) → ¬ (DerivesText g text table after forest trail)
   pub consumed : Bool
   pub error : Error
-  pub nodes : ℕ
-  pub answers : AnswersText (given Library g text) table (failed consumed error) nodes
+  pub done : Done
+  pub answered : IsAnsweredIn g text table (failed consumed error) done
   pub stands : in_text text error ≡ e
   pub commits : CommitsRightly g text

@@ -1,12 +1,14 @@
 //! From bytes to bytes: what the program does with a grammar file and a text, once they are open.
 //!
-//! `parse_bytes` parses the text that a reader gives and writes its forest, `probe_bytes` runs the start rule on it and writes what
-//! Parsec would answer, and `replay_bytes` goes along a trail over it. The crate below has what reads no text: `check_bytes` writes whether a grammar is
-//! accepted, or all that is wrong with it, `print_bytes` writes a grammar in canonical form, and `sets_bytes` its sets. All
-//! contracts speak of the bytes that were read and written and of what these spell, derive and answer. The predicates and
-//! builders that a file may name come in a registry.
+//! `parse_bytes` parses the text that a reader gives, writes its forest and answers how many steps that took, `probe_bytes` runs
+//! the start rule on it and writes what Parsec would answer, and `replay_bytes` goes along a trail over it. The crate below has
+//! what reads no text: `check_bytes` writes whether a grammar is accepted, or all that is wrong with it, `verify_bytes` judges a
+//! certificate, `print_bytes` writes a grammar in canonical form, and `sets_bytes` its sets. All contracts speak of the bytes that
+//! were read and written and of what these spell, derive and answer. The predicates and builders that a file may name come in a
+//! registry.
 #![tactic(auto)]
 
+mod done;
 mod initial;
 mod input;
 mod laws;
@@ -18,8 +20,9 @@ mod showing;
 #[cfg(test)]
 mod tests;
 
+pub use done::Done;
 pub use laws::parsed_trails_replay;
 pub use parse::parse_bytes;
-pub use pg_grammar_bench::{BenchFault, check_bytes, print_bytes, sets_bytes};
+pub use pg_grammar_bench::{BenchFault, check_bytes, print_bytes, sets_bytes, verify_bytes};
 pub use probe::probe_bytes;
 pub use replay::replay_bytes;

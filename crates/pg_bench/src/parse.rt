@@ -16,9 +16,10 @@ ghost use Rattle.pg_making.specs.Spells.{HasInitialTable};
 ghost use Rattle.pg_bench.specs.Promise.{IsAccepted, IsForestOfText};
 ghost use Rattle.pg_grammar_bench.specs.Files.{AreFindingsOf, IsFaultOfFile, SpellsSome};
 ghost use Rattle.pg_bench.specs.Parsed.{IsParsed, IsForestOf, IsForestOfBytes, IsErrorOf, ReadsText, IsPartlyWritten, after_forest, parse_text, IfRead};
-ghost use Rattle.pg_grammar_bench.specs.Faults.{IfRefused, IfParseError, IfNotATrail, IsWriteRefusal, IsBeforeReading, IsAfterFile, IsAfterReading, IfFile, IsBeforeWriting, IsMemory};
+ghost use Rattle.pg_grammar_bench.specs.Faults.{IfRefused, IfParseError, IfNotATrail, IfNotVerified, IsWriteRefusal, IsBeforeReading, IsAfterFile, IsAfterReading, IfFile, IsBeforeWriting, IsMemory};
 ghost use Rattle.pg_bench.specs.Refusals.{IsForestRefusal, IsErrorOfAnswer, IsTextFault, IsParseRefusal, IsRunRefusal, IsWell};
 
+use crate::done::Done;
 use crate::initial::initial_table;
 use crate::input::{read_text, text_of};
 use pg_grammar_bench::{BenchFault, checked_of};
@@ -32,9 +33,18 @@ use pg_value::Trail;
 use std::alloc::{AllocError, Global};
 use std::io::{Read, Write};
 
+/// What a run of a text gives, and what it took.
+#[derive(Drop)]
+struct Parse {
+    success: Success,
+    done: Done,
+}
+
 /// Parses the text that a reader gives by the grammar that a file spells, and writes the forest's JSON and a line feed; `with_trail`
-/// the JSON of the derivation's trail too, and a line feed. Both lines are in memory before the first byte is written. A grammar is run only where nothing is wrong with it. Then a text has a forest exactly where the grammar derives it under
-/// its initial table, it is that forest that is written, and there is no second derivation. The registry has the predicates
+/// the JSON of the derivation's trail too, and a line feed. Both lines are in memory before the first byte is written. A grammar
+/// is run only where nothing is wrong with it. Then a text has a forest exactly where the grammar derives it under its initial
+/// table, it is that forest that is written, and there is no second derivation. What is answered are the steps of the run and
+/// the grammar's step cost: of a text of n characters the steps are at most the cost times n + 1. The registry has the predicates
 /// and builders that the file may name.
 ///
 /// Both meters have to be fresh of failures. The faults come in the order of [`BenchFault`]: a fault of the file, and `Refused`
@@ -49,13 +59,13 @@ pub fn parse_bytes<R: Read, W: Write>(
     reader: &mut Meter<R>,
     writer: &mut Meter<W>,
     with_trail: bool,
-) -> Result<(), BenchFault>
+) -> Result<Done, BenchFault>
     requires reader { reader.old.failed ≡ false }
     requires writer { writer.old.failed ≡ false }
 
     // The whole of the reader's bytes is a text that the grammar derives, in one way, and its forest was written, with the trail
-    // where it is asked for.
-    ensures ok { OnOk result (IsParsed (offer_of registry.now) grammar.now (R.remaining reader.old.inner) (R.remaining reader.new.inner) with_trail
+    // where it is asked for. The steps that it took are within the grammar's step cost for each character and for the end.
+    ensures ok { IfOk result (IsParsed (offer_of registry.now) grammar.now (R.remaining reader.old.inner) (R.remaining reader.new.inner) with_trail
         (W.contents writer.old.inner) (W.contents writer.new.inner)) }
 
     // A fault of the file comes first, and every other one only where the file spells a grammar: one that is refused with all
@@ -81,6 +91,7 @@ pub fn parse_bytes<R: Read, W: Write>(
 
     // No trail is read.
     ensures no_trail { IfErr result (IfNotATrail ⊥) }
+    ensures no_certificate { IfErr result (IfNotVerified (λ verdict. ⊥)) }
 
     // In every other case the reader didn't fail, and didn't give more.
     ensures reader_stays { OnOk result (reader.new.failed ≡ false) }
@@ -98,7 +109,10 @@ pub fn parse_bytes<R: Read, W: Write>(
     ensures asked { reader.new.calls ≤ saturating_sum reader.old.calls (4 * LIMIT + 1) }
 {
     match parse_of_files(alloc, grammar, registry, reader) {
-        Ok(parse) => write_parse(alloc, &parse, with_trail, writer),
+        Ok(parse) => match write_parse(alloc, &parse.success, with_trail, writer) {
+            Ok(()) => Ok(parse.done),
+            Err(fault) => Err(fault),
+        },
         Err(fault) => Err(fault),
     }
 }
@@ -110,9 +124,9 @@ fn parse_of_files<R: Read>(
     grammar: &[u8],
     registry: &Registry,
     reader: &mut Meter<R>,
-) -> Result<Success, BenchFault>
+) -> Result<Parse, BenchFault>
     requires { reader.old.failed ≡ false }
-    ensures ok { IfOk result (λ s. IsForestOf (offer_of registry.now) grammar.now (R.remaining reader.old.inner) (R.remaining reader.new.inner) s.forest s.trail) }
+    ensures ok { IfOk result (λ p. IsForestOf (offer_of registry.now) grammar.now (R.remaining reader.old.inner) (R.remaining reader.new.inner) p.success.forest p.success.trail p.done) }
     ensures well { OnOk result (IsWell reader.old reader.new) }
     ensures err { IfErr result (IsForestRefusal (offer_of registry.now) grammar.now reader.old reader.new
         (R.remaining reader.old.inner) (R.remaining reader.new.inner)) }
@@ -132,12 +146,12 @@ fn parse_of_reader<R: Read>(
     checked: &Checked,
     registry: &Registry,
     reader: &mut Meter<R>,
-) -> Result<Success, BenchFault>
+) -> Result<Parse, BenchFault>
     requires fits { Fits (offer_of registry.now) checked.now.grammar }
     requires table { HasInitialTable checked.now.grammar }
     requires reader { reader.old.failed ≡ false }
-    ensures ok { IfOk result (λ s. ReadsText (R.remaining reader.old.inner) (R.remaining reader.new.inner)
-        (λ bytes. IsForestOfBytes checked.now.grammar bytes s.forest s.trail)) }
+    ensures ok { IfOk result (λ p. ReadsText (R.remaining reader.old.inner) (R.remaining reader.new.inner)
+        (λ bytes. IsForestOfBytes checked.now.grammar bytes p.success.forest p.success.trail p.done)) }
     ensures well { OnOk result (IsWell reader.old reader.new) }
     ensures err { IfErr result (IsTextFault checked.now.grammar reader.old reader.new (R.remaining reader.old.inner) (R.remaining reader.new.inner)) }
     ensures asked { reader.new.calls ≤ saturating_sum reader.old.calls (4 * LIMIT + 1) }
@@ -153,10 +167,10 @@ fn parse_of(
     checked: &Checked,
     registry: &Registry,
     bytes: &[u8],
-) -> Result<Success, BenchFault>
+) -> Result<Parse, BenchFault>
     requires fits { Fits (offer_of registry.now) checked.now.grammar }
     requires table { HasInitialTable checked.now.grammar }
-    ensures ok { IfOk result (λ s. IsForestOfBytes checked.now.grammar bytes.now s.forest s.trail) }
+    ensures ok { IfOk result (λ p. IsForestOfBytes checked.now.grammar bytes.now p.success.forest p.success.trail p.done) }
     ensures err { IfErr result (IsParseRefusal checked.now.grammar bytes.now) }
 {
     let text = text_of(alloc, bytes)?;
@@ -170,27 +184,36 @@ fn parse_of_text(
     checked: &Checked,
     registry: &Registry,
     text: &Text,
-) -> Result<Success, BenchFault>
+) -> Result<Parse, BenchFault>
     requires fits { Fits (offer_of registry.now) checked.now.grammar }
     requires table { HasInitialTable checked.now.grammar }
-    ensures ok { IfOk result (λ s. IsForestOfText checked.now.grammar text.now s.forest s.trail) }
+    ensures ok { IfOk result (λ p. IsForestOfText checked.now.grammar text.now p.success.forest p.success.trail p.done) }
     ensures err { IfErr result (IsRunRefusal checked.now.grammar text.now) }
 {
     let table = initial_table(alloc, checked.grammar())?;
     match run(alloc, checked, text, &table, registry) {
-        Ok(answer) => parse_of_answer(answer),
+        Ok(answer) => parse_of_answer(answer, checked.cost()),
         Err(_) => Err(BenchFault::Memory),
     }
 }
 
-/// What an ok answer gives, or the error of another.
-fn parse_of_answer(answer: Answer) -> Result<Success, BenchFault>
-    ensures ok { IfOk result (λ s. answer.success ≡ Some s) }
+/// What an ok answer gives, with the steps that it took, or the error of another.
+fn parse_of_answer(answer: Answer, cost: u64) -> Result<Parse, BenchFault>
+    ensures ok { IfOk result (λ p. answer.success ≡ Some p.success) }
+    ensures done { IfOk result (λ p. p.done ≡ record { steps = answer.steps; cost = cost }) }
     ensures err { IfErr result (IsErrorOfAnswer answer) }
 {
-    let Answer { error, success, .. } = answer;
+    let Answer {
+        error,
+        steps,
+        success,
+        ..
+    } = answer;
     match success {
-        Some(success) => Ok(success),
+        Some(success) => Ok(Parse {
+            success,
+            done: Done { steps, cost },
+        }),
         None => Err(BenchFault::ParseError(error)),
     }
 }

@@ -6,7 +6,7 @@ ghost use Rattle.pg_pred.specs.Offer.{offer_of};
 ghost use Rattle.pg_tree.specs.Meter.{saturating_sum};
 ghost use Rattle.pg_grammar_bench.specs.Files.{IsFaultOfFile, SpellsAny};
 ghost use Rattle.pg_bench.specs.Parsed.{ReadsText};
-ghost use Rattle.pg_grammar_bench.specs.Faults.{IsAfterFile, IsAfterReading, IsFileFault, IfFile, IfParseError, IfRefused, IfNotATrail, IsMemory, IsBeforeWriting};
+ghost use Rattle.pg_grammar_bench.specs.Faults.{IsAfterFile, IsAfterReading, IsFileFault, IfFile, IfParseError, IfRefused, IfNotATrail, IfNotVerified, IsMemory, IsBeforeWriting};
 ghost use Rattle.pg_bench.specs.Probing.{IsProbed, IsPartlyProbed, is_ok_outcome, outcome_text};
 
 use crate::page::{is_ok, page_of};
@@ -30,8 +30,8 @@ use std::io::{Read, Write};
 /// builders that the file may name.
 ///
 /// Both meters have to be fresh of failures. Any grammar is run. The faults come in the order of [`BenchFault`], without
-/// `Refused` and `ParseError`: a fault of the file before the reader is asked at all; then the reader's, then those of
-/// its bytes, and the writer's. Before the last, and where memory runs out, nothing is written.
+/// `Refused`, `ParseError`, `NotATrail` and `NotVerified`: a fault of the file before the reader is asked at all; then the
+/// reader's, then those of its bytes, and the writer's. Before the last, and where memory runs out, nothing is written.
 pub fn probe_bytes<R: Read, W: Write>(
     alloc: Global,
     grammar: &[u8],
@@ -68,6 +68,7 @@ pub fn probe_bytes<R: Read, W: Write>(
     ensures unchecked { IfErr result (IfRefused (λ findings. ⊥)) }
     ensures parsed { IfErr result (IfParseError (λ error. ⊥)) }
     ensures no_trail { IfErr result (IfNotATrail ⊥) }
+    ensures no_certificate { IfErr result (IfNotVerified (λ verdict. ⊥)) }
 
     // In every other case the reader didn't fail, and didn't give more.
     ensures reader_stays { OnOk result (reader.new.failed ≡ false) }

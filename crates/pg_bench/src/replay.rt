@@ -5,7 +5,7 @@ ghost use Rattle.std.specs.Str.{chars, IsUtf8};
 ghost use Rattle.pg_pred.specs.Offer.{offer_of};
 ghost use Rattle.pg_tree.specs.Meter.{saturating_sum};
 ghost use Rattle.pg_grammar_bench.specs.Files.{IsFaultOfFile, SpellsAny};
-ghost use Rattle.pg_grammar_bench.specs.Faults.{IsAfterFile, IsAfterReading, IsFileFault, IfFile, IfParseError, IfRefused, IsMemory, IsBeforeWriting};
+ghost use Rattle.pg_grammar_bench.specs.Faults.{IsAfterFile, IsAfterReading, IsFileFault, IfFile, IfNotVerified, IfParseError, IfRefused, IsMemory, IsBeforeWriting};
 ghost use Rattle.pg_bench.specs.Parsed.{ReadsText};
 ghost use Rattle.pg_bench.specs.Replaying.{IsReplayed, IsPartlyReplayed, IsNoTrail, Replays, stop_text};
 ghost use Rattle.pg_tree.specs.Json.{json};
@@ -35,7 +35,7 @@ use std::io::{Read, Write};
 /// over; Y4, the operator table doesn't admit a declaration.
 ///
 /// Both meters have to be fresh of failures. Any grammar is gone along. The faults come in the order of [`BenchFault`], without
-/// `Refused` and `ParseError`: a fault of the file before the reader is asked at all; then the reader's, those of its bytes, that the
+/// `Refused`, `NotVerified` and `ParseError`: a fault of the file before the reader is asked at all; then the reader's, those of its bytes, that the
 /// trail's bytes are no trail's JSON, and the writer's. Before the last, and where memory runs out, nothing is written.
 pub fn replay_bytes<R: Read, W: Write>(
     alloc: Global,
@@ -69,9 +69,10 @@ pub fn replay_bytes<R: Read, W: Write>(
         ReadsText (R.remaining reader.old.inner) (R.remaining reader.new.inner) (λ bytes. IsUtf8 bytes × (LIMIT < length (chars bytes))) }
     ensures not_a_trail { IsErrOf result BenchFault.NotATrail → IsNoTrail trail.now }
 
-    // No grammar is refused, and that a trail doesn't lead on is no fault.
+    // No grammar is refused, no certificate judged, and that a trail doesn't lead on is no fault.
     ensures unchecked { IfErr result (IfRefused (λ findings. ⊥)) }
     ensures parsed { IfErr result (IfParseError (λ error. ⊥)) }
+    ensures no_certificate { IfErr result (IfNotVerified (λ verdict. ⊥)) }
 
     // In every other case the reader didn't fail, and didn't give more.
     ensures reader_stays { OnOk result (reader.new.failed ≡ false) }

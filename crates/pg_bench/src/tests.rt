@@ -86,7 +86,8 @@ fn parsed<R: Read, W: Write>(
     };
     match parse_bytes(alloc, grammar, &registry, reader, writer, false) {
         Err(BenchFault::Memory) => Err(AllocError),
-        outcome => Ok(outcome),
+        Ok(_) => Ok(Ok(())),
+        Err(fault) => Ok(Err(fault)),
     }
 }
 

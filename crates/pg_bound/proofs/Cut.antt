@@ -9,13 +9,13 @@ use Rattle.pg_derive.specs.PredictiveLaws.{HasAnswer, is_ok, has_failed}
 use Rattle.pg_derive.proofs.Predicted.{exist}
 use Rattle.pg_derive.proofs.Whole.{start_found}
 use Rattle.pg_derive.specs.LeastSets.{node_sets}
-use Rattle.pg_derive.proofs.Faultless.{accepted}
+use Rattle.pg_predict.proofs.StepCosts.{acyclic}
 use Rattle.pg_bound.specs.Bound.{IsAnswer, AcceptedGrammarsHaveAStepCost, AcceptedStartsComeToAnswers, AcceptedRunsTakeFewSteps}
-use Rattle.pg_bound.proofs.Existing.{step_cost_there}
+use Rattle.pg_costs.proofs.Existing.{step_cost_there}
 use Rattle.pg_bound.proofs.InTime.{accepted_starts, accepted_texts, predicts}
 
 pub accepted_costs : AcceptedGrammarsHaveAStepCost
-accepted_costs g sets grammar least faultless = step_cost_there g grammar (node_sets g sets) (accepted g sets grammar least faultless) sets.nullable (λ p. refl)
+accepted_costs g sets grammar least faultless = step_cost_there g grammar sets least (acyclic g faultless)
 
 -- a number of steps within a product is within it where both are cut off
 cut_within : (m k cost n most : ℕ) → 2 * m ≤ k * (n + 1) → cost ≡ min k most → min (2 * m - 1) most ≤ cost * (n + 1)

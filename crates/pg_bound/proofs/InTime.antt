@@ -25,7 +25,7 @@ use Rattle.pg_derive.proofs.Faultless.{accepted}
 use Rattle.pg_derive.proofs.Predicted.{exist}
 use Rattle.pg_derive.proofs.Readings.{readings_agree}
 use Rattle.pg_derive.proofs.Whole.{is_whole}
-use Rattle.pg_bound.specs.Bound.{HasStepCost, PredictiveStartsAreAnsweredInTime, PredictiveTextsAreAnsweredInTime, AcceptedStartsAreAnsweredInTime, AcceptedTextsAreAnsweredInTime}
+use Rattle.pg_bound.specs.Bound.{HasClaimedStepCost, PredictiveStartsAreAnsweredInTime, PredictiveTextsAreAnsweredInTime, AcceptedStartsAreAnsweredInTime, AcceptedTextsAreAnsweredInTime}
 use Rattle.pg_bound.proofs.Charges.{Charges}
 use Rattle.pg_bound.proofs.Depths.{depth, depth_falls, depth_into, depth_most}
 use Rattle.pg_bound.proofs.Nodes.{is_node, fare}
@@ -118,7 +118,7 @@ never_stuck {o = empty_round} (has_failed c e m run) d = apart (same run d).outc
 in_library : (G : Given) (sets : NodeSets) → Predicts G sets → Predicts (as_read Library G) sets
 in_library G sets h = record { grammar = h.grammar; predictive = h.predictive; text = h.text }
 
-module _ (G : Given) (sets : NodeSets) (h : Predicts G sets) (k : ℕ) (c : HasStepCost G sets k) where
+module _ (G : Given) (sets : NodeSets) (h : Predicts G sets) (k : ℕ) (c : HasClaimedStepCost G sets k) where
   abbrev paying : Charges G.grammar sets
   paying = charges G.grammar h.grammar sets h.predictive c.nullable c.marks k c.cost
 
@@ -159,7 +159,7 @@ predictive_texts G sets h k c = text_within G sets h k c
 pub predicts : (G : Given) (sets : Sets) → Accepts G sets → Predicts G (node_sets G.grammar sets)
 predicts G sets h = record { grammar = h.grammar; predictive = accepted G.grammar sets h.grammar h.least h.faultless; text = h.text }
 
-by_least : (G : Given) (sets : Sets) (k : ℕ) → IsStepCost G.grammar sets.nullable k → HasStepCost G (node_sets G.grammar sets) k
+by_least : (G : Given) (sets : Sets) (k : ℕ) → IsStepCost G.grammar sets.nullable k → HasClaimedStepCost G (node_sets G.grammar sets) k
 by_least G sets k c = record { nullable = sets.nullable; marks = λ p. refl; cost = c }
 
 pub accepted_starts : AcceptedStartsAreAnsweredInTime

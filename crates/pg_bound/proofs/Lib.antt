@@ -13,6 +13,4 @@ pub mod Pays
 pub mod Sizes
 pub mod Depths
 pub mod InTime
-pub mod Fixed
-pub mod Existing
 pub mod Cut

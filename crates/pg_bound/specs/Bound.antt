@@ -26,16 +26,16 @@ TextIsAnsweredWithin G k = (table : Table) → ComesFrom G.grammar table → (o 
 -- ---- of predictive grammars, by whatever sets show them to be so
 
 -- the marks are of the nodes that the sets claim to be nullable, and the number is the grammar's step cost by them
-pub record HasStepCost (G : Given) (sets : NodeSets) (k : ℕ) : Type 0 where
+pub record HasClaimedStepCost (G : Given) (sets : NodeSets) (k : ℕ) : Type 0 where
   pub nullable : List Bool
   pub marks : (p : ℕ) → is_marked nullable p ≡ sets.nullable p
   pub cost : IsStepCost G.grammar nullable k
 
 abbrev pub PredictiveStartsAreAnsweredInTime : Type 0
-PredictiveStartsAreAnsweredInTime = (G : Given) (sets : NodeSets) → Predicts G sets → (k : ℕ) → HasStepCost G sets k → StartIsAnsweredWithin G k
+PredictiveStartsAreAnsweredInTime = (G : Given) (sets : NodeSets) → Predicts G sets → (k : ℕ) → HasClaimedStepCost G sets k → StartIsAnsweredWithin G k
 
 abbrev pub PredictiveTextsAreAnsweredInTime : Type 0
-PredictiveTextsAreAnsweredInTime = (G : Given) (sets : NodeSets) → Predicts G sets → (k : ℕ) → HasStepCost G sets k → TextIsAnsweredWithin G k
+PredictiveTextsAreAnsweredInTime = (G : Given) (sets : NodeSets) → Predicts G sets → (k : ℕ) → HasClaimedStepCost G sets k → TextIsAnsweredWithin G k
 
 -- ---- of accepted grammars, by their least sets
 
@@ -63,10 +63,10 @@ AcceptedStartsComeToAnswers = (G : Given) (sets : Sets) → Accepts G sets → (
 -- ---- in numbers that 64 bits hold
 
 -- the number is the step cost, or the greatest number where that is above
-abbrev pub IsCutStepCost : Grammar → List Bool → ℕ → Type 0
-IsCutStepCost g nullable cost = (k : ℕ) → IsStepCost g nullable k → cost ≡ cut_off k
+abbrev pub IsLimitedStepCost : Grammar → List Bool → ℕ → Type 0
+IsLimitedStepCost g nullable cost = (k : ℕ) → IsStepCost g nullable k → cost ≡ cut_off k
 
 -- the steps of a run, which are counted up to the greatest number, are within that number times n + 1
 abbrev pub AcceptedRunsTakeFewSteps : Type 0
-AcceptedRunsTakeFewSteps = (G : Given) (sets : Sets) → Accepts G sets → (cost : ℕ) → IsCutStepCost G.grammar sets.nullable cost → (table : Table) → ComesFrom G.grammar table →
+AcceptedRunsTakeFewSteps = (G : Given) (sets : Sets) → Accepts G sets → (cost : ℕ) → IsLimitedStepCost G.grammar sets.nullable cost → (table : Table) → ComesFrom G.grammar table →
     (o : Outcome) (m : ℕ) → AnswersText G table o m → cut_off (2 * m - 1) ≤ cost * (length G.text + 1)

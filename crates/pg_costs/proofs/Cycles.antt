@@ -1,5 +1,5 @@
 -- Where a rule heads itself nothing is the cost of its body, which would be above itself.
-use Rattle.std.proofs.Common.{◌≡◌, ℕ, zero, suc, ◌+◌, ◌<◌, ◌≤◌, Bool, true, false, List, [], ◌∷◌, Option, Some, None, slice_get, length, refl, sym, ap, subst, ◌∙◌, arith}
+use Rattle.std.proofs.Common.{◌≡◌, ℕ, zero, suc, ◌+◌, ◌<◌, ◌≤◌, Bool, true, false, not, List, [], ◌∷◌, Option, Some, None, slice_get, length, refl, sym, ap, subst, arith}
 use Rattle.std.specs.Prelude.{if◌then◌else◌}
 use Rattle.std.specs.Option.{option_map_or, is_some}
 use Rattle.std.proofs.lemmas.Bool.{and_parts}
@@ -129,6 +129,11 @@ no_cycle nullable costs marked are (leads_to h cycle) = no_cycle nullable costs 
 pub no_some : (o : Option ℕ) → is_some o ≡ false → o ≡ None
 no_some None e = refl
 no_some (Some r) e = absurd cc
+
+-- what has something isn't none
+pub some_there : (o : Option ℕ) (empty : Bool) → is_some o ≡ not empty → empty ≡ false → o ≡ None → ⊥
+some_there None empty e f none = cc
+some_there (Some r) empty e f none = cc
 
 -- a grammar with a rule that has no rank has no step cost
 pub no_step_cost : (g : Grammar) (sets : Sets) (a : ℕ) → AreSets g sets → a < length g.rules → rank_at sets.ranks a ≡ None

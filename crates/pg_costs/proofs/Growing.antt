@@ -1,5 +1,5 @@
 -- What costs that grow in rounds are when no round changes one.
-use Rattle.std.proofs.Common.{◌≡◌, ℕ, zero, suc, ◌+◌, ◌<◌, ◌≤◌, ◌≢◌, min, Bool, true, false, List, [], ◌∷◌, Option, Some, None, slice_get, slice_set, length, refl, sym, ap, subst, ◌∙◌, inl, inr, arith}
+use Rattle.std.proofs.Common.{◌≡◌, ℕ, zero, suc, ◌+◌, ◌<◌, ◌≤◌, Bool, true, false, List, [], ◌∷◌, Option, Some, None, slice_get, slice_set, length, refl, sym, subst, ◌∙◌, inl, inr, arith}
 use Rattle.std.specs.Prelude.{if◌then◌else◌, ◌-◌, ◌^◌}
 use Rattle.std.specs.Option.{option_map_or}
 use Rattle.std.proofs.lemmas.Bool.{cases_eq}
@@ -11,8 +11,8 @@ use Rattle.pg_form.specs.declared.form.Form.TheVariants as form
 use Rattle.pg_heads.specs.Parts.{up_to_unmarked}
 use Rattle.pg_value.specs.Grammar.{Grammar}
 use Rattle.pg_value.specs.declared.grammar.Rule.{Rule}
-use Rattle.pg_costs.specs.Steps.{number_at, cut_off, steps_of_all, body_steps, row_steps}
-use Rattle.pg_costs.specs.Costs.{tries_ended_string, node_cost, AreCosts}
+use Rattle.pg_costs.specs.Steps.{number_at, cut_off, steps_of_all, body_steps}
+use Rattle.pg_costs.specs.Costs.{tries_ended_string, node_cost}
 use Rattle.pg_costs.specs.Rounds.{AreLow, IsSettled, AreCutCosts, room}
 
 -- ---- where the numbers of parts are no smaller, those of nodes are no smaller

@@ -1,7 +1,9 @@
 //! The step cost of a grammar: its levels, times its greatest size.
 ghost use Rattle.std.specs.Prelude.{◌≡◌, ℕ, IfOk, MatchOption};
-ghost use Rattle.std.specs.Bool.{OnFalse};
+ghost use Rattle.std.specs.Bool.{OnFalse, OnTrue};
+ghost use Rattle.pg_value.specs.Grammar.{IsGrammar};
 ghost use Rattle.pg_sets.specs.Sets.{AreSets};
+ghost use Rattle.pg_costs.specs.FoundCost.{HaveRanks, IsFoundCost, IsCostByCosts};
 ghost use Rattle.pg_costs.specs.Rounds.{AreCutCosts};
 ghost use Rattle.pg_costs.specs.StepCost.{leaf_levels, node_levels, grammar_levels, greatest_size, IsStepCost};
 ghost use Rattle.pg_costs.specs.Steps.{number_at, cut_off, row_steps};
@@ -15,17 +17,26 @@ use pg_value::Grammar;
 use std::alloc::{AllocError, Global};
 
 /// The step cost of the grammar, K(G), in turns of the machine's loop: a parse takes at most so many for each character of the
-/// text and for its end (ours). 18,446,744,073,709,551,615 where it is above, and where there is none: a rule leads back to itself
-/// before anything is consumed. The caller owes the grammar's sets. The only error is that memory ran out.
-pub fn step_cost(alloc: Global, grammar: &Grammar, sets: &Sets) -> Result<u64, AllocError>
+/// text and for its end (ours). 18,446,744,073,709,551,615 where it is above; none where there is none, as a rule leads back to
+/// itself before anything is consumed. The caller owes the grammar's sets. The only error is that memory ran out.
+pub fn step_cost(alloc: Global, grammar: &Grammar, sets: &Sets) -> Result<Option<u64>, AllocError>
     requires { AreSets grammar.now sets.now }
-    ensures { IfOk result (λ cost. (k : ℕ) → IsStepCost grammar.now sets.now.nullable k → cost ≡ cut_off k) }
+    ensures { IfOk result (IsFoundCost grammar.now sets.now.nullable) }
 {
     if !all_have_ranks(grammar, sets) {
-        return Ok(u64::MAX);
+        return Ok(None);
     }
     let costs = node_costs(alloc, grammar, sets)?;
-    let sizes = node_sizes(alloc, grammar, &costs)?;
+    let cost = cost_by_costs(alloc, grammar, &costs)?;
+    Ok(Some(cost))
+}
+
+/// What the step cost of the grammar is if these are the costs of its nodes, whoever says so (ours): 18,446,744,073,709,551,615 where it
+/// is above. The only error is that memory ran out.
+pub fn cost_by_costs(alloc: Global, grammar: &Grammar, costs: &[u64]) -> Result<u64, AllocError>
+    ensures { IfOk result (IsCostByCosts grammar.now costs.now) }
+{
+    let sizes = node_sizes(alloc, grammar, costs)?;
     let levels = grammar_levels(grammar);
     let greatest = greatest_size(grammar, &sizes);
     Ok(levels.saturating_mul(greatest))
@@ -54,8 +65,12 @@ pub fn costs_of_nodes(
 /// Whether each rule has a rank. Where one has none the grammar has no step cost, and the rounds of costs would go on.
 fn all_have_ranks(grammar: &Grammar, sets: &Sets) -> bool
     requires { AreSets grammar.now sets.now }
-    ensures { OnFalse result ((k : ℕ) → IsStepCost grammar.now sets.now.nullable k → ⊥) }
+    ensures none { OnFalse result ((k : ℕ) → IsStepCost grammar.now sets.now.nullable k → ⊥) }
+    ensures all { OnTrue result (HaveRanks grammar.now sets.now.ranks) }
+    ensures grammar { IsGrammar grammar.now }
 {
+    // This is called for what it says of its grammar.
+    let _nodes = grammar.nodes();
     for rule in 0..grammar.rules().len() {
         if sets.rank(RuleId::new(rule)).is_none() {
             return false;

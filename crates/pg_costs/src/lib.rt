@@ -10,5 +10,5 @@ mod sizes;
 mod totals;
 
 pub use costs::around_cost;
-pub use grammar_cost::{costs_of_nodes, step_cost};
+pub use grammar_cost::{cost_by_costs, costs_of_nodes, step_cost};
 pub use totals::{leaf_steps, number_at, row_steps, steps_of_all};

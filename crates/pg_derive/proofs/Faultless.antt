@@ -15,11 +15,11 @@ use Rattle.pg_sets.specs.Follow as follow
 use Rattle.pg_heads.specs.Nullable as null
 use Rattle.pg_own_starts.specs.OwnStarts.{IsKeyTry}
 use Rattle.pg_own_starts.specs.OwnStarts as own
-use Rattle.pg_heads.specs.Ranks.{Chain, head, heads}
-use Rattle.pg_heads.specs.Reached.{Heads}
+use Rattle.pg_heads.specs.Ranks.{Chain}
 use Rattle.pg_heads.specs.Reached as reached
 use Rattle.pg_sets.specs.Sets.{Sets, AreSets}
-use Rattle.pg_predict.specs.Conditions.{IsFaultless, left_recursion}
+use Rattle.pg_predict.specs.Conditions.{IsFaultless}
+use Rattle.pg_predict.proofs.StepCosts.{acyclic}
 use Rattle.pg_derive.specs.Accepted.{AcceptedGrammarsArePredictive}
 use Rattle.pg_derive.specs.ClosedSets.{Covers}
 use Rattle.pg_derive.specs.LeastSets.{node_sets}
@@ -28,19 +28,11 @@ use Rattle.pg_derive.proofs.ExpressionsFit.{expression_fits}
 use Rattle.pg_derive.proofs.FormsFit.{choice_fits, many_fits, links_fit}
 use Rattle.pg_derive.proofs.LeastSets.{first_is, first_covers, follow_is, follow_covers}
 use Rattle.pg_derive.proofs.LeavesFit.{satisfy_meets, string_fits, word_meets, declare_meets, item_there, string_try, key_try}
-use Rattle.pg_derive.proofs.Levels.{rule_falls}
+use Rattle.pg_costs.proofs.Levels.{rule_falls}
 use Rattle.pg_derive.proofs.KeyTriesDecided.{key_try_decided}
 use Rattle.pg_derive.proofs.PartsFit.{are_parts, in_falls, part_fits, seq_fits}
 use Rattle.pg_derive.proofs.Quiet.{found}
 use Rattle.pg_derive.proofs.Whole.{is_whole, start_found}
-
--- no rule heads itself
-first_rule : {g : Grammar} {a b : ℕ} → Chain g a b → (c : ℕ) × Heads g a c
-first_rule (head {b = b} h) = (b, h)
-first_rule (heads {b = b} h rest) = (b, h)
-
-pub acyclic : (g : Grammar) → IsFaultless g → (r : ℕ) → Chain g r r → ⊥
-acyclic g faultless r chain = let first = (first_rule chain).1 in faultless first.rule.body _ (left_recursion first.is_rule chain)
 
 module _ (g : Grammar) (sets : Sets) (are : AreSets g sets) (grammar : IsGrammar g) (faultless : IsFaultless g) where
   none_on_cycle : (r : ℕ) → Chain g r r → ⊥

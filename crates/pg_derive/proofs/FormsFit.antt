@@ -17,7 +17,7 @@ use Rattle.pg_heads.specs.Ranks.{Chain}
 use Rattle.pg_heads.specs.Reached.{ReachedIn, ReachedPart}
 use Rattle.pg_heads.specs.Reached as reached
 use Rattle.pg_sets.specs.Sets.{Sets, AreSets}
-use Rattle.pg_predict.specs.Conditions.{IsFaultless, EndsNullable, empty_round, empty_link, empty_alternative, alternatives_meet, alternative_meets_follow, round_meets_follow, link_meets_follow}
+use Rattle.pg_predict.specs.Conditions.{IsFaultless, EndsNullable, least_facts, empty_round, empty_link, empty_alternative, alternatives_meet, alternative_meets_follow, round_meets_follow, link_meets_follow}
 use Rattle.pg_derive.specs.ClosedSets.{NodeSets}
 use Rattle.pg_derive.specs.LeastSets.{node_sets}
 use Rattle.pg_derive.specs.Predictive.{PartIsPredictive, AlternativesArePredictive, ComesBefore, ManyIsPredictive, ChainIsPredictive}
@@ -70,7 +70,7 @@ module _ (g : Grammar) (sets : Sets) (are : AreSets g sets) (acyclic : (r : ℕ)
       part_fits g sets are acyclic p q (form.Choice parts) e part no_key_choice (reached.choice k at) (λ n. null.choice k at n) (λ s h. follow.alternative k e at h)
 
   -- an alternative that can be empty is the last
-  ends_nullable : (p : ℕ) (parts : List ℕ) → slice_get g.nodes p ≡ Some (form.Choice parts) → (k r : ℕ) → slice_get parts k ≡ Some r → Nullable g r → EndsNullable g parts
+  ends_nullable : (p : ℕ) (parts : List ℕ) → slice_get g.nodes p ≡ Some (form.Choice parts) → (k r : ℕ) → slice_get parts k ≡ Some r → Nullable g r → EndsNullable (least_facts g) parts
   ends_nullable p parts e k r at n =
       let inside = slice_get_within parts k r at in
       let whole : suc k ≡ length parts =

@@ -1,12 +1,12 @@
 -- What the least sets of a grammar hold.
-use Rattle.std.proofs.Common.{◌≡◌, ◌<◌, ◌⊎◌, inl, inr, ℕ, List, Bool, true, false, Some, slice_get, length, refl, ap, ◌∙◌, subst}
+use Rattle.std.proofs.Common.{◌≡◌, ◌<◌, ◌⊎◌, inl, inr, ℕ, List, [], ◌∷◌, Bool, true, false, Some, slice_get, length, refl, ap, ◌∙◌, subst}
 use Rattle.pg_predict.proofs.Numbered.{listed_once}
 use Rattle.std.specs.List.{Contains}
 use Rattle.std.proofs.lemmas.Bool.{cases_Bool}
 use Rattle.pg_value.specs.Grammar.{Grammar}
 use Rattle.pg_start.specs.Apart.{Apart}
 use Rattle.pg_start.specs.declared.kind.StartKind.{StartKind}
-use Rattle.pg_sets.specs.First.{IsFirst}
+use Rattle.pg_sets.specs.First.{IsFirst, IsFirstOf}
 use Rattle.pg_sets.specs.First as of
 use Rattle.pg_sets.specs.Follow.{IsFollow}
 use Rattle.pg_bit_set.specs.Numbers.{contains, set_at}
@@ -14,7 +14,7 @@ use Rattle.pg_graph.specs.Marks.{is_marked}
 use Rattle.pg_heads.specs.Nullable.{Nullable}
 use Rattle.pg_sets.specs.Sets.{Sets, AreSets, HasStart}
 use Rattle.pg_own_starts.specs.declared.listed.ListedStart.{ListedStart}
-use Rattle.pg_predict.specs.Conditions.{BeginsLink, AreFirstToMeet}
+use Rattle.pg_predict.specs.Conditions.{BeginsLink, AreFirstToMeet, least_facts}
 use Rattle.pg_derive.specs.ClosedSets.{Covers}
 use Rattle.pg_derive.specs.LeastSets.{node_sets}
 use Rattle.pg_derive.proofs.Begins.{contained_covers}
@@ -78,22 +78,18 @@ module _ (g : Grammar) (sets : Sets) (are : AreSets g sets) where
 
   -- ---- rounds of chains
 
-  round_cases : {s : StartKind} {separator operand : ℕ} → BeginsLink g operand separator s → IsFirst g s separator ⊎ (Nullable g separator × IsFirst g s operand)
+  round_cases : {s : StartKind} {separator operand : ℕ} → IsFirstOf g s (separator ∷ operand ∷ []) → BeginsLink (least_facts g) operand separator s
   round_cases (of.here h) = inl h
   round_cases (of.after n (of.here h)) = inr (n, h)
   round_cases (of.after n (of.after m none)) = elim none [ ]
 
-  round_from : {s : StartKind} {separator operand : ℕ} → IsFirst g s separator ⊎ (Nullable g separator × IsFirst g s operand) → BeginsLink g operand separator s
-  round_from (inl h) = of.here h
-  round_from (inr h) = of.after h.0 (of.here h.1)
-
-  rounds_listable : (separator operand : ℕ) → separator < length g.nodes → operand < length g.nodes → IsListable sets.starts (BeginsLink g operand separator)
+  rounds_listable : (separator operand : ℕ) → separator < length g.nodes → operand < length g.nodes → IsListable sets.starts (BeginsLink (least_facts g) operand separator)
   rounds_listable separator operand l m =
       let separators = firsts_listable separator l in
       let operands = firsts_listable operand m in
       record {
-        decide = λ k x e. decided_as round_from round_cases (decided_either (separators.decide k x e) (decided_both (nullable_decided separator) (operands.decide k x e)));
-        stands = λ s h. elim (round_cases h) [ inl f ↦ separators.stands s f | inr f ↦ operands.stands s f.1 ];
+        decide = λ k x e. decided_either (separators.decide k x e) (decided_both (nullable_decided separator) (operands.decide k x e));
+        stands = λ s h. elim h [ inl f ↦ separators.stands s f | inr f ↦ operands.stands s f.1 ];
       }
 
   -- ---- starts of two kinds that are all apart, where no two are the first to meet
@@ -107,6 +103,7 @@ module _ (g : Grammar) (sets : Sets) (are : AreSets g sets) where
   follow_apart p q l m = apart_all g sets.starts are.start_sets.ordered are.start_sets.listed (λ s. IsFirst g s p) (λ s. IsFollow g s q) (firsts_listable p l) (follows_listable q m)
 
   pub rounds_apart : (separator operand q : ℕ) → separator < length g.nodes → operand < length g.nodes → q < length g.nodes →
-      ((x y : ListedStart) → AreFirstToMeet g (BeginsLink g operand separator) (λ s. IsFollow g s q) x y → ⊥) → (s t : StartKind) → BeginsLink g operand separator s → IsFollow g t q → Apart s t
-  rounds_apart separator operand q l m n =
-      apart_all g sets.starts are.start_sets.ordered are.start_sets.listed (BeginsLink g operand separator) (λ s. IsFollow g s q) (rounds_listable separator operand l m) (follows_listable q n)
+      ((x y : ListedStart) → AreFirstToMeet g (BeginsLink (least_facts g) operand separator) (λ s. IsFollow g s q) x y → ⊥) → (s t : StartKind) → IsFirstOf g s (separator ∷ operand ∷ []) → IsFollow g t q → Apart s t
+  rounds_apart separator operand q l m n none s t h =
+      apart_all g sets.starts are.start_sets.ordered are.start_sets.listed (BeginsLink (least_facts g) operand separator) (λ s. IsFollow g s q) (rounds_listable separator operand l m) (follows_listable q n)
+      none s t (round_cases h)

@@ -28,7 +28,6 @@ pub mod StartLists
 pub mod Ranked
 pub mod Meetings
 pub mod LeastSets
-pub mod Levels
 pub mod LeavesFit
 pub mod KeyTriesDecided
 pub mod PartsFit

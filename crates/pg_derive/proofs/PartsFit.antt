@@ -22,7 +22,7 @@ use Rattle.pg_derive.specs.ClosedSets.{Covers, AllNullable, BeginsParts, PartsFo
 use Rattle.pg_derive.specs.LeastSets.{node_sets}
 use Rattle.pg_derive.specs.Predictive.{PartIsPredictive, SeqIsPredictive}
 use Rattle.pg_derive.proofs.LeastSets.{first_is, first_covers, follow_is, follow_covers}
-use Rattle.pg_derive.proofs.Levels.{part_falls}
+use Rattle.pg_costs.proofs.Levels.{part_falls}
 
 no_key_seq : {g : Grammar} {parts : List ℕ} → IsKeyTry g (form.Seq parts) → ⊥
 no_key_seq h = elim h [ ]

@@ -1,11 +1,12 @@
 -- The faults of a run: in which order they are judged, and with which the steps refuse that read no text, and why.
 use Rattle.std.specs.Prelude.{◌<◌, ℕ, List, length, Bool, true, false, ◌&&◌, nat_le}
+use Rattle.std.specs.String.{string_bytes}
 use Rattle.pg_message.specs.declared.error.ParseError as message
 use Rattle.pg_file.specs.declared.fault.FileFault.{FileFault}
 use Rattle.pg_value.specs.Grammar.{Grammar}
 use Rattle.pg_predict.specs.Findings.{Finding, AreFindings}
 use Rattle.pg_grammar_bench.specs.declared.fault.BenchFault.{BenchFault}
-use Rattle.pg_grammar_bench.specs.declared.fault.BenchFault.TheVariants.{File, Refused, Reader, NotUtf8, TooLong, NotATrail, ParseError, Writer, Memory}
+use Rattle.pg_grammar_bench.specs.declared.fault.BenchFault.TheVariants.{File, Refused, Reader, NotUtf8, TooLong, NotATrail, NotVerified, ParseError, Writer, Memory}
 
 -- ---- the order
 
@@ -18,8 +19,9 @@ step_of Reader = 3
 step_of NotUtf8 = 4
 step_of TooLong = 5
 step_of NotATrail = 6
-step_of (ParseError error) = 7
-step_of Writer = 8
+step_of (NotVerified verdict) = 7
+step_of (ParseError error) = 8
+step_of Writer = 9
 
 abbrev pub IsSo : Bool → Type 0
 IsSo true = Unit {0}
@@ -35,7 +37,7 @@ IsFileFault = IsOfSteps 1 1
 
 -- a fault that is judged once the grammar file is read, and its grammar isn't refused
 abbrev pub IsAfterFile : BenchFault → Type 0
-IsAfterFile = IsOfSteps 3 8
+IsAfterFile = IsOfSteps 3 9
 
 -- a fault before the reader is asked for the first time, unless memory runs out
 abbrev pub IsBeforeReading : BenchFault → Type 0
@@ -43,11 +45,11 @@ IsBeforeReading = IsOfSteps 1 2
 
 -- a fault that is judged once the text is read
 abbrev pub IsAfterReading : BenchFault → Type 0
-IsAfterReading = IsOfSteps 4 8
+IsAfterReading = IsOfSteps 4 9
 
 -- a fault before the first byte is written, or want of memory
 abbrev pub IsBeforeWriting : BenchFault → Type 0
-IsBeforeWriting = IsOfSteps 0 7
+IsBeforeWriting = IsOfSteps 0 8
 
 -- ---- what is claimed of faults
 
@@ -59,6 +61,7 @@ pub record Claims : Type 1 where
   pub not_utf8 : Type 0
   pub too_long : Type 0
   pub not_a_trail : Type 0
+  pub not_verified : List ℕ → Type 0
   pub parse_error : message.ParseError → Type 0
   pub writer : Type 0
   pub memory : Type 0
@@ -71,6 +74,7 @@ Claimed of Reader = of.reader
 Claimed of NotUtf8 = of.not_utf8
 Claimed of TooLong = of.too_long
 Claimed of NotATrail = of.not_a_trail
+Claimed of (NotVerified verdict) = of.not_verified (string_bytes verdict)
 Claimed of (ParseError error) = of.parse_error error
 Claimed of Writer = of.writer
 Claimed of Memory = of.memory
@@ -85,6 +89,7 @@ memory_alone =
       not_utf8 = ⊥;
       too_long = ⊥;
       not_a_trail = ⊥;
+      not_verified = λ verdict. ⊥;
       parse_error = λ error. ⊥;
       writer = ⊥;
       memory = Unit {0};
@@ -100,6 +105,7 @@ any_fault =
       not_utf8 = Unit {0};
       too_long = Unit {0};
       not_a_trail = Unit {0};
+      not_verified = λ verdict. Unit {0};
       parse_error = λ error. Unit {0};
       writer = Unit {0};
       memory = Unit {0};
@@ -120,6 +126,10 @@ IfParseError Claim = Claimed (record any_fault { parse_error = Claim })
 -- what is claimed where there is no trail
 abbrev pub IfNotATrail : Type 0 → BenchFault → Type 0
 IfNotATrail Claim = Claimed (record any_fault { not_a_trail = Claim })
+
+-- what is claimed of what is printed, where a certificate doesn't show that the grammar is accepted
+abbrev pub IfNotVerified : (List ℕ → Type 0) → BenchFault → Type 0
+IfNotVerified Claim = Claimed (record any_fault { not_verified = Claim })
 
 -- ---- which step refuses with which fault
 
@@ -146,3 +156,11 @@ IsGrammarRefusal = Claimed (record memory_alone { file = λ fault. Unit {0}; ref
 -- what checking a grammar, or printing it or its sets, refuses with
 abbrev pub IsPageRefusal : BenchFault → Type 0
 IsPageRefusal = Claimed (record memory_alone { file = λ fault. Unit {0}; writer = Unit {0} })
+
+-- what judging a certificate refuses with
+abbrev pub IsVerdictRefusal : BenchFault → Type 0
+IsVerdictRefusal = Claimed (record memory_alone { not_verified = λ verdict. Unit {0} })
+
+-- what judging a certificate of a grammar file refuses with
+abbrev pub IsVerifyRefusal : BenchFault → Type 0
+IsVerifyRefusal = Claimed (record memory_alone { file = λ fault. Unit {0}; not_verified = λ verdict. Unit {0} })

@@ -3,4 +3,5 @@ pub mod Faults
 pub mod Printing
 pub mod Texts
 pub mod Checking
+pub mod Verifying
 pub mod Showing

@@ -1,27 +1,29 @@
 //! From the bytes of a grammar file to whether its grammar is accepted, or all that is wrong with it.
 
-ghost use Rattle.std.specs.Prelude.{◌≡◌, false, true, codes, IfOk, IfErr, OnErr, OnOk, IsErrOf};
+ghost use Rattle.std.specs.Prelude.{◌≡◌, ◌++◌, ℕ, List, false, true, codes, IfOk, IfErr, OnErr, OnOk, IsErrOf};
 ghost use Rattle.std.specs.Io.KnownBytes.{Appends};
 ghost use Rattle.pg_tree.specs.Bytes.{AppendsPrefix};
 ghost use Rattle.pg_pred.specs.Offer.{offer_of};
 ghost use Rattle.pg_predict.specs.Findings.{lines_of};
-ghost use Rattle.pg_grammar_bench.specs.Checking.{IsChecked, IsPartlyChecked, IsTold, IsPartlyTold};
+ghost use Rattle.pg_least_certificate.specs.Own.{IsOwnCertificate};
+ghost use Rattle.pg_grammar_bench.specs.Checking.{IsChecked, IsPartlyChecked, IsTold, IsPartlyTold, WritesCertificate, WritesPartly};
 ghost use Rattle.pg_grammar_bench.specs.Files.{IsFaultOfFile, SpellsAny};
 ghost use Rattle.pg_grammar_bench.specs.Faults.{IsPageRefusal, IsWriteRefusal, IfFile, IsAfterFile, IsBeforeWriting};
 
 use crate::fault::BenchFault;
 use crate::grammar_file::grammar_of;
 use crate::output::write_page;
+use pg_least_certificate::own_certificate;
 use pg_pred::Registry;
-use pg_predict::{CheckFault, Refused, check};
+use pg_predict::{CheckFault, Checked, Refused, check};
 use pg_tree::{Meter, WriteFault};
 use pg_value::Grammar;
-use std::alloc::Global;
+use std::alloc::{AllocError, Global};
 use std::io::Write;
 
-/// Writes whether the grammar that a file spells is accepted: the line `accepted`, or a line for each finding, in the order
-/// of rules, nodes, numbers and alternatives. The answer is whether it is. The registry has the predicates and builders that
-/// the file may name.
+/// Writes whether the grammar that a file spells is accepted: the line `accepted`, or its certificate as a line of JSON where that is
+/// asked for; or a line for each finding, in the order of rules, nodes, numbers and alternatives. The answer is whether it is. The
+/// registry has the predicates and builders that the file may name.
 ///
 /// The meter has to be fresh of failures. A fault of the file and want of memory come before anything is written; then only
 /// the writer can fail.
@@ -30,11 +32,12 @@ pub fn check_bytes<W: Write>(
     grammar: &[u8],
     registry: &Registry,
     writer: &mut Meter<W>,
+    certificate: bool,
 ) -> Result<bool, BenchFault>
     requires { writer.old.failed ≡ false }
 
     // What the check says of the grammar was written.
-    ensures ok { IfOk result (IsChecked (offer_of registry.now) grammar.now (W.contents writer.old.inner) (W.contents writer.new.inner)) }
+    ensures ok { IfOk result (IsChecked (offer_of registry.now) grammar.now certificate (W.contents writer.old.inner) (W.contents writer.new.inner)) }
     ensures stays { OnOk result (writer.new.failed ≡ false) }
 
     // The file spells no grammar; or the writer failed after a prefix of what it was to be given; or memory ran out.
@@ -44,10 +47,10 @@ pub fn check_bytes<W: Write>(
     ensures unwritten { IfErr result (λ fault. IsBeforeWriting fault → writer.new ≡ writer.old) }
     ensures writer { IsErrOf result BenchFault.Writer → writer.new.failed ≡ true }
     ensures prefix { IsErrOf result BenchFault.Writer →
-        IsPartlyChecked (offer_of registry.now) grammar.now (W.contents writer.old.inner) (W.contents writer.new.inner) }
+        IsPartlyChecked (offer_of registry.now) grammar.now certificate (W.contents writer.old.inner) (W.contents writer.new.inner) }
 {
     let grammar = grammar_of(alloc, grammar, registry)?;
-    tell(alloc, grammar, writer)
+    tell(alloc, grammar, writer, certificate)
 }
 
 /// Writes what the check says of a grammar. The answer is whether it is accepted.
@@ -55,19 +58,44 @@ fn tell<W: Write>(
     alloc: Global,
     grammar: Grammar,
     writer: &mut Meter<W>,
+    certificate: bool,
 ) -> Result<bool, BenchFault>
     requires { writer.old.failed ≡ false }
-    ensures ok { IfOk result (IsTold grammar (W.contents writer.old.inner) (W.contents writer.new.inner)) }
+    ensures ok { IfOk result (IsTold grammar certificate (W.contents writer.old.inner) (W.contents writer.new.inner)) }
     ensures stays { OnOk result (writer.new.failed ≡ false) }
     ensures err { IfErr result IsWriteRefusal }
     ensures unwritten { IsErrOf result BenchFault.Memory → writer.new ≡ writer.old }
     ensures writer { IsErrOf result BenchFault.Writer → writer.new.failed ≡ true }
-    ensures prefix { IsErrOf result BenchFault.Writer → IsPartlyTold grammar (W.contents writer.old.inner) (W.contents writer.new.inner) }
+    ensures prefix { IsErrOf result BenchFault.Writer → IsPartlyTold grammar certificate (W.contents writer.old.inner) (W.contents writer.new.inner) }
 {
     match check(alloc, grammar) {
-        Ok(_) => tell_accepted(writer),
+        Ok(checked) => tell_checked(alloc, &checked, writer, certificate),
         Err(CheckFault::Refused(refused)) => tell_findings(alloc, &refused, writer),
         Err(CheckFault::Memory(_)) => Err(BenchFault::Memory),
+    }
+}
+
+/// Writes what is said of a grammar that is accepted.
+fn tell_checked<W: Write>(
+    alloc: Global,
+    checked: &Checked,
+    writer: &mut Meter<W>,
+    certificate: bool,
+) -> Result<bool, BenchFault>
+    requires { writer.old.failed ≡ false }
+    ensures ok { IfOk result (IsTold checked.now.grammar certificate (W.contents writer.old.inner) (W.contents writer.new.inner)) }
+    ensures stays { OnOk result (writer.new.failed ≡ false) }
+    ensures err { IfErr result IsWriteRefusal }
+    ensures unwritten { IsErrOf result BenchFault.Memory → writer.new ≡ writer.old }
+    ensures writer { IsErrOf result BenchFault.Writer → writer.new.failed ≡ true }
+    ensures prefix { IsErrOf result BenchFault.Writer → IsPartlyTold checked.now.grammar certificate (W.contents writer.old.inner) (W.contents writer.new.inner) }
+{
+    // This is called for what it says of the check.
+    let _grammar = checked.grammar();
+    if certificate {
+        tell_certificate(alloc, checked, writer)
+    } else {
+        tell_accepted(writer)
     }
 }
 
@@ -83,6 +111,37 @@ fn tell_accepted<W: Write>(writer: &mut Meter<W>) -> Result<bool, BenchFault>
 {
     write_page(b"accepted\n", writer)?;
     Ok(true)
+}
+
+/// Writes the certificate of a grammar that is accepted.
+fn tell_certificate<W: Write>(
+    alloc: Global,
+    checked: &Checked,
+    writer: &mut Meter<W>,
+) -> Result<bool, BenchFault>
+    requires { writer.old.failed ≡ false }
+    ensures yes { IfOk result (λ accepted. accepted ≡ true) }
+    ensures ok { OnOk result (WritesCertificate checked.now.grammar (W.contents writer.old.inner) (W.contents writer.new.inner)) }
+    ensures stays { OnOk result (writer.new.failed ≡ false) }
+    ensures err { IfErr result IsWriteRefusal }
+    ensures unwritten { IsErrOf result BenchFault.Memory → writer.new ≡ writer.old }
+    ensures failed { IsErrOf result BenchFault.Writer → writer.new.failed ≡ true }
+    ensures prefix { IsErrOf result BenchFault.Writer → WritesPartly checked.now.grammar (W.contents writer.old.inner) (W.contents writer.new.inner) }
+{
+    let Ok(line) = certificate_line(alloc, checked) else {
+        return Err(BenchFault::Memory);
+    };
+    write_page(line.as_slice(), writer)?;
+    Ok(true)
+}
+
+/// The certificate of a grammar, with a line end.
+fn certificate_line(alloc: Global, checked: &Checked) -> Result<Vec<u8>, AllocError>
+    ensures { IfOk result (λ line. (certificate : List ℕ) × IsOwnCertificate checked.now.grammar certificate × (line.items ≡ certificate ++ codes "\n")) }
+{
+    let mut line = own_certificate(alloc, checked)?;
+    line.push(b'\n')?;
+    Ok(line)
 }
 
 /// Writes all that is wrong with a grammar.

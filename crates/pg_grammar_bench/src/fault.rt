@@ -2,7 +2,7 @@
 //!
 //! A `BenchFault` is all that a run can end with beside its result; what of it is printed, and with
 //! which status, is the report's matter. The labels are short so that scripts can tell the faults
-//! apart: F a grammar file's, X what can't be read, P the text's, W the writing.
+//! apart: F a grammar file's, X what can't be read, P the text's, V a certificate's, W the writing.
 
 ghost use Rattle.std.specs.Prelude.{Some};
 ghost use Rattle.pg_grammar_bench.specs.Texts.{fault_text};
@@ -32,6 +32,8 @@ pub enum BenchFault {
     TooLong,
     /// The bytes that are to be a trail's JSON aren't.
     NotATrail,
+    /// The certificate doesn't show that the grammar is accepted; this is why, as it is printed.
+    NotVerified(String),
     /// The grammar doesn't derive the text; this is the error of its start rule, or of the end that was to come after it.
     ParseError(ParseError),
     /// The writer answered an error or took nothing. A prefix of the result may have been written.
@@ -51,6 +53,7 @@ impl fmt::Display for BenchFault {
             BenchFault::NotUtf8 => f.write_str("P1 not UTF-8"),
             BenchFault::TooLong => f.write_str("P2 text too long"),
             BenchFault::NotATrail => f.write_str("not a trail"),
+            BenchFault::NotVerified(verdict) => f.write_str(verdict),
             BenchFault::ParseError(_) => f.write_str("no parse"),
             BenchFault::Writer => f.write_str("W1 cannot write"),
             BenchFault::Memory => f.write_str("out of memory"),

@@ -1,7 +1,7 @@
 //! From the bytes of a grammar file to what is said of its grammar, with no text.
 //!
-//! `check_bytes` writes whether a grammar is accepted, or all that is wrong with it, `print_bytes` writes it in canonical
-//! form, and `sets_bytes` its sets. Their contracts speak of the bytes of the file and of those that were written. Runs over
+//! `check_bytes` writes whether a grammar is accepted, or all that is wrong with it, `verify_bytes` judges a certificate of it,
+//! `print_bytes` writes it in canonical form, and `sets_bytes` its sets. Their contracts speak of the bytes of the file and of those that were written. Runs over
 //! texts, in the crate above, take their grammar from here, and end with the same faults (`BenchFault`).
 #![tactic(auto)]
 
@@ -11,6 +11,7 @@ mod grammar_file;
 mod output;
 mod print;
 mod sets;
+mod verify;
 
 pub use check::check_bytes;
 pub use fault::BenchFault;
@@ -18,3 +19,4 @@ pub use grammar_file::{checked_of, grammar_of};
 pub use output::write_page;
 pub use print::print_bytes;
 pub use sets::sets_bytes;
+pub use verify::verify_bytes;

@@ -1,3 +1,4 @@
 pub mod OneByOne
 pub mod Origin
 pub mod Standing
+pub mod Written

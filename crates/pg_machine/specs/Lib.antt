@@ -1,3 +1,4 @@
 pub mod Outcomes
 pub mod Halting
 pub mod CheckedRuns
+pub mod Laws

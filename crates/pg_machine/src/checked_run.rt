@@ -3,11 +3,12 @@
 //! At the nodes of a checked grammar nothing is wrong, so that the start rule has an answer to each text and the machine
 //! comes to it: the run goes on until it is there, however many turns that takes. After an ok answer the text has to end.
 
-ghost use Rattle.std.specs.Prelude.{◌≡◌, ◌≤◌, length, IfOk, OnOk, IfSome, IfNone};
+ghost use Rattle.std.specs.Prelude.{◌≡◌, ◌≤◌, ◌+◌, ◌*◌, length, IfOk, OnOk, IfSome, IfNone};
 ghost use Rattle.pg_value.specs.Fits.{Fits};
 ghost use Rattle.pg_pred.specs.Offer.{offer_of};
 ghost use Rattle.pg_table.specs.Tables.{ComesFrom};
 ghost use Rattle.pg_text.specs.Position.{position_of};
+ghost use Rattle.pg_costs.specs.StepCost.{IsStepCost};
 ghost use Rattle.pg_derive.specs.Accepted.{Accepts};
 ghost use Rattle.pg_derive.specs.LeastSets.{node_sets};
 ghost use Rattle.pg_derive.specs.PredictiveLaws.{LosesNoAlternative, EachRoundConsumes, EachLinkConsumes};
@@ -35,8 +36,8 @@ use std::alloc::{AllocError, Global};
 
 /// Runs the start rule over the whole text, under the table, in the library's reading, until there is an answer: ok, with
 /// the one derivation of the text, or an error, and then nothing derives it. The answer's steps are the turns that it took,
-/// those of the end of the text among them, or the greatest number where they are more: `2m - 1` for `m` nodes. On the way no
-/// choice loses an alternative to consumed input, and each round of a repetition and each link of a chain consumes. The
+/// those of the end of the text among them, or the greatest number where they are more: `2m - 1` for `m` nodes. They are no more
+/// than the grammar's step cost for each character of the text, and for its end. On the way no choice loses an alternative to consumed input, and each round of a repetition and each link of a chain consumes. The
 /// caller owes that the registry fits and that the table comes from the grammar. The only error is that memory ran out.
 pub fn run(
     alloc: Global,
@@ -48,6 +49,7 @@ pub fn run(
     requires fits { Fits (offer_of registry.now) checked.now.grammar }
     requires table { ComesFrom checked.now.grammar table.now }
     ensures answer { IfOk result (IsTextAnswer (given Library checked.now.grammar text.now) table.now) }
+    ensures steps { IfOk result (λ a. a.steps ≤ checked.now.cost * (length text.now + 1)) }
     ensures derived { IfOk result (λ a. IfSome a.success (IsOnlyDerivation checked.now.grammar text.now table.now)) }
     ensures refused { IfOk result (λ a. IfNone a.success (IsUnderivable checked.now.grammar text.now table.now)) }
     ensures choices { LosesNoAlternative (given Library checked.now.grammar text.now) (node_sets checked.now.grammar checked.now.sets) }
@@ -68,6 +70,7 @@ pub fn run(
 fn accepted<'a>(checked: &'a Checked, text: &Text) -> &'a Grammar
     ensures grammar { result.now ≡ checked.now.grammar }
     ensures accepts { Accepts (given Library checked.now.grammar text.now) checked.now.sets }
+    ensures cost { IsStepCost checked.now.grammar checked.now.sets.nullable checked.now.cost }
     ensures short { length text.now ≤ 1048576 }
 {
     let grammar = checked.grammar();

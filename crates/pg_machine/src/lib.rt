@@ -7,8 +7,10 @@
 
 mod answer;
 mod checked_run;
+mod laws;
 mod probing;
 
 pub use answer::{Answer, Outcome, Success};
 pub use checked_run::run;
+pub use laws::accepted_probes_answer;
 pub use probing::probe;

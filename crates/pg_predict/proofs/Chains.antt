@@ -13,6 +13,7 @@ use Rattle.pg_heads.specs.Reached.{Heads, AreHeads}
 use Rattle.pg_graph.proofs.Marking.{marked_same, marked_kept, marked_others}
 use Rattle.pg_heads.proofs.RankLaws.{chain_on}
 use Rattle.pg_bit_set.proofs.Inside.{contains_none}
+use Rattle.pg_predict.specs.Conditions.{least_facts}
 use Rattle.pg_predict.specs.Shown.{IsRecursive}
 
 -- whatever is reached from the heads of a rule, a chain leads to
@@ -39,7 +40,7 @@ ranked_no_chain g ranks a r are below ranked chain = let none = (are.cyclic a be
 
 -- the node is the body of a rule that heads itself and is among the first so many
 pub record RecursiveBelow (g : Grammar) (count p : ℕ) : Type 0 where
-  pub recursive : IsRecursive g p
+  pub recursive : IsRecursive g (least_facts g) p
   pub below : recursive.number < count
 
 pub record MarksBelow (g : Grammar) (count : ℕ) (marks : List Bool) : Type 0 where
@@ -62,7 +63,7 @@ marks_more g k rule marks before there inside chain = record {
   right = λ p. (
     λ h.
         elim (cases_eq p rule.body) [
-          | inl same ↦ record { recursive = record { number = k; rule = rule; there = there; body = sym same; chain = chain }; below = omega arith }
+          | inl same ↦ record { recursive = record { number = k; rule = rule; there = there; body = sym same; heads_itself = chain }; below = omega arith }
           | inr other ↦ wider g k p ((before.right p).0 (sym (marked_others marks rule.body p other) ∙ h))
         ],
     λ is.
@@ -85,13 +86,13 @@ marks_same g k marks before none = record {
     λ h. wider g k p ((before.right p).0 h),
     λ is.
         elim (cases_eq is.recursive.number k) [
-          | inl same ↦ absurd (none (subst (λ n. Chain g n n) same is.recursive.chain))
+          | inl same ↦ absurd (none (subst (λ n. Chain g n n) same is.recursive.heads_itself))
           | inr other ↦ let below = is.below in (before.right p).1 (record { recursive = is.recursive; below = omega arith })
         ],
   );
 }
 
-pub marks_all : (g : Grammar) (count : ℕ) (marks : List Bool) → MarksBelow g count marks → length g.rules ≤ count → (p : ℕ) → (is_marked marks p ≡ true) ↔ IsRecursive g p
+pub marks_all : (g : Grammar) (count : ℕ) (marks : List Bool) → MarksBelow g count marks → length g.rules ≤ count → (p : ℕ) → (is_marked marks p ≡ true) ↔ IsRecursive g (least_facts g) p
 marks_all g count marks are all p = (
   λ h. ((are.right p).0 h).recursive,
   λ is. let inside = slice_get_within g.rules is.number is.rule is.there in (are.right p).1 (record { recursive = is; below = omega arith }),

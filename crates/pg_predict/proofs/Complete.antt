@@ -14,19 +14,18 @@ use Rattle.pg_sets.specs.Follow as chain
 use Rattle.pg_bit_set.specs.Numbers.{set_at}
 use Rattle.pg_form.specs.declared.used.OperatorBuilders.{OperatorBuilders}
 use Rattle.pg_graph.specs.Marks.{is_marked}
-use Rattle.pg_heads.specs.Nullable.{Nullable}
 use Rattle.pg_own_starts.specs.declared.listed.ListedStart.{ListedStart}
 use Rattle.pg_form.proofs.Each.{all-get}
 use Rattle.pg_predict.specs.WithStarts.{Starts, kind_with_starts, start_at}
-use Rattle.pg_predict.specs.Conditions.{Violates, AreFirstToMeet, Begins, BeginsNothing, Follows, BeginsLink, EndsNullable}
+use Rattle.pg_predict.specs.Conditions.{NodeFacts, ViolatesBy, AreFirstToMeet, BeginsNothing, BeginsLink, EndsNullable}
 use Rattle.pg_predict.specs.Conditions as violates
 use Rattle.pg_form.specs.declared.form.Leaf.TheVariants as leaf
 use Rattle.pg_predict.proofs.GapMeetings.{operators_first, gaps_first, no_term, gap_from}
-use Rattle.pg_predict.specs.Judged.{Facts, all_starts, operators_meet, gaps_meet, gap_met, noted_start, noted_gap, noted_operand, noted_end, noted, noted_meeting, all_below, part_at, node_meeting, follow_meeting, link_meeting, empty_alternative, empty_alternatives, meeting_alternatives, meetings_of_alternative, alternatives_that_meet, alternative_and_follow, alternatives_and_follow, ends_nullable, noted_chain, noted_form, noted_node}
+use Rattle.pg_predict.specs.Judged.{noted_at, is_costly, Facts, all_starts, operators_meet, gaps_meet, gap_met, noted_start, noted_gap, noted_operand, noted_end, noted, noted_meeting, all_below, part_at, node_meeting, follow_meeting, link_meeting, empty_alternative, empty_alternatives, meeting_alternatives, meetings_of_alternative, alternatives_that_meet, alternative_and_follow, alternatives_and_follow, ends_nullable, noted_chain, noted_form, noted_node}
 use Rattle.pg_predict.specs.Shown.{AreFacts}
 use Rattle.pg_predict.specs.Violations.{Violation}
 use Rattle.pg_predict.specs.declared.violation.ViolationKind.{ViolationKind}
-use Rattle.pg_predict.specs.declared.violation.ViolationKind.TheVariants.{LeftRecursion, EmptyRound, EmptyAlternative, AlternativesMeet, AlternativeMeetsFollow, RoundMeetsFollow, EmptyOperand, OperandMeetsOperators, FollowMeetsOperators, GapMeets}
+use Rattle.pg_predict.specs.declared.violation.ViolationKind.TheVariants.{LeftRecursion, EmptyRound, EmptyAlternative, AlternativesMeet, AlternativeMeetsFollow, RoundMeetsFollow, EmptyOperand, OperandMeetsOperators, FollowMeetsOperators, GapMeets, StepCostOver}
 use Rattle.pg_predict.specs.declared.meetings.Meeting.{Meeting}
 use Rattle.pg_predict.proofs.Lists.{In, in_left, in_right, all_below_has, noted_has, noted_meeting_has, noted_start_has}
 use Rattle.pg_predict.proofs.Meanings.{shows_first, shows_follow, MeetAt, first_numbers, first_there, follow_there, link_there, node_found, follow_found, link_found}
@@ -37,7 +36,7 @@ use Rattle.pg_predict.proofs.Sound.{parts_below, start_is}
 pub record IsNoted (g : Grammar) (facts : Facts) (p : ℕ) (what : ViolationKind ListedStart) : Type 0 where
   pub kind : ViolationKind ℕ
   pub same : kind_with_starts (all_starts facts) kind ≡ what
-  pub noted_there : In (noted_node g facts p) (record { node = p; kind = kind })
+  pub noted_there : In (noted_at g facts p) (record { node = p; kind = kind })
   pub below : p < length g.nodes
 
 -- a meeting that is found, and the starts with its numbers
@@ -50,67 +49,72 @@ pub record IsFound (starts : Starts) (o : Option Meeting) (s t : ListedStart) : 
 part_is : (parts : List ℕ) (k q : ℕ) → slice_get parts k ≡ Some q → part_at parts k ≡ q
 part_is parts k q e = get_or_from_slice_get parts k q 0 e
 
-module _ (g : Grammar) (facts : Facts) (are : AreFacts g facts) (grammar : IsGrammar g) where
-  marked : (q : ℕ) → Nullable g q → is_marked facts.sets.nullable q ≡ true
+module _ (g : Grammar) (asked : NodeFacts) (facts : Facts) (are : AreFacts g asked facts) (grammar : IsGrammar g) where
+  marked : (q : ℕ) → asked.nullable q → is_marked facts.sets.nullable q ≡ true
   marked q null = (are.sets.nullable q).1 null
 
   -- ---- first meetings
 
-  nodes_found : (q r : ℕ) (s t : ListedStart) → q < length g.nodes → r < length g.nodes → AreFirstToMeet g (Begins g q) (Begins g r) s t
+  nodes_found : (q r : ℕ) (s t : ListedStart) → q < length g.nodes → r < length g.nodes → AreFirstToMeet g (asked.first q) (asked.first r) s t
       → IsFound (all_starts facts) (node_meeting facts q r) s t
   nodes_found q r s t q_below r_below is =
-      let first = first_numbers g facts are (Begins g q) (Begins g r) (first_there g facts are q q_below) (first_there g facts are r r_below) s t is in
+      let first = first_numbers g asked facts are (asked.first q) (asked.first r) (first_there g asked facts are q q_below) (first_there g asked facts are r r_below) s t is in
       record {
         meeting = first.0;
-        found = pair_from (MeetAt facts.sets.starts (Begins g q) (Begins g r)) (node_meeting facts q r) first.0 (node_found g facts are q r q_below r_below) first.1;
+        found = pair_from (MeetAt facts.sets.starts (asked.first q) (asked.first r)) (node_meeting facts q r) first.0 (node_found g asked facts are q r q_below r_below) first.1;
         one = first.2;
         other = first.3;
       }
 
-  with_follow : (q p : ℕ) (s t : ListedStart) → q < length g.nodes → p < length g.nodes → AreFirstToMeet g (Begins g q) (Follows g p) s t
+  with_follow : (q p : ℕ) (s t : ListedStart) → q < length g.nodes → p < length g.nodes → AreFirstToMeet g (asked.first q) (asked.follow p) s t
       → IsFound (all_starts facts) (follow_meeting facts q p) s t
   with_follow q p s t q_below p_below is =
-      let first = first_numbers g facts are (Begins g q) (Follows g p) (first_there g facts are q q_below) (follow_there g facts are p p_below) s t is in
+      let first = first_numbers g asked facts are (asked.first q) (asked.follow p) (first_there g asked facts are q q_below) (follow_there g asked facts are p p_below) s t is in
       record {
         meeting = first.0;
-        found = pair_from (MeetAt facts.sets.starts (Begins g q) (Follows g p)) (follow_meeting facts q p) first.0 (follow_found g facts are q p q_below p_below) first.1;
+        found = pair_from (MeetAt facts.sets.starts (asked.first q) (asked.follow p)) (follow_meeting facts q p) first.0 (follow_found g asked facts are q p q_below p_below) first.1;
         one = first.2;
         other = first.3;
       }
 
   link_with_follow : (operand separator p : ℕ) (s t : ListedStart) → operand < length g.nodes → separator < length g.nodes → p < length g.nodes
-      → AreFirstToMeet g (BeginsLink g operand separator) (Follows g p) s t → IsFound (all_starts facts) (link_meeting facts operand separator p) s t
+      → AreFirstToMeet g (BeginsLink asked operand separator) (asked.follow p) s t → IsFound (all_starts facts) (link_meeting facts operand separator p) s t
   link_with_follow operand separator p s t o q below is =
-      let first = first_numbers g facts are (BeginsLink g operand separator) (Follows g p) (link_there g facts are operand separator o q) (follow_there g facts are p below) s t is in
+      let first = first_numbers g asked facts are (BeginsLink asked operand separator) (asked.follow p) (link_there g asked facts are operand separator o q) (follow_there g asked facts are p below) s t is in
       record {
         meeting = first.0;
-        found = pair_from (MeetAt facts.sets.starts (BeginsLink g operand separator) (Follows g p)) (link_meeting facts operand separator p) first.0
-            (link_found g facts are operand separator p o q below) first.1;
+        found = pair_from (MeetAt facts.sets.starts (BeginsLink asked operand separator) (asked.follow p)) (link_meeting facts operand separator p) first.0
+            (link_found g asked facts are operand separator p o q below) first.1;
         one = first.2;
         other = first.3;
       }
 
   -- ---- nodes
 
-  -- what is noted of what stands at a node is noted of the node
-  at_form : (p : ℕ) (n : Node) (b : Violation ℕ) → slice_get g.nodes p ≡ Some n → In (noted_form facts p n) b → In (noted_node g facts p) b
+  -- what is noted of a node is noted at it
+  of_node : (p : ℕ) (b : Violation ℕ) → In (noted_node g facts p) b → In (noted_at g facts p) b
+  of_node p b is = in_left (noted_node g facts p) (noted (is_costly facts p) p StepCostOver) b is
+
+  -- so is what is noted of what stands there
+  at_form : (p : ℕ) (n : Node) (b : Violation ℕ) → slice_get g.nodes p ≡ Some n → In (noted_form facts p n) b → In (noted_at g facts p) b
   at_form p n b at is =
-      in_right (noted (is_marked facts.recursive p) p LeftRecursion) (option_map_or (noted_form facts p) (slice_get g.nodes p) []) b
-      (subst (λ (o : Option Node). In (option_map_or (noted_form facts p) o []) b) (sym at) is)
+      of_node p b
+      (in_right (noted (is_marked facts.recursive p) p LeftRecursion) (option_map_or (noted_form facts p) (slice_get g.nodes p) []) b
+      (subst (λ (o : Option Node). In (option_map_or (noted_form facts p) o []) b) (sym at) is))
 
   -- so is what is noted of an expression
-  of_operand : (p term : ℕ) (builders : OperatorBuilders) (b : Violation ℕ) → slice_get g.nodes p ≡ Some (form.Expression builders term) → In (noted_operand facts p term) b → In (noted_node g facts p) b
+  of_operand : (p term : ℕ) (builders : OperatorBuilders) (b : Violation ℕ) → slice_get g.nodes p ≡ Some (form.Expression builders term) → In (noted_operand facts p term) b → In (noted_at g facts p) b
   of_operand p term builders b at is =
       at_form p (form.Expression builders term) b at (in_left (noted_operand facts p term) (noted_end facts p ++ noted_gap (gap_met facts (gaps_meet facts (set_at facts.sets.firsts term)) p) p) b is)
 
   after_operand_noted : (p term : ℕ) (builders : OperatorBuilders) (b : Violation ℕ) → slice_get g.nodes p ≡ Some (form.Expression builders term) →
-      In (noted_end facts p ++ noted_gap (gap_met facts (gaps_meet facts (set_at facts.sets.firsts term)) p) p) b → In (noted_node g facts p) b
+      In (noted_end facts p ++ noted_gap (gap_met facts (gaps_meet facts (set_at facts.sets.firsts term)) p) p) b → In (noted_at g facts p) b
   after_operand_noted p term builders b at is =
       at_form p (form.Expression builders term) b at (in_right (noted_operand facts p term) (noted_end facts p ++ noted_gap (gap_met facts (gaps_meet facts (set_at facts.sets.firsts term)) p) p) b is)
 
   -- the form of a chain
   at_chain : (p operand separator : ℕ) (n : Node) (b : Violation ℕ) → slice_get g.nodes p ≡ Some n → IsChain operand separator n → In (noted_chain facts p operand separator) b
-      → In (noted_node g facts p) b
+      → In (noted_at g facts p) b
   at_chain p operand separator n b at chain.chain is = at_form p n b at is
 
   operand_below : (p operand separator : ℕ) (n : Node) → slice_get g.nodes p ≡ Some n → IsChain operand separator n → operand < length g.nodes
@@ -121,7 +125,7 @@ module _ (g : Grammar) (facts : Facts) (are : AreFacts g facts) (grammar : IsGra
 
   -- ---- choices
 
-  empty_noted : (p k q : ℕ) (parts : List ℕ) → slice_get g.nodes p ≡ Some (form.Choice parts) → slice_get parts k ≡ Some q → suc k < length parts → Nullable g q
+  empty_noted : (p k q : ℕ) (parts : List ℕ) → slice_get g.nodes p ≡ Some (form.Choice parts) → slice_get parts k ≡ Some q → suc k < length parts → asked.nullable q
       → IsNoted g facts p (EmptyAlternative (suc k))
   empty_noted p k q parts at part not_last null =
       let b : Violation ℕ = record { node = p; kind = EmptyAlternative (k + 1) } in
@@ -145,7 +149,7 @@ module _ (g : Grammar) (facts : Facts) (are : AreFacts g facts) (grammar : IsGra
       (noted_meeting_has (node_meeting facts (part_at parts j) (part_at parts k)) p (AlternativesMeet (j + 1) (k + 1)) m found)
 
   pair_noted : (p j k q r : ℕ) (parts : List ℕ) (s t : ListedStart) → slice_get g.nodes p ≡ Some (form.Choice parts) → j < k → slice_get parts j ≡ Some q → slice_get parts k ≡ Some r
-      → AreFirstToMeet g (Begins g q) (Begins g r) s t → IsNoted g facts p (AlternativesMeet (suc j) (suc k) s t)
+      → AreFirstToMeet g (asked.first q) (asked.first r) s t → IsNoted g facts p (AlternativesMeet (suc j) (suc k) s t)
   pair_noted p j k q r parts s t at before one other first =
       let starts = all_starts facts in
       let q_below = parts_below g p (form.Choice parts) j q grammar at one in
@@ -169,7 +173,7 @@ module _ (g : Grammar) (facts : Facts) (are : AreFacts g facts) (grammar : IsGra
         below = slice_get_within g.nodes p (form.Choice parts) at;
       }
 
-  ends_test : (parts : List ℕ) → EndsNullable g parts → ends_nullable facts parts ≡ true
+  ends_test : (parts : List ℕ) → EndsNullable asked parts → ends_nullable facts parts ≡ true
   ends_test parts ends =
       let long = ends.is_last in
       let before : length parts - 1 ≡ ends.before = omega arith in
@@ -177,7 +181,7 @@ module _ (g : Grammar) (facts : Facts) (are : AreFacts g facts) (grammar : IsGra
       ∙ (ap (is_marked facts.sets.nullable) (part_is parts ends.before ends.last ends.there) ∙ marked ends.last ends.nullable)
 
   follow_noted : (p k q : ℕ) (parts : List ℕ) (s t : ListedStart) → slice_get g.nodes p ≡ Some (form.Choice parts) → slice_get parts k ≡ Some q → suc k < length parts
-      → EndsNullable g parts → AreFirstToMeet g (Begins g q) (Follows g p) s t → IsNoted g facts p (AlternativeMeetsFollow (suc k) s t)
+      → EndsNullable asked parts → AreFirstToMeet g (asked.first q) (asked.follow p) s t → IsNoted g facts p (AlternativeMeetsFollow (suc k) s t)
   follow_noted p k q parts s t at part not_last ends first =
       let starts = all_starts facts in
       let p_below = slice_get_within g.nodes p (form.Choice parts) at in
@@ -208,14 +212,15 @@ module _ (g : Grammar) (facts : Facts) (are : AreFacts g facts) (grammar : IsGra
       → kind_with_starts (all_starts facts) (RoundMeetsFollow m.one m.other) ≡ RoundMeetsFollow s t
   round_same m s t one other = ap (λ (x : ListedStart). RoundMeetsFollow x (start_at (all_starts facts) m.other)) one ∙ ap (RoundMeetsFollow s) other
 
-  pub violation_noted : (p : ℕ) (what : ViolationKind ListedStart) → Violates g p what → IsNoted g facts p what
+  pub violation_noted : (p : ℕ) (what : ViolationKind ListedStart) → ViolatesBy g asked p what → IsNoted g facts p what
   violation_noted p what (violates.left_recursion {r} {rule} there circle) =
-      let test = (are.recursive rule.body).1 (record { number = r; rule = rule; there = there; body = refl; chain = circle }) in
+      let test = (are.recursive rule.body).1 (record { number = r; rule = rule; there = there; body = refl; heads_itself = circle }) in
       record {
         kind = LeftRecursion;
         same = refl;
-        noted_there = in_left (noted (is_marked facts.recursive rule.body) rule.body LeftRecursion) (option_map_or (noted_form facts rule.body) (slice_get g.nodes rule.body) [])
-            (record { node = rule.body; kind = LeftRecursion }) (noted_has (is_marked facts.recursive rule.body) rule.body LeftRecursion test);
+        noted_there = of_node rule.body (record { node = rule.body; kind = LeftRecursion })
+            (in_left (noted (is_marked facts.recursive rule.body) rule.body LeftRecursion) (option_map_or (noted_form facts rule.body) (slice_get g.nodes rule.body) [])
+            (record { node = rule.body; kind = LeftRecursion }) (noted_has (is_marked facts.recursive rule.body) rule.body LeftRecursion test));
         below = all-get (λ one. one.body < length g.nodes) g.rules r rule (bodies_are_nodes g.rules g.nodes grammar.bodies) there;
       }
   violation_noted p what (violates.empty_round {q = q} at null) =
@@ -282,11 +287,11 @@ module _ (g : Grammar) (facts : Facts) (are : AreFacts g facts) (grammar : IsGra
       }
   violation_noted p what (violates.operand_meets_operators {term = term} {builders = builders} {s = s} {t = t} at first) =
       let term_below = parts_below g p (form.Expression builders term) 0 term grammar at refl in
-      let found = (operators_first g facts are (set_at facts.sets.firsts term) (Begins g term) (shows_first g facts are term term_below)).from s t first in
+      let found = (operators_first g asked facts are (set_at facts.sets.firsts term) (asked.first term) (shows_first g asked facts are term term_below)).from s t first in
       let b : Violation ℕ = record { node = p; kind = OperandMeetsOperators found.0 } in
       record {
         kind = OperandMeetsOperators found.0;
-        same = ap OperandMeetsOperators (start_is g facts are grammar found.0 s found.2);
+        same = ap OperandMeetsOperators (start_is g asked facts are grammar found.0 s found.2);
         noted_there = of_operand p term builders b at
             (in_right (noted (is_marked facts.sets.nullable term) p EmptyOperand) (noted_start (operators_meet facts (set_at facts.sets.firsts term)) p OperandMeetsOperators) b
             (noted_start_has (operators_meet facts (set_at facts.sets.firsts term)) p OperandMeetsOperators found.0 found.1));
@@ -294,11 +299,11 @@ module _ (g : Grammar) (facts : Facts) (are : AreFacts g facts) (grammar : IsGra
       }
   violation_noted p what (violates.follow_meets_operators {term = term} {builders = builders} {s = s} {t = t} at first) =
       let below = slice_get_within g.nodes p (form.Expression builders term) at in
-      let found = (operators_first g facts are (set_at facts.sets.follows p) (Follows g p) (shows_follow g facts are p below)).from s t first in
+      let found = (operators_first g asked facts are (set_at facts.sets.follows p) (asked.follow p) (shows_follow g asked facts are p below)).from s t first in
       let b : Violation ℕ = record { node = p; kind = FollowMeetsOperators found.0 } in
       record {
         kind = FollowMeetsOperators found.0;
-        same = ap FollowMeetsOperators (start_is g facts are grammar found.0 s found.2);
+        same = ap FollowMeetsOperators (start_is g asked facts are grammar found.0 s found.2);
         noted_there = after_operand_noted p term builders b at
             (in_left (noted_end facts p) (noted_gap (gap_met facts (gaps_meet facts (set_at facts.sets.firsts term)) p) p) b
             (noted_start_has (operators_meet facts (set_at facts.sets.follows p)) p FollowMeetsOperators found.0 found.1));
@@ -308,8 +313,8 @@ module _ (g : Grammar) (facts : Facts) (are : AreFacts g facts) (grammar : IsGra
       let term_below = parts_below g p (form.Expression builders term) 0 term grammar at refl in
       let below = slice_get_within g.nodes p (form.Expression builders term) at in
       let met = gaps_meet facts (set_at facts.sets.firsts term) in
-      let begins = gaps_first g facts are (set_at facts.sets.firsts term) (Begins g term) (shows_first g facts are term term_below) in
-      let found = gap_from g facts are p below met (Begins g term) begins s first in
+      let begins = gaps_first g asked facts are (set_at facts.sets.firsts term) (asked.first term) (shows_first g asked facts are term term_below) in
+      let found = gap_from g asked facts are p below met (asked.first term) begins s first in
       let b : Violation ℕ = record { node = p; kind = GapMeets found.0 } in
       record {
         kind = GapMeets found.0;
@@ -320,11 +325,20 @@ module _ (g : Grammar) (facts : Facts) (are : AreFacts g facts) (grammar : IsGra
       }
   violation_noted p what (violates.gap_meets {class = class} {s = s} at first) =
       let below = slice_get_within g.nodes p (form.Leaf (leaf.Declare class)) at in
-      let found = gap_from g facts are p below None BeginsNothing (no_term g facts are) s first in
+      let found = gap_from g asked facts are p below None BeginsNothing (no_term g asked facts are) s first in
       let b : Violation ℕ = record { node = p; kind = GapMeets found.0 } in
       record {
         kind = GapMeets found.0;
         same = ap GapMeets found.2;
         noted_there = at_form p (form.Leaf (leaf.Declare class)) b at (noted_start_has (gap_met facts None p) p GapMeets found.0 found.1);
         below = below;
+      }
+  violation_noted p what (violates.step_cost_over {rule} {k} there is over) =
+      let test = (are.costly rule.body).1 (record { rule = rule; there = there; body = refl; cost = k; is = is; over = over }) in
+      record {
+        kind = StepCostOver;
+        same = refl;
+        noted_there = in_right (noted_node g facts rule.body) (noted (is_costly facts rule.body) rule.body StepCostOver) (record { node = rule.body; kind = StepCostOver })
+            (noted_has (is_costly facts rule.body) rule.body StepCostOver test);
+        below = all-get (λ one. one.body < length g.nodes) g.rules g.start rule (bodies_are_nodes g.rules g.nodes grammar.bodies) there;
       }

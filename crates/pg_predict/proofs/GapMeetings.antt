@@ -18,7 +18,7 @@ use Rattle.pg_own_starts.specs.OwnStarts.{IsOperatorStart}
 use Rattle.pg_own_starts.specs.OwnStarts as own
 use Rattle.pg_own_starts.specs.declared.listed.ListedStart.{ListedStart}
 use Rattle.pg_own_starts.specs.declared.operators.OperatorStarts.{OperatorStarts}
-use Rattle.pg_predict.specs.Conditions.{AreFirstToMeet, NoneMeet, IsFirstToMeetGap, BeginsNothing, Follows}
+use Rattle.pg_predict.specs.Conditions.{NodeFacts, AreFirstToMeet, NoneMeet, IsFirstToMeetGap, BeginsNothing}
 use Rattle.pg_predict.specs.Conditions as met
 use Rattle.pg_predict.specs.Judged.{Facts, all_starts, operators_meet, gaps_meet, gap_met, gap_met_by}
 use Rattle.pg_predict.specs.Meetings.{first_met}
@@ -60,18 +60,18 @@ record IsOnly (g : Grammar) (Other : StartKind → Type 0) (o : ListedStart) : T
 only_one : (g : Grammar) (Other : StartKind → Type 0) (o t : ListedStart) → IsOnly g Other o → IsListed g t → Other t.start → o ≡ t
 only_one g Other o t only listed other = listed_once g o t only.named listed ((only.kind t.start).0 other)
 
-module _ (g : Grammar) (facts : Facts) (are : AreFacts g facts) where
+module _ (g : Grammar) (asked : NodeFacts) (facts : Facts) (are : AreFacts g asked facts) where
   met_start : (set met : List Bool) (One : StartKind → Type 0) (o : ListedStart) → ShowsKind facts.sets.starts set One → IsMetSet facts.sets.starts o.start met → (s : ℕ)
       → in_both met set s ≡ true → (x : ListedStart) × (slice_get facts.sets.starts s ≡ Some x) × One x.start × (Apart x.start o.start → ⊥)
   met_start set met One o shows is s h =
       let both = and_parts (contains met s) (contains set s) h in
-      let x = start_in g facts are set One s shows both.1 in
-      (x.0, x.1, kind_of g facts are set One s x.0 shows x.1 both.1, λ apart. (is s x.0 x.1).0 both.0 (Apart-swap x.0.start o.start apart))
+      let x = start_in g asked facts are set One s shows both.1 in
+      (x.0, x.1, kind_of g asked facts are set One s x.0 shows x.1 both.1, λ apart. (is s x.0 x.1).0 both.0 (Apart-swap x.0.start o.start apart))
 
   start_met : (set met : List Bool) (One : StartKind → Type 0) (o : ListedStart) → ShowsKind facts.sets.starts set One → IsMetSet facts.sets.starts o.start met → (s : ℕ) (x : ListedStart)
       → slice_get facts.sets.starts s ≡ Some x → One x.start → (Apart x.start o.start → ⊥) → in_both met set s ≡ true
   start_met set met One o shows is s x at one together =
-      and_from (contains met s) (contains set s) ((is s x at).1 (λ apart. together (Apart-swap o.start x.start apart))) (member g facts are set One s x shows at one)
+      and_from (contains met s) (contains set s) ((is s x at).1 (λ apart. together (Apart-swap o.start x.start apart))) (member g asked facts are set One s x shows at one)
 
   -- ---- the first start of a set that meets the one of a kind
 
@@ -85,14 +85,14 @@ module _ (g : Grammar) (facts : Facts) (are : AreFacts g facts) where
     first_some : (s : ℕ) → first_met met set ≡ Some s → (x : ListedStart) × (slice_get facts.sets.starts s ≡ Some x) × AreFirstToMeet g One Other x o
     first_some s e =
         let starts = facts.sets.starts in
-        let sorted = are.sets.start_sets.ordered in
+        let sorted = are.sets.formed.ordered in
         let least = least_is (in_both met set) (length set) s e in
         let at = met_start set met One o shows is s least.passes in
         let x = at.0 in
         let first : AreFirstToMeet g One Other x o = record {
-          meet = record { one_listed = are.sets.start_sets.listed s x at.1; other_listed = only.named; one = at.2; other = (only.kind o.start).1 refl; together = at.3 };
+          meet = record { one_listed = are.sets.formed.listed s x at.1; other_listed = only.named; one = at.2; other = (only.kind o.start).1 refl; together = at.3 };
           first_one = λ u v meet less.
-              let there = placed g facts are set One u shows meet.one_listed meet.one in
+              let there = placed g asked facts are set One u shows meet.one_listed meet.one in
               let below = order_numbers starts there.number s u x sorted there.there at.1 less in
               let passes = shown u v there.number there.there meet.one meet.other_listed meet.other meet.together in
               true≢false (sym passes ∙ least.before there.number below);
@@ -106,7 +106,7 @@ module _ (g : Grammar) (facts : Facts) (are : AreFacts g facts) where
     first_from : (x t : ListedStart) → AreFirstToMeet g One Other x t → (s : ℕ) × (first_met met set ≡ Some s) × (slice_get facts.sets.starts s ≡ Some x)
     first_from x t first =
         let starts = facts.sets.starts in
-        let there = placed g facts are set One x shows first.meet.one_listed first.meet.one in
+        let there = placed g asked facts are set One x shows first.meet.one_listed first.meet.one in
         let passes = shown x t there.number there.there first.meet.one first.meet.other_listed first.meet.other first.meet.together in (
           there.number,
           least_from (in_both met set) (length set) there.number (record {
@@ -119,9 +119,9 @@ module _ (g : Grammar) (facts : Facts) (are : AreFacts g facts) where
                       let at = met_start set met One o shows is j meets in
                       let same = only_one g Other o t only first.meet.other_listed first.meet.other in
                       let together = subst (λ (w : ListedStart). Apart at.0.start w.start → ⊥) same at.3 in
-                      let less = numbers_order starts j there.number at.0 x are.sets.start_sets.ordered at.1 there.there below in
+                      let less = numbers_order starts j there.number at.0 x are.sets.formed.ordered at.1 there.there below in
                       absurd (first.first_one at.0 t
-                      (record { one_listed = are.sets.start_sets.listed j at.0 at.1; other_listed = first.meet.other_listed; one = at.2; other = first.meet.other; together = together })
+                      (record { one_listed = are.sets.formed.listed j at.0 at.1; other_listed = first.meet.other_listed; one = at.2; other = first.meet.other; together = together })
                       less)
                 ];
           }),
@@ -131,7 +131,7 @@ module _ (g : Grammar) (facts : Facts) (are : AreFacts g facts) where
     -- where none is found, none meets, and the other way round
     none_found : first_met met set ≡ None → NoneMeet g One Other
     none_found e x t meet =
-        let there = placed g facts are set One x shows meet.one_listed meet.one in
+        let there = placed g asked facts are set One x shows meet.one_listed meet.one in
         let passes = shown x t there.number there.there meet.one meet.other_listed meet.other meet.together in
         true≢false (sym passes ∙ least_none (in_both met set) (length set) there.number e (both_below met set there.number passes))
 
@@ -232,7 +232,7 @@ module _ (g : Grammar) (facts : Facts) (are : AreFacts g facts) where
   -- ---- operators and gaps, and starts of a set
 
   pub operators_first : (set : List Bool) (One : StartKind → Type 0) → ShowsKind facts.sets.starts set One → IsFirstMet One (IsOperatorStart g) (operators_meet facts set)
-  operators_first set One shows = go facts.operators are.operators
+  operators_first set One shows = go facts.operators are.worked_out.operators
     where
       go : (o : Option OperatorFacts) → AreOperatorFacts g facts.sets.starts o → IsFirstMet One (IsOperatorStart g) (option_and_then (λ (operators : OperatorFacts). first_met operators.met set) o)
       go None none = of_none One (IsOperatorStart g) (λ x t meet. no_operator t.start none meet.other)
@@ -240,7 +240,7 @@ module _ (g : Grammar) (facts : Facts) (are : AreFacts g facts) where
 
   pub gaps_first : (set : List Bool) (One : StartKind → Type 0) → ShowsKind facts.sets.starts set One → IsFirstMet One (IsGapStart g) (gaps_meet facts set)
   unfolding gap
-  gaps_first set One shows = go facts.operators are.operators
+  gaps_first set One shows = go facts.operators are.worked_out.operators
     where
       go : (o : Option OperatorFacts) → AreOperatorFacts g facts.sets.starts o → IsFirstMet One (IsGapStart g) (option_and_then (λ (operators : OperatorFacts). first_met operators.met_by_gap set) o)
       go None none = of_none One (IsGapStart g) (λ x t meet. no_gap t.start none meet.other)
@@ -253,10 +253,10 @@ module _ (g : Grammar) (facts : Facts) (are : AreFacts g facts) where
   -- ---- at a node
 
   module _ (p : ℕ) (below : p < length g.nodes) (term : Option ℕ) (Term : StartKind → Type 0) (begins : IsFirstMet Term (IsGapStart g) term) where
-    follows_first : (operators : OperatorFacts) → AreOfOperators g facts.sets.starts operators → IsFirstMet (Follows g p) (IsGapStart g) (first_met operators.met_by_gap (set_at facts.sets.follows p))
+    follows_first : (operators : OperatorFacts) → AreOfOperators g facts.sets.starts operators → IsFirstMet (asked.follow p) (IsGapStart g) (first_met operators.met_by_gap (set_at facts.sets.follows p))
     unfolding gap
     follows_first operators is =
-        by_set (set_at facts.sets.follows p) operators.met_by_gap (Follows g p) (IsGapStart g) (gap operators is) (shows_follow g facts are p below) is.met_by_gap (only_gap operators is)
+        by_set (set_at facts.sets.follows p) operators.met_by_gap (asked.follow p) (IsGapStart g) (gap operators is) (shows_follow g asked facts are p below) is.met_by_gap (only_gap operators is)
 
     abbrev rest : OperatorFacts → Option ℕ
     rest operators = option_or term (first_met operators.met_by_gap (set_at facts.sets.follows p))
@@ -268,18 +268,18 @@ module _ (g : Grammar) (facts : Facts) (are : AreFacts g facts) where
         ∙ ap (λ (o : Option OperatorFacts). option_map_or (λ (operators : OperatorFacts). operators.operator) o (record { start = End; word = 0 })) e
 
     by_gap : (operators : OperatorFacts) → facts.operators ≡ Some operators → AreOfOperators g facts.sets.starts operators → (n : ℕ) → gap_met_by facts term p operators ≡ Some n
-        → IsFirstToMeetGap g Term (Follows g p) (start_at (all_starts facts) n)
+        → IsFirstToMeetGap g Term (asked.follow p) (start_at (all_starts facts) n)
     by_gap operators there is n = go operators.in_gap refl
       where
         by_follow : operators.in_gap ≡ false → term ≡ None → first_met operators.met_by_gap (set_at facts.sets.follows p) ≡ Some n
-            → IsFirstToMeetGap g Term (Follows g p) (start_at (all_starts facts) n)
+            → IsFirstToMeetGap g Term (asked.follow p) (start_at (all_starts facts) n)
         by_follow free none e =
             let found = (follows_first operators is).some n e in
             let same : found.0 ≡ start_at (all_starts facts) n = sym (start_is (all_starts facts) n found.0 found.2) in
-            met.after (none_meet operators is free) (begins.none none) (subst (λ (x : ListedStart). AreFirstToMeet g (Follows g p) (IsGapStart g) x found.1) same found.3)
+            met.after (none_meet operators is free) (begins.none none) (subst (λ (x : ListedStart). AreFirstToMeet g (asked.follow p) (IsGapStart g) x found.1) same found.3)
 
         by_term : operators.in_gap ≡ false → (o : Option ℕ) → term ≡ o → option_or o (first_met operators.met_by_gap (set_at facts.sets.follows p)) ≡ Some n
-            → IsFirstToMeetGap g Term (Follows g p) (start_at (all_starts facts) n)
+            → IsFirstToMeetGap g Term (asked.follow p) (start_at (all_starts facts) n)
         by_term free None e h = by_follow free e h
         by_term free (Some k) e h =
             let found = begins.some n (e ∙ h) in
@@ -287,29 +287,29 @@ module _ (g : Grammar) (facts : Facts) (are : AreFacts g facts) where
             met.term (none_meet operators is free) (subst (λ (x : ListedStart). AreFirstToMeet g Term (IsGapStart g) x found.1) same found.3)
 
         go : (b : Bool) → operators.in_gap ≡ b → (if b then Some (length facts.sets.starts) else rest operators) ≡ Some n
-            → IsFirstToMeetGap g Term (Follows g p) (start_at (all_starts facts) n)
+            → IsFirstToMeetGap g Term (asked.follow p) (start_at (all_starts facts) n)
         go true e h =
             let number : length facts.sets.starts ≡ n = same_Some (length facts.sets.starts) n h in
-            subst (IsFirstToMeetGap g Term (Follows g p)) (sym (own_start operators there) ∙ ap (start_at (all_starts facts)) number) (met.operator (both_meet operators is e))
+            subst (IsFirstToMeetGap g Term (asked.follow p)) (sym (own_start operators there) ∙ ap (start_at (all_starts facts)) number) (met.operator (both_meet operators is e))
         go false e h = by_term e term refl h
 
     -- what gaps are found to meet is the first
-    pub gap_some : (n : ℕ) → gap_met facts term p ≡ Some n → IsFirstToMeetGap g Term (Follows g p) (start_at (all_starts facts) n)
-    gap_some n = go facts.operators refl are.operators
+    pub gap_some : (n : ℕ) → gap_met facts term p ≡ Some n → IsFirstToMeetGap g Term (asked.follow p) (start_at (all_starts facts) n)
+    gap_some n = go facts.operators refl are.worked_out.operators
       where
         go : (o : Option OperatorFacts) → facts.operators ≡ o → AreOperatorFacts g facts.sets.starts o → option_and_then (gap_met_by facts term p) o ≡ Some n
-            → IsFirstToMeetGap g Term (Follows g p) (start_at (all_starts facts) n)
+            → IsFirstToMeetGap g Term (asked.follow p) (start_at (all_starts facts) n)
         go None there none e = absurd cc
         go (Some operators) there is e = by_gap operators there is n e
 
     -- and the first is found, by a number of its own
-    pub gap_from : (s : ListedStart) → IsFirstToMeetGap g Term (Follows g p) s → (n : ℕ) × (gap_met facts term p ≡ Some n) × (start_at (all_starts facts) n ≡ s)
-    gap_from s first = go facts.operators refl are.operators first
+    pub gap_from : (s : ListedStart) → IsFirstToMeetGap g Term (asked.follow p) s → (n : ℕ) × (gap_met facts term p ≡ Some n) × (start_at (all_starts facts) n ≡ s)
+    gap_from s first = go facts.operators refl are.worked_out.operators first
       where
         outside : (operators : OperatorFacts) (n : ℕ) → operators.in_gap ≡ false → rest operators ≡ Some n → gap_met_by facts term p operators ≡ Some n
         outside operators n free e = ap (λ (b : Bool). if b then Some (length facts.sets.starts) else rest operators) free ∙ e
 
-        go : (o : Option OperatorFacts) → facts.operators ≡ o → AreOperatorFacts g facts.sets.starts o → IsFirstToMeetGap g Term (Follows g p) s
+        go : (o : Option OperatorFacts) → facts.operators ≡ o → AreOperatorFacts g facts.sets.starts o → IsFirstToMeetGap g Term (asked.follow p) s
             → (n : ℕ) × (option_and_then (gap_met_by facts term p) o ≡ Some n) × (start_at (all_starts facts) n ≡ s)
         go None there none (met.operator first) = absurd (no_operator s.start none first.meet.one)
         go None there none (met.term {t} free first) = absurd (no_gap t.start none first.meet.other)

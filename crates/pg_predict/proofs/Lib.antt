@@ -19,3 +19,6 @@ pub mod Pieces
 pub mod Series
 pub mod Told
 pub mod Below
+pub mod StepCosts
+pub mod Facts
+pub mod FirstBroken

@@ -12,7 +12,7 @@ use Rattle.pg_predict.specs.Findings.{condition_number, order_within, violation_
 use Rattle.pg_predict.specs.Judged.{noted, noted_meeting, noted_start, all_below}
 use Rattle.pg_predict.specs.Violations.{Violation}
 use Rattle.pg_predict.specs.declared.violation.ViolationKind.{ViolationKind}
-use Rattle.pg_predict.specs.declared.violation.ViolationKind.TheVariants.{LeftRecursion, EmptyRound, EmptyAlternative, AlternativesMeet, AlternativeMeetsFollow, RoundMeetsFollow, EmptyOperand, OperandMeetsOperators, FollowMeetsOperators, GapMeets}
+use Rattle.pg_predict.specs.declared.violation.ViolationKind.TheVariants.{LeftRecursion, EmptyRound, EmptyAlternative, AlternativesMeet, AlternativeMeetsFollow, RoundMeetsFollow, EmptyOperand, OperandMeetsOperators, FollowMeetsOperators, GapMeets, StepCostOver}
 use Rattle.pg_predict.specs.declared.meetings.Meeting.{Meeting}
 
 -- ---- what is among others
@@ -183,6 +183,7 @@ same_number starts EmptyOperand = refl
 same_number starts (OperandMeetsOperators s) = refl
 same_number starts (FollowMeetsOperators s) = refl
 same_number starts (GapMeets s) = refl
+same_number starts StepCostOver = refl
 
 -- and so is all that the order sees
 same_key : (starts : Starts) (p : ℕ) (kind : ViolationKind ℕ) → violation_key (with_starts starts (record { node = p; kind = kind })) ≡ violation_key {S = ℕ} (record { node = p; kind = kind })
@@ -196,6 +197,7 @@ same_key starts p EmptyOperand = refl
 same_key starts p (OperandMeetsOperators s) = refl
 same_key starts p (FollowMeetsOperators s) = refl
 same_key starts p (GapMeets s) = refl
+same_key starts p StepCostOver = refl
 
 precedes_with : (starts : Starts) (b c : Violation ℕ) → Precedes b c → violation_order (with_starts starts b) (with_starts starts c) ≡ Less
 precedes_with starts b c less =

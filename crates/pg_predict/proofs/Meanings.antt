@@ -1,5 +1,5 @@
 -- What the first meetings of two sets of numbers say of starts.
-use Rattle.std.proofs.Common.{◌≡◌, ℕ, ◌<◌, Bool, true, false, List, [], Some, slice_get, length, refl, sym, subst, ◌∙◌, ◌⊎◌, inl, inr, arith}
+use Rattle.std.proofs.Common.{◌≡◌, ℕ, ◌<◌, Bool, true, false, List, Some, slice_get, length, refl, sym, subst, ◌∙◌, ◌⊎◌, inl, inr, arith}
 use Rattle.std.specs.Prelude.{◌↔◌, if◌then◌else◌}
 use Rattle.std.proofs.lemmas.Bool.{true≢false, and_parts, and_from}
 use Rattle.std.proofs.lemmas.Option.{same_Some, slice_get-get_or}
@@ -7,15 +7,12 @@ use Rattle.pg_value.specs.Grammar.{Grammar}
 use Rattle.pg_bit_set.specs.Numbers.{contains, set_at}
 use Rattle.pg_start.specs.Apart.{Apart}
 use Rattle.pg_start.specs.declared.kind.StartKind.{StartKind}
-use Rattle.pg_sets.specs.First.{IsFirstOf}
-use Rattle.pg_sets.specs.First as first_of
 use Rattle.pg_own_starts.specs.Listed.{IsListed}
 use Rattle.pg_graph.specs.Marks.{is_marked}
-use Rattle.pg_heads.specs.Nullable.{Nullable}
 use Rattle.pg_sets.specs.Sets.{HasStart}
 use Rattle.pg_own_starts.specs.declared.listed.ListedStart.{ListedStart}
 use Rattle.pg_predict.specs.WithStarts.{start_at}
-use Rattle.pg_predict.specs.Conditions.{AreFirstToMeet, Begins, Follows, BeginsLink}
+use Rattle.pg_predict.specs.Conditions.{NodeFacts, AreFirstToMeet, BeginsLink}
 use Rattle.pg_predict.specs.Judged.{Facts, all_starts, node_meeting, follow_meeting, link_meeting}
 use Rattle.pg_predict.specs.Meetings.{first_meeting, earlier}
 use Rattle.pg_predict.specs.Shown.{AreFacts}
@@ -40,15 +37,15 @@ pub record ShowsKind (starts : List ListedStart) (set : List Bool) (Kind : Start
   pub limit : length set ≡ length starts
   pub starts_of : (start : StartKind) → HasStart starts set start ↔ Kind start
 
-module _ (g : Grammar) (facts : Facts) (are : AreFacts g facts) where
+module _ (g : Grammar) (asked : NodeFacts) (facts : Facts) (are : AreFacts g asked facts) where
   -- ---- from starts to numbers, and back
 
   pub placed : (set : List Bool) (Kind : StartKind → Type 0) (x : ListedStart) → ShowsKind facts.sets.starts set Kind → IsListed g x → Kind x.start → Placed facts.sets.starts x
-  placed set Kind x shows is kind = placed_by g facts.sets.starts set x are.sets.start_sets.listed is ((shows.starts_of x.start).1 kind)
+  placed set Kind x shows is kind = placed_by g facts.sets.starts set x are.sets.formed.listed is ((shows.starts_of x.start).1 kind)
 
   pub member : (set : List Bool) (Kind : StartKind → Type 0) (s : ℕ) (x : ListedStart) → ShowsKind facts.sets.starts set Kind → slice_get facts.sets.starts s ≡ Some x → Kind x.start
       → contains set s ≡ true
-  member set Kind s x shows at kind = member_by g facts.sets.starts set s x are.sets.start_sets.ordered are.sets.start_sets.listed at ((shows.starts_of x.start).1 kind)
+  member set Kind s x shows at kind = member_by g facts.sets.starts set s x are.sets.formed.ordered are.sets.formed.listed at ((shows.starts_of x.start).1 kind)
 
   pub kind_of : (set : List Bool) (Kind : StartKind → Type 0) (s : ℕ) (x : ListedStart) → ShowsKind facts.sets.starts set Kind → slice_get facts.sets.starts s ≡ Some x → contains set s ≡ true
       → Kind x.start
@@ -75,14 +72,14 @@ module _ (g : Grammar) (facts : Facts) (are : AreFacts g facts) where
         y_there = y.1;
         one = kind_of one One s x.0 shows x.1 met.begins;
         other = kind_of other Other t y.0 shows_other y.1 both.1;
-        together = (are.meetings.met s x.0 x.1 t y.0 y.1).0 both.0;
+        together = (are.worked_out.meetings.met s x.0 x.1 t y.0 y.1).0 both.0;
       }
 
   pub at_met : (one other : List Bool) (One Other : StartKind → Type 0) → ShowsKind facts.sets.starts one One → ShowsKind facts.sets.starts other Other → (s t : ℕ)
       → MeetAt facts.sets.starts One Other s t → Met facts.meetings one other s t
   at_met one other One Other shows shows_other s t at = record {
     begins = member one One s at.x shows at.x_there at.one;
-    both = and_from (contains (set_at facts.meetings s) t) (contains other t) ((are.meetings.met s at.x at.x_there t at.y at.y_there).1 at.together)
+    both = and_from (contains (set_at facts.meetings s) t) (contains other t) ((are.worked_out.meetings.met s at.x at.x_there t at.y at.y_there).1 at.together)
         (member other Other t at.y shows_other at.y_there at.other);
   }
 
@@ -99,14 +96,14 @@ module _ (g : Grammar) (facts : Facts) (are : AreFacts g facts) where
       → AreFirstToMeet g One Other (start_at (all_starts facts) m.one) (start_at (all_starts facts) m.other)
   numbers_first One Other there there_other m is =
       let starts = facts.sets.starts in
-      let sorted = are.sets.start_sets.ordered in
+      let sorted = are.sets.formed.ordered in
       let met = is.met in
       let x_is = start_is (all_starts facts) m.one met.x met.x_there in
       let y_is = start_is (all_starts facts) m.other met.y met.y_there in
       let first : AreFirstToMeet g One Other met.x met.y = record {
         meet = record {
-          one_listed = are.sets.start_sets.listed m.one met.x met.x_there;
-          other_listed = are.sets.start_sets.listed m.other met.y met.y_there;
+          one_listed = are.sets.formed.listed m.one met.x met.x_there;
+          other_listed = are.sets.formed.listed m.other met.y met.y_there;
           one = met.one;
           other = met.other;
           together = met.together;
@@ -129,10 +126,10 @@ module _ (g : Grammar) (facts : Facts) (are : AreFacts g facts) where
       → (m : Meeting) × IsFirstPair (MeetAt facts.sets.starts One Other) m × (start_at (all_starts facts) m.one ≡ x) × (start_at (all_starts facts) m.other ≡ y)
   first_numbers One Other there there_other x y is =
       let starts = facts.sets.starts in
-      let sorted = are.sets.start_sets.ordered in
+      let sorted = are.sets.formed.ordered in
       let at_x = there x is.meet.one_listed is.meet.one in
       let at_y = there_other y is.meet.other_listed is.meet.other in
-      let listed = are.sets.start_sets.listed in (
+      let listed = are.sets.formed.listed in (
         record { one = at_x.number; other = at_y.number },
         record {
           met = record { x = x; y = y; x_there = at_x.there; y_there = at_y.there; one = is.meet.one; other = is.meet.other; together = is.meet.together };
@@ -158,39 +155,35 @@ module _ (g : Grammar) (facts : Facts) (are : AreFacts g facts) where
 
   -- ---- nodes
 
-  pub shows_first : (q : ℕ) → q < length g.nodes → ShowsKind facts.sets.starts (set_at facts.sets.firsts q) (Begins g q)
-  shows_first q below = record { limit = are.sets.start_sets.first_limit q below; starts_of = λ start. are.sets.start_sets.first q start below }
+  pub shows_first : (q : ℕ) → q < length g.nodes → ShowsKind facts.sets.starts (set_at facts.sets.firsts q) (asked.first q)
+  shows_first q below = record { limit = are.sets.formed.first_limit q below; starts_of = λ start. are.sets.first q start below }
 
-  pub shows_follow : (p : ℕ) → p < length g.nodes → ShowsKind facts.sets.starts (set_at facts.sets.follows p) (Follows g p)
-  shows_follow p below = record { limit = are.sets.start_sets.follow_limit p below; starts_of = λ start. are.sets.start_sets.follow p start below }
+  pub shows_follow : (p : ℕ) → p < length g.nodes → ShowsKind facts.sets.starts (set_at facts.sets.follows p) (asked.follow p)
+  shows_follow p below = record { limit = are.sets.formed.follow_limit p below; starts_of = λ start. are.sets.follow p start below }
 
-  pub first_there : (q : ℕ) → q < length g.nodes → (x : ListedStart) → IsListed g x → Begins g q x.start → Placed facts.sets.starts x
-  first_there q below x is kind = placed (set_at facts.sets.firsts q) (Begins g q) x (shows_first q below) is kind
+  pub first_there : (q : ℕ) → q < length g.nodes → (x : ListedStart) → IsListed g x → asked.first q x.start → Placed facts.sets.starts x
+  first_there q below x is kind = placed (set_at facts.sets.firsts q) (asked.first q) x (shows_first q below) is kind
 
-  pub follow_there : (p : ℕ) → p < length g.nodes → (x : ListedStart) → IsListed g x → Follows g p x.start → Placed facts.sets.starts x
-  follow_there p below x is kind = placed (set_at facts.sets.follows p) (Follows g p) x (shows_follow p below) is kind
+  pub follow_there : (p : ℕ) → p < length g.nodes → (x : ListedStart) → IsListed g x → asked.follow p x.start → Placed facts.sets.starts x
+  follow_there p below x is kind = placed (set_at facts.sets.follows p) (asked.follow p) x (shows_follow p below) is kind
 
-  pub node_found : (q r : ℕ) → q < length g.nodes → r < length g.nodes → PairFound (MeetAt facts.sets.starts (Begins g q) (Begins g r)) (node_meeting facts q r)
+  pub node_found : (q r : ℕ) → q < length g.nodes → r < length g.nodes → PairFound (MeetAt facts.sets.starts (asked.first q) (asked.first r)) (node_meeting facts q r)
   node_found q r q_below r_below =
-      found_at (set_at facts.sets.firsts q) (set_at facts.sets.firsts r) (Begins g q) (Begins g r) (shows_first q q_below) (shows_first r r_below)
+      found_at (set_at facts.sets.firsts q) (set_at facts.sets.firsts r) (asked.first q) (asked.first r) (shows_first q q_below) (shows_first r r_below)
 
-  pub follow_found : (q p : ℕ) → q < length g.nodes → p < length g.nodes → PairFound (MeetAt facts.sets.starts (Begins g q) (Follows g p)) (follow_meeting facts q p)
+  pub follow_found : (q p : ℕ) → q < length g.nodes → p < length g.nodes → PairFound (MeetAt facts.sets.starts (asked.first q) (asked.follow p)) (follow_meeting facts q p)
   follow_found q p q_below p_below =
-      found_at (set_at facts.sets.firsts q) (set_at facts.sets.follows p) (Begins g q) (Follows g p) (shows_first q q_below) (shows_follow p p_below)
+      found_at (set_at facts.sets.firsts q) (set_at facts.sets.follows p) (asked.first q) (asked.follow p) (shows_first q q_below) (shows_follow p p_below)
 
   -- ---- rounds of chains
 
-  pub link_there : (operand separator : ℕ) → operand < length g.nodes → separator < length g.nodes → (x : ListedStart) → IsListed g x → BeginsLink g operand separator x.start
+  pub link_there : (operand separator : ℕ) → operand < length g.nodes → separator < length g.nodes → (x : ListedStart) → IsListed g x → BeginsLink asked operand separator x.start
       → Placed facts.sets.starts x
-  link_there operand separator o s x is (first_of.here begins) = first_there separator s x is begins
-  link_there operand separator o s x is (first_of.after null (first_of.here begins)) = first_there operand o x is begins
-  link_there operand separator o s x is (first_of.after null (first_of.after null_operand more)) = absurd (nothing more)
-    where
-      nothing : IsFirstOf g x.start [] → ⊥
-      nothing more = elim more [ ]
+  link_there operand separator o s x is (inl begins) = first_there separator s x is begins
+  link_there operand separator o s x is (inr both) = first_there operand o x is both.1
 
-  link_alike : (operand separator p : ℕ) (s t u : ℕ) → MeetAt facts.sets.starts (Begins g separator) (Follows g p) s u → MeetAt facts.sets.starts (Begins g operand) (Follows g p) s t
-      → MeetAt facts.sets.starts (Begins g separator) (Follows g p) s t
+  link_alike : (operand separator p : ℕ) (s t u : ℕ) → MeetAt facts.sets.starts (asked.first separator) (asked.follow p) s u → MeetAt facts.sets.starts (asked.first operand) (asked.follow p) s t
+      → MeetAt facts.sets.starts (asked.first separator) (asked.follow p) s t
   link_alike operand separator p s t u a b =
       let same : a.x ≡ b.x = same_Some a.x b.x (sym a.x_there ∙ b.x_there) in
       record {
@@ -198,45 +191,36 @@ module _ (g : Grammar) (facts : Facts) (are : AreFacts g facts) where
         y = b.y;
         x_there = b.x_there;
         y_there = b.y_there;
-        one = subst (λ (x : ListedStart). Begins g separator x.start) same a.one;
+        one = subst (λ (x : ListedStart). asked.first separator x.start) same a.one;
         other = b.other;
         together = b.together;
       }
 
-  -- which of its parts begins a round
-  link_cases : (operand separator : ℕ) (x : StartKind) → BeginsLink g operand separator x → Begins g separator x ⊎ (Nullable g separator × Begins g operand x)
-  link_cases operand separator x (first_of.here begins) = inl begins
-  link_cases operand separator x (first_of.after null (first_of.here begins)) = inr (null, begins)
-  link_cases operand separator x (first_of.after null (first_of.after null_operand more)) = absurd (nothing more)
-    where
-      nothing : IsFirstOf g x [] → ⊥
-      nothing more = elim more [ ]
-
   pub link_found : (operand separator p : ℕ) → operand < length g.nodes → separator < length g.nodes → p < length g.nodes
-      → PairFound (MeetAt facts.sets.starts (BeginsLink g operand separator) (Follows g p)) (link_meeting facts operand separator p)
+      → PairFound (MeetAt facts.sets.starts (BeginsLink asked operand separator) (asked.follow p)) (link_meeting facts operand separator p)
   link_found operand separator p o s below = go (is_marked facts.sets.nullable separator) refl
     where
       starts : List ListedStart
       starts = facts.sets.starts
 
       R : ℕ → ℕ → Type 0
-      R = MeetAt starts (Begins g separator) (Follows g p)
+      R = MeetAt starts (asked.first separator) (asked.follow p)
 
       S : ℕ → ℕ → Type 0
-      S = MeetAt starts (Begins g operand) (Follows g p)
+      S = MeetAt starts (asked.first operand) (asked.follow p)
 
       Link : ℕ → ℕ → Type 0
-      Link = MeetAt starts (BeginsLink g operand separator) (Follows g p)
+      Link = MeetAt starts (BeginsLink asked operand separator) (asked.follow p)
 
       from_separator : (u v : ℕ) → R u v → Link u v
-      from_separator u v r = record { x = r.x; y = r.y; x_there = r.x_there; y_there = r.y_there; one = first_of.here r.one; other = r.other; together = r.together }
+      from_separator u v r = record { x = r.x; y = r.y; x_there = r.x_there; y_there = r.y_there; one = inl r.one; other = r.other; together = r.together }
 
-      from_operand : Nullable g separator → (u v : ℕ) → S u v → Link u v
+      from_operand : asked.nullable separator → (u v : ℕ) → S u v → Link u v
       from_operand null u v r =
-          record { x = r.x; y = r.y; x_there = r.x_there; y_there = r.y_there; one = first_of.after null (first_of.here r.one); other = r.other; together = r.together }
+          record { x = r.x; y = r.y; x_there = r.x_there; y_there = r.y_there; one = inr (null, r.one); other = r.other; together = r.together }
 
-      parts : (u v : ℕ) → Link u v → R u v ⊎ (Nullable g separator × S u v)
-      parts u v l = elim (link_cases operand separator l.x.start l.one) [
+      parts : (u v : ℕ) → Link u v → R u v ⊎ (asked.nullable separator × S u v)
+      parts u v l = elim l.one [
         | inl begins ↦ inl (record { x = l.x; y = l.y; x_there = l.x_there; y_there = l.y_there; one = begins; other = l.other; together = l.together })
         | inr both ↦ inr (both.0, record { x = l.x; y = l.y; x_there = l.x_there; y_there = l.y_there; one = both.1; other = l.other; together = l.together })
       ]

@@ -10,7 +10,7 @@ use Rattle.pg_graph.specs.Marks.{is_marked}
 use Rattle.pg_predict.specs.Violations.{Violation}
 use Rattle.pg_predict.specs.Judged.{Facts, all_below, part_at, noted_choice, noted_form, noted_node, empty_alternatives, meeting_alternatives, meetings_of_alternative, alternatives_that_meet, alternative_and_follow, alternatives_and_follow, ends_nullable}
 use Rattle.pg_predict.specs.Questions.{choice_series, form_series, form_series_count, node_series, asked_choice, asked_node, choice_questions, node_questions}
-use Rattle.pg_predict.specs.Shown.{AreFacts}
+use Rattle.pg_predict.specs.Suspects.{AreSuspects}
 use Rattle.pg_predict.proofs.Unsuspected.{none_noted}
 
 -- ---- one number after another
@@ -86,7 +86,7 @@ follow_asked facts p parts n = go (ends_nullable facts parts)
     go true = refl
     go false = none n
 
-choice_asked : (g : Grammar) (facts : Facts) (p : ℕ) (parts : List ℕ) (j : ℕ) → AreFacts g facts → slice_get g.nodes p ≡ Some (form.Choice parts)
+choice_asked : (g : Grammar) (facts : Facts) (p : ℕ) (parts : List ℕ) (j : ℕ) → AreSuspects g facts.sets facts.meetings facts.suspects → slice_get g.nodes p ≡ Some (form.Choice parts)
     → all_below (asked_choice facts p parts j) (choice_questions facts parts j) ≡ choice_series facts p parts j
 choice_asked g facts p parts zero are at = refl
 choice_asked g facts p parts (suc j) are at = go (nat_lt j (length parts)) refl (is_marked facts.suspects (part_at parts j)) refl
@@ -96,10 +96,10 @@ choice_asked g facts p parts (suc j) are at = go (nat_lt j (length parts)) refl 
         (if inside then (if suspect then length parts else 0) else length parts - 1)
         ≡ (if inside then meetings_of_alternative facts p parts j else alternatives_and_follow facts p parts)
     go true inside true marked = refl
-    go true inside false unmarked = sym (none_noted facts p parts j (are.suspects p parts at) unmarked)
+    go true inside false unmarked = sym (none_noted facts p parts j (are p parts at) unmarked)
     go false outside suspect mark = follow_asked facts p parts (length parts - 1)
 
-pub series_asked : (g : Grammar) (facts : Facts) (p : ℕ) (n : Node) (j : ℕ) → AreFacts g facts → slice_get g.nodes p ≡ Some n
+pub series_asked : (g : Grammar) (facts : Facts) (p : ℕ) (n : Node) (j : ℕ) → AreSuspects g facts.sets facts.meetings facts.suspects → slice_get g.nodes p ≡ Some n
     → all_below (asked_node facts p n j) (node_questions facts n j) ≡ node_series facts p n j
 series_asked g facts p n zero are at = refl
 series_asked g facts p (form.Leaf l) (suc j) are at = refl

@@ -209,7 +209,7 @@ module _ (g : Grammar) where
       ]
 
   -- a node of a grammar stands as its numbers say
-  stands : IsGrammar g → (p : ℕ) → p < length g.nodes → StandsAs g (rule_of g.rules p) (number_in_rule g.rules p) p
+  pub stands : IsGrammar g → (p : ℕ) → p < length g.nodes → StandsAs g (rule_of g.rules p) (number_in_rule g.rules p) p
   stands grammar p below =
       let all : Preorder g (roots 0 (map node_part_count g.nodes)) (numbers 0 (length g.nodes)) =
       in_preorder 0 g.nodes grammar.preorder (λ k. let same : 0 + k ≡ k = omega arith in ap (slice_get g.nodes) same) in
@@ -238,6 +238,7 @@ module _ (g : Grammar) where
   at_a_node grammar p kind (conditions.follow_meets_operators at met) = slice_get_within g.nodes _ _ at
   at_a_node grammar p kind (conditions.expression_gap_meets at met) = slice_get_within g.nodes _ _ at
   at_a_node grammar p kind (conditions.gap_meets at met) = slice_get_within g.nodes _ _ at
+  at_a_node grammar p kind (conditions.step_cost_over {rule = rule} at has over) = all-get (λ one. rule_body one < length g.nodes) g.rules _ rule (bodies_are_nodes g.rules g.nodes grammar.bodies) at
 
   speaks : IsGrammar g → (finding : Finding) (v : Violation ListedStart) → finding ≡ finding_of g v → Violates g v.node v.kind → SpeaksOf g finding
   speaks grammar finding v e h =

@@ -20,7 +20,7 @@ use Rattle.pg_predict.specs.declared.places.Place.{Place}
 use Rattle.pg_predict.specs.declared.source.Source.{Source}
 use Rattle.pg_predict.specs.declared.texts.Texts.{Texts}
 use Rattle.pg_predict.specs.declared.violation.ViolationKind.{ViolationKind}
-use Rattle.pg_predict.specs.declared.violation.ViolationKind.TheVariants.{LeftRecursion, EmptyRound, EmptyAlternative, AlternativesMeet, AlternativeMeetsFollow, RoundMeetsFollow, EmptyOperand, OperandMeetsOperators, FollowMeetsOperators, GapMeets}
+use Rattle.pg_predict.specs.declared.violation.ViolationKind.TheVariants.{LeftRecursion, EmptyRound, EmptyAlternative, AlternativesMeet, AlternativeMeetsFollow, RoundMeetsFollow, EmptyOperand, OperandMeetsOperators, FollowMeetsOperators, GapMeets, StepCostOver}
 
 -- ---- the start of operators
 
@@ -78,6 +78,7 @@ kind_same g starts texts are EmptyOperand = refl
 kind_same g starts texts are (OperandMeetsOperators s) = ap (λ bs. codes "C7 operand meets operators at " ++ bs) (start_same g starts texts are s)
 kind_same g starts texts are (FollowMeetsOperators s) = ap (λ bs. codes "C8 follow set meets operators at " ++ bs) (start_same g starts texts are s)
 kind_same g starts texts are (GapMeets s) = ap (λ bs. codes "C9 gap meets " ++ bs) (start_same g starts texts are s)
+kind_same g starts texts are StepCostOver = refl
 
 -- ---- the lines
 

@@ -9,9 +9,10 @@ use Rattle.pg_form.specs.Forms.{Node}
 use Rattle.pg_form.specs.declared.form.Form.TheVariants as form
 use Rattle.pg_bit_set.specs.Numbers.{contains, set_at}
 use Rattle.pg_graph.specs.Marks.{is_marked}
-use Rattle.pg_sets.specs.Sets.{Sets, AreSets}
+use Rattle.pg_sets.specs.Sets.{Sets}
 use Rattle.pg_predict.specs.Judged.{Facts, part_at, node_meeting, noted_meeting, meeting_alternatives, meetings_of_alternative}
 use Rattle.pg_predict.specs.Meetings.{first_meeting}
+use Rattle.pg_predict.specs.Shown.{AreWellFormed}
 use Rattle.pg_predict.specs.Suspects.{AreParts, HasParts, MarkSuspects, MarkNode, AreSuspects}
 use Rattle.pg_predict.specs.declared.violation.ViolationKind.TheVariants.{AlternativesMeet}
 use Rattle.pg_predict.specs.declared.meetings.Meeting.{Meeting}
@@ -23,14 +24,14 @@ use Rattle.std.proofs.lemmas.Bool.{and_parts, and_from}
 
 -- ---- the parts of a choice
 
-pub parts_of_choice : (g : Grammar) (sets : Sets) (p count : ℕ) (parts : List ℕ) → AreSets g sets → IsGrammar g → slice_get g.nodes p ≡ Some (form.Choice parts) → count ≡ length g.nodes
+pub parts_of_choice : (g : Grammar) (sets : Sets) (p count : ℕ) (parts : List ℕ) → AreWellFormed g sets → IsGrammar g → slice_get g.nodes p ≡ Some (form.Choice parts) → count ≡ length g.nodes
     → AreParts sets count parts
 parts_of_choice g sets p count parts are grammar at all =
     let inside : (k : ℕ) → k < length parts → part_at parts k < length g.nodes =
     λ k below. parts_below g p (form.Choice parts) k (part_at parts k) grammar at (part_inside parts k below) in
     record {
       below = λ k below. (let there = inside k below in omega arith);
-      limit = λ k below. are.start_sets.first_limit (part_at parts k) (inside k below);
+      limit = λ k below. are.first_limit (part_at parts k) (inside k below);
     }
 
 -- ---- what isn't noted
@@ -147,7 +148,7 @@ look_all sets meetings parts next old marks following are none j k before below 
 
 -- ---- choice by choice
 
-pub parts_of_node : (g : Grammar) (sets : Sets) (p count : ℕ) (n : Node) → AreSets g sets → IsGrammar g → slice_get g.nodes p ≡ Some n → count ≡ length g.nodes → HasParts sets count n
+pub parts_of_node : (g : Grammar) (sets : Sets) (p count : ℕ) (n : Node) → AreWellFormed g sets → IsGrammar g → slice_get g.nodes p ≡ Some n → count ≡ length g.nodes → HasParts sets count n
 parts_of_node g sets p count (form.Choice parts) are grammar at all = parts_of_choice g sets p count parts are grammar at all
 parts_of_node g sets p count n are grammar at all = tt
 

@@ -15,21 +15,20 @@ use Rattle.pg_form.specs.declared.used.OperatorBuilders.{OperatorBuilders}
 use Rattle.pg_graph.specs.Marks.{is_marked}
 use Rattle.pg_own_starts.specs.declared.listed.ListedStart.{ListedStart}
 use Rattle.pg_predict.specs.WithStarts.{kind_with_starts, with_starts}
-use Rattle.pg_predict.specs.Conditions.{Violates, IsFaultless}
-use Rattle.pg_predict.specs.Findings.{AreViolations, AreFindings, finding_of}
+use Rattle.pg_predict.specs.Conditions.{NodeFacts, ViolatesBy, IsFaultlessBy, least_facts}
+use Rattle.pg_predict.specs.Findings.{AreViolationsBy, AreFindings, finding_of}
 use Rattle.pg_form.specs.declared.form.Leaf.TheVariants as leaf
-use Rattle.pg_predict.specs.Judged.{Facts, all_starts, operators_meet, gaps_meet, gap_met, noted_start, noted_gap, noted_operand, noted_end, noted_expression, noted, noted_meeting, all_below, part_at, node_meeting, follow_meeting, link_meeting, empty_alternative, empty_alternatives, meeting_alternatives, meetings_of_alternative, alternatives_that_meet, alternative_and_follow, alternatives_and_follow, ends_nullable, noted_choice, noted_form, noted_node, noted_grammar, findings_noted}
+use Rattle.pg_predict.specs.Judged.{noted_at, is_costly, Facts, all_starts, operators_meet, gaps_meet, gap_met, noted_start, noted_gap, noted_operand, noted_end, noted_expression, noted, noted_meeting, all_below, part_at, node_meeting, follow_meeting, link_meeting, empty_alternative, empty_alternatives, meeting_alternatives, meetings_of_alternative, alternatives_that_meet, alternative_and_follow, alternatives_and_follow, ends_nullable, noted_choice, noted_form, noted_node, noted_grammar, findings_noted}
 use Rattle.pg_predict.specs.Shown.{AreFacts}
 use Rattle.pg_predict.specs.Violations.{Violation}
 use Rattle.pg_predict.specs.declared.violation.ViolationKind.{ViolationKind}
-use Rattle.pg_predict.specs.declared.violation.ViolationKind.TheVariants.{LeftRecursion, EmptyRound, EmptyAlternative, AlternativesMeet, AlternativeMeetsFollow, RoundMeetsFollow, EmptyOperand, OperandMeetsOperators, FollowMeetsOperators, GapMeets}
+use Rattle.pg_predict.specs.declared.violation.ViolationKind.TheVariants.{LeftRecursion, EmptyRound, EmptyAlternative, AlternativesMeet, AlternativeMeetsFollow, RoundMeetsFollow, EmptyOperand, OperandMeetsOperators, FollowMeetsOperators, GapMeets, StepCostOver}
 use Rattle.pg_predict.specs.declared.meetings.Meeting.{Meeting}
 use Rattle.pg_predict.specs.Refusals.{IsRefusal, IsRefused}
 use Rattle.pg_predict.specs.declared.source.Source.{Source}
-use Rattle.pg_predict.proofs.Below.{has_some}
 use Rattle.pg_predict.proofs.Complete.{violation_noted}
 use Rattle.pg_predict.proofs.Lists.{In, in_all_below, all_below_has, in_noted, in_noted_meeting, in_noted_start, in_cases, Precedes, Ascends, ascends_append, ascends_below, ascends_noted, ascends_meeting, ascends_start, key_less, key_same, node_precedes, tags_precede, contains_noted, noted_contains, ascends_sorted}
-use Rattle.pg_predict.proofs.Sound.{operand_wrong, end_wrong, expression_gap_wrong, after_operand, in_pair, empty_wrong, meet_wrong, follow_wrong, recursion_wrong, standing_wrong, node_wrong}
+use Rattle.pg_predict.proofs.Sound.{operand_wrong, end_wrong, expression_gap_wrong, after_operand, in_pair, empty_wrong, meet_wrong, follow_wrong, recursion_wrong, standing_wrong, node_wrong, cost_wrong, at_wrong}
 
 -- ---- order within a condition
 
@@ -41,7 +40,7 @@ later : (j k : ℕ) (xs ys : List ℕ) (p n : ℕ) → j < k → slice_cmp nat_c
 later j k xs ys p n below =
     key_same p (n ∷ (j + 1) ∷ xs) (n ∷ (k + 1) ∷ ys) (key_same n ((j + 1) ∷ xs) ((k + 1) ∷ ys) (key_less (j + 1) (k + 1) xs ys (omega arith)))
 
-module _ (g : Grammar) (facts : Facts) (are : AreFacts g facts) (grammar : IsGrammar g) where
+module _ (g : Grammar) (asked : NodeFacts) (facts : Facts) (are : AreFacts g asked facts) (grammar : IsGrammar g) where
   empty_ascends : (p : ℕ) (parts : List ℕ) → Ascends (empty_alternatives facts p parts)
   empty_ascends p parts =
       ascends_below (empty_alternative facts p parts)
@@ -108,12 +107,12 @@ module _ (g : Grammar) (facts : Facts) (are : AreFacts g facts) (grammar : IsGra
       ascends_append (empty_alternatives facts p parts) (alternatives_that_meet facts p parts ++ alternatives_and_follow facts p parts) (empty_ascends p parts)
       (ascends_append (alternatives_that_meet facts p parts) (alternatives_and_follow facts p parts) (meet_ascends p parts) (follow_ascends p parts)
       (λ b c is_b is_c.
-      tags_precede p 4 5 b c (omega arith) (meet_wrong g facts are grammar p parts b at is_b).tagged (follow_wrong g facts are grammar p parts c at is_c).tagged))
+      tags_precede p 4 5 b c (omega arith) (meet_wrong g asked facts are grammar p parts b at is_b).tagged (follow_wrong g asked facts are grammar p parts c at is_c).tagged))
       (λ b c is_b is_c.
-      let tag_b = (empty_wrong g facts are grammar p parts b at is_b).tagged in
+      let tag_b = (empty_wrong g asked facts are grammar p parts b at is_b).tagged in
       elim (in_cases (alternatives_that_meet facts p parts) (alternatives_and_follow facts p parts) c is_c) [
-        | inl meets ↦ tags_precede p 3 4 b c (omega arith) tag_b (meet_wrong g facts are grammar p parts c at meets).tagged
-        | inr follows ↦ tags_precede p 3 5 b c (omega arith) tag_b (follow_wrong g facts are grammar p parts c at follows).tagged
+        | inl meets ↦ tags_precede p 3 4 b c (omega arith) tag_b (meet_wrong g asked facts are grammar p parts c at meets).tagged
+        | inr follows ↦ tags_precede p 3 5 b c (omega arith) tag_b (follow_wrong g asked facts are grammar p parts c at follows).tagged
       ])
 
   -- an empty round, and then a meeting
@@ -144,10 +143,10 @@ module _ (g : Grammar) (facts : Facts) (are : AreFacts g facts) (grammar : IsGra
       (ascends_append (noted_end facts p) gap (ascends_start (operators_meet facts (set_at facts.sets.follows p)) p FollowMeetsOperators)
       (ascends_start (gap_met facts (gaps_meet facts (set_at facts.sets.firsts term)) p) p GapMeets)
       (λ b c is_b is_c.
-      tags_precede p 8 9 b c (omega arith) (end_wrong g facts are grammar p term builders b at is_b).tagged (expression_gap_wrong g facts are grammar p term builders c at is_c).tagged))
+      tags_precede p 8 9 b c (omega arith) (end_wrong g asked facts are grammar p term builders b at is_b).tagged (expression_gap_wrong g asked facts are grammar p term builders c at is_c).tagged))
       (λ b c is_b is_c.
-      let tag_b = (operand_wrong g facts are grammar p term builders b at is_b).tagged in
-      elim (after_operand g facts are grammar p term builders c at is_c) [
+      let tag_b = (operand_wrong g asked facts are grammar p term builders b at is_b).tagged in
+      elim (after_operand g asked facts are grammar p term builders c at is_c) [
         | inl end ↦ tags_precede p 7 8 b c (omega arith) tag_b end.tagged
         | inr gap ↦ tags_precede p 7 9 b c (omega arith) tag_b gap.tagged
       ])
@@ -173,45 +172,52 @@ module _ (g : Grammar) (facts : Facts) (are : AreFacts g facts) (grammar : IsGra
       ascends_append (noted (is_marked facts.recursive p) p LeftRecursion) (option_map_or (noted_form facts p) (slice_get g.nodes p) [])
       (ascends_noted (is_marked facts.recursive p) p LeftRecursion) (standing_ascends p)
       (λ b c is_b is_c.
-      let other = standing_wrong g facts are grammar p c is_c in
-      tags_precede p 1 other.number b c other.above (recursion_wrong g facts are grammar p b is_b).tagged other.wrong.tagged)
+      let other = standing_wrong g asked facts are grammar p c is_c in
+      tags_precede p 1 other.number b c other.above (recursion_wrong g asked facts are grammar p b is_b).tagged other.wrong.tagged)
+
+  pub at_ascends : (p : ℕ) → Ascends (noted_at g facts p)
+  at_ascends p =
+      ascends_append (noted_node g facts p) (noted (is_costly facts p) p StepCostOver) (node_ascends p) (ascends_noted (is_costly facts p) p StepCostOver)
+      (λ b c is_b is_c.
+      let one = node_wrong g asked facts are grammar p b is_b in
+      tags_precede p one.number 11 b c one.below one.wrong.tagged (cost_wrong g asked facts are grammar p c is_c).tagged)
 
   grammar_ascends : Ascends (noted_grammar g facts)
   grammar_ascends =
-      ascends_below (noted_node g facts) node_ascends
+      ascends_below (noted_at g facts) at_ascends
       (λ j k b c before is_b is_c.
-      let node_b = (node_wrong g facts are grammar j b is_b).wrong.tagged.node in
-      let node_c = (node_wrong g facts are grammar k c is_c).wrong.tagged.node in
+      let node_b = (at_wrong g asked facts are grammar j b is_b).1.tagged.node in
+      let node_c = (at_wrong g asked facts are grammar k c is_c).1.tagged.node in
       node_precedes b c (omega arith))
       (length g.nodes)
 
   -- ---- the whole
 
-  violation_wrong : (b : Violation ℕ) → In (noted_grammar g facts) b → Violates g b.node (kind_with_starts (all_starts facts) b.kind)
+  violation_wrong : (b : Violation ℕ) → In (noted_grammar g facts) b → ViolatesBy g asked b.node (kind_with_starts (all_starts facts) b.kind)
   violation_wrong b is =
-      let for = in_all_below (noted_node g facts) (length g.nodes) b is in
-      let wrong = (node_wrong g facts are grammar for.number b for.noted_for).wrong in
-      subst (λ (p : ℕ). Violates g p (kind_with_starts (all_starts facts) b.kind)) (sym wrong.tagged.node) wrong.violates
+      let for = in_all_below (noted_at g facts) (length g.nodes) b is in
+      let wrong = (at_wrong g asked facts are grammar for.number b for.noted_for).1 in
+      subst (λ (p : ℕ). ViolatesBy g asked p (kind_with_starts (all_starts facts) b.kind)) (sym wrong.tagged.node) wrong.violates
 
-  pub are_violations : AreViolations g (map (with_starts (all_starts facts)) (noted_grammar g facts))
+  pub are_violations : AreViolationsBy g asked (map (with_starts (all_starts facts)) (noted_grammar g facts))
   are_violations = record {
     ordered = ascends_sorted (all_starts facts) (noted_grammar g facts) grammar_ascends;
     members = λ v. (
       λ h.
           let noted = noted_contains (all_starts facts) (noted_grammar g facts) v h in
-          subst (λ (w : Violation ListedStart). Violates g w.node w.kind) noted.same (violation_wrong noted.violation noted.there),
+          subst (λ (w : Violation ListedStart). ViolatesBy g asked w.node w.kind) noted.same (violation_wrong noted.violation noted.there),
       λ is.
-          let noted = violation_noted g facts are grammar v.node v.kind is in
+          let noted = violation_noted g asked facts are grammar v.node v.kind is in
           let b : Violation ℕ = record { node = v.node; kind = noted.kind } in
-          let there = contains_noted (all_starts facts) (noted_grammar g facts) b (all_below_has (noted_node g facts) (length g.nodes) v.node b noted.below noted.noted_there) in
+          let there = contains_noted (all_starts facts) (noted_grammar g facts) b (all_below_has (noted_at g facts) (length g.nodes) v.node b noted.below noted.noted_there) in
           subst (λ (w : Violation ListedStart). Contains (map (with_starts (all_starts facts)) (noted_grammar g facts)) w) (ap (λ (c : ViolationKind ListedStart). record v { kind = c }) noted.same) there,
     );
   }
 
   violation_below : (b : Violation ℕ) → In (noted_grammar g facts) b → b.node < 8192
   violation_below b is =
-      let for = in_all_below (noted_node g facts) (length g.nodes) b is in
-      let node = (node_wrong g facts are grammar for.number b for.noted_for).wrong.tagged.node in
+      let for = in_all_below (noted_at g facts) (length g.nodes) b is in
+      let node = (at_wrong g asked facts are grammar for.number b for.noted_for).1.tagged.node in
       let below = for.below in
       let few = grammar.few_nodes in
       omega arith
@@ -224,23 +230,23 @@ module _ (g : Grammar) (facts : Facts) (are : AreFacts g facts) (grammar : IsGra
       there (x ∷ xs) zero d below = inl refl
       there (x ∷ xs) (suc k) d below = inr (there xs k d (omega arith))
 
-  -- ---- findings
-
-  pub are_findings : AreFindings g (findings_noted g facts)
-  are_findings = record {
-    violations = map (with_starts (all_starts facts)) (noted_grammar g facts);
-    all = are_violations;
-    says = refl;
-  }
-
   -- where nothing is noted, nothing is wrong
-  pub faultless : noted_grammar g facts ≡ [] → IsFaultless g
+  pub faultless : noted_grammar g facts ≡ [] → IsFaultlessBy g asked
   faultless none p kind is =
       let there = (are_violations.members (record { node = p; kind = kind })).1 is in
       nowhere (subst (λ (bs : List (Violation ℕ)). Contains (map (with_starts (all_starts facts)) bs) (record { node = p; kind = kind })) none there)
     where
       nowhere : Contains {X = Violation ListedStart} [] (record { node = p; kind = kind }) → ⊥
       nowhere (k, below, at) = absurd (omega arith)
+
+-- ---- findings
+
+pub are_findings : (g : Grammar) (facts : Facts) → AreFacts g (least_facts g) facts → IsGrammar g → AreFindings g (findings_noted g facts)
+are_findings g facts are grammar = record {
+  violations = map (with_starts (all_starts facts)) (noted_grammar g facts);
+  all = are_violations g (least_facts g) facts are grammar;
+  says = refl;
+}
 
 -- ---- refusals
 
@@ -249,7 +255,7 @@ pub refusal_is : (source : Source) → IsRefusal source → IsRefused source.gra
 refusal_is source is = record {
   same = refl;
   findings = are_findings source.grammar source.judge is.is_source.facts is.is_source.grammar;
-  some = some_said (noted_grammar source.grammar source.judge) (has_some (noted_grammar source.grammar source.judge) is.any);
+  some = some_said (noted_grammar source.grammar source.judge) is.any;
 }
   where
     some_said : (bs : List (Violation ℕ)) → 0 < length bs → 0 < length (map (finding_of source.grammar) (map (with_starts (all_starts source.judge)) bs))

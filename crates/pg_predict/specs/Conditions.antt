@@ -1,5 +1,5 @@
 -- What can be wrong at a node of a grammar, so that what comes next in a text doesn't tell a parser which way to go.
-use Rattle.std.specs.Prelude.{◌≡◌, ◌<◌, ℕ, suc, List, [], ◌∷◌, Some, slice_get, length}
+use Rattle.std.specs.Prelude.{◌≡◌, ◌<◌, ◌↔◌, ◌⊎◌, ℕ, suc, Bool, true, List, Some, slice_get, length}
 use Rattle.std.specs.declared.cmp.Ordering.TheVariants.{Less}
 use Rattle.pg_value.specs.Grammar.{Grammar}
 use Rattle.pg_form.specs.Forms.{Node}
@@ -8,18 +8,22 @@ use Rattle.pg_form.specs.declared.form.Leaf.TheVariants as leaf
 use Rattle.pg_value.specs.declared.grammar.Rule as declared
 use Rattle.pg_start.specs.Apart.{Apart}
 use Rattle.pg_start.specs.declared.kind.StartKind.{StartKind}
-use Rattle.pg_sets.specs.First.{IsFirst, IsFirstOf}
+use Rattle.pg_bit_set.specs.Numbers.{set_at}
+use Rattle.pg_sets.specs.First.{IsFirst}
 use Rattle.pg_sets.specs.Follow.{IsFollow, IsChain}
+use Rattle.pg_sets.specs.Sets.{Sets, HasStart}
 use Rattle.pg_form.specs.declared.class.ClassPart.{ClassPart}
 use Rattle.pg_form.specs.declared.used.OperatorBuilders.{OperatorBuilders}
 use Rattle.pg_own_starts.specs.OperatorStarts.{IsGapStart}
 use Rattle.pg_own_starts.specs.OwnStarts.{IsOperatorStart}
 use Rattle.pg_own_starts.specs.Listed.{IsListed, start_order}
+use Rattle.pg_graph.specs.Marks.{is_marked}
 use Rattle.pg_heads.specs.Nullable.{Nullable}
 use Rattle.pg_heads.specs.Ranks.{Chain}
 use Rattle.pg_own_starts.specs.declared.listed.ListedStart.{ListedStart}
+use Rattle.pg_costs.specs.StepCost.{IsStepCost}
 use Rattle.pg_predict.specs.declared.violation.ViolationKind.{ViolationKind}
-use Rattle.pg_predict.specs.declared.violation.ViolationKind.TheVariants.{LeftRecursion, EmptyRound, EmptyAlternative, AlternativesMeet, AlternativeMeetsFollow, RoundMeetsFollow, EmptyOperand, OperandMeetsOperators, FollowMeetsOperators, GapMeets}
+use Rattle.pg_predict.specs.declared.violation.ViolationKind.TheVariants.{LeftRecursion, EmptyRound, EmptyAlternative, AlternativesMeet, AlternativeMeetsFollow, RoundMeetsFollow, EmptyOperand, OperandMeetsOperators, FollowMeetsOperators, GapMeets, StepCostOver}
 
 -- ---- meetings
 
@@ -53,63 +57,108 @@ pub data IsFirstToMeetGap (g : Grammar) (Term After : StartKind → Type 0) (s :
 abbrev pub BeginsNothing : StartKind → Type 0
 BeginsNothing start = ⊥
 
--- the starts of a node, those that follow it, and those of a chain's round, which is a separator and an operand
+-- ---- what is asked of nodes
+
+-- the number is the step cost of the grammar, whose nullable nodes are marked; there is none where a rule heads itself
+pub record HasStepCost (g : Grammar) (k : ℕ) : Type 0 where
+  pub marks : List Bool
+  pub nullable : (p : ℕ) → (is_marked marks p ≡ true) ↔ Nullable g p
+  pub cost : IsStepCost g marks k
+
+-- the greatest step cost of an accepted grammar
+abbrev pub cost_limit : ℕ
+cost_limit = 4294967296
+
+-- what conditions ask: which nodes are nullable, which starts begin a node and which follow it, which rules head themselves, and
+-- which number is the step cost
+pub record NodeFacts : Type 1 where
+  pub nullable : ℕ → Type 0
+  pub first : ℕ → StartKind → Type 0
+  pub follow : ℕ → StartKind → Type 0
+  pub heads_itself : ℕ → Type 0
+  pub cost : ℕ → Type 0
+
+-- the starts of a node, and those that follow it, by a grammar's least sets
 abbrev pub Begins : Grammar → ℕ → StartKind → Type 0
 Begins g p start = IsFirst g start p
 
 abbrev pub Follows : Grammar → ℕ → StartKind → Type 0
 Follows g p start = IsFollow g start p
 
-abbrev pub BeginsLink : Grammar → ℕ → ℕ → StartKind → Type 0
-BeginsLink g operand separator start = IsFirstOf g start (separator ∷ operand ∷ [])
+-- what is so of a grammar's own nodes and rules
+abbrev pub least_facts : Grammar → NodeFacts
+least_facts g = record { nullable = Nullable g; first = Begins g; follow = Follows g; heads_itself = λ r. Chain g r r; cost = HasStepCost g }
 
--- ---- parts
+-- what is claimed by sets and a number; that no rule heads itself is shown by ranks, and isn't asked
+abbrev pub claimed_facts : Sets → ℕ → NodeFacts
+claimed_facts sets cost = record {
+  nullable = λ p. is_marked sets.nullable p ≡ true;
+  first = λ p. HasStart sets.starts (set_at sets.firsts p);
+  follow = λ p. HasStart sets.starts (set_at sets.follows p);
+  heads_itself = λ r. ⊥;
+  cost = λ k. k ≡ cost;
+}
+
+-- a round of a chain begins with its separator, or with its operand where the separator can be empty
+abbrev pub BeginsLink : NodeFacts → ℕ → ℕ → StartKind → Type 0
+BeginsLink facts operand separator start = facts.first separator start ⊎ (facts.nullable separator × facts.first operand start)
 
 -- the last of these alternatives can be empty
-pub record EndsNullable (g : Grammar) (parts : List ℕ) : Type 0 where
+pub record EndsNullable (facts : NodeFacts) (parts : List ℕ) : Type 0 where
   pub before : ℕ
   pub last : ℕ
   pub is_last : suc before ≡ length parts
   pub there : slice_get parts before ≡ Some last
-  pub nullable : Nullable g last
+  pub nullable : facts.nullable last
 
 -- ---- what is wrong where
 
-pub data Violates (g : Grammar) : ℕ → ViolationKind ListedStart → Type 0 where
+pub data ViolatesBy (g : Grammar) (facts : NodeFacts) : ℕ → ViolationKind ListedStart → Type 0 where
   -- the rule with this body heads itself, in one step or more
-  left_recursion : {r : ℕ} {rule : declared.Rule} → slice_get g.rules r ≡ Some rule → Chain g r r → Violates g rule.body LeftRecursion
+  left_recursion : {r : ℕ} {rule : declared.Rule} → slice_get g.rules r ≡ Some rule → facts.heads_itself r → ViolatesBy g facts rule.body LeftRecursion
   -- a round of a repetition can be empty
-  empty_round : {p q : ℕ} → slice_get g.nodes p ≡ Some (form.Many q) → Nullable g q → Violates g p EmptyRound
-  empty_link : {p operand separator : ℕ} {n : Node} → slice_get g.nodes p ≡ Some n → IsChain operand separator n → Nullable g separator → Nullable g operand
-      → Violates g p EmptyRound
+  empty_round : {p q : ℕ} → slice_get g.nodes p ≡ Some (form.Many q) → facts.nullable q → ViolatesBy g facts p EmptyRound
+  empty_link : {p operand separator : ℕ} {n : Node} → slice_get g.nodes p ≡ Some n → IsChain operand separator n → facts.nullable separator → facts.nullable operand
+      → ViolatesBy g facts p EmptyRound
   -- an alternative can be empty and isn't the last
-  empty_alternative : {p k q : ℕ} {parts : List ℕ} → slice_get g.nodes p ≡ Some (form.Choice parts) → slice_get parts k ≡ Some q → suc k < length parts → Nullable g q
-      → Violates g p (EmptyAlternative (suc k))
+  empty_alternative : {p k q : ℕ} {parts : List ℕ} → slice_get g.nodes p ≡ Some (form.Choice parts) → slice_get parts k ≡ Some q → suc k < length parts → facts.nullable q
+      → ViolatesBy g facts p (EmptyAlternative (suc k))
   -- two alternatives have starts that aren't apart
   alternatives_meet : {p j k q r : ℕ} {parts : List ℕ} {s t : ListedStart} → slice_get g.nodes p ≡ Some (form.Choice parts) → j < k → slice_get parts j ≡ Some q
-      → slice_get parts k ≡ Some r → AreFirstToMeet g (Begins g q) (Begins g r) s t → Violates g p (AlternativesMeet (suc j) (suc k) s t)
+      → slice_get parts k ≡ Some r → AreFirstToMeet g (facts.first q) (facts.first r) s t → ViolatesBy g facts p (AlternativesMeet (suc j) (suc k) s t)
   -- the last alternative can be empty, and another has a start that isn't apart from one that follows the choice
   alternative_meets_follow : {p k q : ℕ} {parts : List ℕ} {s t : ListedStart} → slice_get g.nodes p ≡ Some (form.Choice parts) → slice_get parts k ≡ Some q
-      → suc k < length parts → EndsNullable g parts → AreFirstToMeet g (Begins g q) (Follows g p) s t → Violates g p (AlternativeMeetsFollow (suc k) s t)
+      → suc k < length parts → EndsNullable facts parts → AreFirstToMeet g (facts.first q) (facts.follow p) s t → ViolatesBy g facts p (AlternativeMeetsFollow (suc k) s t)
   -- a round has a start that isn't apart from one that follows the repetition
-  round_meets_follow : {p q : ℕ} {s t : ListedStart} → slice_get g.nodes p ≡ Some (form.Many q) → AreFirstToMeet g (Begins g q) (Follows g p) s t
-      → Violates g p (RoundMeetsFollow s t)
+  round_meets_follow : {p q : ℕ} {s t : ListedStart} → slice_get g.nodes p ≡ Some (form.Many q) → AreFirstToMeet g (facts.first q) (facts.follow p) s t
+      → ViolatesBy g facts p (RoundMeetsFollow s t)
   link_meets_follow : {p operand separator : ℕ} {n : Node} {s t : ListedStart} → slice_get g.nodes p ≡ Some n → IsChain operand separator n
-      → AreFirstToMeet g (BeginsLink g operand separator) (Follows g p) s t → Violates g p (RoundMeetsFollow s t)
+      → AreFirstToMeet g (BeginsLink facts operand separator) (facts.follow p) s t → ViolatesBy g facts p (RoundMeetsFollow s t)
   -- the term of an expression can be empty
-  empty_operand : {p term : ℕ} {builders : OperatorBuilders} → slice_get g.nodes p ≡ Some (form.Expression builders term) → Nullable g term → Violates g p EmptyOperand
+  empty_operand : {p term : ℕ} {builders : OperatorBuilders} → slice_get g.nodes p ≡ Some (form.Expression builders term) → facts.nullable term → ViolatesBy g facts p EmptyOperand
   -- it has a start that isn't apart from operators
   operand_meets_operators : {p term : ℕ} {builders : OperatorBuilders} {s t : ListedStart} → slice_get g.nodes p ≡ Some (form.Expression builders term)
-      → AreFirstToMeet g (Begins g term) (IsOperatorStart g) s t → Violates g p (OperandMeetsOperators s)
+      → AreFirstToMeet g (facts.first term) (IsOperatorStart g) s t → ViolatesBy g facts p (OperandMeetsOperators s)
   -- what follows an expression has one
   follow_meets_operators : {p term : ℕ} {builders : OperatorBuilders} {s t : ListedStart} → slice_get g.nodes p ≡ Some (form.Expression builders term)
-      → AreFirstToMeet g (Follows g p) (IsOperatorStart g) s t → Violates g p (FollowMeetsOperators s)
+      → AreFirstToMeet g (facts.follow p) (IsOperatorStart g) s t → ViolatesBy g facts p (FollowMeetsOperators s)
   -- the gap of an expression, or of a declaration, isn't apart from operators, from a term, or from what follows
   expression_gap_meets : {p term : ℕ} {builders : OperatorBuilders} {s : ListedStart} → slice_get g.nodes p ≡ Some (form.Expression builders term)
-      → IsFirstToMeetGap g (Begins g term) (Follows g p) s → Violates g p (GapMeets s)
+      → IsFirstToMeetGap g (facts.first term) (facts.follow p) s → ViolatesBy g facts p (GapMeets s)
   gap_meets : {p : ℕ} {class : List ClassPart} {s : ListedStart} → slice_get g.nodes p ≡ Some (form.Leaf (leaf.Declare class))
-      → IsFirstToMeetGap g BeginsNothing (Follows g p) s → Violates g p (GapMeets s)
+      → IsFirstToMeetGap g BeginsNothing (facts.follow p) s → ViolatesBy g facts p (GapMeets s)
+  -- the grammar's step cost is above the limit, which is said of the body of the rule that it starts with
+  step_cost_over : {rule : declared.Rule} {k : ℕ} → slice_get g.rules g.start ≡ Some rule → facts.cost k → cost_limit < k → ViolatesBy g facts rule.body StepCostOver
 
--- nothing is wrong at any node: the grammar is predictive
+-- nothing is wrong at any node
+abbrev pub IsFaultlessBy : Grammar → NodeFacts → Type 0
+IsFaultlessBy g facts = (p : ℕ) (kind : ViolationKind ListedStart) → ViolatesBy g facts p kind → ⊥
+
+-- ---- the same of a grammar by its least sets
+
+abbrev pub Violates : Grammar → ℕ → ViolationKind ListedStart → Type 0
+Violates g = ViolatesBy g (least_facts g)
+
+-- nothing is wrong at any node: the grammar is predictive, and its step cost within the limit
 abbrev pub IsFaultless : Grammar → Type 0
 IsFaultless g = (p : ℕ) (kind : ViolationKind ListedStart) → Violates g p kind → ⊥

@@ -12,10 +12,10 @@ use Rattle.pg_value.specs.Grammar.{Grammar, rule_body}
 use Rattle.pg_value.specs.declared.grammar.Rule.{Rule}
 use Rattle.pg_own_starts.specs.PrintedStarts.{start_text}
 use Rattle.pg_own_starts.specs.declared.listed.ListedStart.{ListedStart}
-use Rattle.pg_predict.specs.Conditions.{Violates}
+use Rattle.pg_predict.specs.Conditions.{NodeFacts, ViolatesBy, least_facts}
 use Rattle.pg_predict.specs.Violations.{Violation}
 use Rattle.pg_predict.specs.declared.violation.ViolationKind.{ViolationKind}
-use Rattle.pg_predict.specs.declared.violation.ViolationKind.TheVariants.{LeftRecursion, EmptyRound, EmptyAlternative, AlternativesMeet, AlternativeMeetsFollow, RoundMeetsFollow, EmptyOperand, OperandMeetsOperators, FollowMeetsOperators, GapMeets}
+use Rattle.pg_predict.specs.declared.violation.ViolationKind.TheVariants.{LeftRecursion, EmptyRound, EmptyAlternative, AlternativesMeet, AlternativeMeetsFollow, RoundMeetsFollow, EmptyOperand, OperandMeetsOperators, FollowMeetsOperators, GapMeets, StepCostOver}
 
 -- ---- the order
 
@@ -31,6 +31,7 @@ condition_number EmptyOperand = 7
 condition_number (OperandMeetsOperators s) = 7
 condition_number (FollowMeetsOperators s) = 8
 condition_number (GapMeets s) = 9
+condition_number StepCostOver = 11
 
 -- what orders those of one number at a node: the alternatives that they name; that an operand can be empty comes before what
 -- it meets
@@ -45,6 +46,7 @@ order_within EmptyOperand = 1 ∷ []
 order_within (OperandMeetsOperators s) = 2 ∷ []
 order_within (FollowMeetsOperators s) = []
 order_within (GapMeets s) = []
+order_within StepCostOver = []
 
 -- by the number of the node, which stand rule by rule, then by that of the condition, then within it
 abbrev pub violation_key : {S : Type 0} → Violation S → List ℕ
@@ -54,9 +56,12 @@ abbrev pub violation_order : {S : Type 0} → Violation S → Violation S → Or
 violation_order = on violation_key (slice_cmp nat_cmp)
 
 -- all that is wrong with a grammar, each once and in order
-pub record AreViolations (g : Grammar) (violations : List (Violation ListedStart)) : Type 0 where
+pub record AreViolationsBy (g : Grammar) (facts : NodeFacts) (violations : List (Violation ListedStart)) : Type 0 where
   pub ordered : IsStrictlySortedBy violation_order violations
-  pub members : (v : Violation ListedStart) → Contains violations v ↔ Violates g v.node v.kind
+  pub members : (v : Violation ListedStart) → Contains violations v ↔ ViolatesBy g facts v.node v.kind
+
+abbrev pub AreViolations : Grammar → List (Violation ListedStart) → Type 0
+AreViolations g = AreViolationsBy g (least_facts g)
 
 -- ---- the texts
 
@@ -76,6 +81,7 @@ kind_text text EmptyOperand = codes "C7 operand can be empty"
 kind_text text (OperandMeetsOperators s) = codes "C7 operand meets operators at " ++ text s
 kind_text text (FollowMeetsOperators s) = codes "C8 follow set meets operators at " ++ text s
 kind_text text (GapMeets s) = codes "C9 gap meets " ++ text s
+kind_text text StepCostOver = codes "C11 step cost over 4294967296"
 
 -- with each start as it is printed
 abbrev pub violation_text : Grammar → ViolationKind ListedStart → List ℕ
@@ -95,7 +101,6 @@ abbrev pub name_of : List Rule → ℕ → List ℕ
 name_of rules r = option_map_or name_text (slice_get rules r) []
 
 -- its body
-
 abbrev pub body_of : List Rule → ℕ → ℕ
 body_of rules r = option_map_or rule_body (slice_get rules r) 0
 

@@ -1,5 +1,5 @@
 -- What is noted of a grammar, a condition a line, from sets of numbers.
-use Rattle.std.specs.Prelude.{◌+◌, ◌-◌, ℕ, zero, suc, Bool, true, false, ◌&&◌, nat_lt, if◌then◌else◌, List, [], ◌∷◌, ◌++◌, length, map, Option, Some, None, slice_get, slice_index_or}
+use Rattle.std.specs.Prelude.{◌+◌, ◌-◌, ℕ, zero, suc, Bool, true, false, ◌&&◌, nat_eq, nat_lt, if◌then◌else◌, List, [], ◌∷◌, ◌++◌, length, map, Option, Some, None, slice_get, slice_index_or}
 use Rattle.std.specs.Option.{option_and_then, option_map_or, option_or}
 use Rattle.pg_value.specs.Grammar.{Grammar}
 use Rattle.pg_form.specs.Forms.{Node}
@@ -10,7 +10,7 @@ use Rattle.pg_sets.specs.Sets.{Sets}
 use Rattle.pg_predict.specs.Meetings.{first_met, first_meeting, earlier}
 use Rattle.pg_predict.specs.Violations.{Violation}
 use Rattle.pg_predict.specs.declared.violation.ViolationKind.{ViolationKind}
-use Rattle.pg_predict.specs.declared.violation.ViolationKind.TheVariants.{LeftRecursion, EmptyRound, EmptyAlternative, AlternativesMeet, AlternativeMeetsFollow, RoundMeetsFollow, EmptyOperand, OperandMeetsOperators, FollowMeetsOperators, GapMeets}
+use Rattle.pg_predict.specs.declared.violation.ViolationKind.TheVariants.{LeftRecursion, EmptyRound, EmptyAlternative, AlternativesMeet, AlternativeMeetsFollow, RoundMeetsFollow, EmptyOperand, OperandMeetsOperators, FollowMeetsOperators, GapMeets, StepCostOver}
 use Rattle.pg_predict.specs.declared.meetings.Meeting.{Meeting}
 use Rattle.pg_predict.specs.declared.operator_facts.OperatorFacts.{OperatorFacts}
 use Rattle.pg_start.specs.declared.kind.StartKind.TheVariants.{End}
@@ -22,13 +22,16 @@ use Rattle.pg_form.specs.declared.form.Leaf.TheVariants as leaf
 -- ---- what is asked
 
 -- the sets of a grammar, marks on the bodies of rules that head themselves, for each start the set of those that aren't
--- apart from it, what is asked of operators, if there are any, and marks on alternatives that may meet one after them
+-- apart from it, what is asked of operators, if there are any, marks on alternatives that may meet one after them, the step
+-- cost, if there is one, and where it is above the limit the body of the rule to start with
 pub record Facts : Type 0 where
   pub sets : Sets
   pub recursive : List Bool
   pub meetings : List (List Bool)
   pub operators : Option OperatorFacts
   pub suspects : List Bool
+  pub cost : Option ℕ
+  pub costly : Option ℕ
 
 -- the first meeting of two nodes, of a node and what follows another, of a round of a chain and what follows the chain
 abbrev pub node_meeting : Facts → ℕ → ℕ → Option Meeting
@@ -172,9 +175,21 @@ noted_form facts p (form.Around around part) = []
 abbrev pub noted_node : Grammar → Facts → ℕ → List (Violation ℕ)
 noted_node g facts p = noted (is_marked facts.recursive p) p LeftRecursion ++ option_map_or (noted_form facts p) (slice_get g.nodes p) []
 
+-- the step cost; 0 where there is none
+abbrev pub cost_noted : Facts → ℕ
+cost_noted facts = option_map_or (λ cost. cost) facts.cost 0
+
+-- whether the step cost is said to be above the limit at this node
+abbrev pub is_costly : Facts → ℕ → Bool
+is_costly facts p = option_map_or (λ q. nat_eq q p) facts.costly false
+
+-- and last that the step cost is above the limit
+abbrev pub noted_at : Grammar → Facts → ℕ → List (Violation ℕ)
+noted_at g facts p = noted_node g facts p ++ noted (is_costly facts p) p StepCostOver
+
 -- at all nodes
 abbrev pub noted_grammar : Grammar → Facts → List (Violation ℕ)
-noted_grammar g facts = all_below (noted_node g facts) (length g.nodes)
+noted_grammar g facts = all_below (noted_at g facts) (length g.nodes)
 
 -- what is said of it
 abbrev pub findings_noted : Grammar → Facts → List Finding

@@ -9,6 +9,7 @@ pub mod Suspects
 pub mod Questions
 pub mod Shown
 pub mod Bounds
+pub mod Broken
 pub mod Texts
 pub mod Writing
 pub mod Refusals

@@ -1,7 +1,8 @@
 -- What is asked at a node, question by question, so that each finds one violation at most. The questions stand in series: whether
 -- a rule heads itself, and then what is asked of the form. Of a choice one series asks for empty alternatives, then one of each
 -- alternative whether it meets those after it, and a last one for what follows; elsewhere each question is a series.
-use Rattle.std.specs.Prelude.{◌+◌, ◌-◌, ℕ, zero, suc, Bool, true, false, ◌&&◌, nat_lt, if◌then◌else◌, List, [], ◌∷◌, length, Option, Some, None}
+use Rattle.std.specs.Prelude.{◌+◌, ◌-◌, ℕ, zero, suc, ◌&&◌, nat_lt, if◌then◌else◌, List, [], ◌∷◌, length, Option, Some, None}
+use Rattle.std.specs.Option.{option_map}
 use Rattle.pg_form.specs.Forms.{Node}
 use Rattle.pg_form.specs.declared.form.Form.TheVariants as form
 use Rattle.pg_bit_set.specs.Numbers.{set_at}
@@ -9,6 +10,7 @@ use Rattle.pg_graph.specs.Marks.{is_marked}
 use Rattle.pg_predict.specs.Violations.{Violation}
 use Rattle.pg_predict.specs.declared.violation.ViolationKind.{ViolationKind}
 use Rattle.pg_predict.specs.declared.violation.ViolationKind.TheVariants.{LeftRecursion, EmptyRound, RoundMeetsFollow, EmptyOperand, OperandMeetsOperators}
+use Rattle.pg_predict.specs.Findings.{condition_number}
 use Rattle.pg_predict.specs.Judged.{Facts, part_at, follow_meeting, link_meeting, operators_meet, gaps_meet, gap_met, noted, noted_meeting, noted_start, noted_gap, empty_alternative, empty_alternatives, meeting_alternatives, meetings_of_alternative, ends_nullable, alternative_and_follow, alternatives_and_follow, noted_leaf, noted_end}
 
 -- what was found at a node, if anything was
@@ -16,10 +18,14 @@ abbrev pub found_at : ℕ → Option (ViolationKind ℕ) → List (Violation ℕ
 found_at p None = []
 found_at p (Some kind) = record { node = p; kind = kind } ∷ []
 
--- whether there is any
-abbrev pub has_any : {X : Type 0} → List X → Bool
-has_any [] = false
-has_any (x ∷ xs) = true
+-- the number of the first condition that is broken, if any is
+abbrev pub first_number : List (Violation ℕ) → Option ℕ
+first_number [] = None
+first_number (v ∷ vs) = Some (condition_number v.kind)
+
+-- the number of the condition that is broken in a way, if there is one
+abbrev pub number_of : Option (ViolationKind ℕ) → Option ℕ
+number_of = option_map condition_number
 
 -- ---- what a series finds
 

@@ -1,9 +1,8 @@
 -- Grammars that aren't accepted.
-use Rattle.std.specs.Prelude.{◌≡◌, ◌<◌, true, List, length}
+use Rattle.std.specs.Prelude.{◌≡◌, ◌<◌, List, length}
 use Rattle.pg_value.specs.Grammar.{Grammar}
 use Rattle.pg_predict.specs.Findings.{Finding, AreFindings}
 use Rattle.pg_predict.specs.Judged.{noted_grammar}
-use Rattle.pg_predict.specs.Questions.{has_any}
 use Rattle.pg_predict.specs.Texts.{IsSource}
 use Rattle.pg_predict.specs.declared.source.Source.{Source}
 
@@ -14,7 +13,7 @@ pub record RefusedGrammar : Type 0 where
 -- the findings are written from this, and there are any
 pub record IsRefusal (source : Source) : Type 0 where
   pub is_source : IsSource source
-  pub any : has_any (noted_grammar source.grammar source.judge) ≡ true
+  pub any : 0 < length (noted_grammar source.grammar source.judge)
 
 -- a grammar with all that is wrong with it, which is something
 pub record IsRefused (g : Grammar) (refused : RefusedGrammar) : Type 0 where

@@ -9,6 +9,7 @@ use Rattle.pg_predict.specs.Violations.{Violation}
 use Rattle.pg_predict.specs.WithStarts.{Starts}
 use Rattle.pg_predict.specs.Findings.{rule_of, number_in_rule, name_text, placed_text, kind_text}
 use Rattle.pg_predict.specs.Judged.{all_starts}
+use Rattle.pg_predict.specs.Conditions.{least_facts}
 use Rattle.pg_predict.specs.Shown.{AreFacts}
 use Rattle.pg_predict.specs.declared.places.Place.{Place}
 use Rattle.pg_predict.specs.declared.texts.Texts.{Texts}
@@ -38,7 +39,7 @@ pub record AreTexts (g : Grammar) (starts : Starts) (texts : Texts) : Type 0 whe
 -- a grammar with its facts and texts
 pub record IsSource (source : Source) : Type 0 where
   pub grammar : IsGrammar source.grammar
-  pub facts : AreFacts source.grammar source.judge
+  pub facts : AreFacts source.grammar (least_facts source.grammar) source.judge
   pub texts : AreTexts source.grammar (all_starts source.judge) source.texts
 
 -- the line of a violation, with its line feed

@@ -3,7 +3,7 @@ use Rattle.std.specs.Prelude.{ℕ, List, slice_index_or}
 use Rattle.pg_own_starts.specs.declared.listed.ListedStart.{ListedStart}
 use Rattle.pg_predict.specs.Violations.{Violation}
 use Rattle.pg_predict.specs.declared.violation.ViolationKind.{ViolationKind}
-use Rattle.pg_predict.specs.declared.violation.ViolationKind.TheVariants.{LeftRecursion, EmptyRound, EmptyAlternative, AlternativesMeet, AlternativeMeetsFollow, RoundMeetsFollow, EmptyOperand, OperandMeetsOperators, FollowMeetsOperators, GapMeets}
+use Rattle.pg_predict.specs.declared.violation.ViolationKind.TheVariants.{LeftRecursion, EmptyRound, EmptyAlternative, AlternativesMeet, AlternativeMeetsFollow, RoundMeetsFollow, EmptyOperand, OperandMeetsOperators, FollowMeetsOperators, GapMeets, StepCostOver}
 
 -- the starts of the sets, and that of operators, which needn't be one of them
 pub record Starts : Type 0 where
@@ -26,6 +26,7 @@ kind_with_starts starts EmptyOperand = EmptyOperand
 kind_with_starts starts (OperandMeetsOperators s) = OperandMeetsOperators (start_at starts s)
 kind_with_starts starts (FollowMeetsOperators s) = FollowMeetsOperators (start_at starts s)
 kind_with_starts starts (GapMeets s) = GapMeets (start_at starts s)
+kind_with_starts starts StepCostOver = StepCostOver
 
 -- the violation, with starts for their numbers
 abbrev pub with_starts : Starts → Violation ℕ → Violation ListedStart

@@ -1,4 +1,4 @@
-//! A grammar that was checked: nothing is wrong with it, and its sets stand beside it.
+//! A grammar that was checked: nothing is wrong with it, and its sets and its step cost stand beside it.
 //!
 //! That is a fact of the type, which [`crate::check`] alone establishes; whoever runs or explains a checked grammar relies
 //! on it.
@@ -8,11 +8,12 @@ use pg_sets::Sets;
 use pg_value::Grammar;
 use std::marker::Model;
 
-/// A predictive grammar with its sets, seen as the two.
+/// A predictive grammar with its sets and its step cost, seen as the three.
 #[derive(Drop)]
 pub struct Checked {
     grammar: Grammar,
     sets: Sets,
+    cost: u64,
 }
 
 impl Model for Checked {
@@ -20,20 +21,24 @@ impl Model for Checked {
 
     ghost Value = { GrammarWithSets };
 
-    ghost view = { λ checked. record { grammar = checked.grammar; sets = checked.sets } };
+    ghost view = { λ checked. record { grammar = checked.grammar; sets = checked.sets; cost = checked.cost } };
 
-    ghost invariant = { λ checked. IsChecked (record { grammar = checked.grammar; sets = checked.sets }) };
+    ghost invariant = { λ checked. IsChecked (record { grammar = checked.grammar; sets = checked.sets; cost = checked.cost }) };
 }
 
 impl Checked {
     ghost use Rattle.pg_predict.specs.Checked.{IsChecked};
 
-    /// The grammar with its sets, which the caller owes to be faultless and to have no operators.
-    pub(crate) fn new(grammar: Grammar, sets: Sets) -> Checked
-        requires { IsChecked (record { grammar = grammar; sets = sets }) }
-        ensures { result ≡ record { grammar = grammar; sets = sets } }
+    /// The grammar with its sets and its step cost; the caller owes that nothing is wrong with it.
+    pub(crate) fn new(grammar: Grammar, sets: Sets, cost: u64) -> Checked
+        requires { IsChecked (record { grammar = grammar; sets = sets; cost = cost }) }
+        ensures { result ≡ record { grammar = grammar; sets = sets; cost = cost } }
     {
-        Checked { grammar, sets }
+        Checked {
+            grammar,
+            sets,
+            cost,
+        }
     }
 
     /// The grammar. It takes no memory.
@@ -50,5 +55,14 @@ impl Checked {
         ensures checked { IsChecked self.now }
     {
         &self.sets
+    }
+
+    /// Its step cost K(G), at most 4,294,967,296: a parse takes no more than so many steps for each character of the text, and
+    /// for its end (ours). It takes no memory.
+    pub fn cost(&self) -> u64
+        ensures cost { result ≡ self.now.cost }
+        ensures checked { IsChecked self.now }
+    {
+        self.cost
     }
 }

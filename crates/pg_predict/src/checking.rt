@@ -1,10 +1,10 @@
 //! The check: a grammar is accepted where it is predictive, and else all that is wrong with it can be said.
 ghost use Rattle.std.specs.Prelude.{◌≡◌, IfOk, IfErr};
 ghost use Rattle.pg_predict.specs.Checked.{IsChecked, IsFaultOf};
-ghost use Rattle.pg_predict.specs.Shown.{AreFacts};
+ghost use Rattle.pg_predict.specs.Shown.{AreLeastFacts};
 
 use crate::checked::Checked;
-use crate::finds::any_violation;
+use crate::finds::first_noted;
 use crate::judge::Judge;
 use crate::refused::Refused;
 use crate::source::Source;
@@ -21,7 +21,7 @@ pub enum CheckFault {
     Memory(Grammar),
 }
 
-/// Accepts a grammar where it is predictive: where at no node a condition is broken.
+/// Accepts a grammar where it is predictive, and its step cost is at most 4,294,967,296: where at no node a condition is broken.
 ///
 /// Otherwise it is handed back, with all that is wrong with it, or because memory ran out.
 pub fn check(alloc: Global, grammar: Grammar) -> Result<Checked, CheckFault>
@@ -37,13 +37,14 @@ pub fn check(alloc: Global, grammar: Grammar) -> Result<Checked, CheckFault>
 
 /// Accepts a grammar by its facts, or refuses it.
 fn decide(alloc: Global, grammar: Grammar, judge: Judge) -> Result<Checked, CheckFault>
-    requires { AreFacts grammar judge }
+    requires { AreLeastFacts grammar judge }
     ensures same { IfOk result (λ checked. checked.grammar ≡ grammar) }
     ensures accepted { IfOk result (λ checked. IsChecked checked) }
     ensures refused { IfErr result (IsFaultOf grammar) }
 {
-    if !any_violation(&judge, &grammar) {
-        return Ok(Checked::new(grammar, judge.into_sets()));
+    if first_noted(&judge, &grammar).is_none() {
+        let cost = judge.cost();
+        return Ok(Checked::new(grammar, judge.into_sets(), cost));
     }
     match texts_of(alloc, &grammar, &judge) {
         Ok(texts) => Err(CheckFault::Refused(Refused::new(Source {

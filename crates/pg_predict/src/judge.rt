@@ -1,13 +1,15 @@
-//! What a grammar is judged by: its sets, the rules that head themselves, and the starts that meet.
+//! What a grammar is judged by: its sets, the rules that head themselves, the starts that meet, and the step cost.
 //!
 //! Each question of a condition is answered here, and in one place.
 ghost use Rattle.std.specs.Prelude.{◌≡◌, IfOk, option_copied};
 ghost use Rattle.std.specs.Option.{option_map};
 ghost use Rattle.pg_bit_set.specs.Numbers.{set_at};
 ghost use Rattle.pg_graph.specs.Marks.{is_marked};
-ghost use Rattle.pg_predict.specs.Judged.{node_meeting, follow_meeting, link_meeting, operators_meet, gaps_meet, gap_met, gap_met_by};
-ghost use Rattle.pg_predict.specs.Shown.{AreFacts};
+ghost use Rattle.pg_predict.specs.Judged.{cost_noted, is_costly, node_meeting, follow_meeting, link_meeting, operators_meet, gaps_meet, gap_met, gap_met_by};
+ghost use Rattle.pg_predict.specs.Conditions.{claimed_facts};
+ghost use Rattle.pg_predict.specs.Shown.{AreWellFormed, AreBySets, AreFacts, AreLeastFacts};
 
+use crate::costly::costly_body;
 use crate::marks::is_marked;
 use crate::meetings::{Meeting, earlier, first_meeting, first_met};
 use crate::met_starts::met_starts;
@@ -15,6 +17,7 @@ use crate::operator_facts::{OperatorFacts, operator_facts};
 use crate::recursion::recursive_bodies;
 use crate::suspects::suspects;
 use pg_bit_set::BitSet;
+use pg_costs::step_cost;
 use pg_form::NodeId;
 use pg_own_starts::ListedStart;
 use pg_sets::Sets;
@@ -30,6 +33,8 @@ pub(crate) struct Judge {
     meetings: Vec<BitSet>,
     operators: Option<OperatorFacts>,
     suspects: Vec<bool>,
+    cost: Option<u64>,
+    costly: Option<NodeId>,
 }
 
 impl Model for Judge {
@@ -37,25 +42,59 @@ impl Model for Judge {
 
     ghost Value = { Facts };
 
-    ghost view = { λ judge. record { sets = judge.sets; recursive = judge.recursive.items; meetings = judge.meetings.items; operators = judge.operators; suspects = judge.suspects.items } };
+    ghost view = { λ judge. record { sets = judge.sets; recursive = judge.recursive.items; meetings = judge.meetings.items; operators = judge.operators; suspects = judge.suspects.items; cost = judge.cost; costly = judge.costly } };
 }
 
 impl Judge {
-    /// The facts of a grammar. The only error is that memory ran out.
+    /// The facts of a grammar, by its least sets. The only error is that memory ran out.
     pub(crate) fn of(alloc: Global, grammar: &Grammar) -> Result<Judge, AllocError>
-        ensures { IfOk result (λ judge. AreFacts grammar.now judge) }
+        ensures { IfOk result (λ judge. AreLeastFacts grammar.now judge) }
     {
         let sets = Sets::compute(alloc, grammar)?;
         let recursive = recursive_bodies(alloc, grammar, &sets)?;
+        let cost = step_cost(alloc, grammar, &sets)?;
+        Judge::by_sets(alloc, grammar, sets, recursive, cost)
+    }
+
+    /// The facts of a grammar, by sets and a step cost that are claimed; no rule is said to head itself. The only error is that
+    /// memory ran out.
+    pub(crate) fn by_claims(
+        alloc: Global,
+        grammar: &Grammar,
+        sets: Sets,
+        cost: u64,
+    ) -> Result<Judge, AllocError>
+        requires { AreWellFormed grammar.now sets }
+        ensures { IfOk result (λ judge. AreFacts grammar.now (claimed_facts sets cost) judge) }
+    {
+        let none = Vec::new(alloc);
+        Judge::by_sets(alloc, grammar, sets, none, Some(cost))
+    }
+
+    /// The facts by these sets, with marks on the bodies of rules that head themselves, and the step cost, if there is one. The
+    /// only error is that memory ran out.
+    fn by_sets(
+        alloc: Global,
+        grammar: &Grammar,
+        sets: Sets,
+        recursive: Vec<bool>,
+        cost: Option<u64>,
+    ) -> Result<Judge, AllocError>
+        requires { AreWellFormed grammar.now sets }
+        ensures { IfOk result (λ judge. AreBySets grammar.now sets recursive.items cost judge) }
+    {
         let meetings = met_starts(alloc, sets.starts())?;
         let operators = operator_facts(alloc, grammar, sets.starts())?;
         let suspects = suspects(alloc, grammar, &sets, meetings.as_slice())?;
+        let costly = costly_body(grammar, cost);
         Ok(Judge {
             sets,
             recursive,
             meetings,
             operators,
             suspects,
+            cost,
+            costly,
         })
     }
 
@@ -64,6 +103,16 @@ impl Judge {
         ensures { result ≡ self.sets }
     {
         self.sets
+    }
+
+    /// The step cost of the grammar; 0 where it has none, as a rule heads itself.
+    pub(crate) fn cost(&self) -> u64
+        ensures { result ≡ cost_noted self.now }
+    {
+        match self.cost {
+            Some(cost) => cost,
+            None => 0,
+        }
     }
 
     /// The starts of the grammar.
@@ -109,6 +158,16 @@ impl Judge {
         ensures { result ≡ is_marked self.now.recursive node }
     {
         is_marked(&self.recursive, node)
+    }
+
+    /// Whether the step cost is above the limit, which is said at this node.
+    pub(crate) fn is_costly(&self, node: NodeId) -> bool
+        ensures { result ≡ is_costly self.now node }
+    {
+        match self.costly {
+            Some(body) => body == node,
+            None => false,
+        }
     }
 
     /// Whether an alternative may meet one after it.

@@ -2,15 +2,20 @@
 //! wrong with it.
 //!
 //! [`check`] works out the sets of a grammar (`pg_sets`) and then judges each node by the conditions on its form, a module
-//! for each kind: `choices.rt`, `repetitions.rt`, `expressions.rt`, `declarations.rt` and `recursion.rt`. A condition that is broken at a node is
-//! a violation (`violation.rt`), whose finding is put into words in one place (`texts.rt`). A grammar that is accepted keeps its
-//! sets; one that isn't keeps what its findings are found by, and each is found anew when it is written (`lines.rt`).
+//! for each kind: `choices.rt`, `repetitions.rt`, `expressions.rt`, `declarations.rt` and `recursion.rt`; last of all the step cost
+//! (`pg_costs`) is judged, in `costly.rt`. A condition that is broken at a node is a violation (`violation.rt`), whose finding is
+//! put into words in one place (`texts.rt`). A grammar that is accepted keeps its sets and its step cost; one that isn't keeps what
+//! its findings are found by, and each is found anew when it is written (`lines.rt`).
+//!
+//! [`first_broken`] judges sets that are claimed of a grammar, by the same questions (`broken.rt`).
 #![tactic(auto)]
 
 mod bounds;
+mod broken;
 mod checked;
 mod checking;
 mod choices;
+mod costly;
 mod declarations;
 mod expressions;
 mod finds;
@@ -33,7 +38,9 @@ mod suspects;
 mod texts;
 mod violation;
 
+pub use broken::{broken_text, first_broken};
 pub use checked::Checked;
 pub use checking::{CheckFault, check};
 pub use laws::findings_speak_of_nodes;
 pub use refused::Refused;
+pub use violation::Broken;

@@ -6,8 +6,9 @@ ghost use Rattle.std.specs.Prelude.{◌≡◌, ◌<◌, ◌++◌, [], false, Som
 ghost use Rattle.std.specs.Io.KnownBytes.{Appends};
 ghost use Rattle.pg_tree.specs.Bytes.{AppendsPrefix};
 ghost use Rattle.pg_predict.specs.Writing.{Puts, pieces_bytes};
-ghost use Rattle.pg_predict.specs.Judged.{noted_grammar, noted_node};
+ghost use Rattle.pg_predict.specs.Judged.{is_costly, noted, noted_at, noted_grammar, noted_node};
 ghost use Rattle.pg_predict.specs.Questions.{node_series, node_questions, asked_node};
+ghost use Rattle.pg_predict.specs.declared.violation.ViolationKind.TheVariants.{StepCostOver};
 ghost use Rattle.pg_predict.specs.Texts.{IsSource, place_at, name_at, line_said, lines_said};
 
 use crate::judging::{ask_node, node_questions, series_count};
@@ -50,12 +51,52 @@ fn put_nodes<W: Write>(
     ensures prefix { OnErr result (AppendsPrefix (W.contents writer.old.inner) (W.contents writer.new.inner) (buffer.old.items ++ lines_said source.now (noted_grammar source.now.grammar source.now.judge))) }
 {
     for number in 0..source.grammar.nodes().len() {
-        put_node(source, NodeId::new(number), buffer, writer)?;
+        put_all_at(source, NodeId::new(number), buffer, writer)?;
     }
     Ok(())
 }
 
-/// Puts the lines of a node.
+/// Puts the lines of all that is said at a node.
+fn put_all_at<W: Write>(
+    source: &Source,
+    node: NodeId,
+    buffer: &mut Vec<u8>,
+    writer: &mut Meter<W>,
+) -> Result<(), Stopped>
+    requires fresh { writer.old.failed ≡ false }
+    requires source { IsSource source.now }
+    requires node { node < length source.now.grammar.nodes }
+    ensures failed { writer.new.failed ≡ is_err result }
+    ensures ok { OnOk result (Puts (W.contents writer.old.inner) buffer.old.items (W.contents writer.new.inner) buffer.new.items (lines_said source.now (noted_at source.now.grammar source.now.judge node))) }
+    ensures prefix { OnErr result (AppendsPrefix (W.contents writer.old.inner) (W.contents writer.new.inner) (buffer.old.items ++ lines_said source.now (noted_at source.now.grammar source.now.judge node))) }
+{
+    put_node(source, node, buffer, writer)?;
+    put_cost(source, node, buffer, writer)?;
+    Ok(())
+}
+
+/// Puts the line of the step cost, where it is said at this node that it is above the limit.
+fn put_cost<W: Write>(
+    source: &Source,
+    node: NodeId,
+    buffer: &mut Vec<u8>,
+    writer: &mut Meter<W>,
+) -> Result<(), Stopped>
+    requires fresh { writer.old.failed ≡ false }
+    requires source { IsSource source.now }
+    requires node { node < length source.now.grammar.nodes }
+    ensures failed { writer.new.failed ≡ is_err result }
+    ensures ok { OnOk result (Puts (W.contents writer.old.inner) buffer.old.items (W.contents writer.new.inner) buffer.new.items (lines_said source.now (noted (is_costly source.now.judge node) node StepCostOver))) }
+    ensures prefix { OnErr result (AppendsPrefix (W.contents writer.old.inner) (W.contents writer.new.inner) (buffer.old.items ++ lines_said source.now (noted (is_costly source.now.judge node) node StepCostOver))) }
+{
+    if !source.judge.is_costly(node) {
+        return Ok(());
+    }
+    let place = place_of(source.grammar.rules(), node);
+    put_line(source, &place, &ViolationKind::StepCostOver, buffer, writer)
+}
+
+/// Puts the lines of a node itself.
 fn put_node<W: Write>(
     source: &Source,
     node: NodeId,

@@ -8,6 +8,7 @@ ghost use Rattle.pg_graph.specs.Graphs.{has, numbers_at, IsReached};
 ghost use Rattle.pg_heads.specs.Ranks.{Chain};
 ghost use Rattle.pg_sets.specs.Sets.{AreSets};
 ghost use Rattle.pg_graph.specs.Walk.{is_new, with_all_met};
+ghost use Rattle.pg_predict.specs.Conditions.{least_facts};
 ghost use Rattle.pg_predict.specs.Shown.{MarksRecursive};
 
 use pg_form::RuleId;
@@ -22,7 +23,7 @@ pub(crate) fn recursive_bodies(
     sets: &Sets,
 ) -> Result<Vec<bool>, AllocError>
     requires { AreSets grammar.now sets.now }
-    ensures { IfOk result (λ marks. MarksRecursive grammar.now marks.items) }
+    ensures { IfOk result (λ marks. MarksRecursive grammar.now (least_facts grammar.now) marks.items) }
 {
     let mut marks = vec![in alloc; false; grammar.nodes().len()]?;
     for (number, rule) in grammar.rules().iter().enumerate() {

@@ -4,7 +4,7 @@
 //! compared with each.
 ghost use Rattle.std.specs.Prelude.{◌≡◌, ◌<◌, ℕ, true, length, IfOk, OnOk};
 ghost use Rattle.pg_graph.specs.Marks.{is_marked};
-ghost use Rattle.pg_sets.specs.Sets.{AreSets};
+ghost use Rattle.pg_predict.specs.Shown.{AreWellFormed};
 ghost use Rattle.pg_predict.specs.Suspects.{AreParts, HasParts, MarkSuspects, MarkNode, AreSuspects};
 
 use crate::meetings::first_meeting;
@@ -22,7 +22,7 @@ pub(crate) fn suspects(
     sets: &Sets,
     meetings: &[BitSet],
 ) -> Result<Vec<bool>, AllocError>
-    requires { AreSets grammar.now sets.now }
+    requires { AreWellFormed grammar.now sets.now }
     ensures { IfOk result (λ marks. AreSuspects grammar.now sets.now meetings.now marks.items) }
 {
     let mut marks = vec![in alloc; false; grammar.nodes().len()]?;

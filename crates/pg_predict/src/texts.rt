@@ -139,6 +139,7 @@ impl Texts {
                 ended("C8 follow set meets operators at ", self.start(*start))
             }
             ViolationKind::GapMeets(start) => ended("C9 gap meets ", self.start(*start)),
+            ViolationKind::StepCostOver => alone("C11 step cost over 4294967296"),
         }
     }
 }

@@ -3,6 +3,20 @@
 //! `S` is what a start is known by: by its number in the grammar's sets while a grammar is judged, so that nothing is copied,
 //! and by itself in the definitions. Texts are written in `texts.rt`.
 
+ghost use Rattle.std.specs.Prelude.{◌≡◌};
+ghost use Rattle.pg_predict.specs.Findings.{condition_number};
+
+use pg_form::NodeId;
+
+/// A condition that is broken at a node.
+#[derive(Debug, Clone, Copy)]
+pub struct Broken {
+    /// The node.
+    pub node: NodeId,
+    /// The number of the condition, as in C1 to C11.
+    pub condition: u8,
+}
+
 /// How a condition is broken. Alternatives count from 1.
 #[derive(Debug, Drop)]
 pub(crate) enum ViolationKind<S> {
@@ -26,5 +40,24 @@ pub(crate) enum ViolationKind<S> {
     FollowMeetsOperators(S),
     /// C9: gaps meet this start, which may come after one. It needn't be among the starts of the sets.
     GapMeets(S),
-    // C11, which judges the cost, comes here.
+    /// C11: the grammar's step cost is above the limit.
+    StepCostOver,
+}
+
+/// The number of the condition that is broken, as in C1 to C11.
+pub(crate) fn condition_number(kind: &ViolationKind<usize>) -> u8
+    ensures { result ≡ condition_number kind.now }
+{
+    match kind {
+        ViolationKind::LeftRecursion => 1,
+        ViolationKind::EmptyRound => 2,
+        ViolationKind::EmptyAlternative(_) => 3,
+        ViolationKind::AlternativesMeet(_, _, _, _) => 4,
+        ViolationKind::AlternativeMeetsFollow(_, _, _) => 5,
+        ViolationKind::RoundMeetsFollow(_, _) => 6,
+        ViolationKind::EmptyOperand | ViolationKind::OperandMeetsOperators(_) => 7,
+        ViolationKind::FollowMeetsOperators(_) => 8,
+        ViolationKind::GapMeets(_) => 9,
+        ViolationKind::StepCostOver => 11,
+    }
 }

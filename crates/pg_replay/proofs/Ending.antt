@@ -1,6 +1,6 @@
 -- Going along a trail comes to an end: each turn takes a character or an item, or enters a rule that isn't open, or goes down a
 -- rule's body, or ends a task. So it does from every state, whatever its tasks are.
-use Rattle.std.proofs.Common.{◌≡◌, ◌==◌, ◌+◌, ◌-◌, ◌<◌, ◌≤◌, ◌≢◌, ℕ, zero, suc, Bool, true, false, not, List, [], ◌∷◌, ◌++◌, refl, ap, subst, eqb-true, eq-eqb, arith, if◌then◌else◌, length, take, drop}
+use Rattle.std.proofs.Common.{◌≡◌, ◌==◌, ◌+◌, ◌-◌, ◌<◌, ◌≤◌, ◌≢◌, ℕ, zero, suc, Bool, true, false, not, ◌||◌, List, [], ◌∷◌, ◌++◌, refl, ap, subst, eqb-true, eq-eqb, arith, if◌then◌else◌, length, take, drop}
 use Rattle.std.specs.Prelude.{Option, Some, None, slice_get}
 use Rattle.std.specs.List.{AllByRecursion}
 use Rattle.std.proofs.lemmas.Option.{slice_get_within}
@@ -32,7 +32,8 @@ use Rattle.pg_language.specs.Declarations.{Declaration, no_keyword, no_digit, no
 use Rattle.pg_language.specs.Derives.{leaf_of, declaration_tree}
 use Rattle.pg_language.proofs.DeclarationsDerived.{declaration_stands}
 use Rattle.pg_language.proofs.DeclarationsDerived.{Stands as IsStanding}
-use Rattle.pg_replay.specs.Tasks.{Chain, OnTask, node, parts, rounds, more_rounds, links, operand, fold, marked, operator_symbol, application, unmark, close, leave, State, Turn, on, with_task, next_in, satisfied, spelled, word_by, takes, stays_if, declares, declared_turn, declare_turn, leaf_turn, part_turn, choice_turn, many_turn, chain_turn, with_steps, steps_turn, operators_turn, expression_turn, operator_end, ended_turn, symbol_turn, applied_after, first_mark, marks_after, is_place, blank_after, is_known, known_after, is_entered, rule_turn, form_turn, node_turn, rounds_turn, is_unchanged, links_turn, with_links, folded_after, closed_table, closed_forest, without_newest, next_turn}
+use Rattle.pg_replay.specs.Tasks.{Chain, OnTask, node, parts, rounds, more_rounds, links, operand, settle, fold, marked, operator_symbol, application, unmark, close, leave, Setting, under_marks, loosened, State, Turn, on, with_task, next_in, satisfied, spelled, word_by, takes, stays_if, declares, declared_turn, declare_turn, leaf_turn, part_turn, choice_turn, many_turn, joins_rounds, chain_turn, joins_last, with_steps, steps_turn, operators_turn, expression_turn, operator_end, ended_turn, symbol_turn, applied_after, first_mark, marks_after, is_place, loosens, blank_after, is_known, known_after, is_entered, rule_turn, form_turn, node_turn, rounds_turn, is_unchanged, links_turn, with_links, folded_after, closed_table, closed_forest, without_newest, next_turn}
+use Rattle.pg_replay.specs.declared.replayer.Known.{Known}
 use Rattle.pg_replay.specs.Halts.{first_state}
 use Rattle.pg_replay.specs.Turns.{ComesToLast, begun, Halts}
 use Rattle.pg_replay.proofs.FreeRules.{free, fewer_free}
@@ -43,15 +44,15 @@ use Rattle.pg_replay.proofs.Within.{IsAtMost, IsOnward, satisfied_within, spelle
 abbrev left_at : List ℕ → ℕ → List TrailItem → ℕ
 left_at text i items = (length text - i) + length items
 
-abbrev state_at : ℕ → List TrailItem → List OnTask → Table → List Tree → List ℕ → List ℕ → List (Option ℕ) → List (Option ℕ) → State
-state_at i items ts u v es ms kn bl = record { tasks = ts; place = i; table = u; forest = v; rest = items; entered = es; marks = ms; known = kn; blank = bl }
+abbrev state_at : ℕ → List TrailItem → List OnTask → Table → List Tree → List ℕ → Setting → List (Option Known) → List (Option ℕ) → State
+state_at i items ts u v es ms kn bl = record { tasks = ts; place = i; table = u; forest = v; rest = items; entered = es; setting = ms; known = kn; blank = bl }
 
 -- where fewer characters and items are left, the end comes
 module _ (g : Grammar) (text : List ℕ) (preorder : InPreorder 0 g.nodes) (i : ℕ) (items : List TrailItem) (within : i ≤ length text)
     (smaller : (s : State) → s.place ≤ length text → left_at text s.place s.rest < left_at text i items → ComesToLast g text (on s)) where
   -- the tasks come to the end from here, with these rules open, whatever table, trees and operands there are
   abbrev Ends : List ℕ → List OnTask → Type 0
-  Ends es ts = (u : Table) (v : List Tree) (ms : List ℕ) (kn bl : List (Option ℕ)) → ComesToLast g text (on (state_at i items ts u v es ms kn bl))
+  Ends es ts = (u : Table) (v : List Tree) (ms : Setting) (kn : List (Option Known)) (bl : List (Option ℕ)) → ComesToLast g text (on (state_at i items ts u v es ms kn bl))
 
   -- so they do with this task before them
   abbrev Passes : List ℕ → OnTask → Type 0
@@ -66,7 +67,7 @@ module _ (g : Grammar) (text : List ℕ) (preorder : InPreorder 0 g.nodes) (i : 
 
   -- ---- what takes a character or an item
 
-  moved_ends : (j : ℕ) (ts : List OnTask) (u : Table) (v : List Tree) (es ms : List ℕ) (kn bl : List (Option ℕ)) → i ≤ j → j ≤ length text → Ends es ts →
+  moved_ends : (j : ℕ) (ts : List OnTask) (u : Table) (v : List Tree) (es : List ℕ) (ms : Setting) (kn : List (Option Known)) (bl : List (Option ℕ)) → i ≤ j → j ≤ length text → Ends es ts →
       ComesToLast g text (on (state_at j items ts u v (if i == j then es else []) ms kn bl))
   moved_ends j ts u v es ms kn bl low high k = go (i == j) refl
     where
@@ -76,39 +77,39 @@ module _ (g : Grammar) (text : List ℕ) (preorder : InPreorder 0 g.nodes) (i : 
           let other : i ≢ j = (λ h. let test = eq-eqb i j h in cc) in
           smaller (state_at j items ts u v [] ms kn bl) high (omega arith)
 
-  item_ends : (item : TrailItem) (rest : List TrailItem) (ts : List OnTask) (u : Table) (v : List Tree) (ms : List ℕ) (kn bl : List (Option ℕ)) → items ≡ item ∷ rest →
+  item_ends : (item : TrailItem) (rest : List TrailItem) (ts : List OnTask) (u : Table) (v : List Tree) (ms : Setting) (kn : List (Option Known)) (bl : List (Option ℕ)) → items ≡ item ∷ rest →
       ComesToLast g text (on (state_at i rest ts u v [] ms kn bl))
   item_ends item rest ts u v ms kn bl e = let counted : length items ≡ suc (length rest) = ap length e in smaller (state_at i rest ts u v [] ms kn bl) within (omega arith)
 
   -- ---- leaves
 
-  takes_ends : (count : Option ℕ) → IsAtMost (length text - i) count → (ts : List OnTask) (es : List ℕ) → Ends es ts → (u : Table) (v : List Tree) (ms : List ℕ) (kn bl : List (Option ℕ)) →
+  takes_ends : (count : Option ℕ) → IsAtMost (length text - i) count → (ts : List OnTask) (es : List ℕ) → Ends es ts → (u : Table) (v : List Tree) (ms : Setting) (kn : List (Option Known)) (bl : List (Option ℕ)) →
       ComesToLast g text (takes text count (state_at i items ts u v es ms kn bl))
   takes_ends None h ts es k u v ms kn bl = (0, refl)
   takes_ends (Some n) h ts es k u v ms kn bl = moved_ends (i + n) ts u (v ++ leaf_of (take n (drop i text)) ∷ []) es ms kn bl (omega arith) (omega arith) k
 
-  stays_ends : (b : Bool) (ts : List OnTask) (es : List ℕ) → Ends es ts → (u : Table) (v : List Tree) (ms : List ℕ) (kn bl : List (Option ℕ)) → ComesToLast g text (stays_if b (state_at i items ts u v es ms kn bl))
+  stays_ends : (b : Bool) (ts : List OnTask) (es : List ℕ) → Ends es ts → (u : Table) (v : List Tree) (ms : Setting) (kn : List (Option Known)) (bl : List (Option ℕ)) → ComesToLast g text (stays_if b (state_at i items ts u v es ms kn bl))
   stays_ends true ts es k u v ms kn bl = k u v ms kn bl
   stays_ends false ts es k u v ms kn bl = (0, refl)
 
-  declares_end : (d : Operator) (j : ℕ) (fault : Option AdmitFault) → (i < j) × (j ≤ length text) → (ts : List OnTask) (es : List ℕ) → Ends es ts → (u : Table) (v : List Tree) (ms : List ℕ) (kn bl : List (Option ℕ)) →
+  declares_end : (d : Operator) (j : ℕ) (fault : Option AdmitFault) → (i < j) × (j ≤ length text) → (ts : List OnTask) (es : List ℕ) → Ends es ts → (u : Table) (v : List Tree) (ms : Setting) (kn : List (Option Known)) (bl : List (Option ℕ)) →
       ComesToLast g text (declares d j fault (state_at i items ts u v es ms kn bl))
   declares_end d j (Some fault) h ts es k u v ms kn bl = (0, refl)
   declares_end d j None h ts es k u v ms kn bl = let low = h.0 in moved_ends j ts (with_operator u d) (v ++ declaration_tree d ∷ []) es ms kn bl (omega arith) h.1 k
 
   declared_ends : (class : List ClassPart) (item : OperatorsItem) (x : Declaration) → IsStanding g text item class i x → (ts : List OnTask) (es : List ℕ) → Ends es ts →
-      (u : Table) (v : List Tree) (ms : List ℕ) (kn bl : List (Option ℕ)) → ComesToLast g text (declared_turn x (state_at i items ts u v es ms kn bl))
+      (u : Table) (v : List Tree) (ms : Setting) (kn : List (Option Known)) (bl : List (Option ℕ)) → ComesToLast g text (declared_turn x (state_at i items ts u v es ms kn bl))
   declared_ends class item no_keyword h ts es k u v ms kn bl = (0, refl)
   declared_ends class item (no_digit j) h ts es k u v ms kn bl = (0, refl)
   declared_ends class item (no_symbol j) h ts es k u v ms kn bl = (0, refl)
   declared_ends class item (declared d l j) h ts es k u v ms kn bl = declares_end d j (admit_fault u d) (declared_within g text i item class d j h) ts es k u v ms kn bl
 
-  declare_ends : (class : List ClassPart) (item : Option OperatorsItem) (ts : List OnTask) (es : List ℕ) → Ends es ts → (u : Table) (v : List Tree) (ms : List ℕ) (kn bl : List (Option ℕ)) →
+  declare_ends : (class : List ClassPart) (item : Option OperatorsItem) (ts : List OnTask) (es : List ℕ) → Ends es ts → (u : Table) (v : List Tree) (ms : Setting) (kn : List (Option Known)) (bl : List (Option ℕ)) →
       ComesToLast g text (declare_turn g text class item (state_at i items ts u v es ms kn bl))
   declare_ends class None ts es k u v ms kn bl = (0, refl)
   declare_ends class (Some item) ts es k u v ms kn bl = declared_ends class item (declaration_at g text item class i) (declaration_stands g text item class i) ts es k u v ms kn bl
 
-  leaf_ends : (l : Leaf ℕ) (ts : List OnTask) (es : List ℕ) → Ends es ts → (u : Table) (v : List Tree) (ms : List ℕ) (kn bl : List (Option ℕ)) → ComesToLast g text (leaf_turn g text l (state_at i items ts u v es ms kn bl))
+  leaf_ends : (l : Leaf ℕ) (ts : List OnTask) (es : List ℕ) → Ends es ts → (u : Table) (v : List Tree) (ms : Setting) (kn : List (Option Known)) (bl : List (Option ℕ)) → ComesToLast g text (leaf_turn g text l (state_at i items ts u v es ms kn bl))
   leaf_ends (read.Satisfy class) ts es k u v ms kn bl = takes_ends (satisfied g text class i) (satisfied_within g text i class) ts es k u v ms kn bl
   leaf_ends (read.String cs) ts es k u v ms kn bl = takes_ends (spelled text cs i) (spelled_within g text i cs) ts es k u v ms kn bl
   leaf_ends (read.Word w) ts es k u v ms kn bl = takes_ends (word_by g text i (slice_get g.words w)) (word_within g text i (slice_get g.words w)) ts es k u v ms kn bl
@@ -118,44 +119,44 @@ module _ (g : Grammar) (text : List ℕ) (preorder : InPreorder 0 g.nodes) (i : 
 
   -- ---- forms that take an item
 
-  part_ends : (k : ℕ) (q : Option ℕ) (rest : List TrailItem) → items ≡ Alt k ∷ rest → (ts : List OnTask) (es : List ℕ) (u : Table) (v : List Tree) (ms : List ℕ) (kn bl : List (Option ℕ)) →
+  part_ends : (k : ℕ) (q : Option ℕ) (rest : List TrailItem) → items ≡ Alt k ∷ rest → (ts : List OnTask) (es : List ℕ) (u : Table) (v : List Tree) (ms : Setting) (kn : List (Option Known)) (bl : List (Option ℕ)) →
       ComesToLast g text (part_turn q rest (state_at i items ts u v es ms kn bl))
   part_ends k None rest e ts es u v ms kn bl = (0, refl)
   part_ends k (Some q) rest e ts es u v ms kn bl = item_ends (Alt k) rest (node q ∷ ts) u v ms kn bl e
 
-  choice_ends : (ps : List ℕ) (xs : List TrailItem) → items ≡ xs → (ts : List OnTask) (es : List ℕ) (u : Table) (v : List Tree) (ms : List ℕ) (kn bl : List (Option ℕ)) →
+  choice_ends : (ps : List ℕ) (xs : List TrailItem) → items ≡ xs → (ts : List OnTask) (es : List ℕ) (u : Table) (v : List Tree) (ms : Setting) (kn : List (Option Known)) (bl : List (Option ℕ)) →
       ComesToLast g text (choice_turn ps xs (state_at i items ts u v es ms kn bl))
   choice_ends ps [] e ts es u v ms kn bl = (0, refl)
   choice_ends ps (Alt k ∷ rest) e ts es u v ms kn bl = ends_if (k == 0) _ _ (λ h. (0, refl)) (λ h. part_ends k (slice_get ps (k - 1)) rest e ts es u v ms kn bl)
   choice_ends ps (Rounds n ∷ rest) e ts es u v ms kn bl = (0, refl)
   choice_ends ps (Ops o ∷ rest) e ts es u v ms kn bl = (0, refl)
 
-  many_ends : (p : ℕ) (xs : List TrailItem) → items ≡ xs → (ts : List OnTask) (es : List ℕ) (u : Table) (v : List Tree) (ms : List ℕ) (kn bl : List (Option ℕ)) →
+  many_ends : (p : ℕ) (xs : List TrailItem) → items ≡ xs → (ts : List OnTask) (es : List ℕ) (u : Table) (v : List Tree) (ms : Setting) (kn : List (Option Known)) (bl : List (Option ℕ)) →
       ComesToLast g text (many_turn p xs (state_at i items ts u v es ms kn bl))
   many_ends p [] e ts es u v ms kn bl = (0, refl)
   many_ends p (Alt k ∷ rest) e ts es u v ms kn bl = (0, refl)
   many_ends p (Rounds n ∷ rest) e ts es u v ms kn bl = item_ends (Rounds n) rest (rounds p n ∷ ts) u v ms kn bl e
   many_ends p (Ops o ∷ rest) e ts es u v ms kn bl = (0, refl)
 
-  chain_ends : (c : Chain) (xs : List TrailItem) → items ≡ xs → (ts : List OnTask) (es : List ℕ) (u : Table) (v : List Tree) (ms : List ℕ) (kn bl : List (Option ℕ)) →
+  chain_ends : (c : Chain) (xs : List TrailItem) → items ≡ xs → (ts : List OnTask) (es : List ℕ) (u : Table) (v : List Tree) (ms : Setting) (kn : List (Option Known)) (bl : List (Option ℕ)) →
       ComesToLast g text (chain_turn c xs (state_at i items ts u v es ms kn bl))
   chain_ends c [] e ts es u v ms kn bl = (0, refl)
   chain_ends c (Alt k ∷ rest) e ts es u v ms kn bl = (0, refl)
-  chain_ends c (Rounds n ∷ rest) e ts es u v ms kn bl = item_ends (Rounds n) rest (node c.part ∷ links c n (length v) ∷ ts) u v ms kn bl e
+  chain_ends c (Rounds n ∷ rest) e ts es u v ms kn bl = item_ends (Rounds n) rest (node c.part ∷ links c n (length v) ∷ settle ms.loose ∷ ts) u v (loosened (joins_rounds c n || ms.loose) ms) kn bl e
   chain_ends c (Ops o ∷ rest) e ts es u v ms kn bl = (0, refl)
 
   steps_end : (builders : OperatorBuilders) (p : ℕ) (steps : Option (List Step)) (os : List AppliedOperator) (rest : List TrailItem) → items ≡ Ops os ∷ rest →
-      (ts : List OnTask) (es : List ℕ) (u : Table) (v : List Tree) (ms : List ℕ) (kn bl : List (Option ℕ)) → ComesToLast g text (steps_turn builders p steps rest (state_at i items ts u v es ms kn bl))
+      (ts : List OnTask) (es : List ℕ) (u : Table) (v : List Tree) (ms : Setting) (kn : List (Option Known)) (bl : List (Option ℕ)) → ComesToLast g text (steps_turn builders p steps rest (state_at i items ts u v es ms kn bl))
   steps_end builders p None os rest e ts es u v ms kn bl = (0, refl)
   steps_end builders p (Some steps) os rest e ts es u v ms kn bl =
-      item_ends (Ops os) rest (with_steps builders p steps (state_at i rest (unmark ∷ ts) u v [] ms kn bl)).tasks u v ms kn bl e
+      item_ends (Ops os) rest (with_steps builders p steps (state_at i rest (unmark ∷ settle ms.loose ∷ ts) u v [] ms kn bl)).tasks u v (loosened (joins_last builders steps || ms.loose) ms) kn bl e
 
   operators_end : (item : Option OperatorsItem) (builders : OperatorBuilders) (p : ℕ) (os : List AppliedOperator) (rest : List TrailItem) → items ≡ Ops os ∷ rest →
-      (ts : List OnTask) (es : List ℕ) (u : Table) (v : List Tree) (ms : List ℕ) (kn bl : List (Option ℕ)) → ComesToLast g text (operators_turn item builders p os rest (state_at i items ts u v es ms kn bl))
+      (ts : List OnTask) (es : List ℕ) (u : Table) (v : List Tree) (ms : Setting) (kn : List (Option Known)) (bl : List (Option ℕ)) → ComesToLast g text (operators_turn item builders p os rest (state_at i items ts u v es ms kn bl))
   operators_end None builders p os rest e ts es u v ms kn bl = (0, refl)
   operators_end (Some item) builders p os rest e ts es u v ms kn bl = steps_end builders p (judgement (known_in u.operators) os) os rest e ts es u v ms kn bl
 
-  expression_ends : (builders : OperatorBuilders) (p : ℕ) (xs : List TrailItem) → items ≡ xs → (ts : List OnTask) (es : List ℕ) (u : Table) (v : List Tree) (ms : List ℕ) (kn bl : List (Option ℕ)) →
+  expression_ends : (builders : OperatorBuilders) (p : ℕ) (xs : List TrailItem) → items ≡ xs → (ts : List OnTask) (es : List ℕ) (u : Table) (v : List Tree) (ms : Setting) (kn : List (Option Known)) (bl : List (Option ℕ)) →
       ComesToLast g text (expression_turn g builders p xs (state_at i items ts u v es ms kn bl))
   expression_ends builders p [] e ts es u v ms kn bl = (0, refl)
   expression_ends builders p (Alt k ∷ rest) e ts es u v ms kn bl = (0, refl)
@@ -168,7 +169,7 @@ module _ (g : Grammar) (text : List ℕ) (preorder : InPreorder 0 g.nodes) (i : 
   parts_pass es [] h ts k u v ms kn bl = next_ends (state_at i items (parts [] ∷ ts) u v es ms kn bl) (k u v ms kn bl)
   parts_pass es (p ∷ ps) h ts k u v ms kn bl = next_ends (state_at i items (parts (p ∷ ps) ∷ ts) u v es ms kn bl) (h.0 (parts ps ∷ ts) (parts_pass es ps h.1 ts k) u v ms kn bl)
 
-  rounds_end : (m : ℕ) (es : List ℕ) (p n : ℕ) → n ≤ m → Passes es (node p) → (ts : List OnTask) → Ends es ts → (u : Table) (v : List Tree) (ms : List ℕ) (kn bl : List (Option ℕ)) →
+  rounds_end : (m : ℕ) (es : List ℕ) (p n : ℕ) → n ≤ m → Passes es (node p) → (ts : List OnTask) → Ends es ts → (u : Table) (v : List Tree) (ms : Setting) (kn : List (Option Known)) (bl : List (Option ℕ)) →
       ComesToLast g text (rounds_turn p n (state_at i items ts u v es ms kn bl))
   rounds_end zero es p n few pass ts k u v ms kn bl = ends_if (n == 0) _ _ (λ e. k u v ms kn bl) (λ e. let more = positive n e in absurd (omega arith))
   rounds_end (suc m) es p n few pass ts k u v ms kn bl = ends_if (n == 0) _ _ (λ e. k u v ms kn bl) (λ e.
@@ -191,14 +192,14 @@ module _ (g : Grammar) (text : List ℕ) (preorder : InPreorder 0 g.nodes) (i : 
 
   -- the operand after a separator, and then what comes of the other links
   after_separator : (es : List ℕ) (c : Chain) (n trees : ℕ) → Passes es (node c.part) → ((trees : ℕ) → Passes es (links c n trees)) → (side : Side) → (ts : List OnTask) → Ends es ts →
-      (u : Table) (v : List Tree) (ms : List ℕ) (kn bl : List (Option ℕ)) → ComesToLast g text (on (with_task (node c.part) (with_links side c n trees (state_at i items ts u v es ms kn bl))))
+      (u : Table) (v : List Tree) (ms : Setting) (kn : List (Option Known)) (bl : List (Option ℕ)) → ComesToLast g text (on (with_task (node c.part) (with_links side c n trees (state_at i items ts u v es ms kn bl))))
   after_separator es c n trees pass others Left ts k u v ms kn bl =
       pass (fold c.used trees ∷ links c n trees ∷ ts) (fold_pass es c.used trees (links c n trees ∷ ts) (others trees ts k)) u v ms kn bl
   after_separator es c n trees pass others Right ts k u v ms kn bl =
       pass (links c n (length v) ∷ fold c.used trees ∷ ts) (others (length v) (fold c.used trees ∷ ts) (fold_pass es c.used trees ts k)) u v ms kn bl
 
   links_end : (m : ℕ) (es : List ℕ) (c : Chain) (n trees : ℕ) → n ≤ m → Passes es (node c.part) → Passes es (node c.separator) → (ts : List OnTask) → Ends es ts →
-      (u : Table) (v : List Tree) (ms : List ℕ) (kn bl : List (Option ℕ)) → ComesToLast g text (links_turn c n trees (state_at i items ts u v es ms kn bl))
+      (u : Table) (v : List Tree) (ms : Setting) (kn : List (Option Known)) (bl : List (Option ℕ)) → ComesToLast g text (links_turn c n trees (state_at i items ts u v es ms kn bl))
   links_end zero es c n trees few pass next ts k u v ms kn bl = ends_if (n == 0) _ _ (λ e. k u v ms kn bl) (λ e. let more = positive n e in absurd (omega arith))
   links_end (suc m) es c n trees few pass next ts k u v ms kn bl = ends_if (n == 0) _ _ (λ e. k u v ms kn bl) (λ e.
       let more = positive n e in
@@ -217,9 +218,9 @@ module _ (g : Grammar) (text : List ℕ) (preorder : InPreorder 0 g.nodes) (i : 
   operand_pass es c n trees pass next ts k u v ms kn bl = next_ends (state_at i items (operand c n trees ∷ ts) u v es ms kn bl)
       (after_separator es c n trees pass (λ later. links_pass es c n later pass next) c.side ts k u v ms kn bl)
 
-  close_pass : (es : List ℕ) (k : Around) (p place trees operators count : ℕ) → Passes es (close k p place trees operators count)
-  close_pass es k p place trees operators count ts h u v ms kn bl = next_ends (state_at i items (close k p place trees operators count ∷ ts) u v es ms kn bl)
-      (h (closed_table k operators u) (closed_forest k text place i trees v) ms kn (blank_after k p place count (state_at i items ts u v es ms kn bl)))
+  close_pass : (es : List ℕ) (k : Around) (p place trees operators count : ℕ) (loose : Bool) → Passes es (close k p place trees operators count loose)
+  close_pass es k p place trees operators count loose ts h u v ms kn bl = next_ends (state_at i items (close k p place trees operators count loose ∷ ts) u v es ms kn bl)
+      (h (closed_table k operators u) (closed_forest k text place i trees v) (loosened loose ms) kn (blank_after k p place count (state_at i items ts u v es ms kn bl)))
 
   -- ---- nodes
 
@@ -231,14 +232,14 @@ module _ (g : Grammar) (text : List ℕ) (preorder : InPreorder 0 g.nodes) (i : 
   abbrev BodiesPass : List ℕ → Type 0
   BodiesPass es = (r : ℕ) (named : declared_rule.Rule) → slice_get g.rules r ≡ Some named → is_entered r es ≡ false → Passes (r ∷ es) (node named.body)
 
-  rule_ends : (es : List ℕ) (r : ℕ) (named : Option declared_rule.Rule) → slice_get g.rules r ≡ named → BodiesPass es → (ts : List OnTask) → Ends es ts → (u : Table) (v : List Tree) (ms : List ℕ) (kn bl : List (Option ℕ)) →
+  rule_ends : (es : List ℕ) (r : ℕ) (named : Option declared_rule.Rule) → slice_get g.rules r ≡ named → BodiesPass es → (ts : List OnTask) → Ends es ts → (u : Table) (v : List Tree) (ms : Setting) (kn : List (Option Known)) (bl : List (Option ℕ)) →
       ComesToLast g text (rule_turn r named (state_at i items ts u v es ms kn bl))
   rule_ends es r None e bodies ts k u v ms kn bl = (0, refl)
   rule_ends es r (Some named) e bodies ts k u v ms kn bl = ends_if (is_known r (state_at i items ts u v es ms kn bl)) _ _ (λ h. k u v ms kn bl) (λ h.
       ends_if (is_entered r es) _ _ (λ l. (0, refl)) (λ l.
       bodies r named e l (leave r i (length v) (length items) ∷ ts) (leave_pass r i (length v) (length items) (r ∷ es) ts k) u v ms kn bl))
 
-  form_ends : (es : List ℕ) (p : ℕ) (n : Node) → AllByRecursion (λ q. Passes es (node q)) (parts_of n) → BodiesPass es → (ts : List OnTask) → Ends es ts → (u : Table) (v : List Tree) (ms : List ℕ) (kn bl : List (Option ℕ)) →
+  form_ends : (es : List ℕ) (p : ℕ) (n : Node) → AllByRecursion (λ q. Passes es (node q)) (parts_of n) → BodiesPass es → (ts : List OnTask) → Ends es ts → (u : Table) (v : List Tree) (ms : Setting) (kn : List (Option Known)) (bl : List (Option ℕ)) →
       ComesToLast g text (form_turn g text p n (state_at i items ts u v es ms kn bl))
   form_ends es p (form.Leaf l) pass bodies ts k u v ms kn bl = leaf_ends l ts es k u v ms kn bl
   form_ends es p (form.Seq ps) pass bodies ts k u v ms kn bl = parts_pass es ps pass ts k u v ms kn bl
@@ -249,10 +250,10 @@ module _ (g : Grammar) (text : List ℕ) (preorder : InPreorder 0 g.nodes) (i : 
   form_ends es p (form.Rule r) pass bodies ts k u v ms kn bl = rule_ends es r (slice_get g.rules r) refl bodies ts k u v ms kn bl
   form_ends es p (form.Expression builders q) pass bodies ts k u v ms kn bl = expression_ends builders q items refl ts es u v ms kn bl
   form_ends es p (form.Around a q) pass bodies ts k u v ms kn bl = ends_if (is_place i (slice_get bl p)) _ _ (λ h. k u (v ++ leaf_of [] ∷ []) ms kn bl) (λ h.
-      pass.0 (close a p i (length v) (length u.operators) (length items) ∷ ts) (close_pass es a p i (length v) (length u.operators) (length items) ts k) u v ms kn bl)
+      pass.0 (close a p i (length v) (length u.operators) (length items) ms.loose ∷ ts) (close_pass es a p i (length v) (length u.operators) (length items) ms.loose ts k) u v (loosened (loosens a || ms.loose) ms) kn bl)
 
   node_ends : (es : List ℕ) (p : ℕ) (n : Option Node) → ((m : Node) → n ≡ Some m → AllByRecursion (λ q. Passes es (node q)) (parts_of m)) → BodiesPass es → (ts : List OnTask) → Ends es ts →
-      (u : Table) (v : List Tree) (ms : List ℕ) (kn bl : List (Option ℕ)) → ComesToLast g text (node_turn g text p n (state_at i items ts u v es ms kn bl))
+      (u : Table) (v : List Tree) (ms : Setting) (kn : List (Option Known)) (bl : List (Option ℕ)) → ComesToLast g text (node_turn g text p n (state_at i items ts u v es ms kn bl))
   node_ends es p None pass bodies ts k u v ms kn bl = (0, refl)
   node_ends es p (Some n) pass bodies ts k u v ms kn bl = form_ends es p n (pass n refl) bodies ts k u v ms kn bl
 
@@ -281,12 +282,12 @@ module _ (g : Grammar) (text : List ℕ) (preorder : InPreorder 0 g.nodes) (i : 
 
   -- ---- all tasks
 
-  ended_ends : (j : Option ℕ) → IsOnward i (length text) j → (ts : List OnTask) (es : List ℕ) → Ends es ts → (u : Table) (v : List Tree) (ms : List ℕ) (kn bl : List (Option ℕ)) →
+  ended_ends : (j : Option ℕ) → IsOnward i (length text) j → (ts : List OnTask) (es : List ℕ) → Ends es ts → (u : Table) (v : List Tree) (ms : Setting) (kn : List (Option Known)) (bl : List (Option ℕ)) →
       ComesToLast g text (ended_turn j (state_at i items ts u v es ms kn bl))
   ended_ends None h ts es k u v ms kn bl = (0, refl)
   ended_ends (Some j) h ts es k u v ms kn bl = moved_ends j ts u v es ms kn bl h.0 h.1 k
 
-  symbol_ends : (item : Option OperatorsItem) (o : AppliedOperator) (ts : List OnTask) (es : List ℕ) → Ends es ts → (u : Table) (v : List Tree) (ms : List ℕ) (kn bl : List (Option ℕ)) →
+  symbol_ends : (item : Option OperatorsItem) (o : AppliedOperator) (ts : List OnTask) (es : List ℕ) → Ends es ts → (u : Table) (v : List Tree) (ms : Setting) (kn : List (Option Known)) (bl : List (Option ℕ)) →
       ComesToLast g text (symbol_turn g text item o (state_at i items ts u v es ms kn bl))
   symbol_ends None o ts es k u v ms kn bl = (0, refl)
   symbol_ends (Some item) o ts es k u v ms kn bl = ended_ends (operator_end g text item o.symbol i) (operator_within g text i item o.symbol within) ts es k u v ms kn bl
@@ -298,13 +299,14 @@ module _ (g : Grammar) (text : List ℕ) (preorder : InPreorder 0 g.nodes) (i : 
   task_ends (more_rounds p n place trees count) ts k es = more_pass es p n place trees count (node_passes es p) ts (k es)
   task_ends (links c n trees) ts k es = links_pass es c n trees (node_passes es c.part) (node_passes es c.separator) ts (k es)
   task_ends (operand c n trees) ts k es = operand_pass es c n trees (node_passes es c.part) (node_passes es c.separator) ts (k es)
+  task_ends (settle loose) ts k es = λ u v ms kn bl. next_ends (state_at i items (settle loose ∷ ts) u v es ms kn bl) (k es u v (loosened loose ms) kn bl)
   task_ends (fold used trees) ts k es = fold_pass es used trees ts (k es)
-  task_ends (close a p place trees operators count) ts k es = close_pass es a p place trees operators count ts (k es)
-  task_ends (marked p) ts k es = λ u v ms kn bl. next_ends (state_at i items (marked p ∷ ts) u v es ms kn bl) (node_passes es p ts (k es) u v (length v ∷ ms) kn bl)
+  task_ends (close a p place trees operators count loose) ts k es = close_pass es a p place trees operators count loose ts (k es)
+  task_ends (marked p) ts k es = λ u v ms kn bl. next_ends (state_at i items (marked p ∷ ts) u v es ms kn bl) (node_passes es p ts (k es) u v (under_marks (length v ∷ ms.marks) ms) kn bl)
   task_ends (operator_symbol o) ts k es = λ u v ms kn bl. next_ends (state_at i items (operator_symbol o ∷ ts) u v es ms kn bl) (symbol_ends g.operators o ts es (k es) u v ms kn bl)
   task_ends (application builders o) ts k es = λ u v ms kn bl. next_ends (state_at i items (application builders o ∷ ts) u v es ms kn bl)
-      (k es u (applied_after builders o (first_mark (marks_after o.fixity ms)) v) (marks_after o.fixity ms) kn bl)
-  task_ends unmark ts k es = λ u v ms kn bl. next_ends (state_at i items (unmark ∷ ts) u v es ms kn bl) (k es u v (without_newest ms) kn bl)
+      (k es u (applied_after builders o (first_mark (marks_after o.fixity ms.marks)) v) (under_marks (marks_after o.fixity ms.marks) ms) kn bl)
+  task_ends unmark ts k es = λ u v ms kn bl. next_ends (state_at i items (unmark ∷ ts) u v es ms kn bl) (k es u v (under_marks (without_newest ms.marks) ms) kn bl)
   task_ends (leave r place trees count) ts k es = leave_pass r place trees count es ts (k (without_newest es))
 
   tasks_end : (ts : List OnTask) (es : List ℕ) → Ends es ts
@@ -315,7 +317,7 @@ module _ (g : Grammar) (text : List ℕ) (preorder : InPreorder 0 g.nodes) (i : 
 ends_from : (g : Grammar) (text : List ℕ) → InPreorder 0 g.nodes → (n : ℕ) (s : State) → s.place ≤ length text → left_at text s.place s.rest < n → ComesToLast g text (on s)
 ends_from g text preorder zero s within few = absurd (omega arith)
 ends_from g text preorder (suc n) s within few =
-    tasks_end g text preorder s.place s.rest within (λ z high less. ends_from g text preorder n z high (omega arith)) s.tasks s.entered s.table s.forest s.marks s.known s.blank
+    tasks_end g text preorder s.place s.rest within (λ z high less. ends_from g text preorder n z high (omega arith)) s.tasks s.entered s.table s.forest s.setting s.known s.blank
 
 -- so going along a trail does
 pub halts : (g : Grammar) (text : List ℕ) (table : Table) (items : List TrailItem) → InPreorder 0 g.nodes → Halts g text table items

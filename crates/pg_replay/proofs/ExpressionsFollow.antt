@@ -1,5 +1,5 @@
 -- Expressions: the steps of the tree that fits lead to what the expression does.
-use Rattle.std.proofs.Common.{◌≡◌, ◌+◌, ℕ, Bool, true, false, List, [], ◌∷◌, ◌++◌, refl, sym, ap, ◌∙◌, subst, length, drop, append_assoc, if◌then◌else◌}
+use Rattle.std.proofs.Common.{◌≡◌, ◌+◌, ◌||◌, ℕ, Bool, true, false, List, [], ◌∷◌, ◌++◌, refl, sym, ap, ◌∙◌, subst, length, drop, append_assoc, if◌then◌else◌}
 use Rattle.std.specs.Prelude.{Option, None, Some, slice_get, map}
 use Rattle.std.specs.Str.{bytes_eq, encode_utf8_all}
 use Rattle.std.proofs.lemmas.List.{map-append}
@@ -27,9 +27,10 @@ use Rattle.pg_language.specs.Derives as derives
 use Rattle.pg_language.specs.Derives.{Spot, at, DerivesExpression, a_term as derives_term, a_prefix, a_postfix, an_infix}
 use Rattle.pg_replay.specs.Refusals as refusal
 use Rattle.pg_replay.specs.Refusals.{Stop, stop, FitsNone, still_entered, RefusesExpression}
-use Rattle.pg_replay.specs.Tasks.{OnTask, node, operator_symbol, application, unmark, marked, State, step_task, operators_turn, steps_turn, expression_turn, ended_turn, symbol_turn, built_after}
+use Rattle.pg_replay.specs.Tasks.{OnTask, node, operator_symbol, application, unmark, settle, marked, Setting, under_marks, loosened, State, joins, joins_step, joins_last, step_task, operators_turn, steps_turn, expression_turn, ended_turn, symbol_turn, built_after}
+use Rattle.pg_replay.proofs.Alike.{Alike, IsBuilt, alike_both, alike_built, alike_one}
 use Rattle.pg_replay.proofs.ProperTables.{IsProper}
-use Rattle.pg_replay.proofs.Leads.{End, halted, Leads, does, refuses, does_node, does_term, does_symbol, does_application, does_unmark, refuses_node, refuses_term, refuses_symbol, spot_of, TaskLeads, Follows, still_none, still_after_item}
+use Rattle.pg_replay.proofs.Leads.{End, halted, Leads, does, refuses, does_node, does_term, does_symbol, does_application, does_unmark, does_settle, refuses_node, refuses_term, refuses_symbol, spot_of, TaskLeads, Follows, still_none, still_after_item}
 
 -- ---- trees
 
@@ -50,10 +51,52 @@ module _ (g : Grammar) (text : List ℕ) (item : OperatorsItem) (there : g.opera
   then_more steps more ts =
       ap (λ z. z ++ ts) (map-append (step_task builders p) steps more) ∙ append_assoc (map (step_task builders p) steps) (map (step_task builders p) more) ts
 
+  -- the operator that is applied last made the tree
+  abbrev IsTreeOf : Expression → List Tree → Type 0
+  IsTreeOf term l = Unit {0}
+  IsTreeOf (prefixed o x) l = IsBuilt builders.prefix.shape (encode_utf8_all o.symbol) l
+  IsTreeOf (postfixed o x) l = IsBuilt builders.postfix.shape (encode_utf8_all o.symbol) l
+  IsTreeOf (joined o x y) l = IsBuilt builders.infix.shape (encode_utf8_all o.symbol) l
+
+  derived_tree : {x : Expression} {a b : Spot} {w : List Tree} {u : List TrailItem} → DerivesExpression g text item builders p x a b w u → IsTreeOf x w
+  derived_tree (derives_term d) = tt
+  derived_tree (a_prefix {forest = w} is d) = (w, refl)
+  derived_tree (a_postfix {forest = w} d is) = (w, refl)
+  derived_tree (an_infix {left = w} {right = z} d is f) = (w ++ z, refl)
+
+  -- whether it joins
+  abbrev joins_root : Expression → Bool
+  joins_root term = false
+  joins_root (prefixed o x) = joins builders.prefix.shape
+  joins_root (postfixed o x) = joins builders.postfix.shape
+  joins_root (joined o x y) = joins builders.infix.shape
+
+  last_joins : (steps : List Step) (step : Step) → joins_last builders (steps ++ step ∷ []) ≡ joins_step builders step
+  last_joins [] step = refl
+  last_joins (x ∷ []) step = refl
+  last_joins (x ∷ y ∷ steps) step = last_joins (y ∷ steps) step
+
+  root_joins : (x : Expression) → joins_last builders (steps_of x) ≡ joins_root x
+  root_joins term = refl
+  root_joins (prefixed o x) = last_joins (a_symbol (applied fixity.Prefix o) ∷ steps_of x) (an_application (applied fixity.Prefix o))
+  root_joins (postfixed o x) =
+      ap (joins_last builders) (sym (append_assoc (steps_of x) (a_symbol (applied fixity.Postfix o) ∷ []) (an_application (applied fixity.Postfix o) ∷ [])))
+      ∙ last_joins (steps_of x ++ a_symbol (applied fixity.Postfix o) ∷ []) (an_application (applied fixity.Postfix o))
+  root_joins (joined o x y) =
+      ap (joins_last builders) (sym (append_assoc (steps_of x) (a_symbol (applied fixity.Infix o) ∷ steps_of y) (an_application (applied fixity.Infix o) ∷ [])))
+      ∙ last_joins (steps_of x ++ (a_symbol (applied fixity.Infix o) ∷ steps_of y)) (an_application (applied fixity.Infix o))
+
+  -- if it does, the trees of the terms may be of the same text only
+  alike_root : (x : Expression) (loose : Bool) (l w : List Tree) → IsTreeOf x l → IsTreeOf x w → Alike (joins_root x || loose) l w → Alike loose l w
+  alike_root term loose l w i j h = h
+  alike_root (prefixed o x) loose l w i j h = alike_one loose builders.prefix.shape (encode_utf8_all o.symbol) l w i j h
+  alike_root (postfixed o x) loose l w i j h = alike_one loose builders.postfix.shape (encode_utf8_all o.symbol) l w i j h
+  alike_root (joined o x y) loose l w i j h = alike_one loose builders.infix.shape (encode_utf8_all o.symbol) l w i j h
+
   -- the tree is gone along up to its end, from which the other tasks lead on, or it stops
-  data Gone (x : Expression) (ts : List OnTask) (ms : List ℕ) (a : Spot) (v : List Tree) : List TrailItem → End → Type 0 where
-    gone : {b : Spot} {w : List Tree} {u rest : List TrailItem} {e : End} → DerivesExpression g text item builders p x a b w u →
-        Leads g text (length v ∷ ms) ts [] b (v ++ w) rest e → Gone x ts ms a v (u ++ rest) e
+  data Gone (x : Expression) (ts : List OnTask) (ms : Setting) (a : Spot) (v : List Tree) : List TrailItem → End → Type 0 where
+    gone : {b : Spot} {w l : List Tree} {u rest : List TrailItem} {e : End} → DerivesExpression g text item builders p x a b w u → Alike ms.loose l w → IsTreeOf x l →
+        Leads g text (under_marks (length v ∷ ms.marks) ms) ts [] b (v ++ l) rest e → Gone x ts ms a v (u ++ rest) e
     stopped : {items : List TrailItem} {s : Stop} → RefusesExpression g text item builders p x a items s → Gone x ts ms a v items (halted s)
 
   -- the operators item is one
@@ -61,20 +104,21 @@ module _ (g : Grammar) (text : List ℕ) (item : OperatorsItem) (there : g.opera
   same_item other o i j is h = subst (λ (it : OperatorsItem). IsOperatorAt g text it o.symbol i j) (let same : other ≡ item = cc in same) h
 
   -- nothing is open behind an operator
-  past_symbol : (ms : List ℕ) (ts : List OnTask) (b : Spot) (j : ℕ) (v : List Tree) (items : List TrailItem) (e : End) →
+  past_symbol : (ms : Setting) (ts : List OnTask) (b : Spot) (j : ℕ) (v : List Tree) (items : List TrailItem) (e : End) →
       Leads g text ms ts (still_entered b (at b j) [] []) (at b j) v items e → Leads g text ms ts [] (at b j) v items e
   past_symbol ms ts b j v items e k = subst (λ o. Leads g text ms ts o (at b j) v items e) (still_none b (at b j) []) k
 
   -- ---- prefix operators
 
-  prefixed_gone : (o : Operator) (x : Expression) (ts : List OnTask) (ms : List ℕ) (a : Spot) (v : List Tree) (j : ℕ) (items : List TrailItem) (e : End) → IsOperatorAt g text item o.symbol a.place j →
+  prefixed_gone : (o : Operator) (x : Expression) (ts : List OnTask) (ms : Setting) (a : Spot) (v : List Tree) (j : ℕ) (items : List TrailItem) (e : End) → IsOperatorAt g text item o.symbol a.place j →
       Gone x (application builders (applied fixity.Prefix o) ∷ ts) ms (at a j) v items e → Gone (prefixed o x) ts ms a v items e
   prefixed_gone o x ts ms a v j items e is (stopped h) = stopped (refusal.in_prefixed is h)
-  prefixed_gone o x ts ms a v j items e is (gone d (refuses h)) = elim h [ ]
-  prefixed_gone o x ts ms a v j items e is (gone {b = b} {w = w} d (does {items = rest} does_application k)) =
-      gone (a_prefix is d) (subst (λ f. Leads g text (length v ∷ ms) ts [] b f rest e) (built_seam builders.prefix.shape o.symbol v w) k)
+  prefixed_gone o x ts ms a v j items e is (gone d i is_tree (refuses h)) = elim h [ ]
+  prefixed_gone o x ts ms a v j items e is (gone {b = b} {w = w} {l = l} d h is_tree (does {items = rest} does_application k)) =
+      gone (a_prefix is d) (alike_built ms.loose builders.prefix.shape (encode_utf8_all o.symbol) l w h) (l, refl)
+      (subst (λ f. Leads g text (under_marks (length v ∷ ms.marks) ms) ts [] b f rest e) (built_seam builders.prefix.shape o.symbol v l) k)
 
-  prefix_step : (o : Operator) (x : Expression) (ts : List OnTask) (ms : List ℕ) (a : Spot) (v : List Tree) (items : List TrailItem) (e : End) →
+  prefix_step : (o : Operator) (x : Expression) (ts : List OnTask) (ms : Setting) (a : Spot) (v : List Tree) (items : List TrailItem) (e : End) →
       ((b : Spot) → Leads g text ms (tasks x ++ (application builders (applied fixity.Prefix o) ∷ ts)) [] b v items e → Gone x (application builders (applied fixity.Prefix o) ∷ ts) ms b v items e) →
       Leads g text ms (operator_symbol (applied fixity.Prefix o) ∷ (tasks x ++ (application builders (applied fixity.Prefix o) ∷ ts))) [] a v items e → Gone (prefixed o x) ts ms a v items e
   prefix_step o x ts ms a v items e more (refuses (refuses_symbol h)) = stopped (refusal.prefix_differs (λ j is. h item j there is))
@@ -83,45 +127,46 @@ module _ (g : Grammar) (text : List ℕ) (item : OperatorsItem) (there : g.opera
 
   -- ---- postfix operators
 
-  postfixed_gone : (o : Operator) (x : Expression) (ts : List OnTask) (ms : List ℕ) (a : Spot) (v : List Tree) (items : List TrailItem) (e : End) →
+  postfixed_gone : (o : Operator) (x : Expression) (ts : List OnTask) (ms : Setting) (a : Spot) (v : List Tree) (items : List TrailItem) (e : End) →
       Gone x (operator_symbol (applied fixity.Postfix o) ∷ application builders (applied fixity.Postfix o) ∷ ts) ms a v items e → Gone (postfixed o x) ts ms a v items e
   postfixed_gone o x ts ms a v items e (stopped h) = stopped (refusal.in_postfixed h)
-  postfixed_gone o x ts ms a v items e (gone d (refuses (refuses_symbol h))) = stopped (refusal.postfix_differs d (λ j is. h item j there is))
-  postfixed_gone o x ts ms a v items e (gone d (does (does_symbol is h) (refuses r))) = elim r [ ]
-  postfixed_gone o x ts ms a v items e (gone {b = b} {w = w} d (does (does_symbol {item = other} {j = j} is h) (does {items = rest} does_application k))) =
-      gone (a_postfix d (same_item other o b.place j is h))
-      (past_symbol (length v ∷ ms) ts b j (v ++ built builders.postfix.shape (encode_utf8_all o.symbol) w ∷ []) rest e
-      (subst (λ f. Leads g text (length v ∷ ms) ts (still_entered b (at b j) [] []) (at b j) f rest e) (built_seam builders.postfix.shape o.symbol v w) k))
+  postfixed_gone o x ts ms a v items e (gone d i is_tree (refuses (refuses_symbol h))) = stopped (refusal.postfix_differs d (λ j is. h item j there is))
+  postfixed_gone o x ts ms a v items e (gone d i is_tree (does (does_symbol is h) (refuses r))) = elim r [ ]
+  postfixed_gone o x ts ms a v items e (gone {b = b} {w = w} {l = l} d i is_tree (does (does_symbol {item = other} {j = j} is h) (does {items = rest} does_application k))) =
+      gone (a_postfix d (same_item other o b.place j is h)) (alike_built ms.loose builders.postfix.shape (encode_utf8_all o.symbol) l w i) (l, refl)
+      (past_symbol (under_marks (length v ∷ ms.marks) ms) ts b j (v ++ built builders.postfix.shape (encode_utf8_all o.symbol) l ∷ []) rest e
+      (subst (λ f. Leads g text (under_marks (length v ∷ ms.marks) ms) ts (still_entered b (at b j) [] []) (at b j) f rest e) (built_seam builders.postfix.shape o.symbol v l) k))
 
   -- ---- infix operators
 
-  joined_gone : (o : Operator) (x y : Expression) (ts : List OnTask) (ms : List ℕ) (a b : Spot) (v w : List Tree) (j : ℕ) (u items : List TrailItem) (e : End) →
-      DerivesExpression g text item builders p x a b w u → IsOperatorAt g text item o.symbol b.place j →
-      Gone y (application builders (applied fixity.Infix o) ∷ ts) (length v ∷ ms) (at b j) (v ++ w) items e → Gone (joined o x y) ts ms a v (u ++ items) e
-  joined_gone o x y ts ms a b v w j u items e d is (stopped h) = stopped (refusal.in_right d is h)
-  joined_gone o x y ts ms a b v w j u items e d is (gone f (refuses h)) = elim h [ ]
-  joined_gone o x y ts ms a b v w j u items e d is (gone {b = c} {w = z} {u = t} f (does {items = rest} does_application k)) =
-      subst (λ l. Gone (joined o x y) ts ms a v l e) (append_assoc u t rest)
-      (gone (an_infix d is f) (subst (λ l. Leads g text (length v ∷ ms) ts [] c l rest e) (built_joined builders.infix.shape o.symbol v w z) k))
+  joined_gone : (o : Operator) (x y : Expression) (ts : List OnTask) (ms : Setting) (a b : Spot) (v w l : List Tree) (j : ℕ) (u items : List TrailItem) (e : End) →
+      DerivesExpression g text item builders p x a b w u → Alike ms.loose l w → IsOperatorAt g text item o.symbol b.place j →
+      Gone y (application builders (applied fixity.Infix o) ∷ ts) (under_marks (length v ∷ ms.marks) ms) (at b j) (v ++ l) items e → Gone (joined o x y) ts ms a v (u ++ items) e
+  joined_gone o x y ts ms a b v w l j u items e d i is (stopped h) = stopped (refusal.in_right d is h)
+  joined_gone o x y ts ms a b v w l j u items e d i is (gone f m is_tree (refuses h)) = elim h [ ]
+  joined_gone o x y ts ms a b v w l j u items e d i is (gone {b = c} {w = z} {l = n} {u = t} f m is_tree (does {items = rest} does_application k)) =
+      subst (λ q. Gone (joined o x y) ts ms a v q e) (append_assoc u t rest)
+      (gone (an_infix d is f) (alike_built ms.loose builders.infix.shape (encode_utf8_all o.symbol) (l ++ n) (w ++ z) (alike_both ms.loose l w n z i m)) (l ++ n, refl)
+      (subst (λ q. Leads g text (under_marks (length v ∷ ms.marks) ms) ts [] c q rest e) (built_joined builders.infix.shape o.symbol v l n) k))
 
-  infix_step : (o : Operator) (x y : Expression) (ts : List OnTask) (ms : List ℕ) (a : Spot) (v : List Tree) (items : List TrailItem) (e : End) →
-      ((ns : List ℕ) (b : Spot) (z : List Tree) (rest : List TrailItem) → Leads g text ns (tasks y ++ (application builders (applied fixity.Infix o) ∷ ts)) [] b z rest e →
+  infix_step : (o : Operator) (x y : Expression) (ts : List OnTask) (ms : Setting) (a : Spot) (v : List Tree) (items : List TrailItem) (e : End) →
+      ((ns : Setting) (b : Spot) (z : List Tree) (rest : List TrailItem) → Leads g text ns (tasks y ++ (application builders (applied fixity.Infix o) ∷ ts)) [] b z rest e →
       Gone y (application builders (applied fixity.Infix o) ∷ ts) ns b z rest e) →
       Gone x (operator_symbol (applied fixity.Infix o) ∷ (tasks y ++ (application builders (applied fixity.Infix o) ∷ ts))) ms a v items e → Gone (joined o x y) ts ms a v items e
   infix_step o x y ts ms a v items e more (stopped h) = stopped (refusal.in_left h)
-  infix_step o x y ts ms a v items e more (gone d (refuses (refuses_symbol h))) = stopped (refusal.infix_differs d (λ j is. h item j there is))
-  infix_step o x y ts ms a v items e more (gone {b = b} {w = w} {u = u} d (does {items = rest} (does_symbol {item = other} {j = j} is h) k)) =
-      joined_gone o x y ts ms a b v w j u rest e d (same_item other o b.place j is h)
-      (more (length v ∷ ms) (at b j) (v ++ w) rest (past_symbol (length v ∷ ms) (tasks y ++ (application builders (applied fixity.Infix o) ∷ ts)) b j (v ++ w) rest e k))
+  infix_step o x y ts ms a v items e more (gone d i is_tree (refuses (refuses_symbol h))) = stopped (refusal.infix_differs d (λ j is. h item j there is))
+  infix_step o x y ts ms a v items e more (gone {b = b} {w = w} {l = l} {u = u} d i is_tree (does {items = rest} (does_symbol {item = other} {j = j} is h) k)) =
+      joined_gone o x y ts ms a b v w l j u rest e d i (same_item other o b.place j is h)
+      (more (under_marks (length v ∷ ms.marks) ms) (at b j) (v ++ l) rest (past_symbol (under_marks (length v ∷ ms.marks) ms) (tasks y ++ (application builders (applied fixity.Infix o) ∷ ts)) b j (v ++ l) rest e k))
 
   -- ---- trees
 
-  term_gone : (ts : List OnTask) (ms : List ℕ) (a : Spot) (v : List Tree) (items : List TrailItem) (e : End) → Leads g text ms (marked p ∷ ts) [] a v items e → Gone term ts ms a v items e
+  term_gone : (ts : List OnTask) (ms : Setting) (a : Spot) (v : List Tree) (items : List TrailItem) (e : End) → Leads g text ms (marked p ∷ ts) [] a v items e → Gone term ts ms a v items e
   term_gone ts ms a v items e (refuses (refuses_term h)) = stopped (refusal.in_term h)
-  term_gone ts ms a v items e (does {b = b} {u = u} {items = rest} (does_term {w = w} d) k) =
-      gone (derives_term d) (subst (λ o. Leads g text (length v ∷ ms) ts o b (v ++ w) rest e) (still_none a b u) k)
+  term_gone ts ms a v items e (does {b = b} {u = u} {items = rest} (does_term {x = l} d h) k) =
+      gone (derives_term d) h tt (subst (λ o. Leads g text (under_marks (length v ∷ ms.marks) ms) ts o b (v ++ l) rest e) (still_none a b u) k)
 
-  tree_gone : (x : Expression) (ts : List OnTask) (ms : List ℕ) (a : Spot) (v : List Tree) (items : List TrailItem) (e : End) → Leads g text ms (tasks x ++ ts) [] a v items e → Gone x ts ms a v items e
+  tree_gone : (x : Expression) (ts : List OnTask) (ms : Setting) (a : Spot) (v : List Tree) (items : List TrailItem) (e : End) → Leads g text ms (tasks x ++ ts) [] a v items e → Gone x ts ms a v items e
   tree_gone term ts ms a v items e k = term_gone ts ms a v items e k
   tree_gone (prefixed o x) ts ms a v items e k =
       prefix_step o x ts ms a v items e (λ b m. tree_gone x (application builders (applied fixity.Prefix o) ∷ ts) ms b v items e m)
@@ -138,18 +183,22 @@ module _ (g : Grammar) (text : List ℕ) (item : OperatorsItem) (there : g.opera
 
   -- ---- expressions
 
-  whole_gone : (q : ℕ) (x : Expression) (ts : List OnTask) (ms entered : List ℕ) (a : Spot) (v : List Tree) (items : List TrailItem) (e : End) → slice_get g.nodes q ≡ Some (form.Expression builders p) →
-      IsFitting a.table.operators x → Gone x (unmark ∷ ts) ms a v items e → Leads g text ms (node q ∷ ts) entered a v (Ops (operators_read x) ∷ items) e
+  whole_gone : (q : ℕ) (x : Expression) (ts : List OnTask) (ms : Setting) (entered : List ℕ) (a : Spot) (v : List Tree) (items : List TrailItem) (e : End) → slice_get g.nodes q ≡ Some (form.Expression builders p) →
+      IsFitting a.table.operators x → Gone x (unmark ∷ settle ms.loose ∷ ts) (loosened (joins_last builders (steps_of x) || ms.loose) ms) a v items e → Leads g text ms (node q ∷ ts) entered a v (Ops (operators_read x) ∷ items) e
   whole_gone q x ts ms entered a v items e is fit (stopped h) = refuses (refuses_node (refusal.at_node is (refusal.expression there fit h)))
-  whole_gone q x ts ms entered a v items e is fit (gone d (refuses h)) = elim h [ ]
-  whole_gone q x ts ms entered a v items e is fit (gone {b = b} {w = w} {u = u} d (does {items = rest} does_unmark k)) =
-      does (does_node (derives.at_node is (derives.expression there fit d)))
-      (subst (λ o. Leads g text ms ts o b (v ++ w) rest e) (sym (still_after_item a b (Ops (operators_read x)) u entered)) k)
+  whole_gone q x ts ms entered a v items e is fit (gone d i is_tree (refuses h)) = elim h [ ]
+  whole_gone q x ts ms entered a v items e is fit (gone d i is_tree (does does_unmark (refuses h))) = elim h [ ]
+  whole_gone q x ts ms entered a v items e is fit (gone {b = b} {w = w} {l = l} {u = u} d h is_tree (does does_unmark (does {items = rest} does_settle k))) =
+      does (does_node (derives.at_node is (derives.expression there fit d))
+      (alike_root x ms.loose l w is_tree (derived_tree d) (subst (λ j. Alike (j || ms.loose) l w) (root_joins x) h)))
+      (subst (λ o. Leads g text ms ts o b (v ++ l) rest e) (sym (still_after_item a b (Ops (operators_read x)) u entered)) k)
 
-  pub expression_leads : (q : ℕ) (x : Expression) (ts : List OnTask) (ms entered : List ℕ) (a : Spot) (v : List Tree) (items : List TrailItem) (e : End) →
-      slice_get g.nodes q ≡ Some (form.Expression builders p) → IsFitting a.table.operators x → Leads g text ms (map (step_task builders p) (steps_of x) ++ (unmark ∷ ts)) [] a v items e →
+  pub expression_leads : (q : ℕ) (x : Expression) (ts : List OnTask) (ms : Setting) (entered : List ℕ) (a : Spot) (v : List Tree) (items : List TrailItem) (e : End) →
+      slice_get g.nodes q ≡ Some (form.Expression builders p) → IsFitting a.table.operators x →
+      Leads g text (loosened (joins_last builders (steps_of x) || ms.loose) ms) (map (step_task builders p) (steps_of x) ++ (unmark ∷ settle ms.loose ∷ ts)) [] a v items e →
       Leads g text ms (node q ∷ ts) entered a v (Ops (operators_read x) ∷ items) e
-  expression_leads q x ts ms entered a v items e is fit k = whole_gone q x ts ms entered a v items e is fit (tree_gone x (unmark ∷ ts) ms a v items e k)
+  expression_leads q x ts ms entered a v items e is fit k = whole_gone q x ts ms entered a v items e is fit
+      (tree_gone x (unmark ∷ settle ms.loose ∷ ts) (loosened (joins_last builders (steps_of x) || ms.loose) ms) a v items e k)
 
 -- ---- what the next item isn't
 
@@ -170,8 +219,9 @@ module _ (g : Grammar) (text : List ℕ) (builders : OperatorBuilders) (q p : �
   judged_follows s item read rest (Some steps) is there e proper h = λ end k.
       let same : Ops (operators_read h.tree) ∷ rest ≡ s.rest = ap (λ r. Ops r ∷ rest) h.is_read ∙ sym e in
       subst (λ items. TaskLeads g text (node q) (let t : State = record s { rest = items } in t) end) same
-      (expression_leads g text item there builders p q h.tree s.tasks s.marks s.entered (spot_of s) s.forest rest end is h.fits
-      (subst (λ l. Leads g text s.marks (map (step_task builders p) l ++ (unmark ∷ s.tasks)) [] (spot_of s) s.forest rest end) (sym h.is_done) k))
+      (expression_leads g text item there builders p q h.tree s.tasks s.setting s.entered (spot_of s) s.forest rest end is h.fits
+      (subst (λ l. Leads g text (loosened (joins_last builders l || s.setting.loose) s.setting) (map (step_task builders p) l ++ (unmark ∷ settle s.setting.loose ∷ s.tasks)) [] (spot_of s) s.forest rest end)
+      (sym h.is_done) k))
 
   operators_follow : (s : State) (item : Option OperatorsItem) (read : List AppliedOperator) (rest : List TrailItem) → slice_get g.nodes q ≡ Some (form.Expression builders p) →
       g.operators ≡ item → s.rest ≡ Ops read ∷ rest → IsProper s.table → Follows g text (node q) s (operators_turn item builders p read rest s)

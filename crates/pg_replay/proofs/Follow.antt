@@ -21,14 +21,17 @@ use Rattle.pg_language.specs.Onward.{LeadsOn}
 use Rattle.pg_language.proofs.Onward.{leads_on}
 use Rattle.pg_replay.specs.Refusals as refusal
 use Rattle.pg_replay.specs.Refusals.{still_entered, if_no_item, IsEntered, ChoosesNone, CountsNone}
-use Rattle.pg_replay.specs.Tasks.{OnTask, node, parts, rounds, more_rounds, links, operand, fold, marked, operator_symbol, application, unmark, close, leave, State, Turn, on, stops, ended, part_turn, numbered_turn, choice_turn, many_turn, is_place, is_known, is_entered, rule_turn, around_turn, form_turn, node_turn, parts_turn, rounds_turn, is_unchanged, more_turn, closed_table, closed_forest, without_newest, turn}
+use Rattle.pg_replay.specs.Tasks.{OnTask, node, parts, rounds, more_rounds, links, operand, settle, fold, marked, operator_symbol, application, unmark, close, leave, Setting, under_marks, loosened, State, Turn, on, stops, ended, part_turn, numbered_turn, choice_turn, many_turn, is_place, is_known_at, is_known, loosens, is_still, is_entered, rule_turn, around_turn, form_turn, node_turn, parts_turn, rounds_turn, is_unchanged, more_turn, closed_table, closed_forest, without_newest, turn}
+use Rattle.pg_replay.specs.declared.replayer.Known.{Known}
+use Rattle.pg_replay.proofs.Alike.{text_in, text_append, IsAlike, Alike, alike_same, alike_both, alike_made}
 use Rattle.pg_replay.proofs.Known.{AreKnown, AreBlank, IsSo}
+use Rattle.pg_replay.proofs.NoText.{no_text}
 use Rattle.pg_replay.proofs.Items.{positive, no_count_at_end, no_count_for_choice, no_count_for_operators}
 use Rattle.pg_replay.proofs.LeavesFollow.{leaf_follows}
 use Rattle.pg_replay.proofs.ProperTables.{IsProper}
 use Rattle.pg_replay.proofs.ExpressionsFollow.{expression_follows, symbol_follows}
 use Rattle.pg_replay.proofs.ChainsFollow.{chain_follows, links_follow, operand_follows}
-use Rattle.pg_replay.proofs.Leads.{End, entered_after, Does, Leads, does, refuses, does_node, does_parts, does_rounds, does_more, over, does_fold, does_term, does_application, does_unmark, does_close, does_leave, refuses_node, refuses_parts, refuses_rounds, refuses_more, refuses_term, spot_of, StateLeads, TaskLeads, Follows, follows_if, still_here, still_none, still_after_item, still_twice, parts_onward, rounds_onward}
+use Rattle.pg_replay.proofs.Leads.{End, entered_after, Does, Leads, AsMany, does, refuses, does_node, does_parts, does_rounds, does_more, over, does_settle, does_fold, does_term, does_application, does_unmark, does_close, does_leave, refuses_node, refuses_parts, refuses_rounds, refuses_more, refuses_term, spot_of, StateLeads, TaskLeads, Follows, follows_if, still_here, still_none, still_after_item, still_twice, parts_onward, rounds_onward}
 
 abbrev spot_at : ℕ → Table → Spot
 spot_at place table = record { place = place; table = table }
@@ -37,14 +40,14 @@ module _ (g : Grammar) (text : List ℕ) where
   -- ---- parts and rounds
 
   -- a task that did nothing
-  stayed : (t : OnTask) (s : State) (e : End) → Does g text s.marks s.marks t (spot_of s) s.forest (spot_of s) (s.forest ++ []) [] →
+  stayed : (t : OnTask) (s : State) (e : End) → Does g text s.setting s.setting t (spot_of s) s.forest (spot_of s) (s.forest ++ []) [] →
       entered_after t (spot_of s) (spot_of s) [] s.entered ≡ still_entered (spot_of s) (spot_of s) [] s.entered → StateLeads g text s e → TaskLeads g text t s e
   stayed t s e d same k = does d
-      (subst (λ x. Leads g text s.marks s.tasks x (spot_of s) (s.forest ++ []) s.rest e) (sym (same ∙ still_here (spot_of s) s.entered))
-      (subst (λ v. Leads g text s.marks s.tasks s.entered (spot_of s) v s.rest e) (sym (append-nil s.forest)) k))
+      (subst (λ x. Leads g text s.setting s.tasks x (spot_of s) (s.forest ++ []) s.rest e) (sym (same ∙ still_here (spot_of s) s.entered))
+      (subst (λ v. Leads g text s.setting s.tasks s.entered (spot_of s) v s.rest e) (sym (append-nil s.forest)) k))
 
   -- a task of two stretches
-  joined : (ms : List ℕ) (t : OnTask) (ts : List OnTask) (entered : List ℕ) (a b c : Spot) (v w z : List Tree) (x y rest : List TrailItem) (e : End) → a.place ≤ b.place → b.place ≤ c.place →
+  joined : (ms : Setting) (t : OnTask) (ts : List OnTask) (entered : List ℕ) (a b c : Spot) (v w z : List Tree) (x y rest : List TrailItem) (e : End) → a.place ≤ b.place → b.place ≤ c.place →
       Does g text ms ms t a v c (v ++ (w ++ z)) (x ++ y) → entered_after t a c (x ++ y) entered ≡ still_entered a c (x ++ y) entered →
       Leads g text ms ts (still_entered b c y (still_entered a b x entered)) c (v ++ w ++ z) rest e → Leads g text ms (t ∷ ts) entered a v (x ++ (y ++ rest)) e
   joined ms t ts entered a b c v w z x y rest e low high d same k =
@@ -54,21 +57,32 @@ module _ (g : Grammar) (text : List ℕ) where
       (subst (λ f. Leads g text ms ts (still_entered b c y (still_entered a b x entered)) c f rest e) (append_assoc v w z) k)))
 
   -- a part, and then the others
-  part_more : (ms : List ℕ) (p : ℕ) (ps : List ℕ) (ts : List OnTask) (entered : List ℕ) (a : Spot) (v : List Tree) (items : List TrailItem) (e : End) →
+  part_more : (ms : Setting) (p : ℕ) (ps : List ℕ) (ts : List OnTask) (entered : List ℕ) (a : Spot) (v : List Tree) (items : List TrailItem) (e : End) →
       Leads g text ms (node p ∷ parts ps ∷ ts) entered a v items e → Leads g text ms (parts (p ∷ ps) ∷ ts) entered a v items e
   part_more ms p ps ts entered a v items e (refuses (refuses_node h)) = refuses (refuses_parts (refusal.this_part h))
-  part_more ms p ps ts entered a v items e (does (does_node d) (refuses (refuses_parts h))) = refuses (refuses_parts (refusal.later_part d h))
-  part_more ms p ps ts entered a v items e (does {b = b} {u = x} (does_node {w = w} d) (does {b = c} {u = y} {items = rest} (does_parts {w = z} ds) k)) =
-      joined ms (parts (p ∷ ps)) ts entered a b c v w z x y rest e (leads_on d).onward (parts_onward ds) (does_parts (derives.first_part d ds)) refl k
+  part_more ms p ps ts entered a v items e (does (does_node d i) (refuses (refuses_parts h))) = refuses (refuses_parts (refusal.later_part d h))
+  part_more ms p ps ts entered a v items e (does {b = b} {u = x} (does_node {w = w} {x = j} d h) (does {b = c} {u = y} {items = rest} (does_parts {w = z} {x = l} ds i) k)) =
+      joined ms (parts (p ∷ ps)) ts entered a b c v j l x y rest e (leads_on d).onward (parts_onward ds)
+      (does_parts (derives.first_part d ds) (alike_both ms.loose j w l z h i)) refl k
 
   pub parts_follow : (ps : List ℕ) (s : State) → Follows g text (parts ps) s (parts_turn ps s)
-  parts_follow [] s = λ e k. stayed (parts []) s e (does_parts derives.no_part) refl k
-  parts_follow (p ∷ ps) s = λ e k. part_more s.marks p ps s.tasks s.entered (spot_of s) s.forest s.rest e k
+  parts_follow [] s = λ e k. stayed (parts []) s e (does_parts derives.no_part (alike_same s.setting.loose [] [] refl)) refl k
+  parts_follow (p ∷ ps) s = λ e k. part_more s.setting p ps s.tasks s.entered (spot_of s) s.forest s.rest e k
 
-  -- rounds that take and give nothing, as many as there are
-  nothing_again : (p n : ℕ) (a : Spot) → Derives g text p a a [] [] → DerivesRounds g text p n a a [] []
-  nothing_again p zero a d = derives.no_round
-  nothing_again p (suc n) a d = derives.first_round d (nothing_again p n a d)
+  -- rounds that take nothing, as many as there are
+  nothing_again : (p n : ℕ) (a : Spot) (w : List Tree) → Derives g text p a a w [] → (z : List Tree) × (DerivesRounds g text p n a a z [] × ((w ≡ [] → z ≡ []) × (text_in w ≡ [] → text_in z ≡ [])))
+  nothing_again p zero a w d = ([], (derives.no_round, ((λ e. refl), (λ e. refl))))
+  nothing_again p (suc n) a w d =
+      let more = nothing_again p n a w d in (
+        w ++ more.0,
+        (
+          derives.first_round d more.1.0,
+          (
+            (λ e. ap (λ x. x ++ more.0) e ∙ more.1.1.0 e),
+            (λ e. text_append w more.0 ∙ ap (λ x. x ++ text_in more.0) e ∙ more.1.1.1 e),
+          ),
+        ),
+      )
 
   pub no_tree_more : (v w : List Tree) → length v ≡ length (v ++ w) → w ≡ []
   no_tree_more v [] e = refl
@@ -78,67 +92,86 @@ module _ (g : Grammar) (text : List ℕ) where
   no_item_more [] rest e = refl
   no_item_more (i ∷ x) rest e = let more = length-append (i ∷ x) rest in absurd (omega arith)
 
-  -- a round that took and gave nothing, and the others at once
-  round_over : (ms : List ℕ) (p n : ℕ) (ts : List OnTask) (entered : List ℕ) (a b : Spot) (v w : List Tree) (x rest : List TrailItem) (e : End) → Derives g text p a b w x →
-      a.place ≡ b.place → w ≡ [] → x ≡ [] → Leads g text ms ts (still_entered a b x entered) b (v ++ w) rest e → Leads g text ms (rounds p (suc n) ∷ ts) entered a v (x ++ rest) e
-  round_over ms p n ts entered a b v w x rest e d place none taken k =
+  -- what was put there by the first of them stands for all
+  is_enough : (loose : Bool) (v x w z : List Tree) → IsAlike loose x w → AsMany loose (length v) (length (v ++ x)) → text_in w ≡ [] → (w ≡ [] → z ≡ []) → (text_in w ≡ [] → text_in z ≡ []) →
+      IsAlike loose x (w ++ z)
+  is_enough false v x w z h many none trees texts = h ∙ sym (ap (λ y. w ++ y) (trees (sym h ∙ no_tree_more v x many)) ∙ append-nil w)
+  is_enough true v x w z h many none trees texts = h ∙ sym (text_append w z ∙ ap (λ y. text_in w ++ y) (texts none) ∙ append-nil (text_in w))
+
+  enough : (loose : Bool) (v x w z : List Tree) → Alike loose x w → AsMany loose (length v) (length (v ++ x)) → text_in w ≡ [] → (w ≡ [] → z ≡ []) → (text_in w ≡ [] → text_in z ≡ []) →
+      Alike loose x (w ++ z)
+  enough loose v x w z h many none trees texts = record { is = is_enough loose v x w z h.is many none trees texts }
+
+  -- a round that took nothing and gave nothing that can't be left out, and the others at once
+  round_over : (ms : Setting) (p n : ℕ) (ts : List OnTask) (entered : List ℕ) (a b : Spot) (v j w : List Tree) (x rest : List TrailItem) (e : End) → Derives g text p a b w x → Alike ms.loose j w →
+      a.place ≡ b.place → AsMany ms.loose (length v) (length (v ++ j)) → x ≡ [] → Leads g text ms ts (still_entered a b x entered) b (v ++ j) rest e → Leads g text ms (rounds p (suc n) ∷ ts) entered a v (x ++ rest) e
+  round_over ms p n ts entered a b v j w x rest e d h place many taken k =
       let here : a ≡ b = (leads_on d).still place in
-      let again : Derives g text p b b [] [] =
-      subst (λ u. Derives g text p b b [] u) taken (subst (λ w. Derives g text p b b w x) none (subst (λ a. Derives g text p a b w x) here d)) in
-      joined ms (rounds p (suc n)) ts entered a b b v w [] x [] rest e (leads_on d).onward (omega arith) (does_rounds (derives.first_round d (nothing_again p n b again))) refl
-      (subst (λ q. Leads g text ms ts q b (v ++ w ++ []) rest e) (sym (still_here b (still_entered a b x entered)))
-      (subst (λ f. Leads g text ms ts (still_entered a b x entered) b f rest e) (sym (append-nil (v ++ w))) k))
+      let again : Derives g text p b b w [] = subst (λ u. Derives g text p b b w u) taken (subst (λ a. Derives g text p a b w x) here d) in
+      let more = nothing_again p n b w again in
+      joined ms (rounds p (suc n)) ts entered a b b v j [] x [] rest e (leads_on d).onward (omega arith)
+      (does_rounds (derives.first_round d more.1.0) (subst (λ y. Alike ms.loose y (w ++ more.0)) (sym (append-nil j)) (enough ms.loose v j w more.0 h many (no_text again refl refl) more.1.1.0 more.1.1.1))) refl
+      (subst (λ q. Leads g text ms ts q b (v ++ j ++ []) rest e) (sym (still_here b (still_entered a b x entered)))
+      (subst (λ f. Leads g text ms ts (still_entered a b x entered) b f rest e) (sym (append-nil (v ++ j))) k))
 
   -- a round, and then the others
-  round_more : (ms : List ℕ) (p n : ℕ) (ts : List OnTask) (entered : List ℕ) (a : Spot) (v : List Tree) (items : List TrailItem) (e : End) →
+  round_more : (ms : Setting) (p n : ℕ) (ts : List OnTask) (entered : List ℕ) (a : Spot) (v : List Tree) (items : List TrailItem) (e : End) →
       Leads g text ms (node p ∷ more_rounds p n a.place (length v) (length items) ∷ ts) entered a v items e → Leads g text ms (rounds p (suc n) ∷ ts) entered a v items e
   round_more ms p n ts entered a v items e (refuses (refuses_node h)) = refuses (refuses_rounds (refusal.this_round h))
-  round_more ms p n ts entered a v items e (does (does_node d) (refuses (refuses_more h))) = refuses (refuses_rounds (refusal.later_round d h))
-  round_more ms p n ts entered a v items e (does {b = b} {u = x} (does_node {w = w} d) (does {b = c} {u = y} {items = rest} (does_more {w = z} ds) k)) =
-      joined ms (rounds p (suc n)) ts entered a b c v w z x y rest e (leads_on d).onward (rounds_onward ds) (does_rounds (derives.first_round d ds)) refl k
-  round_more ms p n ts entered a v items e (does {b = b} {u = x} (does_node {w = w} d) (over {items = rest} place trees count k)) =
-      round_over ms p n ts entered a b v w x rest e d place (no_tree_more v w trees) (no_item_more x rest count) k
+  round_more ms p n ts entered a v items e (does (does_node d i) (refuses (refuses_more h))) = refuses (refuses_rounds (refusal.later_round d h))
+  round_more ms p n ts entered a v items e (does {b = b} {u = x} (does_node {w = w} {x = j} d h) (does {b = c} {u = y} {items = rest} (does_more {w = z} {x = l} ds i) k)) =
+      joined ms (rounds p (suc n)) ts entered a b c v j l x y rest e (leads_on d).onward (rounds_onward ds) (does_rounds (derives.first_round d ds) (alike_both ms.loose j w l z h i)) refl k
+  round_more ms p n ts entered a v items e (does {b = b} {u = x} (does_node {w = w} {x = j} d h) (over {items = rest} place trees count k)) =
+      round_over ms p n ts entered a b v j w x rest e d h place trees (no_item_more x rest count) k
 
   pub rounds_follow : (p n : ℕ) (s : State) → Follows g text (rounds p n) s (rounds_turn p n s)
   rounds_follow p n s = follows_if g text (rounds p n) s (n == 0) _ _
-      (λ h. λ e k. subst (λ m. TaskLeads g text (rounds p m) s e) (sym (eqb-true n 0 h)) (stayed (rounds p 0) s e (does_rounds derives.no_round) refl k))
-      (λ h. λ e k. subst (λ m. TaskLeads g text (rounds p m) s e) (sym (positive n h)) (round_more s.marks p (n - 1) s.tasks s.entered (spot_of s) s.forest s.rest e k))
+      (λ h. λ e k. subst (λ m. TaskLeads g text (rounds p m) s e) (sym (eqb-true n 0 h)) (stayed (rounds p 0) s e (does_rounds derives.no_round (alike_same s.setting.loose [] [] refl)) refl k))
+      (λ h. λ e k. subst (λ m. TaskLeads g text (rounds p m) s e) (sym (positive n h)) (round_more s.setting p (n - 1) s.tasks s.entered (spot_of s) s.forest s.rest e k))
 
   -- the rounds after one are rounds
-  as_more : (p n place trees count : ℕ) (ts : List OnTask) (ms entered : List ℕ) (a : Spot) (v : List Tree) (items : List TrailItem) (e : End) →
+  as_more : (p n place trees count : ℕ) (ts : List OnTask) (ms : Setting) (entered : List ℕ) (a : Spot) (v : List Tree) (items : List TrailItem) (e : End) →
       Leads g text ms (rounds p n ∷ ts) entered a v items e → Leads g text ms (more_rounds p n place trees count ∷ ts) entered a v items e
   as_more p n place trees count ts ms entered a v items e (refuses (refuses_rounds h)) = refuses (refuses_more h)
-  as_more p n place trees count ts ms entered a v items e (does (does_rounds d) k) = does (does_more d) k
+  as_more p n place trees count ts ms entered a v items e (does (does_rounds d h) k) = does (does_more d h) k
 
   more_by : (p n place trees count : ℕ) (s : State) (x : Turn) → Follows g text (rounds p n) s x → Follows g text (more_rounds p n place trees count) s x
-  more_by p n place trees count s (on after) h = λ e k. as_more p n place trees count s.tasks s.marks s.entered (spot_of s) s.forest s.rest e (h e k)
-  more_by p n place trees count s (stops why at rest) h = as_more p n place trees count s.tasks s.marks s.entered (spot_of s) s.forest s.rest _ h
+  more_by p n place trees count s (on after) h = λ e k. as_more p n place trees count s.tasks s.setting s.entered (spot_of s) s.forest s.rest e (h e k)
+  more_by p n place trees count s (stops why at rest) h = as_more p n place trees count s.tasks s.setting s.entered (spot_of s) s.forest s.rest _ h
   more_by p n place trees count s (ended after) h = h
 
   both : (b c : Bool) → b && c ≡ true → (b ≡ true) × (c ≡ true)
   both true c e = (refl, e)
   both false c e = absurd cc
 
+  as_many : (loose : Bool) (trees count : ℕ) → (trees == count) || loose ≡ true → AsMany loose trees count
+  as_many true trees count e = tt
+  as_many false trees count e = go (trees == count) refl e
+    where
+      go : (b : Bool) → (trees == count) ≡ b → b || false ≡ true → trees ≡ count
+      go true f e = eqb-true trees count f
+      go false f e = absurd cc
+
   pub more_follow : (p n place trees count : ℕ) (s : State) → Follows g text (more_rounds p n place trees count) s (more_turn p n place trees count s)
   more_follow p n place trees count s = follows_if g text (more_rounds p n place trees count) s (is_unchanged place trees count s) _ _
-      (λ h. λ e k. (let first = both (place == s.place) ((trees == length s.forest) && (count == length s.rest)) h in
-      let second = both (trees == length s.forest) (count == length s.rest) first.1 in
-      over (eqb-true place s.place first.0) (eqb-true trees (length s.forest) second.0) (eqb-true count (length s.rest) second.1) k))
+      (λ h. λ e k. (let first = both (is_still place count s) ((trees == length s.forest) || s.setting.loose) h in
+      let second = both (place == s.place) (count == length s.rest) first.0 in
+      over (eqb-true place s.place second.0) (as_many s.setting.loose trees (length s.forest) first.1) (eqb-true count (length s.rest) second.1) k))
       (λ h. more_by p n place trees count s (rounds_turn p n s) (rounds_follow p n s))
 
   -- ---- sequences and choices
 
-  seq_leads : (ms : List ℕ) (p : ℕ) (ps : List ℕ) (ts : List OnTask) (entered : List ℕ) (a : Spot) (v : List Tree) (items : List TrailItem) (e : End) → slice_get g.nodes p ≡ Some (form.Seq ps) →
+  seq_leads : (ms : Setting) (p : ℕ) (ps : List ℕ) (ts : List OnTask) (entered : List ℕ) (a : Spot) (v : List Tree) (items : List TrailItem) (e : End) → slice_get g.nodes p ≡ Some (form.Seq ps) →
       Leads g text ms (parts ps ∷ ts) entered a v items e → Leads g text ms (node p ∷ ts) entered a v items e
   seq_leads ms p ps ts entered a v items e is (refuses (refuses_parts h)) = refuses (refuses_node (refusal.at_node is (refusal.seq h)))
-  seq_leads ms p ps ts entered a v items e is (does (does_parts ds) k) = does (does_node (derives.at_node is (derives.seq ds))) k
+  seq_leads ms p ps ts entered a v items e is (does (does_parts ds h) k) = does (does_node (derives.at_node is (derives.seq ds)) h) k
 
-  choice_leads : (ms : List ℕ) (p q j : ℕ) (ps : List ℕ) (ts : List OnTask) (entered : List ℕ) (a : Spot) (v : List Tree) (items : List TrailItem) (e : End) →
+  choice_leads : (ms : Setting) (p q j : ℕ) (ps : List ℕ) (ts : List OnTask) (entered : List ℕ) (a : Spot) (v : List Tree) (items : List TrailItem) (e : End) →
       slice_get g.nodes p ≡ Some (form.Choice ps) → slice_get ps j ≡ Some q →
       Leads g text ms (node q ∷ ts) [] a v items e → Leads g text ms (node p ∷ ts) entered a v (Alt (suc j) ∷ items) e
   choice_leads ms p q j ps ts entered a v items e is got (refuses (refuses_node h)) = refuses (refuses_node (refusal.at_node is (refusal.choice got h)))
-  choice_leads ms p q j ps ts entered a v items e is got (does {b = b} {x = x} {u = u} {items = rest} (does_node d) k) =
-      does (does_node (derives.at_node is (derives.choice got d)))
+  choice_leads ms p q j ps ts entered a v items e is got (does {b = b} {x = x} {u = u} {items = rest} (does_node d h) k) =
+      does (does_node (derives.at_node is (derives.choice got d)) h)
       (subst (λ o. Leads g text ms ts o b x rest e) (still_none a b u ∙ sym (still_after_item a b (Alt (suc j)) u entered)) k)
 
   -- what the next item isn't
@@ -161,8 +194,8 @@ module _ (g : Grammar) (text : List ℕ) where
       Follows g text (node p) s (part_turn q rest s)
   part_follows p j ps rest None s is got e = refuses (refuses_node (refusal.at_node is (refusal.no_choice (none_past ps j s.rest rest got e))))
   part_follows p j ps rest (Some q) s is got e = λ end k.
-      subst (λ items. Leads g text s.marks (node p ∷ s.tasks) s.entered (spot_of s) s.forest items end) (sym e)
-      (choice_leads s.marks p q j ps s.tasks s.entered (spot_of s) s.forest rest end is got k)
+      subst (λ items. Leads g text s.setting (node p ∷ s.tasks) s.entered (spot_of s) s.forest items end) (sym e)
+      (choice_leads s.setting p q j ps s.tasks s.entered (spot_of s) s.forest rest end is got k)
 
   numbered_follows : (p k : ℕ) (ps : List ℕ) (rest : List TrailItem) (s : State) → slice_get g.nodes p ≡ Some (form.Choice ps) → s.rest ≡ Alt k ∷ rest →
       Follows g text (node p) s (numbered_turn ps k rest s)
@@ -179,19 +212,19 @@ module _ (g : Grammar) (text : List ℕ) where
 
   -- ---- repetitions
 
-  many_leads : (ms : List ℕ) (p q n : ℕ) (ts : List OnTask) (entered : List ℕ) (a : Spot) (v : List Tree) (items : List TrailItem) (e : End) → slice_get g.nodes p ≡ Some (form.Many q) →
+  many_leads : (ms : Setting) (p q n : ℕ) (ts : List OnTask) (entered : List ℕ) (a : Spot) (v : List Tree) (items : List TrailItem) (e : End) → slice_get g.nodes p ≡ Some (form.Many q) →
       Leads g text ms (rounds q n ∷ ts) [] a v items e → Leads g text ms (node p ∷ ts) entered a v (Rounds n ∷ items) e
   many_leads ms p q n ts entered a v items e is (refuses (refuses_rounds h)) = refuses (refuses_node (refusal.at_node is (refusal.many h)))
-  many_leads ms p q n ts entered a v items e is (does {b = b} {x = x} {u = u} {items = rest} (does_rounds d) k) =
-      does (does_node (derives.at_node is (derives.many d)))
+  many_leads ms p q n ts entered a v items e is (does {b = b} {x = x} {u = u} {items = rest} (does_rounds d h) k) =
+      does (does_node (derives.at_node is (derives.many d)) h)
       (subst (λ o. Leads g text ms ts o b x rest e) (still_none a b u ∙ sym (still_after_item a b (Rounds n) u entered)) k)
 
   many_follows : (p q : ℕ) (items : List TrailItem) (s : State) → slice_get g.nodes p ≡ Some (form.Many q) → s.rest ≡ items → Follows g text (node p) s (many_turn q items s)
   many_follows p q [] s is e = refuses (refuses_node (refusal.at_node is (refusal.no_count (no_count_at_end s.rest e))))
   many_follows p q (Alt k ∷ rest) s is e = refuses (refuses_node (refusal.at_node is (refusal.no_count (no_count_for_choice k s.rest rest e))))
   many_follows p q (Rounds n ∷ rest) s is e = λ end k.
-      subst (λ items. Leads g text s.marks (node p ∷ s.tasks) s.entered (spot_of s) s.forest items end) (sym e)
-      (many_leads s.marks p q n s.tasks s.entered (spot_of s) s.forest rest end is k)
+      subst (λ items. Leads g text s.setting (node p ∷ s.tasks) s.entered (spot_of s) s.forest items end) (sym e)
+      (many_leads s.setting p q n s.tasks s.entered (spot_of s) s.forest rest end is k)
   many_follows p q (Ops o ∷ rest) s is e = refuses (refuses_node (refusal.at_node is (refusal.no_count (no_count_for_operators o s.rest rest e))))
 
   -- ---- rules
@@ -224,33 +257,52 @@ module _ (g : Grammar) (text : List ℕ) where
       go true (i ∷ u) = refl
       go false u = refl
 
-  rule_leads : (ms : List ℕ) (p r place trees count : ℕ) (named : declared.Rule) (ts : List OnTask) (entered : List ℕ) (a : Spot) (v : List Tree) (items : List TrailItem) (e : End) →
+  rule_leads : (ms : Setting) (p r place trees count : ℕ) (named : declared.Rule) (ts : List OnTask) (entered : List ℕ) (a : Spot) (v : List Tree) (items : List TrailItem) (e : End) →
       slice_get g.nodes p ≡ Some (form.Rule r) → slice_get g.rules r ≡ Some named → (IsEntered r entered → ⊥) →
       Leads g text ms (node named.body ∷ leave r place trees count ∷ ts) (r ∷ entered) a v items e → Leads g text ms (node p ∷ ts) entered a v items e
   rule_leads ms p r place trees count named ts entered a v items e is there new (refuses (refuses_node h)) = refuses (refuses_node (refusal.at_node is (refusal.rule new there h)))
-  rule_leads ms p r place trees count named ts entered a v items e is there new (does (does_node d) (refuses h)) = elim h [ ]
-  rule_leads ms p r place trees count named ts entered a v items e is there new (does {b = b} {x = x} {u = u} (does_node d) (does {items = rest} does_leave k)) =
-      does (does_node (derives.at_node is (derives.rule there d)))
+  rule_leads ms p r place trees count named ts entered a v items e is there new (does (does_node d i) (refuses h)) = elim h [ ]
+  rule_leads ms p r place trees count named ts entered a v items e is there new (does {b = b} {x = x} {u = u} (does_node d h) (does {items = rest} does_leave k)) =
+      does (does_node (derives.at_node is (derives.rule there d)) h)
       (subst (λ o. Leads g text ms ts o b x rest e) (left_rule r a b u entered) k)
 
-  -- a body that takes nothing and gives no tree
-  known_leads : (p r : ℕ) (named : declared.Rule) (s : State) (e : End) → slice_get g.nodes p ≡ Some (form.Rule r) → slice_get g.rules r ≡ Some named →
-      Derives g text named.body (spot_of s) (spot_of s) [] [] → StateLeads g text s e → TaskLeads g text (node p) s e
-  known_leads p r named s e is there d k = stayed (node p) s e (does_node (derives.at_node is (derives.rule there d))) refl k
+  -- a body that takes nothing, and gives nothing that can't be left out
+  known_leads : (p r : ℕ) (named : declared.Rule) (w : List Tree) (s : State) (e : End) → slice_get g.nodes p ≡ Some (form.Rule r) → slice_get g.rules r ≡ Some named →
+      Derives g text named.body (spot_of s) (spot_of s) w [] → Alike s.setting.loose [] w → StateLeads g text s e → TaskLeads g text (node p) s e
+  known_leads p r named w s e is there d h k = stayed (node p) s e (does_node (derives.at_node is (derives.rule there d)) h) refl k
 
-  here_known : (r i : ℕ) (known : List (Option ℕ)) (x : Option (Option ℕ)) → slice_get known r ≡ x → is_place i x ≡ true → slice_get known r ≡ Some (Some i)
-  here_known r i known None e h = absurd cc
-  here_known r i known (Some None) e h = absurd cc
-  here_known r i known (Some (Some j)) e h = e ∙ ap (λ k. Some (Some k)) (eqb-true j i h)
+  is_left_out : (loose empty : Bool) (w : List Tree) → empty || loose ≡ true → (empty ≡ true → w ≡ []) → text_in w ≡ [] → IsAlike loose [] w
+  is_left_out true true w e no_tree none = sym none
+  is_left_out false true w e no_tree none = sym (no_tree refl)
+  is_left_out true false w e no_tree none = sym none
+  is_left_out false false w e no_tree none = absurd cc
+
+  left_out : (loose empty : Bool) (w : List Tree) → empty || loose ≡ true → (empty ≡ true → w ≡ []) → text_in w ≡ [] → Alike loose [] w
+  left_out loose empty w e no_tree none = record { is = is_left_out loose empty w e no_tree none }
+
+  here_known : (r i : ℕ) (known : List (Option Known)) (loose : Bool) (x : Option (Option Known)) → slice_get known r ≡ x → is_known_at i loose x ≡ true →
+      (here : Known) × ((slice_get known r ≡ Some (Some here)) × ((here.place ≡ i) × (here.empty || loose ≡ true)))
+  here_known r i known loose None e h = absurd cc
+  here_known r i known loose (Some None) e h = absurd cc
+  here_known r i known loose (Some (Some here)) e h = let parts = both (here.place == i) (here.empty || loose) h in (here, (e, (eqb-true here.place i parts.0, parts.1)))
+
+  known_follows : (p r : ℕ) (named : declared.Rule) (s : State) (e : End) → slice_get g.nodes p ≡ Some (form.Rule r) → slice_get g.rules r ≡ Some named → AreKnown g text s.known →
+      is_known r s ≡ true → StateLeads g text s e → TaskLeads g text (node p) s e
+  known_follows p r named s e is there known h k =
+      let found = here_known r s.place s.known s.setting.loose (slice_get s.known r) refl h in
+      let here = found.0 in
+      let nothing = known r here found.1.0 named there s.table in
+      let d : Derives g text named.body (spot_of s) (spot_of s) nothing.0 [] = subst (λ i. Derives g text named.body (spot_at i s.table) (spot_at i s.table) nothing.0 []) found.1.1.0 nothing.1.0 in
+      known_leads p r named nothing.0 s e is there d (left_out s.setting.loose here.empty nothing.0 found.1.1.1 nothing.1.1 (no_text d refl refl)) k
 
   rule_follows : (p r : ℕ) (named : Option declared.Rule) (s : State) → slice_get g.nodes p ≡ Some (form.Rule r) → slice_get g.rules r ≡ named → AreKnown g text s.known →
       Follows g text (node p) s (rule_turn r named s)
   rule_follows p r None s is there known = refuses (refuses_node (refusal.at_node is (refusal.no_rule there)))
   rule_follows p r (Some named) s is there known = follows_if g text (node p) s (is_known r s) _ _
-      (λ h. λ e k. known_leads p r named s e is there (known r s.place (here_known r s.place s.known (slice_get s.known r) refl h) named there s.table) k)
+      (λ h. λ e k. known_follows p r named s e is there known h k)
       (λ l. follows_if g text (node p) s (is_entered r s.entered) _ _
       (λ h. refuses (refuses_node (refusal.at_node is (refusal.again (found_entered r s.entered h)))))
-      (λ h. λ e k. rule_leads s.marks p r s.place (length s.forest) (length s.rest) named s.tasks s.entered (spot_of s) s.forest s.rest e is there (not_entered r s.entered h) k))
+      (λ h. λ e k. rule_leads s.setting p r s.place (length s.forest) (length s.rest) named s.tasks s.entered (spot_of s) s.forest s.rest e is there (not_entered r s.entered h) k))
 
   -- ---- forms around a part
 
@@ -284,30 +336,36 @@ module _ (g : Grammar) (text : List ℕ) where
   forest_closed k from to v w =
       ap (λ x. x ++ made_by k text from to (drop (length v) (v ++ w))) (take-append_seam v w) ∙ ap (λ x. v ++ made_by k text from to x) (drop-append_seam v w)
 
-  around_leads : (ms : List ℕ) (p q count : ℕ) (k : Around) (ts : List OnTask) (entered : List ℕ) (a : Spot) (v : List Tree) (items : List TrailItem) (e : End) → slice_get g.nodes p ≡ Some (form.Around k q) →
-      Leads g text ms (node q ∷ close k p a.place (length v) (length a.table.operators) count ∷ ts) entered a v items e → Leads g text ms (node p ∷ ts) entered a v items e
+  around_leads : (ms : Setting) (p q count : ℕ) (k : Around) (ts : List OnTask) (entered : List ℕ) (a : Spot) (v : List Tree) (items : List TrailItem) (e : End) → slice_get g.nodes p ≡ Some (form.Around k q) →
+      Leads g text (loosened (loosens k || ms.loose) ms) (node q ∷ close k p a.place (length v) (length a.table.operators) count ms.loose ∷ ts) entered a v items e → Leads g text ms (node p ∷ ts) entered a v items e
   around_leads ms p q count k ts entered a v items e is (refuses (refuses_node h)) = refuses (refuses_node (refusal.at_node is (refusal.around h)))
-  around_leads ms p q count k ts entered a v items e is (does (does_node d) (refuses h)) = elim h [ ]
-  around_leads ms p q count k ts entered a v items e is (does {b = b} {u = u} (does_node {w = w} d) (does {items = rest} does_close m)) =
-      does (does_node (derives.at_node is (derives.around d)))
-      (subst (λ x. Leads g text ms ts (still_entered a b u entered) (left_by k a b) x rest e) (forest_closed k a.place b.place v w)
-      (subst (λ t. Leads g text ms ts (still_entered a b u entered) (spot_at b.place t) (closed_forest k text a.place b.place (length v) (v ++ w)) rest e) (table_closed k a b (leads_on d)) m))
+  around_leads ms p q count k ts entered a v items e is (does (does_node d i) (refuses h)) = elim h [ ]
+  around_leads ms p q count k ts entered a v items e is (does {b = b} {u = u} (does_node {w = w} {x = x} d h) (does {items = rest} does_close m)) =
+      does (does_node (derives.at_node is (derives.around d)) (alike_made k ms.loose text a.place b.place x w h))
+      (subst (λ y. Leads g text ms ts (still_entered a b u entered) (left_by k a b) y rest e) (forest_closed k a.place b.place v x)
+      (subst (λ t. Leads g text ms ts (still_entered a b u entered) (spot_at b.place t) (closed_forest k text a.place b.place (length v) (v ++ x)) rest e) (table_closed k a b (leads_on d)) m))
 
   -- an empty leaf
   blank_leads : (p : ℕ) (s : State) (e : End) → Derives g text p (spot_of s) (spot_of s) (leaf_of [] ∷ []) [] →
-      Leads g text s.marks s.tasks s.entered (spot_of s) (s.forest ++ leaf_of [] ∷ []) s.rest e → TaskLeads g text (node p) s e
-  blank_leads p s e d k = does (does_node d) (subst (λ x. Leads g text s.marks s.tasks x (spot_of s) (s.forest ++ leaf_of [] ∷ []) s.rest e) (sym (still_here (spot_of s) s.entered)) k)
+      Leads g text s.setting s.tasks s.entered (spot_of s) (s.forest ++ leaf_of [] ∷ []) s.rest e → TaskLeads g text (node p) s e
+  blank_leads p s e d k = does (does_node d (alike_same s.setting.loose (leaf_of [] ∷ []) (leaf_of [] ∷ []) refl))
+      (subst (λ x. Leads g text s.setting s.tasks x (spot_of s) (s.forest ++ leaf_of [] ∷ []) s.rest e) (sym (still_here (spot_of s) s.entered)) k)
+
+  here_blank : (p i : ℕ) (blank : List (Option ℕ)) (x : Option (Option ℕ)) → slice_get blank p ≡ x → is_place i x ≡ true → slice_get blank p ≡ Some (Some i)
+  here_blank p i blank None e h = absurd cc
+  here_blank p i blank (Some None) e h = absurd cc
+  here_blank p i blank (Some (Some j)) e h = e ∙ ap (λ k. Some (Some k)) (eqb-true j i h)
 
   around_follows : (p q : ℕ) (k : Around) (s : State) → slice_get g.nodes p ≡ Some (form.Around k q) → AreBlank g text s.blank → Follows g text (node p) s (around_turn k p q s)
   around_follows p q k s is blank = follows_if g text (node p) s (is_place s.place (slice_get s.blank p)) _ _
-      (λ h. λ e m. blank_leads p s e (blank p s.place (here_known p s.place s.blank (slice_get s.blank p) refl h) s.table) m)
-      (λ h. λ e m. around_leads s.marks p q (length s.rest) k s.tasks s.entered (spot_of s) s.forest s.rest e is m)
+      (λ h. λ e m. blank_leads p s e (blank p s.place (here_blank p s.place s.blank (slice_get s.blank p) refl h) s.table) m)
+      (λ h. λ e m. around_leads s.setting p q (length s.rest) k s.tasks s.entered (spot_of s) s.forest s.rest e is m)
 
   -- ---- forms
 
   pub form_follows : (p : ℕ) (n : Node) (s : State) → slice_get g.nodes p ≡ Some n → IsProper s.table → IsSo g text s.known s.blank → Follows g text (node p) s (form_turn g text p n s)
   form_follows p (form.Leaf l) s is proper known = leaf_follows g text p s l is
-  form_follows p (form.Seq ps) s is proper known = λ e k. seq_leads s.marks p ps s.tasks s.entered (spot_of s) s.forest s.rest e is k
+  form_follows p (form.Seq ps) s is proper known = λ e k. seq_leads s.setting p ps s.tasks s.entered (spot_of s) s.forest s.rest e is k
   form_follows p (form.Choice ps) s is proper known = choice_follows p ps s.rest s is refl
   form_follows p (form.Many q) s is proper known = many_follows p q s.rest s is refl
   form_follows p (form.Chain side used q r) s is proper known = chain_follows g text p (record { side = side; used = used; part = q; separator = r }) s.rest s is refl
@@ -320,10 +378,10 @@ module _ (g : Grammar) (text : List ℕ) where
   node_follows p (Some n) s is proper known = form_follows p n s is proper known
 
   -- a term of an expression
-  term_more : (p : ℕ) (ts : List OnTask) (ms entered : List ℕ) (a : Spot) (v : List Tree) (items : List TrailItem) (e : End) →
-      Leads g text (length v ∷ ms) (node p ∷ ts) entered a v items e → Leads g text ms (marked p ∷ ts) entered a v items e
+  term_more : (p : ℕ) (ts : List OnTask) (ms : Setting) (entered : List ℕ) (a : Spot) (v : List Tree) (items : List TrailItem) (e : End) →
+      Leads g text (under_marks (length v ∷ ms.marks) ms) (node p ∷ ts) entered a v items e → Leads g text ms (marked p ∷ ts) entered a v items e
   term_more p ts ms entered a v items e (refuses (refuses_node h)) = refuses (refuses_term h)
-  term_more p ts ms entered a v items e (does (does_node d) k) = does (does_term d) k
+  term_more p ts ms entered a v items e (does (does_node d h) k) = does (does_term d h) k
 
   pub task_follows : (t : OnTask) (s : State) → IsProper s.table → IsSo g text s.known s.blank → Follows g text t s (turn g text t s)
   task_follows (node p) s proper known = node_follows p (slice_get g.nodes p) s refl proper known
@@ -332,9 +390,10 @@ module _ (g : Grammar) (text : List ℕ) where
   task_follows (more_rounds p n place trees count) s proper known = more_follow p n place trees count s
   task_follows (links c n trees) s proper known = links_follow g text c n trees s
   task_follows (operand c n trees) s proper known = operand_follows g text c n trees s
+  task_follows (settle loose) s proper known = λ e h. does does_settle h
   task_follows (fold used trees) s proper known = λ e h. does does_fold h
-  task_follows (close k p from trees operators count) s proper known = λ e h. does does_close h
-  task_follows (marked p) s proper known = λ e k. term_more p s.tasks s.marks s.entered (spot_of s) s.forest s.rest e k
+  task_follows (close k p from trees operators count loose) s proper known = λ e h. does does_close h
+  task_follows (marked p) s proper known = λ e k. term_more p s.tasks s.setting s.entered (spot_of s) s.forest s.rest e k
   task_follows (operator_symbol o) s proper known = symbol_follows g text o s
   task_follows (application builders o) s proper known = λ e h. does does_application h
   task_follows unmark s proper known = λ e h. does does_unmark h

@@ -14,35 +14,39 @@ use Rattle.pg_replay.specs.declared.fault.Mismatch.TheVariants.{TextDiffers}
 use Rattle.pg_language.specs.Derives.{Spot, at, Link, Derives, DerivesParts, DerivesRounds, DerivesLinks, no_part, first_part, no_round, first_round, no_link, first_link}
 use Rattle.pg_language.proofs.Onward.{leads_on}
 use Rattle.pg_replay.specs.Refusals.{Stop, stop, if_no_item, still_entered, Refuses, RefusesParts, RefusesRounds, RefusesLinks}
-use Rattle.pg_replay.specs.Tasks.{Chain, OnTask, node, parts, rounds, more_rounds, links, operand, fold, marked, operator_symbol, application, unmark, close, leave, State, Turn, on, stops, ended, folded_after, first_mark, marks_after, applied_after, closed_table, closed_forest, without_newest}
+use Rattle.pg_replay.specs.Tasks.{Chain, OnTask, node, parts, rounds, more_rounds, links, operand, settle, fold, marked, operator_symbol, application, unmark, close, leave, Setting, under_marks, loosened, State, Turn, on, stops, ended, folded_after, first_mark, marks_after, applied_after, closed_table, closed_forest, without_newest}
 use Rattle.pg_replay.proofs.ChainTrees.{chained, chained_on}
+use Rattle.pg_replay.proofs.Alike.{Alike, AreAlike}
 
--- it comes to the end of the tasks at a spot, with a forest, and with items left, or stops
+-- it comes to the end of the tasks at a spot, with a forest whose trees are loose or aren't, and with items left, or stops
 pub data End : Type 0 where
-  arrived : Spot → List Tree → List TrailItem → End
+  arrived : (loose : Bool) → Spot → List Tree → List TrailItem → End
   halted : Stop → End
 
--- the task leads from the one spot and forest to the other, and takes these items
-pub data Does (g : Grammar) (text : List ℕ) : List ℕ → List ℕ → OnTask → Spot → List Tree → Spot → List Tree → List TrailItem → Type 0 where
-  does_node : {ms : List ℕ} {p : ℕ} {a b : Spot} {v w : List Tree} {u : List TrailItem} → Derives g text p a b w u → Does g text ms ms (node p) a v b (v ++ w) u
-  does_parts : {ms : List ℕ} {ps : List ℕ} {a b : Spot} {v w : List Tree} {u : List TrailItem} → DerivesParts g text ps a b w u → Does g text ms ms (parts ps) a v b (v ++ w) u
-  does_rounds : {ms : List ℕ} {p n : ℕ} {a b : Spot} {v w : List Tree} {u : List TrailItem} → DerivesRounds g text p n a b w u → Does g text ms ms (rounds p n) a v b (v ++ w) u
-  does_more : {ms : List ℕ} {p n place trees count : ℕ} {a b : Spot} {v w : List Tree} {u : List TrailItem} → DerivesRounds g text p n a b w u →
-      Does g text ms ms (more_rounds p n place trees count) a v b (v ++ w) u
-  does_links : {ms : List ℕ} {c : Chain} {n trees : ℕ} {a b : Spot} {v : List Tree} {ls : List Link} {u : List TrailItem} → DerivesLinks g text c.part c.separator n a b ls u →
-      Does g text ms ms (links c n trees) a v b (chained c.side c.used.shape trees v ls) u
-  does_operand : {ms : List ℕ} {c : Chain} {n trees : ℕ} {a b d : Spot} {v w : List Tree} {ls : List Link} {t u : List TrailItem} → Derives g text c.part a b w t → DerivesLinks g text c.part c.separator n b d ls u →
-      Does g text ms ms (operand c n trees) a v d (chained_on c.side c.used.shape trees v w ls) (t ++ u)
-  does_fold : {ms : List ℕ} {used : BuilderUse} {trees : ℕ} {a : Spot} {v : List Tree} → Does g text ms ms (fold used trees) a v a (folded_after used.shape trees v) []
-  does_close : {ms : List ℕ} {k : Around} {p from trees operators count : ℕ} {a : Spot} {v : List Tree} →
-      Does g text ms ms (close k p from trees operators count) a v (record { place = a.place; table = closed_table k operators a.table }) (closed_forest k text from a.place trees v) []
-  does_leave : {ms : List ℕ} {r place trees count : ℕ} {a : Spot} {v : List Tree} → Does g text ms ms (leave r place trees count) a v a v []
-  does_term : {ms : List ℕ} {p : ℕ} {a b : Spot} {v w : List Tree} {u : List TrailItem} → Derives g text p a b w u → Does g text ms (length v ∷ ms) (marked p) a v b (v ++ w) u
-  does_symbol : {ms : List ℕ} {item : OperatorsItem} {o : AppliedOperator} {a : Spot} {v : List Tree} {j : ℕ} → g.operators ≡ Some item → IsOperatorAt g text item o.symbol a.place j →
+-- the task leads from the one spot and forest to the other, and takes these items; what it puts to the forest is alike what is derived
+pub data Does (g : Grammar) (text : List ℕ) : Setting → Setting → OnTask → Spot → List Tree → Spot → List Tree → List TrailItem → Type 0 where
+  does_node : {ms : Setting} {p : ℕ} {a b : Spot} {v w x : List Tree} {u : List TrailItem} → Derives g text p a b w u → Alike ms.loose x w → Does g text ms ms (node p) a v b (v ++ x) u
+  does_parts : {ms : Setting} {ps : List ℕ} {a b : Spot} {v w x : List Tree} {u : List TrailItem} → DerivesParts g text ps a b w u → Alike ms.loose x w → Does g text ms ms (parts ps) a v b (v ++ x) u
+  does_rounds : {ms : Setting} {p n : ℕ} {a b : Spot} {v w x : List Tree} {u : List TrailItem} → DerivesRounds g text p n a b w u → Alike ms.loose x w →
+      Does g text ms ms (rounds p n) a v b (v ++ x) u
+  does_more : {ms : Setting} {p n place trees count : ℕ} {a b : Spot} {v w x : List Tree} {u : List TrailItem} → DerivesRounds g text p n a b w u → Alike ms.loose x w →
+      Does g text ms ms (more_rounds p n place trees count) a v b (v ++ x) u
+  does_links : {ms : Setting} {c : Chain} {n trees : ℕ} {a b : Spot} {v : List Tree} {js ls : List Link} {u : List TrailItem} → DerivesLinks g text c.part c.separator n a b ls u → AreAlike ms.loose js ls →
+      Does g text ms ms (links c n trees) a v b (chained c.side c.used.shape trees v js) u
+  does_operand : {ms : Setting} {c : Chain} {n trees : ℕ} {a b d : Spot} {v w x : List Tree} {js ls : List Link} {t u : List TrailItem} → Derives g text c.part a b w t → Alike ms.loose x w →
+      DerivesLinks g text c.part c.separator n b d ls u → AreAlike ms.loose js ls → Does g text ms ms (operand c n trees) a v d (chained_on c.side c.used.shape trees v x js) (t ++ u)
+  does_settle : {ms : Setting} {loose : Bool} {a : Spot} {v : List Tree} → Does g text ms (loosened loose ms) (settle loose) a v a v []
+  does_fold : {ms : Setting} {used : BuilderUse} {trees : ℕ} {a : Spot} {v : List Tree} → Does g text ms ms (fold used trees) a v a (folded_after used.shape trees v) []
+  does_close : {ms : Setting} {k : Around} {p from trees operators count : ℕ} {loose : Bool} {a : Spot} {v : List Tree} →
+      Does g text ms (loosened loose ms) (close k p from trees operators count loose) a v (record { place = a.place; table = closed_table k operators a.table }) (closed_forest k text from a.place trees v) []
+  does_leave : {ms : Setting} {r place trees count : ℕ} {a : Spot} {v : List Tree} → Does g text ms ms (leave r place trees count) a v a v []
+  does_term : {ms : Setting} {p : ℕ} {a b : Spot} {v w x : List Tree} {u : List TrailItem} → Derives g text p a b w u → Alike ms.loose x w →
+      Does g text ms (under_marks (length v ∷ ms.marks) ms) (marked p) a v b (v ++ x) u
+  does_symbol : {ms : Setting} {item : OperatorsItem} {o : AppliedOperator} {a : Spot} {v : List Tree} {j : ℕ} → g.operators ≡ Some item → IsOperatorAt g text item o.symbol a.place j →
       Does g text ms ms (operator_symbol o) a v (at a j) v []
-  does_application : {ms : List ℕ} {builders : OperatorBuilders} {o : AppliedOperator} {a : Spot} {v : List Tree} →
-      Does g text ms (marks_after o.fixity ms) (application builders o) a v a (applied_after builders o (first_mark (marks_after o.fixity ms)) v) []
-  does_unmark : {ms : List ℕ} {a : Spot} {v : List Tree} → Does g text ms (without_newest ms) unmark a v a v []
+  does_application : {ms : Setting} {builders : OperatorBuilders} {o : AppliedOperator} {a : Spot} {v : List Tree} →
+      Does g text ms (under_marks (marks_after o.fixity ms.marks) ms) (application builders o) a v a (applied_after builders o (first_mark (marks_after o.fixity ms.marks)) v) []
+  does_unmark : {ms : Setting} {a : Spot} {v : List Tree} → Does g text ms (under_marks (without_newest ms.marks) ms) unmark a v a v []
 
 -- the task stops
 pub data RefusesTask (g : Grammar) (text : List ℕ) : List ℕ → OnTask → Spot → List TrailItem → Stop → Type 0 where
@@ -69,35 +73,41 @@ entered_after (rounds p n) a b u entered = still_entered a b u entered
 entered_after (more_rounds p n place trees count) a b u entered = still_entered a b u entered
 entered_after (links c n trees) a b u entered = still_entered a b u entered
 entered_after (operand c n trees) a b u entered = still_entered a b u entered
+entered_after (settle loose) a b u entered = entered
 entered_after (fold used trees) a b u entered = entered
-entered_after (close k p from trees operators count) a b u entered = entered
+entered_after (close k p from trees operators count loose) a b u entered = entered
 entered_after (marked p) a b u entered = still_entered a b u entered
 entered_after (operator_symbol o) a b u entered = still_entered a b u entered
 entered_after (application builders o) a b u entered = entered
 entered_after unmark a b u entered = entered
 entered_after (leave r place trees count) a b u entered = without_newest entered
 
+-- so many trees are as many as there are, unless they are loose
+abbrev pub AsMany : Bool → ℕ → ℕ → Type 0
+AsMany false trees count = trees ≡ count
+AsMany true trees count = Unit {0}
+
 -- the tasks lead to this end
-pub data Leads (g : Grammar) (text : List ℕ) : List ℕ → List OnTask → List ℕ → Spot → List Tree → List TrailItem → End → Type 0 where
-  no_task : {ms entered : List ℕ} {a : Spot} {v : List Tree} {items : List TrailItem} → Leads g text ms [] entered a v items (arrived a v items)
-  does : {ms ns : List ℕ} {t : OnTask} {ts : List OnTask} {entered : List ℕ} {a b : Spot} {v x : List Tree} {u items : List TrailItem} {e : End} → Does g text ms ns t a v b x u →
+pub data Leads (g : Grammar) (text : List ℕ) : Setting → List OnTask → List ℕ → Spot → List Tree → List TrailItem → End → Type 0 where
+  no_task : {ms : Setting} {entered : List ℕ} {a : Spot} {v : List Tree} {items : List TrailItem} → Leads g text ms [] entered a v items (arrived ms.loose a v items)
+  does : {ms ns : Setting} {t : OnTask} {ts : List OnTask} {entered : List ℕ} {a b : Spot} {v x : List Tree} {u items : List TrailItem} {e : End} → Does g text ms ns t a v b x u →
       Leads g text ns ts (entered_after t a b u entered) b x items e → Leads g text ms (t ∷ ts) entered a v (u ++ items) e
-  refuses : {ms : List ℕ} {t : OnTask} {ts : List OnTask} {entered : List ℕ} {a : Spot} {v : List Tree} {items : List TrailItem} {s : Stop} → RefusesTask g text entered t a items s →
+  refuses : {ms : Setting} {t : OnTask} {ts : List OnTask} {entered : List ℕ} {a : Spot} {v : List Tree} {items : List TrailItem} {s : Stop} → RefusesTask g text entered t a items s →
       Leads g text ms (t ∷ ts) entered a v items (halted s)
-  -- the rounds left take and give nothing, as the one before them did
-  over : {ms : List ℕ} {p n place trees count : ℕ} {ts : List OnTask} {entered : List ℕ} {a : Spot} {v : List Tree} {items : List TrailItem} {e : End} → place ≡ a.place → trees ≡ length v → count ≡ length items →
-      Leads g text ms ts entered a v items e → Leads g text ms (more_rounds p n place trees count ∷ ts) entered a v items e
+  -- the rounds left take nothing, and give nothing that can't be left out, as the one before them did
+  over : {ms : Setting} {p n place trees count : ℕ} {ts : List OnTask} {entered : List ℕ} {a : Spot} {v : List Tree} {items : List TrailItem} {e : End} → place ≡ a.place → AsMany ms.loose trees (length v) →
+      count ≡ length items → Leads g text ms ts entered a v items e → Leads g text ms (more_rounds p n place trees count ∷ ts) entered a v items e
 
 abbrev pub spot_of : State → Spot
 spot_of s = record { place = s.place; table = s.table }
 
 -- a state leads to this end
 abbrev pub StateLeads : Grammar → List ℕ → State → End → Type 0
-StateLeads g text s e = Leads g text s.marks s.tasks s.entered (spot_of s) s.forest s.rest e
+StateLeads g text s e = Leads g text s.setting s.tasks s.entered (spot_of s) s.forest s.rest e
 
 -- this task before the state's does
 abbrev pub TaskLeads : Grammar → List ℕ → OnTask → State → End → Type 0
-TaskLeads g text t s e = Leads g text s.marks (t ∷ s.tasks) s.entered (spot_of s) s.forest s.rest e
+TaskLeads g text t s e = Leads g text s.setting (t ∷ s.tasks) s.entered (spot_of s) s.forest s.rest e
 
 -- what a task leads to is what comes of its turn
 abbrev pub Follows : Grammar → List ℕ → OnTask → State → Turn → Type 0

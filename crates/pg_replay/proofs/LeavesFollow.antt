@@ -28,27 +28,28 @@ use Rattle.pg_replay.specs.Refusals as refusal
 use Rattle.pg_replay.specs.Refusals.{Stands, HasWordAt, HasDeclarationAt, LeafRefuses, text_differs, not_admitted, if_no_item, still_entered}
 use Rattle.pg_replay.specs.Tasks.{State, node, on, stops, next_in, satisfied, spelled, unreserved, word_from, word_by, takes, stays_if, declares, declared_turn, declare_turn, leaf_turn}
 use Rattle.pg_replay.proofs.Characters.{begins, whole_word}
+use Rattle.pg_replay.proofs.Alike.{alike_same}
 use Rattle.pg_replay.proofs.Leads.{End, Leads, does, refuses, does_node, refuses_node, spot_of, TaskLeads, Follows, still_here}
 
 module _ (g : Grammar) (text : List ℕ) (p : ℕ) (l : Leaf ℕ) (s : State) (is : slice_get g.nodes p ≡ Some (form.Leaf l)) where
   -- a leaf that was read
-  read_follows : (b : Spot) (w : List Tree) (e : End) → Reads g text l (spot_of s) b w → Leads g text s.marks s.tasks (still_entered (spot_of s) b [] s.entered) b (s.forest ++ w) s.rest e →
+  read_follows : (b : Spot) (w : List Tree) (e : End) → Reads g text l (spot_of s) b w → Leads g text s.setting s.tasks (still_entered (spot_of s) b [] s.entered) b (s.forest ++ w) s.rest e →
       TaskLeads g text (node p) s e
-  read_follows b w e h k = does (does_node (derives.at_node is (derives.leaf h))) k
+  read_follows b w e h k = does (does_node (derives.at_node is (derives.leaf h)) (alike_same s.setting.loose w w refl)) k
 
   -- so many characters
   pub taken_follows : (n : ℕ) (w : List ℕ) → Reads g text l (spot_of s) (after (spot_of s) n) (leaf_of w ∷ []) → take n (drop s.place text) ≡ w →
       Follows g text (node p) s (takes text (Some n) s)
   taken_follows n w h same e k =
       read_follows (after (spot_of s) n) (leaf_of w ∷ []) e h
-      (subst (λ x. Leads g text s.marks s.tasks (still_entered (spot_of s) (after (spot_of s) n) [] s.entered) (after (spot_of s) n) (s.forest ++ leaf_of x ∷ []) s.rest e) same k)
+      (subst (λ x. Leads g text s.setting s.tasks (still_entered (spot_of s) (after (spot_of s) n) [] s.entered) (after (spot_of s) n) (s.forest ++ leaf_of x ∷ []) s.rest e) same k)
 
   -- nothing
   pub stayed_follows : Reads g text l (spot_of s) (spot_of s) [] → Follows g text (node p) s (on s)
   stayed_follows h e k =
       read_follows (spot_of s) [] e h
-      (subst (λ x. Leads g text s.marks s.tasks x (spot_of s) (s.forest ++ []) s.rest e) (sym (still_here (spot_of s) s.entered))
-      (subst (λ v. Leads g text s.marks s.tasks s.entered (spot_of s) v s.rest e) (sym (append-nil s.forest)) k))
+      (subst (λ x. Leads g text s.setting s.tasks x (spot_of s) (s.forest ++ []) s.rest e) (sym (still_here (spot_of s) s.entered))
+      (subst (λ v. Leads g text s.setting s.tasks s.entered (spot_of s) v s.rest e) (sym (append-nil s.forest)) k))
 
   -- what it asks for doesn't stand there
   pub differs_follows : (Stands g text l s.place → ⊥) → Follows g text (node p) s (stops TextDiffers s.place s.rest)

@@ -4,6 +4,7 @@ pub mod Steps
 pub mod Characters
 pub mod ChainTrees
 pub mod ProperTables
+pub mod Alike
 pub mod Leads
 pub mod Items
 pub mod Known

@@ -1,8 +1,7 @@
 -- What takes nothing gives trees with no text.
-use Rattle.std.proofs.Common.{◌≡◌, ◌+◌, ◌-◌, ℕ, Bool, true, false, List, [], ◌∷◌, ◌++◌, refl, sym, ap, ◌∙◌, subst, arith, length, take, drop, append-nil, append_assoc, if◌then◌else◌}
-use Rattle.std.specs.Str.{bytes_eq}
-use Rattle.pg_tree.specs.Trees.{Tree, Trees, leaf, node, no_trees, tree, kids_of}
-use Rattle.pg_tree.specs.Built.{tree_text, kids_text, with_kids, flattened, built}
+use Rattle.std.proofs.Common.{◌≡◌, ◌+◌, ◌-◌, ℕ, true, List, [], ◌∷◌, ◌++◌, refl, ap, ◌∙◌, subst, arith, length, take, drop}
+use Rattle.pg_tree.specs.Trees.{Tree, leaf}
+use Rattle.pg_tree.specs.Built.{tree_text, built}
 use Rattle.pg_tree.specs.declared.shape.Shape.{Shape}
 use Rattle.pg_tree.specs.declared.shape.Shape.TheVariants as shaped
 use Rattle.pg_form.specs.Forms.{Node}
@@ -15,13 +14,10 @@ use Rattle.pg_language.specs.Derives as derives
 use Rattle.pg_language.specs.Derives.{Spot, leaf_of, span, made_by, Reads, Derives, DerivesForm, DerivesParts}
 use Rattle.pg_language.proofs.Onward.{leads_on}
 use Rattle.pg_replay.specs.Tasks.{joins, makes_empty_leaf}
+use Rattle.pg_replay.proofs.Alike.{text_in, built_text}
 use Rattle.pg_replay.proofs.AnyTable.{no_items}
 use Rattle.pg_replay.proofs.Leads.{parts_onward}
 use Rattle.pg_replay.proofs.Within.{declared_within}
-
--- the text of the trees of a list
-abbrev text_in : List Tree → List ℕ
-text_in w = kids_text (kids_of w)
 
 -- ---- texts of lists
 
@@ -32,26 +28,6 @@ both_texts (t ∷ v) w h k = let parts = none_of_both (tree_text t) (text_in v) 
     none_of_both : (x y : List ℕ) → x ++ y ≡ [] → (x ≡ []) × (y ≡ [])
     none_of_both [] y e = (refl, e)
     none_of_both (c ∷ x) y e = absurd cc
-
-joined_text : (ks ts : Trees) → kids_text (with_kids ks ts) ≡ kids_text ks ++ kids_text ts
-joined_text no_trees ts = refl
-joined_text (tree k ks) ts = ap (λ x. tree_text k ++ x) (joined_text ks ts) ∙ sym (append_assoc (tree_text k) (kids_text ks) (kids_text ts))
-
-flat_text : (label : List ℕ) (ts : Trees) → kids_text (flattened label ts) ≡ kids_text ts
-flat_text label no_trees = refl
-flat_text label (tree (leaf t) ts) = ap (λ x. t ++ x) (flat_text label ts)
-flat_text label (tree (node other kids) ts) = go (bytes_eq other label) (flat_text label ts)
-  where
-    go : (b : Bool) → kids_text (flattened label ts) ≡ kids_text ts →
-        kids_text (if b then with_kids kids (flattened label ts) else tree (node other kids) (flattened label ts)) ≡ kids_text kids ++ kids_text ts
-    go true h = joined_text kids (flattened label ts) ∙ ap (λ x. kids_text kids ++ x) h
-    go false h = ap (λ x. kids_text kids ++ x) h
-
-built_text : (shape : Shape) (symbol : List ℕ) (w : List Tree) → text_in w ≡ [] → text_in (built shape symbol w ∷ []) ≡ []
-built_text (shaped.Node label) symbol w h = append-nil (text_in w) ∙ h
-built_text shaped.Symbol symbol w h = append-nil (text_in w) ∙ h
-built_text shaped.Join symbol w h = append-nil (text_in w) ∙ h
-built_text (shaped.Flat label) symbol w h = append-nil (kids_text (flattened label (kids_of w))) ∙ flat_text label (kids_of w) ∙ h
 
 -- ---- an empty stretch
 
@@ -69,7 +45,7 @@ made_text : (k : Around) (text : List ℕ) (i : ℕ) (w : List Tree) → text_in
 made_text kind.Try text i w h = h
 made_text kind.Text text i w h = leaf_text (span text i i) (empty_span text i)
 made_text kind.Skip text i w h = refl
-made_text (kind.Build used symbol) text i w h = built_text used.shape symbol w h
+made_text (kind.Build used symbol) text i w h = built_text used.shape symbol w ∙ h
 made_text (kind.Label message) text i w h = h
 made_text kind.Local text i w h = h
 

@@ -1,5 +1,5 @@
 -- Turn by turn, what is known of rules is so, and the ends of those that are open tell the truth.
-use Rattle.std.proofs.Common.{◌≡◌, ◌==◌, ◌&&◌, ℕ, Bool, true, false, List, [], ◌∷◌, ◌++◌, length, refl, sym, ap, ◌∙◌, subst, eqb-true, append-nil, if◌then◌else◌}
+use Rattle.std.proofs.Common.{◌≡◌, ◌==◌, ◌&&◌, not, ℕ, Bool, true, false, List, [], ◌∷◌, ◌++◌, length, refl, sym, ap, ◌∙◌, subst, eqb-true, append-nil, if◌then◌else◌}
 use Rattle.std.specs.Prelude.{Some, set}
 use Rattle.pg_tree.specs.Trees.{Tree}
 use Rattle.pg_form.specs.declared.form.Around.{Around}
@@ -11,7 +11,8 @@ use Rattle.pg_table.specs.Tables.{Table}
 use Rattle.pg_language.specs.Derives as derives
 use Rattle.pg_language.specs.Derives.{Spot, left_by, made_by, Derives, DerivesForm}
 use Rattle.pg_language.proofs.Onward.{left_still}
-use Rattle.pg_replay.specs.Tasks.{OnTask, close, leave, State, Turn, on, stops, ended, with_tasks, is_unchanged, makes_empty_leaf, turn, turn_by}
+use Rattle.pg_replay.specs.Tasks.{OnTask, close, leave, State, Turn, on, stops, ended, with_tasks, is_still, known_now, makes_empty_leaf, turn, turn_by}
+use Rattle.pg_replay.proofs.Alike.{IsAlike}
 use Rattle.pg_replay.proofs.AnyTable.{any_table}
 use Rattle.pg_replay.proofs.Follow.{task_follows, no_tree_more, no_item_more}
 use Rattle.pg_replay.proofs.Known.{TakesNothing, AreKnown, IsBlank, AreBlank, IsSo, one_more_known, one_more_blank}
@@ -33,65 +34,78 @@ module _ (g : Grammar) (text : List ℕ) where
   -- ---- what took nothing
 
   -- it takes nothing whatever the table
-  still : (q trees : ℕ) (s : State) (h : HasDerived g text q s.place trees (length s.rest) (spot_of s) s.forest s.rest) → (table : Table) →
-      Derives g text q (spot_at s.place table) (spot_at s.place table) h.given []
-  still q trees s h table =
+  still : (q trees : ℕ) (loose : Bool) (s : State) (h : HasDerived g text q s.place trees (length s.rest) loose (spot_of s) s.forest s.rest) → (table : Table) →
+      Derives g text q (spot_at s.place table) (spot_at s.place table) h.real []
+  still q trees loose s h table =
       let taken : h.taken ≡ [] = no_item_more g text h.taken s.rest h.counted in
-      subst (λ i. Derives g text q (spot_at i table) (spot_at i table) h.given []) h.at_place
-      (subst (λ u. Derives g text q (spot_at h.from.place table) (spot_at h.from.place table) h.given u) taken (any_table h.derived taken h.at_place table))
+      subst (λ i. Derives g text q (spot_at i table) (spot_at i table) h.real []) h.at_place
+      (subst (λ u. Derives g text q (spot_at h.from.place table) (spot_at h.from.place table) h.real u) taken (any_table h.derived taken h.at_place table))
 
-  nothing_taken : (r : ℕ) (s : State) → BodyDerived g text r s.place (length s.forest) (length s.rest) (spot_of s) s.forest s.rest → TakesNothing g text r s.place
-  nothing_taken r s b =
-      let first = b.1 in
-      let h : HasDerived g text b.0.body s.place (length s.forest) (length s.rest) (spot_of s) s.forest s.rest = b.2 in
-      let none : h.given ≡ [] = no_tree_more g text h.before h.given (h.after_trees ∙ ap length h.made) in
-      λ named there table.
-      let one : b.0 ≡ named = cc in
-      subst (λ (n : declared.Rule). Derives g text n.body (spot_at s.place table) (spot_at s.place table) [] []) one
-      (subst (λ w. Derives g text b.0.body (spot_at s.place table) (spot_at s.place table) w []) none (still b.0.body (length s.forest) s h table))
+  -- where trees aren't loose, and there are as many as before, there is none
+  no_tree_given : (q trees : ℕ) (loose : Bool) (s : State) (h : HasDerived g text q s.place trees (length s.rest) loose (spot_of s) s.forest s.rest) →
+      loose ≡ false → trees ≡ length s.forest → h.real ≡ []
+  no_tree_given q trees loose s h calm many =
+      let same : h.given ≡ h.real = subst (λ l. IsAlike l h.given h.real) calm h.alike.is in
+      sym same ∙ no_tree_more g text h.before h.given (h.after_trees ∙ many ∙ ap length h.made)
 
-  blank_made : (k : Around) (p trees : ℕ) (s : State) → makes_empty_leaf k ≡ true → PartDerived g text k p s.place trees (length s.rest) (spot_of s) s.forest s.rest → IsBlank g text p s.place
-  blank_made k p trees s makes b = λ table.
+  empty_parts : (loose many : Bool) → not loose && many ≡ true → (loose ≡ false) × (many ≡ true)
+  empty_parts true many e = absurd cc
+  empty_parts false many e = (refl, e)
+
+  nothing_taken : (r trees : ℕ) (s : State) → BodyDerived g text r s.place trees (length s.rest) s.setting.loose (spot_of s) s.forest s.rest → TakesNothing g text r (known_now trees s)
+  nothing_taken r trees s b =
+      let h : HasDerived g text b.0.body s.place trees (length s.rest) s.setting.loose (spot_of s) s.forest s.rest = b.2 in
+      let there = b.1 in
+      λ named is table.
+      let one : b.0 ≡ named = (let other = is in cc) in (
+        h.real,
+        (
+          subst (λ (n : declared.Rule). Derives g text n.body (spot_at s.place table) (spot_at s.place table) h.real []) one (still b.0.body trees s.setting.loose s h table),
+          (λ e. let parts = empty_parts s.setting.loose (trees == length s.forest) e in
+              no_tree_given b.0.body trees s.setting.loose s h parts.0 (eqb-true trees (length s.forest) parts.1)),
+        ),
+      )
+
+  blank_made : (k : Around) (p trees : ℕ) (loose : Bool) (s : State) → makes_empty_leaf k ≡ true → PartDerived g text k p s.place trees (length s.rest) loose (spot_of s) s.forest s.rest → IsBlank g text p s.place
+  blank_made k p trees loose s makes b = λ table.
       let q = b.0 in
-      let h : HasDerived g text q s.place trees (length s.rest) (spot_of s) s.forest s.rest = b.2 in
-      let d : Derives g text q (spot_at s.place table) (spot_at s.place table) h.given [] = still q trees s h table in
-      let made : DerivesForm g text (form.Around k q) (spot_at s.place table) (left_by k (spot_at s.place table) (spot_at s.place table)) (made_by k text s.place s.place h.given) [] = derives.around d in
-      subst (λ w. Derives g text p (spot_at s.place table) (spot_at s.place table) w []) (empty_made text k s.place h.given makes (no_text d refl refl))
-      (derives.at_node b.1 (subst (λ e. DerivesForm g text (form.Around k q) (spot_at s.place table) e (made_by k text s.place s.place h.given) []) (left_still k (spot_at s.place table) (spot_at s.place table) refl) made))
+      let h : HasDerived g text q s.place trees (length s.rest) loose (spot_of s) s.forest s.rest = b.2 in
+      let d : Derives g text q (spot_at s.place table) (spot_at s.place table) h.real [] = still q trees loose s h table in
+      let made : DerivesForm g text (form.Around k q) (spot_at s.place table) (left_by k (spot_at s.place table) (spot_at s.place table)) (made_by k text s.place s.place h.real) [] = derives.around d in
+      subst (λ w. Derives g text p (spot_at s.place table) (spot_at s.place table) w []) (empty_made text k s.place h.real makes (no_text d refl refl))
+      (derives.at_node b.1 (subst (λ e. DerivesForm g text (form.Around k q) (spot_at s.place table) e (made_by k text s.place s.place h.real) []) (left_still k (spot_at s.place table) (spot_at s.place table) refl) made))
 
-  all_three : (a b c : Bool) → a && (b && c) ≡ true → (a ≡ true) × (b ≡ true) × (c ≡ true)
-  all_three true true true e = (refl, refl, refl)
-  all_three true true false e = absurd cc
-  all_three true false c e = absurd cc
-  all_three false b c e = absurd cc
+  all_two : (a b : Bool) → a && b ≡ true → (a ≡ true) × (b ≡ true)
+  all_two true b e = (refl, e)
+  all_two false b e = absurd cc
 
   known_then : (r place trees count : ℕ) (s : State) → AreKnown g text s.known →
-      ((b : Spot) (x : List Tree) (rest : List TrailItem) → Leads g text s.marks [] s.entered (spot_of s) s.forest s.rest (arrived b x rest) → BodyDerived g text r place trees count b x rest) →
-      (unchanged : Bool) → is_unchanged place trees count s ≡ unchanged → AreKnown g text (if unchanged then set s.known r (Some s.place) else s.known)
+      ((loose : Bool) (b : Spot) (x : List Tree) (rest : List TrailItem) → Leads g text s.setting [] s.entered (spot_of s) s.forest s.rest (arrived loose b x rest) → BodyDerived g text r place trees count loose b x rest) →
+      (unchanged : Bool) → is_still place count s ≡ unchanged → AreKnown g text (if unchanged then set s.known r (Some (known_now trees s)) else s.known)
   known_then r place trees count s known told false e = known
   known_then r place trees count s known told true e =
-      let same = all_three (place == s.place) (trees == length s.forest) (count == length s.rest) e in
-      let h : BodyDerived g text r s.place (length s.forest) (length s.rest) (spot_of s) s.forest s.rest =
-      subst (λ i. BodyDerived g text r i (length s.forest) (length s.rest) (spot_of s) s.forest s.rest) (eqb-true place s.place same.0)
-      (subst (λ n. BodyDerived g text r place n (length s.rest) (spot_of s) s.forest s.rest) (eqb-true trees (length s.forest) same.1)
-      (subst (λ n. BodyDerived g text r place trees n (spot_of s) s.forest s.rest) (eqb-true count (length s.rest) same.2) (told (spot_of s) s.forest s.rest no_task))) in
-      one_more_known g text s.known r s.place known (nothing_taken r s h)
+      let same = all_two (place == s.place) (count == length s.rest) e in
+      let h : BodyDerived g text r s.place trees (length s.rest) s.setting.loose (spot_of s) s.forest s.rest =
+      subst (λ i. BodyDerived g text r i trees (length s.rest) s.setting.loose (spot_of s) s.forest s.rest) (eqb-true place s.place same.0)
+      (subst (λ n. BodyDerived g text r place trees n s.setting.loose (spot_of s) s.forest s.rest) (eqb-true count (length s.rest) same.1) (told s.setting.loose (spot_of s) s.forest s.rest no_task)) in
+      one_more_known g text s.known r (known_now trees s) known (nothing_taken r trees s h)
 
   blank_then : (k : Around) (p place trees count : ℕ) (s : State) → AreBlank g text s.blank →
-      ((b : Spot) (x : List Tree) (rest : List TrailItem) → Leads g text s.marks [] s.entered (spot_of s) s.forest s.rest (arrived b x rest) → PartDerived g text k p place trees count b x rest) →
-      (blank : Bool) → makes_empty_leaf k && ((place == s.place) && (count == length s.rest)) ≡ blank → AreBlank g text (if blank then set s.blank p (Some s.place) else s.blank)
+      ((loose : Bool) (b : Spot) (x : List Tree) (rest : List TrailItem) → Leads g text s.setting [] s.entered (spot_of s) s.forest s.rest (arrived loose b x rest) → PartDerived g text k p place trees count loose b x rest) →
+      (blank : Bool) → makes_empty_leaf k && is_still place count s ≡ blank → AreBlank g text (if blank then set s.blank p (Some s.place) else s.blank)
   blank_then k p place trees count s are told false e = are
   blank_then k p place trees count s are told true e =
-      let same = all_three (makes_empty_leaf k) (place == s.place) (count == length s.rest) e in
-      let h : PartDerived g text k p s.place trees (length s.rest) (spot_of s) s.forest s.rest =
-      subst (λ i. PartDerived g text k p i trees (length s.rest) (spot_of s) s.forest s.rest) (eqb-true place s.place same.1)
-      (subst (λ n. PartDerived g text k p place trees n (spot_of s) s.forest s.rest) (eqb-true count (length s.rest) same.2) (told (spot_of s) s.forest s.rest no_task)) in
-      one_more_blank g text s.blank p s.place are (blank_made k p trees s same.0 h)
+      let makes = all_two (makes_empty_leaf k) (is_still place count s) e in
+      let same = all_two (place == s.place) (count == length s.rest) makes.1 in
+      let h : PartDerived g text k p s.place trees (length s.rest) s.setting.loose (spot_of s) s.forest s.rest =
+      subst (λ i. PartDerived g text k p i trees (length s.rest) s.setting.loose (spot_of s) s.forest s.rest) (eqb-true place s.place same.0)
+      (subst (λ n. PartDerived g text k p place trees n s.setting.loose (spot_of s) s.forest s.rest) (eqb-true count (length s.rest) same.1) (told s.setting.loose (spot_of s) s.forest s.rest no_task)) in
+      one_more_blank g text s.blank p s.place are (blank_made k p trees s.setting.loose s makes.0 h)
 
   so_on : (t : OnTask) (ts : List OnTask) (s : State) → IsSo g text s.known s.blank → AreTrueAfter g text (bare s) [] (t ∷ ts) → IsSo g text (known_by t s) (blank_by t s)
-  so_on (leave r place trees count) ts s known told = (known_then r place trees count s known.0 told.0 (is_unchanged place trees count s) refl, known.1)
-  so_on (close k p place trees operators count) ts s known told =
-      (known.0, blank_then k p place trees count s known.1 told.0 (makes_empty_leaf k && ((place == s.place) && (count == length s.rest))) refl)
+  so_on (leave r place trees count) ts s known told = (known_then r place trees count s known.0 told.0 (is_still place count s) refl, known.1)
+  so_on (close k p place trees operators count loose) ts s known told =
+      (known.0, blank_then k p place trees count s known.1 told.0 (makes_empty_leaf k && is_still place count s) refl)
   so_on _ ts s known told = known
 
   -- ---- a turn
@@ -110,10 +124,10 @@ module _ (g : Grammar) (text : List ℕ) where
       let same : after ≡ with_tasks (z.tasks ++ ts) z = cc in
       let later : AreTrueAfter g text (bare z) (z.tasks ++ []) ts =
       all_true g text t z.tasks (bare s) (bare z)
-      (λ above b y rest k.
+      (λ above loose b y rest k.
       let one : turn g text t (with_tasks above s) ≡ on (with_tasks (z.tasks ++ above) z) = (turn_goes g text t s).0 above ∙ ap (below above) f in
       let h : Follows g text t (with_tasks above s) (on (with_tasks (z.tasks ++ above) z)) = subst (Follows g text t (with_tasks above s)) one (task_follows g text t (with_tasks above s) proper known) in
-      h (arrived b y rest) k)
+      h (arrived loose b y rest) k)
       [] ts told.1 in
       let all : AreTrueAfter g text (bare z) [] (z.tasks ++ ts) =
       true_after_both g text (bare z) [] z.tasks ts tells.0 (subst (λ a. AreTrueAfter g text (bare z) a ts) (append-nil z.tasks) later) in

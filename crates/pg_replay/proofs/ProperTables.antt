@@ -34,7 +34,7 @@ use Rattle.pg_fitting.specs.Judge.{known_in, judgement}
 use Rattle.pg_language.specs.Declarations.{Declaration, no_keyword, no_digit, no_symbol, declared, declaration_at}
 use Rattle.pg_language.proofs.DeclarationsDerived.{declaration_stands}
 use Rattle.pg_language.proofs.DeclarationsDerived.{Stands as IsStanding}
-use Rattle.pg_replay.specs.Tasks.{Chain, OnTask, node, parts, rounds, more_rounds, links, operand, fold, marked, operator_symbol, application, unmark, close, leave, State, Turn, on, stops, ended, takes, stays_if, declares, declared_turn, declare_turn, leaf_turn, part_turn, choice_turn, many_turn, chain_turn, steps_turn, operators_turn, expression_turn, operator_end, ended_turn, symbol_turn, is_place, is_known, is_entered, rule_turn, around_turn, form_turn, node_turn, parts_turn, is_unchanged, with_links, closed_table, turn, turn_by, with_tasks}
+use Rattle.pg_replay.specs.Tasks.{Chain, OnTask, node, parts, rounds, more_rounds, links, operand, settle, fold, marked, operator_symbol, application, unmark, close, leave, State, Turn, on, stops, ended, takes, stays_if, declares, declared_turn, declare_turn, leaf_turn, part_turn, choice_turn, many_turn, chain_turn, steps_turn, operators_turn, expression_turn, operator_end, ended_turn, symbol_turn, is_place, is_known, is_entered, rule_turn, around_turn, form_turn, node_turn, parts_turn, is_unchanged, with_links, closed_table, turn, turn_by, with_tasks}
 
 pub record IsProper (table : Table) : Type 0 where
   pub told : AreTold table.operators
@@ -262,8 +262,9 @@ module _ (g : Grammar) (text : List ℕ) where
   turn_proper (more_rounds p n place trees items) s h = proper_if (is_unchanged place trees items s) _ _ h (proper_if (n == 0) _ _ h h)
   turn_proper (links c n trees) s h = proper_if (n == 0) _ _ h h
   turn_proper (operand c n trees) s h = links_proper c.side c n trees s h
+  turn_proper (settle loose) s h = h
   turn_proper (fold used trees) s h = h
-  turn_proper (close k p place trees operators items) s h = close_proper k operators s.table h
+  turn_proper (close k p place trees operators items loose) s h = close_proper k operators s.table h
   turn_proper (marked p) s h = h
   turn_proper (operator_symbol o) s h = symbol_proper g.operators o s h
   turn_proper (application builders o) s h = h

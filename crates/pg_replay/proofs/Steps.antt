@@ -1,11 +1,11 @@
 -- The steps of a tree are tasks, which stand in the code the other way round.
-use Rattle.std.proofs.Common.{◌≡◌, ℕ, List, [], ◌∷◌, ◌++◌, refl, ap, ◌∙◌, append_assoc}
-use Rattle.std.specs.Prelude.{map}
+use Rattle.std.proofs.Common.{◌≡◌, ◌-◌, ℕ, Bool, false, List, [], ◌∷◌, ◌++◌, length, refl, sym, ap, ◌∙◌, append_assoc, arith}
+use Rattle.std.specs.Prelude.{Some, None, slice_get, map}
 use Rattle.std.proofs.lemmas.List.{map-append}
 use Rattle.pg_form.specs.declared.used.OperatorBuilders.{OperatorBuilders}
 use Rattle.pg_fitting.specs.declared.step.Step as declared
 use Rattle.pg_fitting.specs.Judge.{step_of}
-use Rattle.pg_replay.specs.Tasks.{State, step_task, with_task, with_tasks, with_steps}
+use Rattle.pg_replay.specs.Tasks.{State, joins_step, joins_last, step_task, with_task, with_tasks, with_steps}
 
 pub no_steps : (builders : OperatorBuilders) (p : ℕ) (s : State) → with_steps builders p (map step_of []) s ≡ s
 no_steps builders p s = refl
@@ -19,3 +19,32 @@ steps_pushed builders p steps step s =
     ∙ ap (λ ts. ts ++ s.tasks) (map-append (step_task builders p) (map step_of steps) (step_of step ∷ []))
     ∙ append_assoc (map (step_task builders p) (map step_of steps)) (step_task builders p (step_of step) ∷ []) s.tasks in
     ap (λ ts. with_tasks ts s) tasks
+
+-- ---- the last
+
+abbrev last_of : declared.Step → List declared.Step → declared.Step
+last_of x [] = x
+last_of x (y ∷ ys) = last_of y ys
+
+last_there : (x : declared.Step) (xs : List declared.Step) → slice_get (x ∷ xs) (length xs) ≡ Some (last_of x xs)
+last_there x [] = refl
+last_there x (y ∷ ys) = last_there y ys
+
+told_by_last : (builders : OperatorBuilders) (x : declared.Step) (xs : List declared.Step) → joins_last builders (map step_of (x ∷ xs)) ≡ joins_step builders (step_of (last_of x xs))
+told_by_last builders x [] = refl
+told_by_last builders x (y ∷ ys) = told_by_last builders y ys
+
+pub joins_by_last : (builders : OperatorBuilders) (xs : List declared.Step) (step : declared.Step) → slice_get xs (length xs - 1) ≡ Some step →
+    joins_last builders (map step_of xs) ≡ joins_step builders (step_of step)
+joins_by_last builders [] step e = absurd cc
+joins_by_last builders (x ∷ xs) step e =
+    let one : length (x ∷ xs) - 1 ≡ length xs = omega arith in
+    let same : Some step ≡ Some (last_of x xs) = sym e ∙ ap (slice_get (x ∷ xs)) one ∙ last_there x xs in
+    told_by_last builders x xs ∙ ap (λ z. joins_step builders (step_of z)) (let there : last_of x xs ≡ step = cc in there)
+
+pub joins_by_none : (builders : OperatorBuilders) (xs : List declared.Step) → slice_get xs (length xs - 1) ≡ None → joins_last builders (map step_of xs) ≡ false
+joins_by_none builders [] e = refl
+joins_by_none builders (x ∷ xs) e =
+    let one : length (x ∷ xs) - 1 ≡ length xs = omega arith in
+    let same : None ≡ Some (last_of x xs) = sym e ∙ ap (slice_get (x ∷ xs)) one ∙ last_there x xs in
+    absurd cc

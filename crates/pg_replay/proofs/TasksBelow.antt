@@ -1,5 +1,5 @@
 -- A turn doesn't look at the tasks after the one that is done, and says nothing new of the ends of rules but where it enters one.
-use Rattle.std.proofs.Common.{◌≡◌, ◌==◌, ◌-◌, ℕ, Bool, true, false, not, List, [], ◌∷◌, ◌++◌, length, refl, sym, ap, append_assoc, map, if◌then◌else◌}
+use Rattle.std.proofs.Common.{◌≡◌, ◌==◌, ◌-◌, ◌||◌, ℕ, Bool, true, false, not, List, [], ◌∷◌, ◌++◌, length, refl, sym, ap, append_assoc, map, if◌then◌else◌}
 use Rattle.std.specs.Prelude.{Option, Some, None, slice_get}
 use Rattle.pg_form.specs.Operators.{Operator}
 use Rattle.pg_form.specs.Forms.{Node}
@@ -22,7 +22,8 @@ use Rattle.pg_table.specs.declared.fault.AdmitFault.{AdmitFault}
 use Rattle.pg_fitting.specs.Steps.{Step, a_term, a_symbol, an_application}
 use Rattle.pg_fitting.specs.Judge.{known_in, judgement}
 use Rattle.pg_language.specs.Declarations.{Declaration, no_keyword, no_digit, no_symbol, declared, declaration_at}
-use Rattle.pg_replay.specs.Tasks.{Chain, OnTask, node, parts, rounds, more_rounds, links, operand, fold, marked, operator_symbol, application, unmark, close, leave, State, Turn, on, stops, ended, with_task, next_in, satisfied, spelled, word_by, takes, stays_if, declares, declared_turn, declare_turn, leaf_turn, part_turn, choice_turn, many_turn, chain_turn, step_task, steps_turn, operators_turn, expression_turn, operator_end, ended_turn, symbol_turn, is_place, is_known, known_after, is_entered, rule_turn, around_turn, blank_after, form_turn, node_turn, parts_turn, rounds_turn, is_unchanged, links_turn, with_links, with_tasks, turn}
+use Rattle.pg_replay.specs.Tasks.{Chain, OnTask, node, parts, rounds, more_rounds, links, operand, settle, fold, marked, operator_symbol, application, unmark, close, leave, loosened, State, Turn, on, stops, ended, with_task, next_in, satisfied, spelled, word_by, takes, stays_if, declares, declared_turn, declare_turn, leaf_turn, part_turn, choice_turn, many_turn, chain_turn, joins_last, step_task, steps_turn, operators_turn, expression_turn, operator_end, ended_turn, symbol_turn, is_place, is_known, known_after, is_entered, rule_turn, loosens, around_turn, blank_after, form_turn, node_turn, parts_turn, rounds_turn, is_unchanged, links_turn, with_links, with_tasks, turn}
+use Rattle.pg_replay.specs.declared.replayer.Known.{Known}
 use Rattle.pg_replay.proofs.Open.{AreTrueAfter, entered_true}
 
 -- the turn, with further tasks after those that it leaves
@@ -36,26 +37,26 @@ abbrev pub bare : State → State
 bare s = with_tasks [] s
 
 -- what the turn tells of the ends of rules is true, and this is known of rules after it
-abbrev pub TellsTruly : Grammar → List ℕ → List (Option ℕ) → List (Option ℕ) → Turn → Type 0
+abbrev pub TellsTruly : Grammar → List ℕ → List (Option Known) → List (Option ℕ) → Turn → Type 0
 TellsTruly g text known blank (on s) = AreTrueAfter g text (bare s) [] s.tasks × ((s.known ≡ known) × (s.blank ≡ blank))
 TellsTruly g text known blank (stops why place rest) = Unit {0}
 TellsTruly g text known blank (ended s) = Unit {0}
 
 -- what is known after a task
-abbrev pub known_by : OnTask → State → List (Option ℕ)
+abbrev pub known_by : OnTask → State → List (Option Known)
 known_by (leave r place trees items) s = known_after r place trees items s
 known_by _ s = s.known
 
 abbrev pub blank_by : OnTask → State → List (Option ℕ)
-blank_by (close k p place trees operators items) s = blank_after k p place items s
+blank_by (close k p place trees operators items loose) s = blank_after k p place items s
 blank_by _ s = s.blank
 
 module _ (g : Grammar) (text : List ℕ) where
   -- a turn for any tasks after the one that is done
-  abbrev pub Goes : List (Option ℕ) → List (Option ℕ) → (List OnTask → Turn) → Type 0
+  abbrev pub Goes : List (Option Known) → List (Option ℕ) → (List OnTask → Turn) → Type 0
   Goes known blank x = ((ts : List OnTask) → x ts ≡ below ts (x [])) × TellsTruly g text known blank (x [])
 
-  goes_if : (known blank : List (Option ℕ)) (b : Bool) (x y : List OnTask → Turn) → Goes known blank x → Goes known blank y → Goes known blank (λ ts. if b then x ts else y ts)
+  goes_if : (known : List (Option Known)) (blank : List (Option ℕ)) (b : Bool) (x y : List OnTask → Turn) → Goes known blank x → Goes known blank y → Goes known blank (λ ts. if b then x ts else y ts)
   goes_if known blank true x y h k = h
   goes_if known blank false x y h k = k
 
@@ -108,22 +109,22 @@ module _ (g : Grammar) (text : List ℕ) where
   chain_goes : (c : Chain) (items : List TrailItem) (s : State) → Goes s.known s.blank (λ ts. chain_turn c items (with_tasks ts s))
   chain_goes c [] s = (λ ts. refl, tt)
   chain_goes c (Alt k ∷ rest) s = (λ ts. refl, tt)
-  chain_goes c (Rounds n ∷ rest) s = (λ ts. refl, ((tt, (tt, tt)), (refl, refl)))
+  chain_goes c (Rounds n ∷ rest) s = (λ ts. refl, ((tt, (tt, (tt, tt))), (refl, refl)))
   chain_goes c (Ops o ∷ rest) s = (λ ts. refl, tt)
 
   -- the steps of an expression enter no rule
-  steps_true : (builders : OperatorBuilders) (p : ℕ) (steps : List Step) (s : State) (above : List OnTask) → AreTrueAfter g text s above (map (step_task builders p) steps ++ unmark ∷ [])
-  steps_true builders p [] s above = (tt, tt)
-  steps_true builders p (a_term ∷ steps) s above = (tt, steps_true builders p steps s (above ++ marked p ∷ []))
-  steps_true builders p (a_symbol o ∷ steps) s above = (tt, steps_true builders p steps s (above ++ operator_symbol o ∷ []))
-  steps_true builders p (an_application o ∷ steps) s above = (tt, steps_true builders p steps s (above ++ application builders o ∷ []))
+  steps_true : (builders : OperatorBuilders) (p : ℕ) (steps : List Step) (loose : Bool) (s : State) (above : List OnTask) → AreTrueAfter g text s above (map (step_task builders p) steps ++ (unmark ∷ settle loose ∷ []))
+  steps_true builders p [] loose s above = (tt, (tt, tt))
+  steps_true builders p (a_term ∷ steps) loose s above = (tt, steps_true builders p steps loose s (above ++ marked p ∷ []))
+  steps_true builders p (a_symbol o ∷ steps) loose s above = (tt, steps_true builders p steps loose s (above ++ operator_symbol o ∷ []))
+  steps_true builders p (an_application o ∷ steps) loose s above = (tt, steps_true builders p steps loose s (above ++ application builders o ∷ []))
 
   steps_goes : (builders : OperatorBuilders) (p : ℕ) (steps : Option (List Step)) (rest : List TrailItem) (s : State) → Goes s.known s.blank (λ ts. steps_turn builders p steps rest (with_tasks ts s))
   steps_goes builders p None rest s = (λ ts. refl, tt)
   steps_goes builders p (Some steps) rest s = (
-    λ ts. ap (λ l. on (let z : State = record { tasks = l; place = s.place; table = s.table; forest = s.forest; rest = rest; entered = []; marks = s.marks; known = s.known; blank = s.blank } in z))
-        (sym (append_assoc (map (step_task builders p) steps) (unmark ∷ []) ts)),
-    (steps_true builders p steps (let z : State = record { tasks = []; place = s.place; table = s.table; forest = s.forest; rest = rest; entered = []; marks = s.marks; known = s.known; blank = s.blank } in z) [], (refl, refl)),
+    λ ts. ap (λ l. on (let z : State = record { tasks = l; place = s.place; table = s.table; forest = s.forest; rest = rest; entered = []; setting = loosened (joins_last builders steps || s.setting.loose) s.setting; known = s.known; blank = s.blank } in z))
+        (sym (append_assoc (map (step_task builders p) steps) (unmark ∷ settle s.setting.loose ∷ []) ts)),
+    (steps_true builders p steps s.setting.loose (let z : State = record { tasks = []; place = s.place; table = s.table; forest = s.forest; rest = rest; entered = []; setting = loosened (joins_last builders steps || s.setting.loose) s.setting; known = s.known; blank = s.blank } in z) [], (refl, refl)),
   )
 
   operators_goes : (item : Option OperatorsItem) (builders : OperatorBuilders) (p : ℕ) (os : List AppliedOperator) (rest : List TrailItem) (s : State) →
@@ -141,11 +142,11 @@ module _ (g : Grammar) (text : List ℕ) where
   rule_goes r None s there = (λ ts. refl, tt)
   rule_goes r (Some named) s there = goes_if s.known s.blank (is_known r s) _ _ (λ ts. refl, (tt, (refl, refl)))
       (goes_if s.known s.blank (is_entered r s.entered) _ _ (λ ts. refl, tt)
-      (λ ts. refl, ((tt, ((λ b x rest k. (named, there, entered_true g text named.body s.marks (r ∷ s.entered) (record { place = s.place; table = s.table }) b s.forest x s.rest rest k)), tt)), (refl, refl))))
+      (λ ts. refl, ((tt, ((λ loose b x rest k. (named, there, entered_true g text named.body s.setting (r ∷ s.entered) (record { place = s.place; table = s.table }) loose b s.forest x s.rest rest k)), tt)), (refl, refl))))
 
   around_goes : (k : Around) (p q : ℕ) (s : State) → slice_get g.nodes p ≡ Some (form.Around k q) → Goes s.known s.blank (λ ts. around_turn k p q (with_tasks ts s))
   around_goes k p q s there = goes_if s.known s.blank (is_place s.place (slice_get s.blank p)) _ _ (λ ts. refl, (tt, (refl, refl)))
-      (λ ts. refl, ((tt, ((λ b x rest m. (q, there, entered_true g text q s.marks s.entered (record { place = s.place; table = s.table }) b s.forest x s.rest rest m)), tt)), (refl, refl)))
+      (λ ts. refl, ((tt, ((λ loose b x rest m. (q, there, entered_true g text q (loosened (loosens k || s.setting.loose) s.setting) s.entered (record { place = s.place; table = s.table }) loose b s.forest x s.rest rest m)), tt)), (refl, refl)))
 
   form_goes : (p : ℕ) (n : Node) (s : State) → slice_get g.nodes p ≡ Some n → Goes s.known s.blank (λ ts. form_turn g text p n (with_tasks ts s))
   form_goes p (form.Leaf l) s there = leaf_goes l s
@@ -190,8 +191,9 @@ module _ (g : Grammar) (text : List ℕ) where
   turn_goes (more_rounds p n place trees items) s = goes_if s.known s.blank (is_unchanged place trees items s) _ _ (λ ts. refl, (tt, (refl, refl))) (rounds_goes p n s)
   turn_goes (links c n trees) s = links_goes c n trees s
   turn_goes (operand c n trees) s = operand_goes c.side c n trees s
+  turn_goes (settle loose) s = (λ ts. refl, (tt, (refl, refl)))
   turn_goes (fold used trees) s = (λ ts. refl, (tt, (refl, refl)))
-  turn_goes (close k p place trees operators items) s = (λ ts. refl, (tt, (refl, refl)))
+  turn_goes (close k p place trees operators items loose) s = (λ ts. refl, (tt, (refl, refl)))
   turn_goes (marked p) s = (λ ts. refl, ((tt, tt), (refl, refl)))
   turn_goes (operator_symbol o) s = symbol_goes g.operators o s
   turn_goes (application builders o) s = (λ ts. refl, (tt, (refl, refl)))

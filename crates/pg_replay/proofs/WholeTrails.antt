@@ -1,5 +1,5 @@
 -- What a whole run comes to.
-use Rattle.std.proofs.Common.{◌≡◌, ℕ, List, [], ◌∷◌, ◌++◌, refl, sym, ap, ◌∙◌, subst, length, append-nil}
+use Rattle.std.proofs.Common.{◌≡◌, ℕ, Bool, false, List, [], ◌∷◌, ◌++◌, refl, sym, ap, ◌∙◌, subst, length, append-nil}
 use Rattle.std.specs.Prelude.{Option, Some, None, slice_get, option_map}
 use Rattle.pg_tree.specs.Trees.{Tree}
 use Rattle.pg_value.specs.Grammar.{Grammar, rule_body}
@@ -14,7 +14,8 @@ use Rattle.pg_replay.specs.declared.fault.Mismatch.TheVariants.{LeftOver}
 use Rattle.pg_replay.specs.Refusals.{Stop, Refuses}
 use Rattle.pg_replay.specs.Ends.{IsDerived, beginning, Stops, in_start, left_over, IsTold, IsTheForest, IsFault}
 use Rattle.pg_replay.specs.Halts.{first_state, IsEnd, IsStopOf, IsHalt, stop_told}
-use Rattle.pg_replay.specs.Tasks.{OnTask, node, State, Turn, on, stops, ended, turn, turn_by, next_turn, with_tasks}
+use Rattle.pg_replay.specs.Tasks.{OnTask, node, Setting, State, Turn, on, stops, ended, turn, turn_by, next_turn, with_tasks}
+use Rattle.pg_replay.proofs.Alike.{IsAlike}
 use Rattle.pg_replay.proofs.Leads.{End, arrived, halted, Leads, no_task, does, refuses, does_node, refuses_node, spot_of, StateLeads, Follows}
 use Rattle.pg_replay.proofs.ProperTables.{IsProper, ProperTurn, next_proper}
 use Rattle.pg_replay.proofs.Follow.{task_follows}
@@ -24,8 +25,8 @@ use Rattle.pg_replay.proofs.OneForest.{only_forest, none_where_stopped}
 
 -- what the tasks of a state lead to is what comes of the next turn
 abbrev pub ComesOf : Grammar → List ℕ → List OnTask → State → Turn → Type 0
-ComesOf g text ts s (on after) = (e : End) → StateLeads g text after e → Leads g text s.marks ts s.entered (spot_of s) s.forest s.rest e
-ComesOf g text ts s (stops why place rest) = Leads g text s.marks ts s.entered (spot_of s) s.forest s.rest (halted (record { why = why; place = place; rest = rest }))
+ComesOf g text ts s (on after) = (e : End) → StateLeads g text after e → Leads g text s.setting ts s.entered (spot_of s) s.forest s.rest e
+ComesOf g text ts s (stops why place rest) = Leads g text s.setting ts s.entered (spot_of s) s.forest s.rest (halted (record { why = why; place = place; rest = rest }))
 ComesOf g text ts s (ended after) = (ts ≡ []) × (after ≡ s)
 
 followed : (g : Grammar) (text : List ℕ) (t : OnTask) (ts : List OnTask) (s : State) (x : Turn) → turn g text t (with_tasks ts s) ≡ x → Follows g text t (with_tasks ts s) x → ComesOf g text (t ∷ ts) s x
@@ -60,18 +61,23 @@ turned_onward g text s after first e h = record {
 abbrev spot_at : ℕ → Table → Spot
 spot_at place table = record { place = place; table = table }
 
+-- what is around the start rule
+abbrev calm_setting : Setting
+calm_setting = record { marks = []; loose = false }
+
 abbrev stop_with : declared_stop.Stop → List TrailItem → Stop
 stop_with z rest = record { why = z.why; place = z.place; rest = rest }
 
 module _ (g : Grammar) (text : List ℕ) (table : Table) (items : List TrailItem) where
   -- from the end of the start rule's body
-  arrived_start : (ms : List ℕ) (named : declared.Rule) (entered : List ℕ) (v x : List Tree) (all rest : List TrailItem) (b : Spot) →
-      Leads g text ms (node named.body ∷ []) entered (beginning table) v all (arrived b x rest) → v ≡ [] →
+  arrived_start : (ms : Setting) (named : declared.Rule) (entered : List ℕ) (v x : List Tree) (all rest : List TrailItem) (loose : Bool) (b : Spot) → ms.loose ≡ false →
+      Leads g text ms (node named.body ∷ []) entered (beginning table) v all (arrived loose b x rest) → v ≡ [] →
       (taken : List TrailItem) × (Derives g text named.body (beginning table) b x taken × (all ≡ taken ++ rest))
-  arrived_start ms named entered v x all rest b (does {u = u} (does_node {w = w} d) no_task) e =
-      (u, (subst (λ y. Derives g text named.body (beginning table) b (y ++ w) u) (sym e) d, refl))
+  arrived_start ms named entered v x all rest loose b calm (does {u = u} (does_node {w = w} {x = y} d h) no_task) e =
+      let same : y ≡ w = subst (λ l. IsAlike l y w) calm h.is in
+      (u, (subst (λ z. Derives g text named.body (beginning table) b (z ++ y) u) (sym e) (subst (λ z. Derives g text named.body (beginning table) b z u) (sym same) d), refl))
 
-  halted_start : (ms : List ℕ) (named : declared.Rule) (entered : List ℕ) (v : List Tree) (all : List TrailItem) (s : Stop) → slice_get g.rules g.start ≡ Some named → entered ≡ g.start ∷ [] →
+  halted_start : (ms : Setting) (named : declared.Rule) (entered : List ℕ) (v : List Tree) (all : List TrailItem) (s : Stop) → slice_get g.rules g.start ≡ Some named → entered ≡ g.start ∷ [] →
       Leads g text ms (node named.body ∷ []) entered (beginning table) v all (halted s) → Stops g text table all s
   halted_start ms named entered v all s there e (refuses (refuses_node h)) = in_start there (subst (λ o. Refuses g text o named.body (beginning table) all s) e h)
   halted_start ms named entered v all s there e (does d h) = elim h [ ]
@@ -82,9 +88,9 @@ module _ (g : Grammar) (text : List ℕ) (table : Table) (items : List TrailItem
   whole_derived named (stops why place rest) s forest there e h k = absurd h
   whole_derived named (ended after) s forest there e h k =
       let c : ComesOf g text s.tasks s (ended after) = subst (ComesOf g text s.tasks s) (sym e) (comes g text s.tasks s k.proper k.truth.known) in
-      let lead : StateLeads g text s (arrived (spot_of s) s.forest s.rest) =
-      subst (λ ts. Leads g text s.marks ts s.entered (spot_of s) s.forest s.rest (arrived (spot_of s) s.forest s.rest)) (sym c.0) no_task in
-      let r = arrived_start [] named (g.start ∷ []) [] s.forest items s.rest (spot_of s) (k.ends (arrived (spot_of s) s.forest s.rest) lead) refl in
+      let lead : StateLeads g text s (arrived s.setting.loose (spot_of s) s.forest s.rest) =
+      subst (λ ts. Leads g text s.setting ts s.entered (spot_of s) s.forest s.rest (arrived s.setting.loose (spot_of s) s.forest s.rest)) (sym c.0) no_task in
+      let r = arrived_start calm_setting named (g.start ∷ []) [] s.forest items s.rest s.setting.loose (spot_of s) refl (k.ends (arrived s.setting.loose (spot_of s) s.forest s.rest) lead) refl in
       let place : s.place ≡ length text = sym (ap (λ (z : State). z.place) c.1) ∙ h.0 in
       let none : s.rest ≡ [] = sym (ap (λ (z : State). z.rest) c.1) ∙ h.1 in
       let same : s.forest ≡ forest = sym (h.2 ∙ ap (λ (z : State). z.forest) c.1) in
@@ -105,7 +111,7 @@ module _ (g : Grammar) (text : List ℕ) (table : Table) (items : List TrailItem
   whole_stop named (on after) s t there e h k = absurd h
   whole_stop named (stops why place rest) s t there e h k =
       let c : ComesOf g text s.tasks s (stops why place rest) = subst (ComesOf g text s.tasks s) (sym e) (comes g text s.tasks s k.proper k.truth.known) in
-      let at : Stops g text table items (stop_with (stop_told why place (length rest)) rest) = halted_start [] named (g.start ∷ []) [] items _ there refl (k.ends _ c) in
+      let at : Stops g text table items (stop_with (stop_told why place (length rest)) rest) = halted_start calm_setting named (g.start ∷ []) [] items _ there refl (k.ends _ c) in
       record {
         rest = rest;
         left = sym (ap (λ (z : declared_stop.Stop). z.left) h);
@@ -113,9 +119,9 @@ module _ (g : Grammar) (text : List ℕ) (table : Table) (items : List TrailItem
       }
   whole_stop named (ended after) s t there e h k =
       let c : ComesOf g text s.tasks s (ended after) = subst (ComesOf g text s.tasks s) (sym e) (comes g text s.tasks s k.proper k.truth.known) in
-      let lead : StateLeads g text s (arrived (spot_of s) s.forest s.rest) =
-      subst (λ ts. Leads g text s.marks ts s.entered (spot_of s) s.forest s.rest (arrived (spot_of s) s.forest s.rest)) (sym c.0) no_task in
-      let r = arrived_start [] named (g.start ∷ []) [] s.forest items s.rest (spot_of s) (k.ends (arrived (spot_of s) s.forest s.rest) lead) refl in
+      let lead : StateLeads g text s (arrived s.setting.loose (spot_of s) s.forest s.rest) =
+      subst (λ ts. Leads g text s.setting ts s.entered (spot_of s) s.forest s.rest (arrived s.setting.loose (spot_of s) s.forest s.rest)) (sym c.0) no_task in
+      let r = arrived_start calm_setting named (g.start ∷ []) [] s.forest items s.rest s.setting.loose (spot_of s) refl (k.ends (arrived s.setting.loose (spot_of s) s.forest s.rest) lead) refl in
       let over = subst (λ (z : State). z.place ≡ length text → z.rest ≡ [] → ⊥) c.1 h.0 in
       let told : t ≡ stop_told LeftOver s.place (length s.rest) = h.1 ∙ ap (λ (z : State). stop_told LeftOver z.place (length z.rest)) c.1 in
       record {

@@ -1,5 +1,5 @@
 -- What is made of the end of all tasks.
-use Rattle.std.specs.Prelude.{◌≡◌, ℕ, List, [], ◌∷◌, length, replicate, None}
+use Rattle.std.specs.Prelude.{◌≡◌, ℕ, List, [], ◌∷◌, length, replicate, None, false}
 use Rattle.pg_tree.specs.Trees.{Tree}
 use Rattle.pg_value.specs.Grammar.{Grammar}
 use Rattle.pg_value.specs.declared.trail.TrailItem.{TrailItem}
@@ -20,7 +20,7 @@ first_state g body table items = record {
   forest = [];
   rest = items;
   entered = g.start ∷ [];
-  marks = [];
+  setting = record { marks = []; loose = false };
   known = replicate (length g.rules) None;
   blank = replicate (length g.nodes) None;
 }

@@ -1,5 +1,5 @@
 -- What is left to do while a trail is gone along, as a list of tasks, and what was derived before.
-use Rattle.std.specs.Prelude.{◌==◌, if◌then◌else◌, ℕ, List, [], ◌∷◌, Option, None, Some}
+use Rattle.std.specs.Prelude.{◌==◌, if◌then◌else◌, ℕ, Bool, List, [], ◌∷◌, Option, None, Some}
 use Rattle.pg_tree.specs.Trees.{Tree}
 use Rattle.pg_form.specs.declared.form.Around.{Around}
 use Rattle.pg_form.specs.declared.side.Side.{Side}
@@ -9,6 +9,7 @@ use Rattle.pg_value.specs.declared.trail.AppliedOperator.{AppliedOperator}
 use Rattle.pg_value.specs.declared.trail.TrailItem.{TrailItem}
 use Rattle.pg_table.specs.Tables.{Table}
 use Rattle.pg_replay.specs.declared.fault.Mismatch.{Mismatch}
+use Rattle.pg_replay.specs.declared.replayer.Known.{Known}
 use Rattle.pg_replay.specs.declared.task.Halt.{Halt}
 use Rattle.pg_replay.specs.declared.task.Halt.TheVariants.{Stopped, Ended}
 
@@ -32,6 +33,8 @@ pub data OnTask : Type 0 where
   links : Chain → (left trees : ℕ) → OnTask
   -- the operand after a separator, and then so many rounds
   operand : Chain → (left trees : ℕ) → OnTask
+  -- from here on trees are loose, or they aren't
+  settle : (loose : Bool) → OnTask
   -- the trees after so many are made into one
   fold : BuilderUse → (trees : ℕ) → OnTask
   -- a term of an expression, whose trees begin the next operand
@@ -42,15 +45,29 @@ pub data OnTask : Type 0 where
   application : OperatorBuilders → AppliedOperator → OnTask
   -- the last operand ends the expression
   unmark : OnTask
-  -- what the form at a node makes of its part, which began at the place, with so many trees and operators before it and so many items left
-  close : Around → (node place trees operators items : ℕ) → OnTask
+  -- what the form at a node makes of its part, which began at the place, with so many trees and operators before it and so many items left;
+  -- and whether trees are loose after it
+  close : Around → (node place trees operators items : ℕ) → (loose : Bool) → OnTask
   -- the body of a rule ends, which began at the place, with so many trees before it and so many items left
   leave : (rule place trees items : ℕ) → OnTask
 
--- the tasks, the next one first, the place and the table, the forest so far, the items left, and the rules entered since
--- something was last taken, the newest first, how many trees there are before each operand that isn't applied yet, the newest first,
--- for each rule the place where its body was last found to take nothing and to give no tree, if it was, and for each node the place
--- where the form there was last found to take nothing and to make an empty leaf of it, if it was
+-- what is around a node that is gone along
+pub record Setting : Type 0 where
+  -- how many trees there are before each operand that isn't applied yet, the newest first
+  pub marks : List ℕ
+  -- whether the trees are loose: of those to which they belong only the text is answered, or nothing, so that one without text can be left out
+  pub loose : Bool
+
+abbrev pub under_marks : List ℕ → Setting → Setting
+under_marks marks m = record { marks = marks; loose = m.loose }
+
+abbrev pub loosened : Bool → Setting → Setting
+loosened loose m = record { marks = m.marks; loose = loose }
+
+-- the tasks, the next one first, the place and the table, the forest so far, the items left, the rules entered since something was
+-- last taken, the newest first, what is around the next task, for each rule the place where its body was last found to take nothing, and
+-- whether it gave no tree, if it was, and for each node the place where the form there was last found to take nothing and to make an
+-- empty leaf of it, if it was
 pub record State : Type 0 where
   pub tasks : List OnTask
   pub place : ℕ
@@ -58,8 +75,8 @@ pub record State : Type 0 where
   pub forest : List Tree
   pub rest : List TrailItem
   pub entered : List ℕ
-  pub marks : List ℕ
-  pub known : List (Option ℕ)
+  pub setting : Setting
+  pub known : List (Option Known)
   pub blank : List (Option ℕ)
 
 -- what doing a task comes to
@@ -77,35 +94,39 @@ told (Some Ended) s = ended s
 
 -- one task more
 abbrev pub with_task : OnTask → State → State
-with_task t s = record { tasks = t ∷ s.tasks; place = s.place; table = s.table; forest = s.forest; rest = s.rest; entered = s.entered; marks = s.marks; known = s.known; blank = s.blank }
+with_task t s = record { tasks = t ∷ s.tasks; place = s.place; table = s.table; forest = s.forest; rest = s.rest; entered = s.entered; setting = s.setting; known = s.known; blank = s.blank }
 
 -- other marks
 abbrev pub with_marks : List ℕ → State → State
-with_marks marks s = record { tasks = s.tasks; place = s.place; table = s.table; forest = s.forest; rest = s.rest; entered = s.entered; marks = marks; known = s.known; blank = s.blank }
+with_marks marks s = record { tasks = s.tasks; place = s.place; table = s.table; forest = s.forest; rest = s.rest; entered = s.entered; setting = under_marks marks s.setting; known = s.known; blank = s.blank }
+
+-- the trees are loose, or they aren't
+abbrev pub with_loose : Bool → State → State
+with_loose loose s = record { tasks = s.tasks; place = s.place; table = s.table; forest = s.forest; rest = s.rest; entered = s.entered; setting = loosened loose s.setting; known = s.known; blank = s.blank }
 
 -- the trees and the table changed
 abbrev pub with_forest : List Tree → Table → State → State
-with_forest forest table s = record { tasks = s.tasks; place = s.place; table = table; forest = forest; rest = s.rest; entered = s.entered; marks = s.marks; known = s.known; blank = s.blank }
+with_forest forest table s = record { tasks = s.tasks; place = s.place; table = table; forest = forest; rest = s.rest; entered = s.entered; setting = s.setting; known = s.known; blank = s.blank }
 
 -- the rules that are open changed
 abbrev pub with_entered : List ℕ → State → State
-with_entered entered s = record { tasks = s.tasks; place = s.place; table = s.table; forest = s.forest; rest = s.rest; entered = entered; marks = s.marks; known = s.known; blank = s.blank }
+with_entered entered s = record { tasks = s.tasks; place = s.place; table = s.table; forest = s.forest; rest = s.rest; entered = entered; setting = s.setting; known = s.known; blank = s.blank }
 
 -- what is known of rules changed
-abbrev pub with_known : List (Option ℕ) → State → State
-with_known known s = record { tasks = s.tasks; place = s.place; table = s.table; forest = s.forest; rest = s.rest; entered = s.entered; marks = s.marks; known = known; blank = s.blank }
+abbrev pub with_known : List (Option Known) → State → State
+with_known known s = record { tasks = s.tasks; place = s.place; table = s.table; forest = s.forest; rest = s.rest; entered = s.entered; setting = s.setting; known = known; blank = s.blank }
 
 -- what is known of nodes changed
 abbrev pub with_blank : List (Option ℕ) → State → State
-with_blank blank s = record { tasks = s.tasks; place = s.place; table = s.table; forest = s.forest; rest = s.rest; entered = s.entered; marks = s.marks; known = s.known; blank = blank }
+with_blank blank s = record { tasks = s.tasks; place = s.place; table = s.table; forest = s.forest; rest = s.rest; entered = s.entered; setting = s.setting; known = s.known; blank = blank }
 
 -- an item was taken
 abbrev pub after_item : List TrailItem → State → State
-after_item rest s = record { tasks = s.tasks; place = s.place; table = s.table; forest = s.forest; rest = rest; entered = []; marks = s.marks; known = s.known; blank = s.blank }
+after_item rest s = record { tasks = s.tasks; place = s.place; table = s.table; forest = s.forest; rest = rest; entered = []; setting = s.setting; known = s.known; blank = s.blank }
 
 -- at another place, where no rule is open unless it is the same
 abbrev pub moved_to : ℕ → State → State
-moved_to place s = record { tasks = s.tasks; place = place; table = s.table; forest = s.forest; rest = s.rest; entered = if s.place == place then s.entered else []; marks = s.marks; known = s.known; blank = s.blank }
+moved_to place s = record { tasks = s.tasks; place = place; table = s.table; forest = s.forest; rest = s.rest; entered = if s.place == place then s.entered else []; setting = s.setting; known = s.known; blank = s.blank }
 
 -- without the newest, if there is one
 abbrev pub without_newest : List ℕ → List ℕ
@@ -114,4 +135,4 @@ without_newest (newest ∷ others) = others
 
 -- other tasks
 abbrev pub with_tasks : List OnTask → State → State
-with_tasks tasks s = record { tasks = tasks; place = s.place; table = s.table; forest = s.forest; rest = s.rest; entered = s.entered; marks = s.marks; known = s.known; blank = s.blank }
+with_tasks tasks s = record { tasks = tasks; place = s.place; table = s.table; forest = s.forest; rest = s.rest; entered = s.entered; setting = s.setting; known = s.known; blank = s.blank }

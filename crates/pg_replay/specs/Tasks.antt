@@ -1,5 +1,5 @@
 -- What one task does to what was derived so far.
-use Rattle.std.specs.Prelude.{◌+◌, ◌-◌, ◌==◌, ◌&&◌, not, if◌then◌else◌, ℕ, List, [], ◌∷◌, ◌++◌, Bool, true, false, Option, Some, None, slice_get, length, take, drop, map, set}
+use Rattle.std.specs.Prelude.{◌+◌, ◌-◌, ◌==◌, ◌&&◌, ◌||◌, not, if◌then◌else◌, ℕ, List, [], ◌∷◌, ◌++◌, Bool, true, false, Option, Some, None, slice_get, length, take, drop, map, set}
 use Rattle.std.specs.List.{list_any}
 use Rattle.std.specs.Str.{bytes_eq, encode_utf8_all}
 use Rattle.pg_tree.specs.Trees.{Tree}
@@ -36,7 +36,8 @@ use Rattle.pg_language.specs.Runs.{run_at, past_run, stands_at}
 use Rattle.pg_language.specs.Declarations.{Declaration, no_keyword, no_digit, no_symbol, declared, declaration_at}
 use Rattle.pg_language.specs.Derives.{leaf_of, declaration_tree, made_by}
 use Rattle.pg_replay.specs.declared.fault.Mismatch.TheVariants.{ItemDiffers, TextDiffers, NotAdmitted}
-pub use Rattle.pg_replay.specs.States.{Chain, OnTask, node, parts, rounds, more_rounds, links, operand, fold, marked, operator_symbol, application, unmark, close, leave, State, Turn, on, stops, ended, told, with_task, with_marks, with_forest, with_entered, with_known, with_blank, after_item, moved_to, without_newest, with_tasks}
+use Rattle.pg_replay.specs.declared.replayer.Known.{Known}
+pub use Rattle.pg_replay.specs.States.{Chain, OnTask, node, parts, rounds, more_rounds, links, operand, settle, fold, marked, operator_symbol, application, unmark, close, leave, Setting, under_marks, loosened, State, Turn, on, stops, ended, told, with_task, with_marks, with_loose, with_forest, with_entered, with_known, with_blank, after_item, moved_to, without_newest, with_tasks}
 
 -- ---- leaves
 
@@ -122,11 +123,23 @@ many_turn p (Alt k ∷ rest) s = stops ItemDiffers s.place s.rest
 many_turn p (Rounds n ∷ rest) s = on (with_task (rounds p n) (after_item rest s))
 many_turn p (Ops o ∷ rest) s = stops ItemDiffers s.place s.rest
 
+-- whether the shape joins texts to a leaf
+abbrev pub joins : Shape → Bool
+joins (shaped.Node label) = false
+joins shaped.Symbol = false
+joins shaped.Join = true
+joins (shaped.Flat label) = false
+
+-- whether the trees of a chain are loose in it: where there is a round, nothing but their text comes into what is joined
+abbrev pub joins_rounds : Chain → ℕ → Bool
+joins_rounds c n = not (n == 0) && joins c.used.shape
+
 -- the first operand, and then the rounds
 abbrev pub chain_turn : Chain → List TrailItem → State → Turn
 chain_turn c [] s = stops ItemDiffers s.place s.rest
 chain_turn c (Alt k ∷ rest) s = stops ItemDiffers s.place s.rest
-chain_turn c (Rounds n ∷ rest) s = on (with_task (node c.part) (with_task (links c n (length s.forest)) (after_item rest s)))
+chain_turn c (Rounds n ∷ rest) s =
+    on (with_task (node c.part) (with_loose (joins_rounds c n || s.setting.loose) (with_task (links c n (length s.forest)) (with_task (settle s.setting.loose) (after_item rest s)))))
 chain_turn c (Ops o ∷ rest) s = stops ItemDiffers s.place s.rest
 
 -- ---- expressions
@@ -138,12 +151,30 @@ step_task builders p (an_application o) = application builders o
 
 -- the tasks come before the others
 abbrev pub with_steps : OperatorBuilders → ℕ → List Step → State → State
-with_steps builders p steps s = record { tasks = map (step_task builders p) steps ++ s.tasks; place = s.place; table = s.table; forest = s.forest; rest = s.rest; entered = s.entered; marks = s.marks; known = s.known; blank = s.blank }
+with_steps builders p steps s = record { tasks = map (step_task builders p) steps ++ s.tasks; place = s.place; table = s.table; forest = s.forest; rest = s.rest; entered = s.entered; setting = s.setting; known = s.known; blank = s.blank }
+
+abbrev pub builder_on : Fixity → OperatorBuilders → BuilderUse
+builder_on fixity.Prefix builders = builders.prefix
+builder_on fixity.Infix builders = builders.infix
+builder_on fixity.Postfix builders = builders.postfix
+
+-- whether the step applies an operator whose builder joins
+abbrev pub joins_step : OperatorBuilders → Step → Bool
+joins_step builders a_term = false
+joins_step builders (a_symbol o) = false
+joins_step builders (an_application o) = joins (builder_on o.fixity builders).shape
+
+-- whether the last step does, so that nothing but the text of the terms comes into what is made
+abbrev pub joins_last : OperatorBuilders → List Step → Bool
+joins_last builders [] = false
+joins_last builders (step ∷ []) = joins_step builders step
+joins_last builders (step ∷ next ∷ steps) = joins_last builders (next ∷ steps)
 
 -- the steps of the tree that fits, if there is one
 abbrev pub steps_turn : OperatorBuilders → ℕ → Option (List Step) → List TrailItem → State → Turn
 steps_turn builders p None rest s = stops ItemDiffers s.place s.rest
-steps_turn builders p (Some steps) rest s = on (with_steps builders p steps (with_task unmark (after_item rest s)))
+steps_turn builders p (Some steps) rest s =
+    on (with_steps builders p steps (with_loose (joins_last builders steps || s.setting.loose) (with_task unmark (with_task (settle s.setting.loose) (after_item rest s)))))
 
 -- they are looked for where the grammar has operators
 abbrev pub operators_turn : Option OperatorsItem → OperatorBuilders → ℕ → List AppliedOperator → List TrailItem → State → Turn
@@ -167,11 +198,6 @@ ended_turn (Some j) s = on (moved_to j s)
 abbrev pub symbol_turn : Grammar → List ℕ → Option OperatorsItem → AppliedOperator → State → Turn
 symbol_turn g text None o s = stops TextDiffers s.place s.rest
 symbol_turn g text (Some item) o s = ended_turn (operator_end g text item o.symbol s.place) s
-
-abbrev pub builder_on : Fixity → OperatorBuilders → BuilderUse
-builder_on fixity.Prefix builders = builders.prefix
-builder_on fixity.Infix builders = builders.infix
-builder_on fixity.Postfix builders = builders.postfix
 
 -- the newest, if there is one
 abbrev pub first_mark : List ℕ → ℕ
@@ -197,7 +223,7 @@ abbrev pub applied_under : OperatorBuilders → AppliedOperator → List ℕ →
 applied_under builders o marks s = with_marks marks (with_forest (applied_after builders o (first_mark marks) s.forest) s.table s)
 
 abbrev pub application_turn : OperatorBuilders → AppliedOperator → State → Turn
-application_turn builders o s = on (applied_under builders o (marks_after o.fixity s.marks) s)
+application_turn builders o s = on (applied_under builders o (marks_after o.fixity s.setting.marks) s)
 
 -- ---- rules
 
@@ -211,9 +237,15 @@ is_place i None = false
 is_place i (Some None) = false
 is_place i (Some (Some j)) = j == i
 
--- whether the rule's body is known to take nothing here and to give no tree
+-- whether it is known that nothing is taken at this place, and no tree is given, unless trees are loose
+abbrev pub is_known_at : ℕ → Bool → Option (Option Known) → Bool
+is_known_at i loose None = false
+is_known_at i loose (Some None) = false
+is_known_at i loose (Some (Some known)) = (known.place == i) && (known.empty || loose)
+
+-- whether the rule's body is known to take nothing here and to give no tree that can't be left out
 abbrev pub is_known : ℕ → State → Bool
-is_known r s = is_place s.place (slice_get s.known r)
+is_known r s = is_known_at s.place s.setting.loose (slice_get s.known r)
 
 -- a body that is known to take nothing isn't gone along again
 abbrev pub rule_turn : ℕ → Option declared.Rule → State → Turn
@@ -224,17 +256,19 @@ rule_turn r (Some named) s = if is_known r s then on s
 
 -- ---- forms around a part
 
+-- whether the trees of the part are loose in the form, as nothing but their text comes into what it makes
+abbrev pub loosens : Around → Bool
+loosens kind.Try = false
+loosens kind.Text = true
+loosens kind.Skip = true
+loosens (kind.Build used symbol) = joins used.shape
+loosens (kind.Label message) = false
+loosens kind.Local = false
+
 -- a form that is known to take nothing here and to make an empty leaf of it isn't gone along again
 abbrev pub around_turn : Around → (node part : ℕ) → State → Turn
 around_turn k p q s = if is_place s.place (slice_get s.blank p) then on (with_forest (s.forest ++ leaf_of [] ∷ []) s.table s)
-    else on (with_task (node q) (with_task (close k p s.place (length s.forest) (length s.table.operators) (length s.rest)) s))
-
--- whether the shape joins texts to a leaf
-abbrev pub joins : Shape → Bool
-joins (shaped.Node label) = false
-joins shaped.Symbol = false
-joins shaped.Join = true
-joins (shaped.Flat label) = false
+    else on (with_task (node q) (with_loose (loosens k || s.setting.loose) (with_task (close k p s.place (length s.forest) (length s.table.operators) (length s.rest) s.setting.loose) s)))
 
 -- whether the form makes an empty leaf of a part that takes nothing
 abbrev pub makes_empty_leaf : Around → Bool
@@ -245,9 +279,13 @@ makes_empty_leaf (kind.Build used symbol) = joins used.shape
 makes_empty_leaf (kind.Label message) = false
 makes_empty_leaf kind.Local = false
 
+-- whether nothing was taken since then
+abbrev pub is_still : ℕ → ℕ → State → Bool
+is_still place items s = (place == s.place) && (items == length s.rest)
+
 -- what is known after the form at a node, whose part began there
 abbrev pub blank_after : Around → (node place items : ℕ) → State → List (Option ℕ)
-blank_after k p place items s = if makes_empty_leaf k && ((place == s.place) && (items == length s.rest)) then set s.blank p (Some s.place) else s.blank
+blank_after k p place items s = if makes_empty_leaf k && is_still place items s then set s.blank p (Some s.place) else s.blank
 
 abbrev pub form_turn : Grammar → List ℕ → ℕ → Node → State → Turn
 form_turn g text p (form.Leaf l) s = leaf_turn g text l s
@@ -270,17 +308,21 @@ parts_turn (p ∷ ps) s = on (with_task (node p) (with_task (parts ps) s))
 abbrev pub rounds_turn : ℕ → ℕ → State → Turn
 rounds_turn p n s = if n == 0 then on s else on (with_task (node p) (with_task (more_rounds p (n - 1) s.place (length s.forest) (length s.rest)) s))
 
--- whether nothing was taken, and no tree was given, since then
+-- whether nothing was taken since then, and no tree was given that can't be left out
 abbrev pub is_unchanged : ℕ → ℕ → ℕ → State → Bool
-is_unchanged place trees items s = (place == s.place) && ((trees == length s.forest) && (items == length s.rest))
+is_unchanged place trees items s = is_still place items s && ((trees == length s.forest) || s.setting.loose)
 
 -- where a round takes and gives nothing, the others do so too
 abbrev pub more_turn : (part left place trees items : ℕ) → State → Turn
 more_turn p n place trees items s = if is_unchanged place trees items s then on s else rounds_turn p n s
 
+-- what is known of a body that took nothing: where trees are loose, it may have given some that were left out
+abbrev pub known_now : ℕ → State → Known
+known_now trees s = record { place = s.place; empty = not s.setting.loose && (trees == length s.forest) }
+
 -- what is known after a body that began there
-abbrev pub known_after : (rule place trees items : ℕ) → State → List (Option ℕ)
-known_after r place trees items s = if is_unchanged place trees items s then set s.known r (Some s.place) else s.known
+abbrev pub known_after : (rule place trees items : ℕ) → State → List (Option Known)
+known_after r place trees items s = if is_still place items s then set s.known r (Some (known_now trees s)) else s.known
 
 abbrev pub leave_turn : (rule place trees items : ℕ) → State → Turn
 leave_turn r place trees items s = on (with_known (known_after r place trees items s) (with_entered (without_newest s.entered) s))
@@ -315,9 +357,9 @@ closed_table kind.Local operators table = first_operators operators table
 abbrev pub closed_forest : Around → List ℕ → ℕ → ℕ → ℕ → List Tree → List Tree
 closed_forest k text from to trees forest = take trees forest ++ made_by k text from to (drop trees forest)
 
-abbrev pub close_turn : List ℕ → Around → (node place trees operators items : ℕ) → State → Turn
-close_turn text k p place trees operators items s =
-    on (with_blank (blank_after k p place items s) (with_forest (closed_forest k text place s.place trees s.forest) (closed_table k operators s.table) s))
+abbrev pub close_turn : List ℕ → Around → (node place trees operators items : ℕ) → (loose : Bool) → State → Turn
+close_turn text k p place trees operators items loose s =
+    on (with_loose loose (with_blank (blank_after k p place items s) (with_forest (closed_forest k text place s.place trees s.forest) (closed_table k operators s.table) s)))
 
 -- doing the task, after which the others are left
 abbrev pub turn : Grammar → List ℕ → OnTask → State → Turn
@@ -327,12 +369,13 @@ turn g text (rounds p n) s = rounds_turn p n s
 turn g text (more_rounds p n place trees items) s = more_turn p n place trees items s
 turn g text (links c n trees) s = links_turn c n trees s
 turn g text (operand c n trees) s = operand_turn c n trees s
+turn g text (settle loose) s = on (with_loose loose s)
 turn g text (fold used trees) s = fold_turn used trees s
-turn g text (close k p place trees operators items) s = close_turn text k p place trees operators items s
-turn g text (marked p) s = on (with_task (node p) (with_marks (length s.forest ∷ s.marks) s))
+turn g text (close k p place trees operators items loose) s = close_turn text k p place trees operators items loose s
+turn g text (marked p) s = on (with_task (node p) (with_marks (length s.forest ∷ s.setting.marks) s))
 turn g text (operator_symbol o) s = symbol_turn g text g.operators o s
 turn g text (application builders o) s = application_turn builders o s
-turn g text unmark s = on (with_marks (without_newest s.marks) s)
+turn g text unmark s = on (with_marks (without_newest s.setting.marks) s)
 turn g text (leave r place trees items) s = leave_turn r place trees items s
 
 -- doing the next task

@@ -2,7 +2,7 @@
 
 ghost use Rattle.std.specs.Prelude.{◌≡◌, ◌∷◌, ◌++◌, [], length, set, slice_get, Some, IfOk, OnOk};
 ghost use Rattle.pg_language.specs.Derives.{span};
-ghost use Rattle.pg_replay.specs.Tasks.{told, with_blank, is_place, around_turn, joins, makes_empty_leaf, blank_after, closed_table, closed_forest, close_turn};
+ghost use Rattle.pg_replay.specs.Tasks.{told, with_blank, is_place, around_turn, joins, loosens, makes_empty_leaf, blank_after, closed_table, closed_forest, close_turn};
 ghost use Rattle.pg_replay.specs.View.{state_of};
 
 use crate::replayer::Replayer;
@@ -33,6 +33,7 @@ impl<'a> Replayer<'a> {
         let operators = self.table.operators().len();
         open_forest(alloc, around, &mut self.forest)?;
         self.push_close(node, around, operators)?;
+        self.set_loose(loosens(around) || self.loose);
         self.go_on(part)
     }
 
@@ -44,7 +45,7 @@ impl<'a> Replayer<'a> {
         closing: &Closing<'a>,
     ) -> Result<Option<Halt>, AllocError>
         ensures { IfOk result (λ halt. told halt (state_of self.new) ≡
-            close_turn text.now closing.now.around.now closing.now.node closing.now.place closing.now.trees closing.now.operators closing.now.items (state_of self.old)) }
+            close_turn text.now closing.now.around.now closing.now.node closing.now.place closing.now.trees closing.now.operators closing.now.items closing.now.loose (state_of self.old)) }
     {
         let Closing {
             around,
@@ -53,6 +54,7 @@ impl<'a> Replayer<'a> {
             trees,
             operators,
             items,
+            loose,
         } = closing;
         close_forest(
             alloc,
@@ -65,6 +67,7 @@ impl<'a> Replayer<'a> {
         )?;
         close_table(around, *operators, &mut self.table);
         self.note_blank(around, *node, *place, *items);
+        self.set_loose(*loose);
         Ok(None)
     }
 
@@ -72,7 +75,7 @@ impl<'a> Replayer<'a> {
     fn note_blank(&mut self, around: &Around, node: NodeId, place: usize, items: usize)
         ensures { state_of self.new ≡ with_blank (blank_after around.now node place items (state_of self.old)) (state_of self.old) }
     {
-        if makes_empty_leaf(around) && place == self.place && items == self.rest.len() {
+        if makes_empty_leaf(around) && self.is_still(place, items) {
             self.keep_blank(node);
         }
     }
@@ -98,6 +101,17 @@ impl<'a> Replayer<'a> {
     }
 }
 
+/// Whether the trees of the part are loose in the form, as nothing but their text comes into what it makes.
+fn loosens(around: &Around) -> bool
+    ensures { result ≡ loosens around.now }
+{
+    match around {
+        Around::Text | Around::Skip => true,
+        Around::Build(builder, _) => joins(&builder.shape),
+        Around::Try | Around::Label(_) | Around::Local => false,
+    }
+}
+
 /// Whether the form makes an empty leaf of a part that takes nothing.
 fn makes_empty_leaf(around: &Around) -> bool
     ensures { result ≡ makes_empty_leaf around.now }
@@ -110,7 +124,7 @@ fn makes_empty_leaf(around: &Around) -> bool
 }
 
 /// Whether the shape joins texts to a leaf.
-fn joins(shape: &Shape) -> bool
+pub(crate) fn joins(shape: &Shape) -> bool
     ensures { result ≡ joins shape.now }
 {
     match shape {

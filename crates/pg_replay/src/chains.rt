@@ -1,9 +1,10 @@
 //! Chains: an operand, and then rounds of a separator and an operand, whose trees are folded from a side.
 
 ghost use Rattle.std.specs.Prelude.{◌≡◌, IfOk, OnOk};
-ghost use Rattle.pg_replay.specs.Tasks.{on, told, with_links, chain_turn, links_turn, operand_turn, fold_turn};
+ghost use Rattle.pg_replay.specs.Tasks.{on, told, with_links, joins_rounds, chain_turn, links_turn, operand_turn, fold_turn};
 ghost use Rattle.pg_replay.specs.View.{state_of, chain_of};
 
+use crate::around::joins;
 use crate::fault::Mismatch;
 use crate::replayer::Replayer;
 use crate::step::{build, build_stretch};
@@ -26,7 +27,9 @@ impl<'a> Replayer<'a> {
                 let (left, trees) = (*left, self.forest.len());
                 self.take_item(rest);
                 self.forest.open(alloc)?;
+                self.push_settle(self.loose)?;
                 self.push_links(chain, left, trees)?;
+                self.set_loose(joins_rounds(chain, left) || self.loose);
                 self.go_on(chain.part)
             }
             Some((TrailItem::Alt(_) | TrailItem::Ops(_), _)) | None => Ok(Some(Halt::Stopped(
@@ -107,4 +110,11 @@ impl<'a> Replayer<'a> {
         }
         Ok(None)
     }
+}
+
+/// Whether the trees of the chain are loose in it: where there is a round, nothing but their text comes into what is joined.
+fn joins_rounds(chain: &Chain, left: usize) -> bool
+    ensures { result ≡ joins_rounds (chain_of chain.now) left }
+{
+    left != 0 && joins(&chain.used.shape)
 }

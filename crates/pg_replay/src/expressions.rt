@@ -2,9 +2,10 @@
 
 ghost use Rattle.std.specs.Prelude.{◌≡◌, IfOk, OnOk, map, reverse};
 ghost use Rattle.pg_fitting.specs.Judge.{step_of};
-ghost use Rattle.pg_replay.specs.Tasks.{told, step_task, with_task, with_steps, operators_turn, expression_turn, symbol_turn, ended_turn, operator_end, builder_on, marks_after, built_after, applied_under, application_turn, with_forest, with_marks, without_newest, first_mark};
+ghost use Rattle.pg_replay.specs.Tasks.{told, step_task, with_task, with_steps, operators_turn, expression_turn, symbol_turn, ended_turn, operator_end, builder_on, joins_step, joins_last, marks_after, built_after, applied_under, application_turn, with_forest, with_marks, without_newest, first_mark};
 ghost use Rattle.pg_replay.specs.View.{state_of};
 
+use crate::around::joins;
 use crate::fault::Mismatch;
 use crate::operators::{operator_end, utf8};
 use crate::replayer::Replayer;
@@ -55,7 +56,9 @@ impl<'a> Replayer<'a> {
         match fitting_steps(alloc, &self.table, read)? {
             Some(steps) => {
                 self.take_item(rest);
+                self.push_settle(self.loose)?;
                 self.push_unmark()?;
+                self.set_loose(joins_last(builders, steps.as_slice()) || self.loose);
                 self.push_steps(builders, part, steps)?;
                 Ok(None)
             }
@@ -183,5 +186,27 @@ fn builder_on(fixity: Fixity, builders: &OperatorBuilders) -> &BuilderUse
         Fixity::Prefix => &builders.prefix,
         Fixity::Infix => &builders.infix,
         Fixity::Postfix => &builders.postfix,
+    }
+}
+
+/// Whether the last step applies an operator whose builder joins, so that nothing but the text of the terms comes into what is
+/// made.
+#[tactic(auto, using(crate::proofs::Steps::joins_by_last, crate::proofs::Steps::joins_by_none))]
+fn joins_last(builders: &OperatorBuilders, steps: &[Step]) -> bool
+    ensures { result ≡ joins_last builders.now (map step_of steps.now) }
+{
+    match steps.last() {
+        Some(step) => joins_step(builders, step),
+        None => false,
+    }
+}
+
+/// Whether the step does.
+fn joins_step(builders: &OperatorBuilders, step: &Step) -> bool
+    ensures { result ≡ joins_step builders.now (step_of step.now) }
+{
+    match step {
+        Step::Application(operator) => joins(&builder_on(operator.fixity, builders).shape),
+        Step::Term | Step::Symbol(_) => false,
     }
 }

@@ -1,7 +1,7 @@
 //! Repetitions: so many rounds of a node.
 
 ghost use Rattle.std.specs.Prelude.{◌≡◌, IfOk};
-ghost use Rattle.pg_replay.specs.Tasks.{told, many_turn, rounds_turn, is_unchanged, more_turn};
+ghost use Rattle.pg_replay.specs.Tasks.{told, many_turn, rounds_turn, is_still, is_unchanged, more_turn};
 ghost use Rattle.pg_replay.specs.View.{state_of};
 
 use crate::fault::Mismatch;
@@ -58,10 +58,17 @@ impl Replayer<'_> {
         self.round(part, left)
     }
 
-    /// Whether nothing was taken, and no tree was given, since then.
-    pub(crate) fn is_unchanged(&self, place: usize, trees: usize, items: usize) -> bool
+    /// Whether nothing was taken since then, and no tree was given that can't be left out.
+    fn is_unchanged(&self, place: usize, trees: usize, items: usize) -> bool
         ensures { result ≡ is_unchanged place trees items (state_of self.now) }
     {
-        place == self.place && trees == self.forest.len() && items == self.rest.len()
+        self.is_still(place, items) && (trees == self.forest.len() || self.loose)
+    }
+
+    /// Whether nothing was taken since then.
+    pub(crate) fn is_still(&self, place: usize, items: usize) -> bool
+        ensures { result ≡ is_still place items (state_of self.now) }
+    {
+        place == self.place && items == self.rest.len()
     }
 }

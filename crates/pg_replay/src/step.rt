@@ -84,6 +84,10 @@ impl<'a> Replayer<'a> {
                 };
                 self.operand(alloc, &chain, left, trees)
             }
+            Task::Settle(loose) => {
+                self.set_loose(loose);
+                Ok(None)
+            }
             Task::Fold { side, used, trees } => self.fold(alloc, side, used, trees),
             Task::Term(part) => {
                 self.mark(alloc)?;
@@ -102,6 +106,7 @@ impl<'a> Replayer<'a> {
                 trees,
                 operators,
                 items,
+                loose,
             } => {
                 let closing = Closing {
                     around,
@@ -110,6 +115,7 @@ impl<'a> Replayer<'a> {
                     trees,
                     operators,
                     items,
+                    loose,
                 };
                 self.close(alloc, text, &closing)
             }
@@ -221,7 +227,7 @@ impl<'a> Replayer<'a> {
         }
     }
 
-    /// A rule is entered, unless it is known to take nothing here and to give no tree, or it is open.
+    /// A rule is entered, unless it is known to take nothing here and to give no tree that can't be left out, or it is open.
     fn enter_rule(&mut self, grammar: &'a Grammar, rule: RuleId) -> Result<Option<Halt>, AllocError>
         ensures { IfOk result (λ halt. told halt (state_of self.new) ≡
             rule_turn rule (slice_get grammar.now.rules rule) (state_of self.old)) }
@@ -242,12 +248,13 @@ impl<'a> Replayer<'a> {
         }
     }
 
-    /// The rule's body ends: where it took nothing and gave no tree, that is known from then on.
+    /// The rule's body ends: where it took nothing, that is known from then on, and whether it gave no tree.
     fn leave(&mut self, rule: RuleId, place: usize, trees: usize, items: usize)
         ensures { on (state_of self.new) ≡ leave_turn rule place trees items (state_of self.old) }
     {
-        if self.is_unchanged(place, trees, items) {
-            self.keep(rule);
+        if self.is_still(place, items) {
+            let empty = !self.loose && trees == self.forest.len();
+            self.keep(rule, empty);
         }
         self.leave_body();
     }

@@ -14,7 +14,7 @@ pub struct Chain<'a> {
 }
 
 /// A form around a part: its node, the place where the part began, with so many trees and operators before it and so many items
-/// left.
+/// left, and whether trees are loose after it.
 #[derive(Drop)]
 pub struct Closing<'a> {
     pub around: &'a Around,
@@ -23,6 +23,7 @@ pub struct Closing<'a> {
     pub trees: usize,
     pub operators: usize,
     pub items: usize,
+    pub loose: bool,
 }
 
 /// What is left to do: a node, or the rest of one that was entered.
@@ -63,6 +64,8 @@ pub enum Task<'a> {
         left: usize,
         trees: usize,
     },
+    /// From here on trees are loose, or they aren't.
+    Settle(bool),
     /// The trees after so many are made into one; from the left that one is folded again.
     Fold {
         side: Side,
@@ -81,7 +84,7 @@ pub enum Task<'a> {
     /// The last operand ends the expression.
     Unmark,
     /// What the form at a node makes of its part, which began at the place, with so many trees and operators before it and so
-    /// many items left.
+    /// many items left; and whether trees are loose after it.
     Close {
         around: &'a Around,
         node: NodeId,
@@ -89,6 +92,7 @@ pub enum Task<'a> {
         trees: usize,
         operators: usize,
         items: usize,
+        loose: bool,
     },
     /// The body of a rule ends, which began at the place, with so many trees before it and so many items left.
     Leave {

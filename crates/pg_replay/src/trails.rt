@@ -103,6 +103,7 @@ fn begin<'a>(
         rest: trail.items(),
         entered: Vec::new(alloc),
         marks: Vec::new(alloc),
+        loose: false,
         known: vec![in alloc; None; grammar.rules().len()]?,
         blank: vec![in alloc; None; grammar.nodes().len()]?,
     };

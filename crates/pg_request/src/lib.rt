@@ -23,6 +23,11 @@ const HELP_OF_CHECK: &str =
 
 Example: pgw check examples/color.g";
 
+const HELP_OF_VERIFY: &str =
+    "Exit status: 0 accepted, 1 the certificate doesn't show that, 2 trouble (words or files that can't be used), 3 out of memory
+
+Example: pgw verify examples/digit.g examples/digit.certificate";
+
 const HELP_OF_PARSE: &str =
     "Exit status: 0 parsed, 1 findings or a parse error, 2 trouble (words or files that can't be used), 3 out of memory
 
@@ -51,9 +56,15 @@ Example: pgw sets examples/color.g";
 /// What is asked. The names of files are relative to the caller's folder.
 #[derive(Clone, Copy, Debug, PartialEq, Eq)]
 pub enum Request<'a> {
-    /// Say whether the grammar is accepted, or what is wrong with it.
+    /// Say whether the grammar is accepted, with its certificate if that is asked for, or what is wrong with it.
     Check {
         grammar: &'a str,
+        certificate: bool,
+    },
+    /// Say whether the certificate shows that the grammar is accepted, or why it doesn't.
+    Verify {
+        grammar: &'a str,
+        certificate: &'a str,
     },
     /// Parse the text by the grammar, and print the forest, and the trail of its derivation too.
     Parse {
@@ -108,6 +119,7 @@ fn with_reading_commands<'a>(
     program: Command<'a>,
 ) -> Result<Command<'a>, AllocError> {
     let program = with_command(program, check_command(alloc))?;
+    let program = with_command(program, verify_command(alloc))?;
     let program = with_command(program, parse_command(alloc))?;
     let program = with_command(program, probe_command(alloc))?;
     with_command(program, replay_command(alloc))
@@ -134,7 +146,20 @@ fn check_command<'a>(alloc: Global) -> Result<Command<'a>, AllocError> {
     Command::new(alloc, "check")
         .about("Says whether a grammar is accepted, or what is wrong with it, a line each")
         .after_help(HELP_OF_CHECK)
+        .arg(certificate(alloc))?
         .arg(file(alloc, "grammar", "The grammar file"))
+}
+
+fn verify_command<'a>(alloc: Global) -> Result<Command<'a>, AllocError> {
+    Command::new(alloc, "verify")
+        .about("Says whether a certificate shows that a grammar is accepted, whoever made it")
+        .after_help(HELP_OF_VERIFY)
+        .arg(file(alloc, "grammar", "The grammar file"))?
+        .arg(file(
+            alloc,
+            "certificate",
+            "The file with the certificate, as JSON",
+        ))
 }
 
 fn parse_command<'a>(alloc: Global) -> Result<Command<'a>, AllocError> {
@@ -173,6 +198,14 @@ fn with_grammar_and_text<'a>(
     command
         .arg(file(alloc, "grammar", "The grammar file"))?
         .arg(file(alloc, "text", "The file with the text, in UTF-8"))
+}
+
+/// The word that asks for the certificate.
+fn certificate<'a>(alloc: Global) -> Arg<'a> {
+    Arg::new(alloc, "certificate")
+        .long("certificate")
+        .action(ArgAction::SetTrue)
+        .help("Prints what shows that the grammar is accepted, as JSON")
 }
 
 /// The word that asks for the trail.
@@ -230,6 +263,11 @@ pub fn request_of<'a>(matches: &ArgMatches<'a>) -> Option<Request<'a>> {
     match name {
         "check" => Some(Request::Check {
             grammar: found.get_str("grammar")?,
+            certificate: found.get_flag("certificate"),
+        }),
+        "verify" => Some(Request::Verify {
+            grammar: found.get_str("grammar")?,
+            certificate: found.get_str("certificate")?,
         }),
         "parse" => parse_request(found),
         "probe" => probe_request(found),

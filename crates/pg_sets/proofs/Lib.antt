@@ -6,5 +6,5 @@ pub mod FlowSets
 pub mod Adding
 pub mod Origin
 pub mod OriginRounds
-pub mod Listing
+pub mod InOrder
 pub mod StartSets

@@ -34,8 +34,8 @@ pub(crate) fn flow_graph(
     Ok(graph)
 }
 
-/// The number of a node's follow set, where there are so many nodes.
-pub(crate) fn follow_of(count: usize, node: usize) -> usize
+/// The number of a node's follow set, where there are so many nodes: first sets have those of their nodes (ours).
+pub fn follow_of(count: usize, node: usize) -> usize
     requires { count ≤ 8192 }
     ensures { result ≡ follow_of count node }
 {
@@ -46,8 +46,9 @@ pub(crate) fn follow_of(count: usize, node: usize) -> usize
     }
 }
 
-/// Adds the edges that a node tells, which has this number. The only error is that memory ran out.
-fn join_node(
+/// Adds the edges that a node tells, which has this number: from a first or a follow set to one that contains it (ours). A use of a
+/// rule that isn't among these tells none. The only error is that memory ran out.
+pub fn join_node(
     graph: &mut [Numbers],
     rules: &[Rule],
     nullable: &[bool],

@@ -57,8 +57,8 @@ fn taken_sets(
     }
 }
 
-/// Adds a set that holds the own starts of a node. The only error is that memory ran out.
-fn add_own(
+/// Adds a set that holds these starts by itself (ours). The only error is that memory ran out.
+pub fn add_own(
     alloc: Global,
     origins: &mut BTreeMap<ListedStart, Numbers>,
     own: Vec<ListedStart>,
@@ -102,8 +102,9 @@ fn add_node(
     Ok(())
 }
 
-/// For each start that a node gives by itself the sets that hold it by themselves. The only error is that memory ran out.
-fn origins_of_nodes(
+/// For each start that a node gives by itself the sets that hold it by themselves: the node's own first set, and the follow set of the
+/// term of an expression (ours). The only error is that memory ran out.
+pub fn origins_of_nodes(
     alloc: Global,
     grammar: &Grammar,
     classes: &[Class],
@@ -138,13 +139,13 @@ fn add_end(
     Ok(())
 }
 
-/// The starts of a grammar in their order, each with the sets that hold it by themselves.
+/// Starts in their order, each with the sets that hold it by themselves.
 #[derive(Drop)]
-pub(crate) struct Listing {
+pub struct Listing {
     /// The starts.
-    pub(crate) starts: Vec<ListedStart>,
+    pub starts: Vec<ListedStart>,
     /// For each of them the numbers of the sets.
-    pub(crate) origins: Vec<Numbers>,
+    pub origins: Vec<Numbers>,
 }
 
 /// The starts of the grammar. The only error is that memory ran out.
@@ -158,8 +159,8 @@ pub(crate) fn listed_starts(alloc: Global, grammar: &Grammar) -> Result<Listing,
     listed(alloc, origins)
 }
 
-/// The starts of a map in their order, each with its sets. The only error is that memory ran out.
-fn listed(alloc: Global, origins: BTreeMap<ListedStart, Numbers>) -> Result<Listing, AllocError>
+/// The starts of a map in their order, each with its sets (ours). The only error is that memory ran out.
+pub fn listed(alloc: Global, origins: BTreeMap<ListedStart, Numbers>) -> Result<Listing, AllocError>
     ensures entries { IfOk result (λ listing. (listing.starts.items ≡ keys origins) × (listing.origins.items ≡ values origins)) }
     ensures ordered { IsOrdered start_order origins }
 {

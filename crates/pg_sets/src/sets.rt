@@ -65,6 +65,30 @@ impl Sets {
         })
     }
 
+    /// The sets with these marks, starts, first and follow sets, and with no head and no rank: whose they are is the caller's to say
+    /// (ours). The only error is that memory ran out.
+    pub fn of(
+        alloc: Global,
+        nullable: Vec<bool>,
+        starts: Vec<ListedStart>,
+        firsts: Vec<BitSet>,
+        follows: Vec<BitSet>,
+    ) -> Result<Sets, AllocError>
+        ensures { IfOk result (λ sets. sets ≡
+            record { nullable = nullable.items; starts = starts.items; firsts = firsts.items; follows = follows.items; heads = []; ranks = [] }) }
+    {
+        let none = BitSet::new(alloc, 0)?;
+        Ok(Sets {
+            nullable,
+            starts,
+            firsts,
+            follows,
+            heads: Vec::new(alloc),
+            ranks: Vec::new(alloc),
+            none,
+        })
+    }
+
     /// Whether the node can succeed on nothing.
     pub fn nullable(&self, node: NodeId) -> bool
         ensures { result ≡ is_marked self.now.nullable node }

@@ -1,5 +1,17 @@
+pub mod ReachedParts
 pub mod OnePass
 pub mod Locality
 pub mod Covered
 pub mod Enough
 pub mod Costly
+pub mod Standing
+pub mod EdgeLists
+pub mod EdgesSound
+pub mod EdgesComplete
+pub mod Coming
+pub mod SpreadBy
+pub mod Closing
+pub mod Judging
+pub mod Dearer
+pub mod SetsEnough
+pub mod Refuting

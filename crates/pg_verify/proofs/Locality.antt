@@ -1,11 +1,10 @@
 -- What the claims say of a node is found by its parts alone.
-use Rattle.std.proofs.Common.{◌≡◌, ◌<◌, ◌&&◌, ◌||◌, ◌+◌, ℕ, max, Bool, true, false, if◌then◌else◌, List, [], ◌∷◌, refl, ap, ap₂}
+use Rattle.std.proofs.Common.{◌≡◌, ◌<◌, ◌&&◌, ◌||◌, ◌+◌, ℕ, max, Bool, if◌then◌else◌, List, [], ◌∷◌, refl, ap, ap₂}
 use Rattle.std.specs.List.{list_all, list_any}
 use Rattle.pg_certificate.specs.declared.certificate.RuleClaim.{RuleClaim}
 use Rattle.pg_costs.specs.Costs.{tries_ended_string}
 use Rattle.pg_costs.specs.Steps.{steps_of_all, row_steps, cut_off}
 use Rattle.pg_form.specs.declared.form.Form.TheVariants as form
-use Rattle.pg_graph.specs.Marks.{is_marked}
 use Rattle.pg_heads.specs.Parts.{up_to_unmarked}
 use Rattle.pg_value.specs.Follows.{PartsFollow}
 use Rattle.pg_value.specs.Grammar.{Grammar}
@@ -13,6 +12,7 @@ use Rattle.pg_verify.specs.Cost.{cost_by}
 use Rattle.pg_verify.specs.Nullable.{nullable_by}
 use Rattle.pg_verify.specs.Rank.{greatest_of, rank_by}
 use Rattle.pg_verify.proofs.OnePass.{IsLocal}
+use Rattle.pg_verify.proofs.ReachedParts.{reached_after}
 
 -- two ways to number nodes agree behind this one
 abbrev Agree : {V : Type 0} → (ℕ → V) → (ℕ → V) → ℕ → Type 0
@@ -43,15 +43,6 @@ nullable_local claims f h k count (form.Around around part) same after = same pa
 greatest_local : (f h : ℕ → ℕ) (k count : ℕ) (ps : List ℕ) → Agree f h k → PartsFollow k count ps → greatest_of f ps ≡ greatest_of h ps
 greatest_local f h k count [] same after = refl
 greatest_local f h k count (p ∷ ps) same after = ap₂ (λ a b. max a b) (same p after.0.0) (greatest_local f h k count ps same after.1)
-
-if_further : (k count : ℕ) (ps : List ℕ) (b : Bool) → PartsFollow k count ps → PartsFollow k count (if b then ps else [])
-if_further k count ps true after = after
-if_further k count ps false after = tt
-
--- the parts that are reached are parts
-reached_after : (marks : List Bool) (k count : ℕ) (ps : List ℕ) → PartsFollow k count ps → PartsFollow k count (up_to_unmarked marks ps)
-reached_after marks k count [] after = tt
-reached_after marks k count (p ∷ ps) after = (after.0, if_further k count (up_to_unmarked marks ps) (is_marked marks p) (reached_after marks k count ps after.1))
 
 pub rank_local : (claims : List RuleClaim) (nullable : List Bool) → IsLocal (rank_by claims nullable)
 rank_local claims nullable f h k count (form.Leaf leaf) same after = refl

@@ -3,4 +3,16 @@ pub mod Nullable
 pub mod Rank
 pub mod Cost
 pub mod Covering
+pub mod Standing
+pub mod First
+pub mod Follow
+pub mod Edges
+pub mod SetsBy
+pub mod Lists
+pub mod Closed
 pub mod Holding
+pub mod Judged
+pub mod Verified
+pub mod Enough
+pub mod Refuted
+pub mod Texts

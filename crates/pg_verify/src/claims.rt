@@ -1,9 +1,9 @@
 //! What is claimed of a rule, by its number.
 
 ghost use Rattle.std.specs.Prelude.{◌≡◌};
-ghost use Rattle.pg_verify.specs.Claimed.{claimed_nullable, claimed_rank, claimed_cost};
+ghost use Rattle.pg_verify.specs.Claimed.{claimed_nullable, claimed_rank, claimed_cost, claimed_first, claimed_follow};
 
-use pg_certificate::RuleClaim;
+use pg_certificate::{ClaimedStart, RuleClaim};
 use pg_form::RuleId;
 
 /// Whether the rule is claimed to be nullable; one without a claim isn't.
@@ -33,5 +33,25 @@ pub fn claimed_cost(claims: &[RuleClaim], rule: RuleId) -> u64
     match claims.get(rule.index()) {
         Some(claim) => claim.cost,
         None => 0,
+    }
+}
+
+/// The starts that are claimed to be first of the rule; none of one without a claim.
+pub fn claimed_first(claims: &[RuleClaim], rule: usize) -> &[ClaimedStart]
+    ensures { result.now ≡ claimed_first claims.now rule }
+{
+    match claims.get(rule) {
+        Some(claim) => claim.first.as_slice(),
+        None => &[],
+    }
+}
+
+/// The starts that are claimed to follow the rule; none of one without a claim.
+pub fn claimed_follow(claims: &[RuleClaim], rule: usize) -> &[ClaimedStart]
+    ensures { result.now ≡ claimed_follow claims.now rule }
+{
+    match claims.get(rule) {
+        Some(claim) => claim.follow.as_slice(),
+        None => &[],
     }
 }

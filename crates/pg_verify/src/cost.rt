@@ -5,12 +5,13 @@
 ghost use Rattle.std.specs.Prelude.{◌≡◌, ◌≤◌, ◌↔◌, length, IfOk, IsTrue};
 ghost use Rattle.pg_costs.specs.Steps.{number_at, cut_off, steps_of_all};
 ghost use Rattle.pg_heads.specs.Parts.{up_to_unmarked};
+ghost use Rattle.pg_verify.specs.Claimed.{claimed_cost};
 ghost use Rattle.pg_verify.specs.Cost.{cost_by, AreCostsBy};
 
 use crate::claims::claimed_cost;
 use pg_certificate::{Certificate, RuleClaim};
 use pg_costs::{around_cost, leaf_steps, number_at, row_steps, steps_of_all};
-use pg_form::{Form, Node, NodeId};
+use pg_form::{Form, Node, NodeId, RuleId};
 use pg_graph::is_marked;
 use pg_value::{Grammar, Rule};
 use std::alloc::{AllocError, Global};
@@ -81,9 +82,9 @@ fn steps_of_reached(nullable: &[bool], steps: &[u64], parts: &[NodeId]) -> u64
     total
 }
 
-/// Whether the cost that is claimed of a rule holds: it is no less than that of its body.
-pub fn holds_cost(costs: &[u64], rule: &Rule, claim: &RuleClaim) -> bool
-    ensures { IsTrue result ↔ (number_at costs.now rule.now.body ≤ claim.now.cost) }
+/// Whether the cost that is claimed of the rule with this number holds: it is no less than that of its body.
+pub fn holds_cost(costs: &[u64], claims: &[RuleClaim], number: RuleId, rule: &Rule) -> bool
+    ensures { IsTrue result ↔ (number_at costs.now rule.now.body ≤ claimed_cost claims.now number) }
 {
-    number_at(costs, rule.body.index()) <= claim.cost
+    number_at(costs, rule.body.index()) <= claimed_cost(claims, number)
 }

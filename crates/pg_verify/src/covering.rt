@@ -52,7 +52,7 @@ fn is_same(claimed: &ListedStart, listed: &ListedStart) -> bool
 }
 
 /// Whether both are classes, of which the first contains the second.
-fn is_wider(claimed: &StartKind, kind: &StartKind) -> bool
+pub(crate) fn is_wider(claimed: &StartKind, kind: &StartKind) -> bool
     ensures { IsTrue result ↔ IsWiderClass claimed.now kind.now }
 {
     match claimed {

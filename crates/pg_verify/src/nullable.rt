@@ -6,11 +6,12 @@ ghost use Rattle.std.specs.Prelude.{◌≡◌, ◌↔◌, true, length, IfOk, Is
 ghost use Rattle.std.specs.List.{list_all, list_any};
 ghost use Rattle.pg_graph.specs.Marks.{is_marked};
 ghost use Rattle.pg_heads.specs.NodeMarks.{reads_nothing};
+ghost use Rattle.pg_verify.specs.Claimed.{claimed_nullable};
 ghost use Rattle.pg_verify.specs.Nullable.{nullable_by, AreNullableBy};
 
 use crate::claims::claimed_nullable;
 use pg_certificate::{Certificate, RuleClaim};
-use pg_form::{Form, Leaf, Node, NodeId, WordId};
+use pg_form::{Form, Leaf, Node, NodeId, RuleId, WordId};
 use pg_graph::is_marked;
 use pg_value::{Grammar, Rule};
 use std::alloc::{AllocError, Global};
@@ -81,9 +82,9 @@ fn one_is_marked(marks: &[bool], parts: &[NodeId]) -> bool
     parts.iter().any(|part| is_marked(marks, part.index()))
 }
 
-/// Whether what is claimed of a rule holds: where its body is nullable by the claims, it is claimed to be.
-pub fn holds_nullable(marks: &[bool], rule: &Rule, claim: &RuleClaim) -> bool
-    ensures { IsTrue result ↔ (is_marked marks.now rule.now.body ≡ true → claim.now.nullable ≡ true) }
+/// Whether what is claimed of the rule with this number holds: where its body is nullable by the claims, it is claimed to be.
+pub fn holds_nullable(marks: &[bool], claims: &[RuleClaim], number: RuleId, rule: &Rule) -> bool
+    ensures { IsTrue result ↔ (is_marked marks.now rule.now.body ≡ true → claimed_nullable claims.now number ≡ true) }
 {
-    !is_marked(marks, rule.body.index()) || claim.nullable
+    !is_marked(marks, rule.body.index()) || claimed_nullable(claims, number)
 }

@@ -6,12 +6,13 @@
 ghost use Rattle.std.specs.Prelude.{◌≡◌, ◌≤◌, ◌↔◌, length, IfOk, IsTrue};
 ghost use Rattle.pg_costs.specs.Steps.{number_at};
 ghost use Rattle.pg_heads.specs.Parts.{up_to_unmarked};
+ghost use Rattle.pg_verify.specs.Claimed.{claimed_rank};
 ghost use Rattle.pg_verify.specs.Rank.{greatest_of, rank_by, AreRanksBy};
 
 use crate::claims::claimed_rank;
 use pg_certificate::{Certificate, RuleClaim};
 use pg_costs::number_at;
-use pg_form::{Form, Node, NodeId};
+use pg_form::{Form, Node, NodeId, RuleId};
 use pg_graph::is_marked;
 use pg_value::{Grammar, Rule};
 use std::alloc::{AllocError, Global};
@@ -85,9 +86,9 @@ fn greatest_reached(nullable: &[bool], numbers: &[u64], parts: &[NodeId]) -> u64
     greatest
 }
 
-/// Whether the rank that is claimed of a rule holds: it is no less than the one that its body asks for.
-pub fn holds_rank(ranks: &[u64], rule: &Rule, claim: &RuleClaim) -> bool
-    ensures { IsTrue result ↔ (number_at ranks.now rule.now.body ≤ claim.now.rank) }
+/// Whether the rank that is claimed of the rule with this number holds: it is no less than the one that its body asks for.
+pub fn holds_rank(ranks: &[u64], claims: &[RuleClaim], number: RuleId, rule: &Rule) -> bool
+    ensures { IsTrue result ↔ (number_at ranks.now rule.now.body ≤ claimed_rank claims.now number) }
 {
-    number_at(ranks, rule.body.index()) <= claim.rank as u64
+    number_at(ranks, rule.body.index()) <= claimed_rank(claims, number) as u64
 }

@@ -18,4 +18,4 @@ returns-in-Ok-false g c =
 pub returns : goal.returns
 returns g c =
     IfOk-weaker c.print_report.result _ _
-    (λ status is. shown_fault_status _ _ c.in-Err.fault status c.in-Err.ensures.unchecked c.in-Err.ensures.parsed is) c.print_report.ensures
+    (λ status is. shown_fault_status _ _ c.in-Err.fault status c.in-Err.ensures.unchecked c.in-Err.ensures.parsed c.in-Err.ensures.no_certificate is) c.print_report.ensures

@@ -1,4 +1,4 @@
-use Rattle.std.proofs.Common.{◌≡◌, ◌≤◌, ℕ, length}
+use Rattle.std.proofs.Common.{◌≤◌, ℕ}
 use Rattle.pg_costs.specs.Rounds.{IsSized}
 use Rattle.pg_costs.proofs.sizes.fill_sizes.Given as goal
 

@@ -7,6 +7,7 @@ use Rattle.pg_derive.proofs.AcceptedTexts.{loses_none, accepted_rounds, accepted
 use Rattle.pg_machine.specs.CheckedRuns.{IsStartAnswer}
 use Rattle.pg_machine.specs.Halting.{Halts}
 use Rattle.pg_machine.proofs.HaltingRuns.{halts}
+use Rattle.pg_machine.proofs.FewSteps.{few_steps}
 use Rattle.pg_machine.proofs.Whole.{whole_if_ok, derived, refused}
 use Rattle.pg_machine.proofs.checked_run.run.Goals as goal
 
@@ -24,6 +25,14 @@ returns-clause-answer g c =
     let started : IsStartAnswer (given Library c.args.checked.now.grammar text) table c.in_ok-answer.answer =
     subst (λ (g : Grammar). IsStartAnswer (given Library g text) table c.in_ok-answer.answer) c.accepted-grammar.ensures.grammar c.in_ok-answer.ensures in
     whole_if_ok (given Library c.args.checked.now.grammar text) table c.in_ok-answer.answer c.whole_answer.result started c.whole_answer.ensures.outcome c.whole_answer.ensures.position c.whole_answer.ensures.steps
+
+pub returns-clause-steps : goal.returns-clause-steps
+returns-clause-steps g c =
+    IfOk-weaker c.whole_answer.result _ _
+    (λ a h.
+    few_steps (given Library c.args.checked.now.grammar c.args.text.now) c.args.checked.now.sets c.accepted-grammar.ensures.accepts c.args.checked.now.cost c.accepted-grammar.ensures.cost
+    c.args.table.now c.requires.table a h)
+    (returns-clause-answer g c)
 
 pub returns-clause-derived : goal.returns-clause-derived
 returns-clause-derived g c =

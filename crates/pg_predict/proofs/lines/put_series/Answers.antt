@@ -32,7 +32,7 @@ returns-in_err-put_answer-clause-prefix g c =
     let inside = subst (λ (m : ℕ). k < m) c.node_questions-question-end.ensures c.loop-question-test.true in
     on_err c.from_residual.result _
     (subst (λ (bs : List ℕ). AppendsPrefix (contents c.args.writer.now.inner) (contents c.put_answer.new.writer.inner) (c.args.buffer.now.items ++ bs))
-    (ap (lines_said source) (series_asked source.grammar source.judge p n j c.requires.source.facts c.requires.form))
+    (ap (lines_said source) (series_asked source.grammar source.judge p n j c.requires.source.facts.worked_out.suspects c.requires.form))
     (next_stopped (line_said source) (asked_node source.judge p n j) k (node_questions source.judge n j) (contents c.args.writer.now.inner) (contents c.loop-question.writer.inner)
     (contents c.put_answer.new.writer.inner) c.args.buffer.now.items c.loop-question.buffer.items inside c.loop-question.invariant.put c.in_err-put_answer.ensures.prefix))
 
@@ -48,5 +48,5 @@ returns-clause-ok g c =
     let all : c.loop-question.question ≡ c.node_questions-question-end.result = omega arith in
     subst (Puts (contents c.args.writer.now.inner) c.args.buffer.now.items (contents c.loop-question.writer.inner) c.loop-question.buffer.items)
     (ap (λ (m : ℕ). lines_said source (all_below (asked_node source.judge p n j) m)) (all ∙ c.node_questions-question-end.ensures)
-    ∙ ap (lines_said source) (series_asked source.grammar source.judge p n j c.requires.source.facts c.requires.form))
+    ∙ ap (lines_said source) (series_asked source.grammar source.judge p n j c.requires.source.facts.worked_out.suspects c.requires.form))
     c.loop-question.invariant.put

@@ -2,7 +2,7 @@ use Rattle.std.proofs.Common.{sym, subst}
 use Rattle.std.specs.BTreeMap.{keys}
 use Rattle.std.proofs.lemmas.Result.{IfOk-weaker}
 use Rattle.pg_sets.specs.Origins.{AreListed}
-use Rattle.pg_sets.proofs.Listing.{are_listed}
+use Rattle.pg_sets.proofs.InOrder.{are_listed}
 use Rattle.pg_sets.proofs.origins.listed_starts.Goals as goal
 
 pub returns : goal.returns

@@ -1,0 +1,19 @@
+-- What is told by judging a certificate of a grammar file, with a registry that offers predicates and builders.
+use Rattle.std.specs.Prelude.{◌≡◌, ℕ, List}
+use Rattle.pg_pred.specs.Offer.{Offer}
+use Rattle.pg_value.specs.Grammar.{Grammar}
+use Rattle.pg_making.specs.Spells.{SpellsWithinLimits}
+use Rattle.pg_verify.specs.Refuted.{IsVerified, IsRefuted}
+use Rattle.pg_verify.specs.Texts.{fault_text}
+use Rattle.pg_verify.specs.declared.fault.VerifyFault.{VerifyFault}
+
+-- the certificate shows that the grammar is accepted
+abbrev pub IsVerifiedFile : Offer → List ℕ → List ℕ → Type 0
+IsVerifiedFile offer file certificate = (g : Grammar) × SpellsWithinLimits offer file g × IsVerified g certificate
+
+-- it doesn't, and this is printed of the reason
+abbrev pub IsVerdict : Grammar → List ℕ → List ℕ → Type 0
+IsVerdict g certificate said = (fault : VerifyFault) × IsRefuted g certificate fault × (said ≡ fault_text g fault)
+
+abbrev pub IsVerdictOf : Offer → List ℕ → List ℕ → List ℕ → Type 0
+IsVerdictOf offer file certificate said = (g : Grammar) × SpellsWithinLimits offer file g × IsVerdict g certificate said

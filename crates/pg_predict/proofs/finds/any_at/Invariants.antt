@@ -1,7 +1,0 @@
-use Rattle.std.proofs.Common.{◌≡◌, []}
-use Rattle.pg_predict.specs.Judged.{all_below}
-use Rattle.pg_predict.specs.Questions.{node_series}
-use Rattle.pg_predict.proofs.finds.any_at.Given as goal
-
-abbrev pub invariant-loop-series : goal.invariant-loop-series
-invariant-loop-series l = all_below (node_series l.judge l.node l.form) l.series ≡ []

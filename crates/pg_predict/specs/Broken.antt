@@ -1,0 +1,49 @@
+-- The first condition that is broken, and where.
+use Rattle.std.specs.Prelude.{◌≡◌, ◌<◌, ℕ, [], ◌++◌, codes, List, length, Option, Some, None}
+use Rattle.std.specs.Fmt.{decimal}
+use Rattle.pg_value.specs.Grammar.{Grammar}
+use Rattle.pg_own_starts.specs.declared.listed.ListedStart.{ListedStart}
+use Rattle.pg_predict.specs.Conditions.{NodeFacts, ViolatesBy, IsFaultlessBy}
+use Rattle.pg_predict.specs.Findings.{condition_number, rule_of, name_of, number_in_rule}
+use Rattle.pg_predict.specs.Judged.{Facts, all_below, noted_at, noted_grammar}
+use Rattle.pg_predict.specs.Questions.{first_number}
+use Rattle.pg_predict.specs.declared.violation.Broken.{Broken}
+use Rattle.pg_predict.specs.declared.violation.ViolationKind.{ViolationKind}
+
+-- ---- by definition
+
+-- the condition is broken at a node; at no node before it is any, and at this one none of a smaller number
+pub record IsTheFirst (g : Grammar) (facts : NodeFacts) (broken : Broken) : Type 0 where
+  pub kind : ViolationKind ListedStart
+  pub violates : ViolatesBy g facts broken.node kind
+  pub number : broken.condition ≡ condition_number kind
+  pub node : broken.node < length g.nodes
+  pub none_before : (p : ℕ) (other : ViolationKind ListedStart) → p < broken.node → ViolatesBy g facts p other → ⊥
+  pub none_smaller : (other : ViolationKind ListedStart) → condition_number other < broken.condition → ViolatesBy g facts broken.node other → ⊥
+
+-- there is such a first one, or else nothing is wrong at any node
+abbrev pub IsFirstBroken : Grammar → NodeFacts → Option Broken → Type 0
+IsFirstBroken g facts None = IsFaultlessBy g facts
+IsFirstBroken g facts (Some broken) = IsTheFirst g facts broken
+
+-- ---- as it is noted
+
+-- nothing is noted before the node, and this is the number of what is noted there first
+pub record IsNotedFirst (g : Grammar) (facts : Facts) (broken : Broken) : Type 0 where
+  pub node : broken.node < length g.nodes
+  pub none_before : all_below (noted_at g facts) broken.node ≡ []
+  pub number : first_number (noted_at g facts broken.node) ≡ Some broken.condition
+
+abbrev pub IsFirstNoted : Grammar → Facts → Option Broken → Type 0
+IsFirstNoted g facts None = noted_grammar g facts ≡ []
+IsFirstNoted g facts (Some broken) = IsNotedFirst g facts broken
+
+-- ---- its text
+
+-- a condition's number, a rule's name, and a node's number in it
+abbrev pub condition_text : ℕ → List ℕ → ℕ → List ℕ
+condition_text condition name node = codes "C" ++ (decimal condition ++ (codes " " ++ (name ++ (codes ":" ++ decimal node))))
+
+-- those of a condition that is broken at a node of a grammar
+abbrev pub broken_text : Grammar → Broken → List ℕ
+broken_text g broken = condition_text broken.condition (name_of g.rules (rule_of g.rules broken.node)) (number_in_rule g.rules broken.node)

@@ -1,0 +1,42 @@
+-- What the claims of a grammar's own certificate say of its nodes.
+use Rattle.std.specs.Prelude.{◌≡◌, ℕ, Bool, true, List, Some, slice_get, length}
+use Rattle.pg_certificate.specs.declared.certificate.RuleClaim.{RuleClaim}
+use Rattle.pg_graph.specs.Marks.{is_marked}
+use Rattle.pg_heads.specs.Nullable.{Nullable}
+use Rattle.pg_least_certificate.specs.Least.{AreLeast}
+use Rattle.pg_own_starts.specs.declared.listed.ListedStart.{ListedStart}
+use Rattle.pg_sets.specs.First.{IsFirst}
+use Rattle.pg_sets.specs.Follow.{IsFollow}
+use Rattle.pg_sets.specs.Sets.{Sets, AreSets}
+use Rattle.pg_value.specs.Follows.{BodiesAreNodes}
+use Rattle.pg_value.specs.Grammar.{Grammar, IsGrammar}
+use Rattle.pg_value.specs.declared.grammar.Rule.{Rule}
+use Rattle.pg_verify.specs.Claimed.{claimed_nullable}
+use Rattle.pg_verify.specs.Closed.{IsFirstClosed, IsFollowClosed}
+use Rattle.pg_verify.specs.First.{IsFirstBy}
+use Rattle.pg_verify.specs.Follow.{IsFollowBy}
+use Rattle.pg_verify.specs.Nullable.{AreNullableBy}
+
+-- what is nullable by the claims is nullable, and starts that begin or follow a node by the claims do so by the least sets
+pub record SayNoMore (g : Grammar) (claims : List RuleClaim) (marks : List Bool) : Type 0 where
+  pub nullable : (p : ℕ) → is_marked marks p ≡ true → Nullable g p
+  pub first : (p : ℕ) (listed : ListedStart) → IsFirstBy g claims marks listed p → IsFirst g listed.start p
+  pub follow : (p : ℕ) (listed : ListedStart) → IsFollowBy g claims marks listed p → IsFollow g listed.start p
+
+-- the claims that a grammar's own sets make say no more of its nodes than is so
+abbrev pub OwnClaimsSayNoMore : Type 0
+OwnClaimsSayNoMore = (g : Grammar) (sets : Sets) (costs : List ℕ) (claims : List RuleClaim) → IsGrammar g → BodiesAreNodes (length g.nodes) g.rules → AreSets g sets
+    → AreLeast g sets costs 0 g.rules claims → (marks : List Bool) → AreNullableBy g claims marks → SayNoMore g claims marks
+
+-- what is claimed of a rule is closed: it is nullable if its body is by the claims, and whatever begins the body or stands behind its
+-- uses is covered
+pub record IsClosed (g : Grammar) (claims : List RuleClaim) (marks : List Bool) (r : ℕ) (rule : Rule) : Type 0 where
+  pub nullable : is_marked marks rule.body ≡ true → claimed_nullable claims r ≡ true
+  pub first : IsFirstClosed g claims marks r rule
+  pub follow : IsFollowClosed g claims marks r
+
+-- so it is where the claims are those that a grammar's own sets make
+abbrev pub OwnSetsAreClosed : Type 0
+OwnSetsAreClosed = (g : Grammar) (sets : Sets) (costs : List ℕ) (claims : List RuleClaim) → IsGrammar g → BodiesAreNodes (length g.nodes) g.rules → AreSets g sets
+    → AreLeast g sets costs 0 g.rules claims → (marks : List Bool) → AreNullableBy g claims marks → (r : ℕ) (rule : Rule) → slice_get g.rules r ≡ Some rule
+    → IsClosed g claims marks r rule

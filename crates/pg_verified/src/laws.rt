@@ -1,0 +1,23 @@
+//! What is so of every grammar with a certificate that is verified.
+//!
+//! A law is a function that does nothing when it runs: its clause is the law, and whoever calls it has the clause.
+
+ghost use Rattle.pg_verified.specs.Own.{OwnClaimsSayNoMore, OwnSetsAreClosed};
+ghost use Rattle.pg_verified.specs.Verified.{VerifiedGrammarsAreAccepted};
+
+/// The law that a grammar for which bytes are verified as a certificate is accepted by its least sets and its step cost too: whatever
+/// were wrong with it would be wrong by the claims, which are no less.
+pub fn verified_grammars_are_accepted()
+    ensures { VerifiedGrammarsAreAccepted }
+{}
+
+/// The law that the claims which a grammar's own sets make say no more of its nodes than is so: neither which are nullable, nor which
+/// starts begin and follow them. That bodies are nodes is what `Grammar::rules` ensures.
+pub fn own_claims_say_no_more()
+    ensures { OwnClaimsSayNoMore }
+{}
+
+/// The law that such claims are closed: of their five conditions those on nullable rules, first and follow sets hold.
+pub fn own_sets_are_closed()
+    ensures { OwnSetsAreClosed }
+{}

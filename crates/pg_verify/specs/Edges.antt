@@ -1,0 +1,59 @@
+-- Which sets are contained in which by the claims: as edges of a graph whose vertices are the first and the follow sets of nodes, and
+-- of each rule what is claimed to be first, what is claimed to follow, and what stands behind its uses.
+use Rattle.std.specs.Prelude.{◌+◌, ◌*◌, ℕ, suc, nat_lt, Bool, if◌then◌else◌, List, [], ◌∷◌, ◌++◌, replicate, length}
+use Rattle.pg_form.specs.Forms.{Node}
+use Rattle.pg_form.specs.declared.form.Form.TheVariants as form
+use Rattle.pg_sets.specs.Flows.{Flow, follow_of, with_flows, node_flows}
+use Rattle.pg_value.specs.Grammar.{Grammar}
+use Rattle.pg_value.specs.declared.grammar.Rule.{Rule}
+
+-- ---- the numbers of sets
+
+-- the three sets of rules
+abbrev pub of_first : ℕ
+of_first = 0
+
+abbrev pub of_follow : ℕ
+of_follow = 1
+
+abbrev pub of_behind : ℕ
+of_behind = 2
+
+-- The number of such a set of a rule, where there are so many nodes and rules: after those of the nodes' sets and one that is no set,
+-- which a rule has that isn't there.
+abbrev pub rule_set : ℕ → ℕ → ℕ → ℕ → ℕ
+rule_set count rules kind r = if nat_lt r rules then count + count + 1 + kind * rules + r else count + count
+
+-- ---- the edges
+
+-- those that a use of a rule tells: what is claimed to be first begins it, and what follows it stands behind the rule
+abbrev pub use_flows : ℕ → ℕ → ℕ → Node → List Flow
+use_flows count rules p (form.Leaf leaf) = []
+use_flows count rules p (form.Seq parts) = []
+use_flows count rules p (form.Choice parts) = []
+use_flows count rules p (form.Many part) = []
+use_flows count rules p (form.Chain side used operand separator) = []
+use_flows count rules p (form.Rule rule) = (rule_set count rules of_first rule, p) ∷ (follow_of count p, rule_set count rules of_behind rule) ∷ []
+use_flows count rules p (form.Expression builders term) = []
+use_flows count rules p (form.Around around part) = []
+
+-- those that a node tells, whose number is p
+abbrev pub claim_flows : List Bool → List Bool → ℕ → ℕ → ℕ → Node → List Flow
+claim_flows nullable keys count rules p n = node_flows [] nullable keys count p n ++ use_flows count rules p n
+
+-- what is claimed to follow a rule follows its body
+abbrev pub body_flows : ℕ → ℕ → ℕ → Rule → List Flow
+body_flows count rules r rule = (rule_set count rules of_follow r, follow_of count rule.body) ∷ []
+
+-- those of each of these things, the first having the number k
+abbrev pub flows_of_each : {A : Type 0} → (ℕ → A → List Flow) → ℕ → List A → List Flow
+flows_of_each flows k [] = []
+flows_of_each flows k (x ∷ xs) = flows k x ++ flows_of_each flows (suc k) xs
+
+-- the graph of the claims
+abbrev pub claim_graph : Grammar → List Bool → List Bool → List (List ℕ)
+claim_graph g nullable keys =
+    let count = length g.nodes in
+    let rules = length g.rules in
+    with_flows (with_flows (replicate (count + count + 1 + 3 * rules) []) (flows_of_each (claim_flows nullable keys count rules) 0 g.nodes))
+    (flows_of_each (body_flows count rules) 0 g.rules)

@@ -1,0 +1,181 @@
+//! All starts of the grammar and of the claims, each with the sets that hold it by themselves.
+//!
+//! What nodes give by themselves comes from `pg_sets`. What is claimed of a rule is held by its own two sets, and the end by what stands
+//! behind the start rule.
+
+ghost use Rattle.std.specs.Prelude.{◌≡◌, ◌↔◌, ◌⊎◌, ◌∷◌, ℕ, [], length, IfOk, OnOk};
+ghost use Rattle.pg_own_starts.specs.Listed.{IsListed};
+ghost use Rattle.pg_own_starts.specs.OperatorStarts.{AreOperatorStarts};
+ghost use Rattle.pg_own_starts.specs.Words.{AreClassesOf, AreWordClasses};
+ghost use Rattle.pg_own_starts.specs.declared.listed.ListedStart.{ListedStart};
+ghost use Rattle.pg_sets.specs.Origins.{HoldsIt, IsThere};
+ghost use Rattle.pg_start.specs.declared.kind.StartKind.{StartKind};
+ghost use Rattle.pg_value.specs.Grammar.{IsGrammar};
+ghost use Rattle.pg_verify.specs.Edges.{rule_set, of_behind};
+ghost use Rattle.pg_verify.specs.SetsBy.{AreListedBy, IsClaimOf, ClaimsBelow};
+ghost use Rattle.pg_verify.specs.Standing.{IsClaimedAs, ListsClaims};
+
+use crate::claims::{claimed_first, claimed_follow};
+use crate::edges::{BEHIND, FIRST, FOLLOW, rule_set};
+use crate::starts::starts_of_claims;
+use pg_certificate::{ClaimedStart, RuleClaim};
+use pg_class::Class;
+use pg_graph::Numbers;
+use pg_own_starts::{
+    ListedStart, OperatorStarts, WordClasses, classes_of_items, classes_of_words, operator_starts,
+};
+use pg_sets::{Listing, add_own, listed, origins_of_nodes};
+use pg_start::Start;
+use pg_value::Grammar;
+use std::alloc::{AllocError, Global};
+use std::collections::BTreeMap;
+
+/// The starts of the grammar and of the claims in their order, each with the sets that hold it by themselves. The only error is that
+/// memory ran out.
+pub(crate) fn claim_origins(
+    alloc: Global,
+    grammar: &Grammar,
+    claims: &[RuleClaim],
+) -> Result<Listing, AllocError>
+    ensures { IfOk result (λ listing. AreListedBy grammar.now claims.now listing.starts.items listing.origins.items) }
+{
+    let classes = classes_of_items(alloc, grammar.class_items())?;
+    let words = classes_of_words(alloc, grammar, classes.as_slice())?;
+    let operators = operator_starts(alloc, grammar)?;
+    let mut origins = origins_of_nodes(alloc, grammar, classes.as_slice(), words.as_slice())?;
+    add_claims(
+        alloc,
+        grammar,
+        classes.as_slice(),
+        words.as_slice(),
+        &operators,
+        claims,
+        &mut origins,
+    )?;
+    add_end(alloc, grammar, &mut origins)?;
+    listed(alloc, origins)
+}
+
+/// Adds what is claimed of each rule. The only error is that memory ran out.
+#[tactic(auto, using(crate::proofs::Coming::no_rules_yet, crate::proofs::Coming::rule_more, crate::proofs::Coming::there_more))]
+fn add_claims(
+    alloc: Global,
+    grammar: &Grammar,
+    classes: &[Class],
+    words: &[WordClasses],
+    operators: &Option<OperatorStarts>,
+    claims: &[RuleClaim],
+    origins: &mut BTreeMap<ListedStart, Numbers>,
+) -> Result<(), AllocError>
+    requires classes { AreClassesOf grammar.now classes.now }
+    requires words { AreWordClasses grammar.now words.now }
+    requires operators { AreOperatorStarts grammar.now operators.now }
+    ensures held { OnOk result ((other : ListedStart) (v : ℕ) →
+        HoldsIt origins.new other v ↔ (HoldsIt origins.old other v ⊎ ClaimsBelow grammar.now claims.now (length grammar.now.rules) other v)) }
+    ensures there { OnOk result ((other : ListedStart) → IsThere origins.new other → IsThere origins.old other ⊎ IsListed grammar.now other) }
+{
+    let rules = grammar.rules().len();
+    for rule in 0..rules {
+        add_rule(
+            alloc, grammar, classes, words, operators, claims, rule, origins,
+        )?;
+    }
+    Ok(())
+}
+
+/// Adds what is claimed of this rule. The only error is that memory ran out.
+#[tactic(auto, using(crate::proofs::Coming::rule_held, crate::proofs::Coming::there_more))]
+fn add_rule(
+    alloc: Global,
+    grammar: &Grammar,
+    classes: &[Class],
+    words: &[WordClasses],
+    operators: &Option<OperatorStarts>,
+    claims: &[RuleClaim],
+    rule: usize,
+    origins: &mut BTreeMap<ListedStart, Numbers>,
+) -> Result<(), AllocError>
+    requires classes { AreClassesOf grammar.now classes.now }
+    requires words { AreWordClasses grammar.now words.now }
+    requires operators { AreOperatorStarts grammar.now operators.now }
+    ensures held { OnOk result ((other : ListedStart) (v : ℕ) →
+        HoldsIt origins.new other v ↔ (HoldsIt origins.old other v ⊎ IsClaimOf grammar.now claims.now rule other v)) }
+    ensures there { OnOk result ((other : ListedStart) → IsThere origins.new other → IsThere origins.old other ⊎ IsListed grammar.now other) }
+{
+    let count = grammar.nodes().len();
+    let rules = grammar.rules().len();
+    let first = starts_of_claims(
+        alloc,
+        grammar,
+        classes,
+        words,
+        operators,
+        claimed_first(claims, rule),
+    )?;
+    let follow = starts_of_claims(
+        alloc,
+        grammar,
+        classes,
+        words,
+        operators,
+        claimed_follow(claims, rule),
+    )?;
+    add_starts(
+        alloc,
+        grammar,
+        claimed_first(claims, rule),
+        first,
+        rule_set(count, rules, FIRST, rule),
+        origins,
+    )?;
+    add_starts(
+        alloc,
+        grammar,
+        claimed_follow(claims, rule),
+        follow,
+        rule_set(count, rules, FOLLOW, rule),
+        origins,
+    )?;
+    Ok(())
+}
+
+/// Adds a set that holds the starts for which these claimed ones stand. The only error is that memory ran out.
+#[tactic(auto, using(crate::proofs::Coming::claims_held, crate::proofs::Coming::claims_there))]
+fn add_starts(
+    alloc: Global,
+    grammar: &Grammar,
+    claimed: &[ClaimedStart],
+    starts: Vec<ListedStart>,
+    set: usize,
+    origins: &mut BTreeMap<ListedStart, Numbers>,
+) -> Result<(), AllocError>
+    requires { ListsClaims grammar.now claimed.now starts.items }
+    ensures held { OnOk result ((other : ListedStart) (v : ℕ) →
+        HoldsIt origins.new other v ↔ (HoldsIt origins.old other v ⊎ (IsClaimedAs grammar.now claimed.now other × (set ≡ v)))) }
+    ensures there { OnOk result ((other : ListedStart) → IsThere origins.new other → IsThere origins.old other ⊎ IsListed grammar.now other) }
+{
+    add_own(alloc, origins, starts, set)?;
+    Ok(())
+}
+
+/// Adds the end, which stands behind the start rule. The only error is that memory ran out.
+fn add_end(
+    alloc: Global,
+    grammar: &Grammar,
+    origins: &mut BTreeMap<ListedStart, Numbers>,
+) -> Result<(), AllocError>
+    ensures held { OnOk result ((other : ListedStart) (v : ℕ) →
+        HoldsIt origins.new other v ↔ (HoldsIt origins.old other v
+        ⊎ ((◌≡◌ {A = ListedStart} (record { start = StartKind.End; word = 0 }) other)
+        × (rule_set (length grammar.now.nodes) (length grammar.now.rules) of_behind grammar.now.start ≡ v)))) }
+    ensures there { OnOk result ((other : ListedStart) → IsThere origins.new other → IsThere origins.old other ⊎ IsListed grammar.now other) }
+{
+    let count = grammar.nodes().len();
+    let rules = grammar.rules().len();
+    let mut ends = Vec::new(alloc);
+    let start = Start::end();
+    ends.push(ListedStart { start, word: 0 })?;
+    let behind = rule_set(count, rules, BEHIND, grammar.start_rule().index());
+    add_own(alloc, origins, ends, behind)?;
+    Ok(())
+}

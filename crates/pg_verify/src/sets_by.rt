@@ -1,0 +1,56 @@
+//! First and follow sets by the claims, and what is claimed of rules, as sets of numbers of starts.
+//!
+//! All starts of the grammar and of the claims stand in one list, each once and in their order. Sets are handed on along the edges
+//! (`edges`), from where starts come from (`origins`).
+
+ghost use Rattle.std.specs.Prelude.{IfOk};
+ghost use Rattle.pg_verify.specs.Lists.{lists_of};
+ghost use Rattle.pg_verify.specs.SetsBy.{AreSetsBy};
+
+use crate::edges::claim_graph;
+use crate::origins::claim_origins;
+use pg_bit_set::BitSet;
+use pg_certificate::Certificate;
+use pg_graph::spread;
+use pg_own_starts::{ListedStart, key_tries};
+use pg_value::Grammar;
+use std::alloc::{AllocError, Global};
+
+/// The starts of a grammar and of claims, and the sets of their numbers.
+#[derive(Debug, Drop)]
+pub struct ClaimedSets {
+    /// The starts in their order.
+    pub starts: Vec<ListedStart>,
+    /// For each node what can begin it by the claims.
+    pub firsts: Vec<BitSet>,
+    /// For each node what can follow it by the claims.
+    pub follows: Vec<BitSet>,
+    /// The sets of the rules, as `specs/SetsBy.antt` numbers them.
+    pub of_rules: Vec<BitSet>,
+}
+
+/// The sets by the claims, the nullable nodes being marked. The only error is that memory ran out.
+pub fn sets_by_claims(
+    alloc: Global,
+    grammar: &Grammar,
+    certificate: &Certificate,
+    nullable: &[bool],
+) -> Result<ClaimedSets, AllocError>
+    ensures { IfOk result (λ sets. AreSetsBy grammar.now certificate.now nullable.now (lists_of sets)) }
+{
+    let keys = key_tries(alloc, grammar)?;
+    let graph = claim_graph(alloc, grammar, nullable, keys.as_slice())?;
+    let listing = claim_origins(alloc, grammar, certificate.claims())?;
+    let count = grammar.nodes().len();
+    let mut firsts = spread(alloc, graph.as_slice(), listing.origins.as_slice())?;
+    prove!(count <= firsts.len());
+    let mut follows = firsts.split_off(count)?;
+    prove!(count <= follows.len());
+    let of_rules = follows.split_off(count)?;
+    Ok(ClaimedSets {
+        starts: listing.starts,
+        firsts,
+        follows,
+        of_rules,
+    })
+}

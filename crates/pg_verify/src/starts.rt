@@ -1,0 +1,135 @@
+//! The starts for which claimed ones stand.
+//!
+//! A claimed start that the grammar can't have, as a word of no item or a key without a character, stands for none.
+
+ghost use Rattle.std.specs.Prelude.{◌≡◌, ◌↔◌, ◌∷◌, [], IfOk};
+ghost use Rattle.pg_own_starts.specs.OperatorStarts.{AreBothStarts, AreOperatorStarts};
+ghost use Rattle.pg_own_starts.specs.Own.{IsAmong};
+ghost use Rattle.pg_own_starts.specs.Words.{AreClassesOf, AreWordClasses};
+ghost use Rattle.pg_own_starts.specs.declared.listed.ListedStart.{ListedStart};
+ghost use Rattle.pg_verify.specs.Standing.{StandsAs, ListsClaims};
+
+use pg_certificate::ClaimedStart;
+use pg_class::Class;
+use pg_form::{Form, Leaf};
+use pg_own_starts::{ListedStart, OperatorStarts, WordClasses, own_starts};
+use pg_start::Start;
+use pg_text::Characters;
+use pg_value::Grammar;
+use std::alloc::{AllocError, Global};
+
+/// The starts for which these claimed ones stand. The only error is that memory ran out.
+pub(crate) fn starts_of_claims(
+    alloc: Global,
+    grammar: &Grammar,
+    classes: &[Class],
+    words: &[WordClasses],
+    operators: &Option<OperatorStarts>,
+    claimed: &[ClaimedStart],
+) -> Result<Vec<ListedStart>, AllocError>
+    requires classes { AreClassesOf grammar.now classes.now }
+    requires words { AreWordClasses grammar.now words.now }
+    requires operators { AreOperatorStarts grammar.now operators.now }
+    ensures { IfOk result (λ starts. ListsClaims grammar.now claimed.now starts.items) }
+{
+    let mut starts = Vec::new(alloc);
+    for one in claimed {
+        let mut more = starts_of_claim(alloc, grammar, classes, words, operators, one)?;
+        starts.append(&mut more)?;
+    }
+    Ok(starts)
+}
+
+/// The starts for which a claimed one stands: one or none. The only error is that memory ran out.
+#[tactic(auto, using(crate::proofs::Standing::class_stands, crate::proofs::Standing::word_stands, crate::proofs::Standing::end_stands))]
+fn starts_of_claim(
+    alloc: Global,
+    grammar: &Grammar,
+    classes: &[Class],
+    words: &[WordClasses],
+    operators: &Option<OperatorStarts>,
+    claimed: &ClaimedStart,
+) -> Result<Vec<ListedStart>, AllocError>
+    requires classes { AreClassesOf grammar.now classes.now }
+    requires words { AreWordClasses grammar.now words.now }
+    requires operators { AreOperatorStarts grammar.now operators.now }
+    ensures { IfOk result (λ starts. (listed : ListedStart) → IsAmong starts.items listed ↔ StandsAs grammar.now claimed.now listed) }
+{
+    match claimed {
+        ClaimedStart::Class(class) => plain(alloc, Start::class(class)?),
+        ClaimedStart::Key(key, excluded) => key_starts(alloc, grammar, key, excluded),
+        ClaimedStart::Word(word) => {
+            own_starts(
+                alloc,
+                grammar,
+                classes,
+                words,
+                &Form::Leaf(Leaf::Word(*word)),
+            )
+        }
+        ClaimedStart::Operator => claimed_operators(alloc, grammar, operators),
+        ClaimedStart::End => plain(alloc, Start::end()),
+    }
+}
+
+/// The start of a key; none where it has no character.
+#[tactic(auto, using(crate::proofs::Standing::key_stands, crate::proofs::Standing::no_key_stands))]
+fn key_starts(
+    alloc: Global,
+    grammar: &Grammar,
+    key: &Characters,
+    excluded: &Class,
+) -> Result<Vec<ListedStart>, AllocError>
+    ensures { IfOk result (λ starts. (listed : ListedStart) → IsAmong starts.items listed ↔ StandsAs grammar.now (ClaimedStart.Key key.now excluded.now) listed) }
+{
+    if key.as_slice().is_empty() {
+        return Ok(Vec::new(alloc));
+    }
+    plain(alloc, Start::key(alloc, key.as_slice(), excluded)?)
+}
+
+/// The start of the operators; none where the grammar has no operators item.
+#[tactic(auto, using(crate::proofs::Standing::no_operator_stands))]
+fn claimed_operators(
+    alloc: Global,
+    grammar: &Grammar,
+    operators: &Option<OperatorStarts>,
+) -> Result<Vec<ListedStart>, AllocError>
+    requires { AreOperatorStarts grammar.now operators.now }
+    ensures { IfOk result (λ starts. (listed : ListedStart) → IsAmong starts.items listed ↔ StandsAs grammar.now ClaimedStart.Operator listed) }
+{
+    match operators {
+        Some(both) => operator_start(alloc, grammar, both),
+        None => Ok(Vec::new(alloc)),
+    }
+}
+
+/// The start of the operators, of these.
+fn operator_start(
+    alloc: Global,
+    grammar: &Grammar,
+    both: &OperatorStarts,
+) -> Result<Vec<ListedStart>, AllocError>
+    requires { AreBothStarts grammar.now both.now }
+    ensures { IfOk result (λ starts. (listed : ListedStart) → IsAmong starts.items listed ↔ StandsAs grammar.now ClaimedStart.Operator listed) }
+{
+    let operator = both.operator.copy(alloc)?;
+    let starts = one(alloc, operator)?;
+    Ok(starts)
+}
+
+/// One start.
+fn one(alloc: Global, listed: ListedStart) -> Result<Vec<ListedStart>, AllocError>
+    ensures { IfOk result (λ starts. starts.items ≡ listed ∷ []) }
+{
+    let mut starts = Vec::new(alloc);
+    starts.push(listed)?;
+    Ok(starts)
+}
+
+/// One start that is no word.
+fn plain(alloc: Global, start: Start) -> Result<Vec<ListedStart>, AllocError>
+    ensures { IfOk result (λ starts. starts.items ≡ record { start = start; word = 0 } ∷ []) }
+{
+    one(alloc, ListedStart { start, word: 0 })
+}
