@@ -2,3 +2,4 @@ pub mod Numbers
 pub mod Making
 pub mod After
 pub mod Unique
+pub mod Going

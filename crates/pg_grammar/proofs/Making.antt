@@ -15,7 +15,7 @@ use Rattle.pg_form.specs.Contents.{class_parts}
 use Rattle.pg_form.specs.WordItems.{word_name, has_word, word_lacks_item, word_has_bad_literal, AreWords}
 use Rattle.pg_form.specs.Operators.{Operator, IsOperator}
 use Rattle.pg_form.specs.OperatorsItems.{operators_lack_item, operators_have_bad_literal, operators_have_long_text, lacks_operators, AreOperators, operators_pass_limit}
-use Rattle.pg_value.specs.Grammar.{Grammar, IsGrammar, rule_name, rule_body}
+use Rattle.pg_value.specs.Grammar.{Grammar, IsGrammar, rule_name, rule_body, is_misspelled}
 use Rattle.pg_grammar.specs.Made.{Made, IsMade, IsReady, AreNumbers, Says, with_rule, with_class, with_word, with_operators, with_initial, rule_fault, class_fault, word_fault, operators_fault, finish_fault, is_incomplete, made_words, passes_limit, class_passes_limit, word_passes_limit}
 use Rattle.pg_grammar.specs.Numbering.{node_of, nodes_with, nodes_from}
 use Rattle.pg_form.specs.declared.class.ClassPart.{ClassPart}
@@ -76,9 +76,9 @@ limits made name body e =
     (grind (arith, nat_tests), grind (arith, nat_tests))
 
 -- a maker may take a rule that has no fault
-pub made_with_rule : (made : Made) (name : Name) (body : List BaseForm) → IsMade made → IsBody body → rule_fault made name body ≡ None
-    → IsMade (with_rule made name body)
-made_with_rule made name body m b e =
+pub made_with_rule : (made : Made) (name : Name) (body : List BaseForm) → IsMade made → IsBody body → list_any is_misspelled body ≡ false
+    → rule_fault made name body ≡ None → IsMade (with_rule made name body)
+made_with_rule made name body m b s e =
     let no = no_fault (list_any (has_unknown_class (length made.classes)) body) (has_name made.names name) (list_any has_bad_literal body) (passes_limit made name body) _ _ _ _ e in
     let few = limits made name body no.fourth in
     let more = length-append made.names (name ∷ []) in
@@ -88,6 +88,7 @@ made_with_rule made name body m b e =
       distinct = AreDistinct-push made.names name m.distinct no.second;
       literals = any-append has_bad_literal made.forms body m.literals no.third;
       alternatives = any-append lacks_alternative made.forms body m.alternatives b.alternatives;
+      spelled = any-append is_misspelled made.forms body m.spelled s;
       classes = m.classes;
       words = m.words;
       operators = m.operators;
@@ -168,6 +169,7 @@ made_with_class made name class m e =
       distinct = m.distinct;
       literals = m.literals;
       alternatives = m.alternatives;
+      spelled = m.spelled;
       classes = record {
         distinct = rw (map-append item_name made.classes (item ∷ [])) (AreDistinct-push (map item_name made.classes) name m.classes.distinct new);
         earlier = NameEarlier-push 0 made.classes item m.classes.earlier known;
@@ -197,6 +199,7 @@ made_with_word made item m e =
       distinct = m.distinct;
       literals = m.literals;
       alternatives = m.alternatives;
+      spelled = m.spelled;
       classes = m.classes;
       words = record {
         distinct = rw (map-append word_name made.words (item ∷ [])) (AreDistinct-push (made_words made) item.name m.words.distinct new);
@@ -225,6 +228,7 @@ made_with_operators made item m e =
       distinct = m.distinct;
       literals = m.literals;
       alternatives = m.alternatives;
+      spelled = m.spelled;
       classes = m.classes;
       words = m.words;
       operators = record { known = no.first; literals = no.third; least = grind (arith, nat_tests); most = grind (arith, nat_tests) };
@@ -242,6 +246,7 @@ made_with_initial made operator m o =
       distinct = m.distinct;
       literals = m.literals;
       alternatives = m.alternatives;
+      spelled = m.spelled;
       classes = m.classes;
       words = m.words;
       operators = m.operators;
@@ -344,6 +349,7 @@ is_grammar made nodes rules start m n =
       classes_named = rw (n.names, forms) m.classes_named;
       literals = rw (n.names, forms) m.literals;
       alternatives = rw (n.names, forms) m.alternatives;
+      spelled = rw (n.names, forms) m.spelled;
       few_rules = omega (arith, count, m.few_rules);
       few_nodes = omega (arith, length-nodes_from made.names (made_words made) 0 made.forms, m.few_nodes);
     })

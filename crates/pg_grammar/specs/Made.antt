@@ -11,7 +11,7 @@ use Rattle.pg_form.specs.WordItems.{word_name, has_word, word_lacks_item, word_h
 use Rattle.pg_form.specs.Literals.{is_long_literal}
 use Rattle.pg_form.specs.Operators.{Operator, IsOperator}
 use Rattle.pg_form.specs.OperatorsItems.{operators_lack_item, operators_have_bad_literal, operators_pass_limit, lacks_operators, AreOperators}
-use Rattle.pg_value.specs.Grammar.{Grammar, IsGrammar, rule_names, forms_of}
+use Rattle.pg_value.specs.Grammar.{Grammar, IsGrammar, rule_names, forms_of, is_misspelled}
 use Rattle.pg_form.specs.declared.class.ClassPart.{ClassPart}
 use Rattle.pg_form.specs.declared.class_item.ClassItem.{ClassItem}
 use Rattle.pg_form.specs.declared.operators_item.OperatorsItem.{OperatorsItem}
@@ -88,6 +88,7 @@ pub record IsMade (made : Made) : Type 0 where
   pub distinct : AreDistinct made.names
   pub literals : list_any has_bad_literal made.forms ≡ false
   pub alternatives : list_any lacks_alternative made.forms ≡ false
+  pub spelled : list_any is_misspelled made.forms ≡ false
   pub classes : AreClasses made.classes
   pub words : AreWords (length made.classes) made.words
   pub operators : AreOperators (length made.classes) made.operators

@@ -12,6 +12,7 @@ mod maker;
 mod names;
 mod nodes;
 mod numbering;
+mod spelled;
 
 pub use fault::{MakerFault, Unfinished};
 pub use laws::grammars_are_unique;

@@ -14,6 +14,7 @@ use crate::judged::{has_bad_literals, has_long_texts, lacks_class, lacks_name, u
 use crate::names::{has_name, has_word, place_of_name};
 use crate::nodes::{nodes_of, rules_of};
 use crate::numbering::{Numbers, numbers_of};
+use crate::spelled::go_through_strings;
 use pg_form::{
     BaseForm, CLASS_LIMIT, ClassExpression, ClassId, ClassItem, Decl, LITERAL_LIMIT, NAME_LIMIT,
     NODE_LIMIT, OperatorsItem, RULE_LIMIT, RuleId, Texts, WORD_LIMIT, WordId, WordItem,
@@ -192,6 +193,7 @@ impl Maker {
         if let Some(fault) = self.rule_fault(&name, body.as_slice()) {
             return Err(fault);
         }
+        go_through_strings(body.as_slice());
         let mut body = body;
         self.names.push(name)?;
         if self.forms.append(&mut body).is_err() {

@@ -1,6 +1,7 @@
 -- A grammar as the definitions see it.
-use Rattle.std.specs.Prelude.{◌≡◌, ◌<◌, ◌≤◌, ℕ, false, List, length, map, Option}
+use Rattle.std.specs.Prelude.{◌≡◌, ◌<◌, ◌≤◌, ℕ, Bool, false, not, List, length, map, Option}
 use Rattle.std.specs.List.{AllByRecursion, list_any}
+use Rattle.std.specs.Str.{all_scalars}
 use Rattle.pg_form.specs.Preorder.{roots}
 use Rattle.pg_form.specs.Names.{Name, AreDistinct}
 use Rattle.pg_form.specs.Forms.{BaseForm, Node, node_part_count, form_of, has_bad_literal, has_unknown_class, lacks_alternative, InPreorder, NamesRule, NamesWord}
@@ -9,6 +10,8 @@ use Rattle.pg_form.specs.WordItems.{word_name, AreWords}
 use Rattle.pg_form.specs.Operators.{Operator, IsOperator}
 use Rattle.pg_form.specs.OperatorsItems.{lacks_operators, AreOperators}
 use Rattle.pg_form.specs.declared.class_item.ClassItem.{ClassItem}
+use Rattle.pg_form.specs.declared.form.Form.TheVariants as form
+use Rattle.pg_form.specs.declared.form.Leaf.TheVariants as leaf
 use Rattle.pg_value.specs.declared.grammar.Rule.{Rule}
 use Rattle.pg_form.specs.declared.operators_item.OperatorsItem.{OperatorsItem}
 use Rattle.pg_form.specs.declared.word_item.WordItem.{WordItem}
@@ -44,6 +47,11 @@ word_names g = map word_name g.words
 abbrev pub forms_of : Grammar → List BaseForm
 forms_of g = map (form_of (rule_names g) (word_names g)) g.nodes
 
+-- whether a string has a number that is no character; none has, since strings are of characters
+abbrev pub is_misspelled : BaseForm → Bool
+is_misspelled (form.Leaf (leaf.String text)) = not (all_scalars text)
+is_misspelled _ = false
+
 -- every number names something, and what stands there is what a file may say
 pub record IsGrammar (g : Grammar) : Type 0 where
   -- the parts of a node are the whole forms after it, and the forms that are no part are the rules' bodies
@@ -62,5 +70,6 @@ pub record IsGrammar (g : Grammar) : Type 0 where
   pub classes_named : list_any (has_unknown_class (length g.classes)) (forms_of g) ≡ false
   pub literals : list_any has_bad_literal (forms_of g) ≡ false
   pub alternatives : list_any lacks_alternative (forms_of g) ≡ false
+  pub spelled : list_any is_misspelled (forms_of g) ≡ false
   pub few_rules : length g.rules ≤ 512
   pub few_nodes : length g.nodes ≤ 8192

@@ -25,7 +25,7 @@ use Rattle.pg_sets.specs.Sets.{HasStart}
 use Rattle.pg_start.specs.Apart.{Apart}
 use Rattle.pg_start.specs.declared.kind.StartKind.{StartKind}
 use Rattle.pg_start.specs.declared.kind.StartKind.TheVariants.{Class}
-use Rattle.pg_value.specs.Grammar.{Grammar}
+use Rattle.pg_value.specs.Grammar.{Grammar, IsGrammar}
 use Rattle.pg_verify.proofs.Costly.{costs_enough}
 use Rattle.pg_verify.proofs.Dearer.{dearer}
 use Rattle.pg_verify.proofs.Enough.{nullable_enough, ranks_fall, no_cycle}
@@ -36,11 +36,10 @@ use Rattle.pg_verify.specs.SetsBy.{HasListed}
 use Rattle.pg_verify.specs.declared.fault.Condition.TheVariants as claim
 use Rattle.pg_derive.proofs.Least.{decided_true}
 use Rattle.pg_derive.proofs.Meetings.{IsListable, apart_all}
-use Rattle.pg_verified.specs.Verified.{SpellsCharacters}
 use Rattle.pg_verified.proofs.Listable.{set_listable, either_listable}
 use Rattle.pg_verified.proofs.Narrower.{IsSpelled, narrower_apart}
 use Rattle.pg_verified.proofs.OneMeeting.{apart_from}
-use Rattle.pg_verified.proofs.Spelled.{first_spelled, follow_spelled, operator_spelled, gap_spelled}
+use Rattle.pg_verified.proofs.Spelled.{SpellsCharacters, strings_spelled, first_spelled, follow_spelled, operator_spelled, gap_spelled}
 
 -- ---- kinds that are covered by others
 
@@ -81,7 +80,10 @@ one_gap {g} s t (gaps.gap {item} at is) (gaps.gap {item = other} {class = class}
     let same : other ≡ item = same_Some other item (sym there ∙ at) in
     ap Class (one_class is (subst (λ (i : OperatorsItem). IsClassOf g i.gap class) same also))
 
-module _ (g : Grammar) (bytes : List ℕ) (spells : SpellsCharacters g) (shown : IsVerified g bytes) where
+module _ (g : Grammar) (bytes : List ℕ) (grammar : IsGrammar g) (shown : IsVerified g bytes) where
+  spells : SpellsCharacters g
+  spells = strings_spelled g grammar
+
   claims : List RuleClaim
   claims = shown.hold.certificate
 

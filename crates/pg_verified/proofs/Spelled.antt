@@ -1,6 +1,10 @@
 -- The keys among a grammar's least starts are of characters, where its strings are.
-use Rattle.std.proofs.Common.{ℕ, List, refl}
-use Rattle.pg_form.specs.Forms.{Node}
+use Rattle.std.proofs.Common.{◌≡◌, ℕ, Bool, true, false, not, List, Some, slice_get, refl}
+use Rattle.std.specs.Str.{all_scalars}
+use Rattle.pg_form.proofs.Each.{none-get}
+use Rattle.pg_form.specs.Forms.{Node, form_of}
+use Rattle.pg_form.specs.declared.form.Form.TheVariants as form
+use Rattle.pg_form.specs.declared.form.Leaf.TheVariants as leaf
 use Rattle.pg_form.specs.declared.decl.Role.{Role}
 use Rattle.pg_form.specs.declared.decl.Role.TheVariants.{InfixLeft, InfixRight, InfixNone, Prefix, Postfix}
 use Rattle.pg_own_starts.specs.OperatorStarts.{IsGapStart}
@@ -13,10 +17,21 @@ use Rattle.pg_sets.specs.Follow.{IsFollow}
 use Rattle.pg_sets.specs.Follow as follow_by
 use Rattle.pg_start.specs.declared.kind.StartKind.{StartKind}
 use Rattle.pg_start.specs.declared.kind.StartKind.TheVariants.{Key}
-use Rattle.pg_value.specs.Grammar.{Grammar}
-use Rattle.pg_verified.specs.Verified.{SpellsCharacters}
+use Rattle.pg_value.specs.Grammar.{Grammar, IsGrammar, rule_names, word_names, is_misspelled}
 use Rattle.pg_verified.proofs.Narrower.{IsSpelled}
 use Rattle.pg_class.specs.Ranges.{Range}
+
+-- the strings of the grammar are of characters
+abbrev pub SpellsCharacters : Grammar → Type 0
+SpellsCharacters g = (p : ℕ) (characters : List ℕ) → slice_get g.nodes p ≡ Some (form.Leaf (leaf.String characters)) → all_scalars characters ≡ true
+
+not_not : (b : Bool) → not b ≡ false → b ≡ true
+not_not true h = refl
+not_not false h = absurd cc
+
+pub strings_spelled : (g : Grammar) → IsGrammar g → SpellsCharacters g
+strings_spelled g grammar p characters at =
+    not_not (all_scalars characters) (none-get is_misspelled (form_of (rule_names g) (word_names g)) g.nodes p (form.Leaf (leaf.String characters)) grammar.spelled at)
 
 keyword_spelled : (role : Role) (excluded : List Range) → IsSpelled (Key (role_keyword role) excluded)
 keyword_spelled InfixLeft excluded = refl

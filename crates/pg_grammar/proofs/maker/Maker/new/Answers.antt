@@ -13,6 +13,7 @@ invariant_of-result c =
       distinct = tt;
       literals = refl;
       alternatives = refl;
+      spelled = refl;
       classes = nothing;
       words = no_words;
       operators = tt;
