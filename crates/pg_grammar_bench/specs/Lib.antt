@@ -5,3 +5,4 @@ pub mod Texts
 pub mod Checking
 pub mod Verifying
 pub mod Showing
+pub mod Laws

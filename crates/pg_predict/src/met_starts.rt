@@ -1,13 +1,13 @@
 //! For each start of a grammar those that it meets: that aren't apart from it.
 //!
-//! Whether two starts are apart is asked here alone, of each pair, and kept as a bit. Most pairs are told apart by their
-//! bounds (`bounds.rt`).
+//! Whether two starts are apart is asked here alone, of each pair, and kept as a bit. Most pairs are told by their bounds
+//! (`bounds.rt`).
 ghost use Rattle.std.specs.Prelude.{◌↔◌, IfOk, IsTrue};
 ghost use Rattle.pg_start.specs.Apart.{Apart};
-ghost use Rattle.pg_predict.specs.Bounds.{BeginsWith, AreBoundsOf, AreBounds};
+ghost use Rattle.pg_predict.specs.Bounds.{AreStartBounds, AreBounds};
 ghost use Rattle.pg_predict.specs.Shown.{IsMetSet, AreMeetings};
 
-use crate::bounds::{Bounds, bounds_of, bounds_of_starts, dont_overlap};
+use crate::bounds::{Bounds, bounds_of, bounds_of_starts, dont_overlap, share_an_end};
 use pg_bit_set::BitSet;
 use pg_own_starts::ListedStart;
 use pg_start::{Start, apart};
@@ -60,9 +60,9 @@ fn met_within(
 /// Whether a start meets another: whether they aren't apart. The bounds are those of the two.
 #[inline]
 fn meets(start: &Start, own: &Option<Bounds>, other: &Start, others: &Option<Bounds>) -> bool
-    requires own { AreBoundsOf (BeginsWith start.now) own.now }
-    requires other { AreBoundsOf (BeginsWith other.now) others.now }
+    requires own { AreStartBounds start.now own.now }
+    requires other { AreStartBounds other.now others.now }
     ensures { IsTrue result ↔ (Apart start.now other.now → ⊥) }
 {
-    !dont_overlap(own, others) && !apart(start, other)
+    !dont_overlap(own, others) && (share_an_end(own, others) || !apart(start, other))
 }
