@@ -2,13 +2,20 @@
 //!
 //! A law is a function that does nothing when it runs: its clause is the law, and whoever calls it has the clause.
 
-ghost use Rattle.pg_grammar_bench.specs.Laws.{VerifiedFilesAreAccepted};
+ghost use Rattle.pg_grammar_bench.specs.Laws.{PrintedCertificatesAreVerified, VerifiedFilesAreAccepted};
 
-use pg_verified::verified_grammars_are_accepted;
+use pg_verified::{own_certificates_are_verified, verified_grammars_are_accepted};
 
 /// The law that a grammar file of which bytes are verified as a certificate is accepted by the check, whoever made them.
 pub fn verified_files_are_accepted()
     ensures { VerifiedFilesAreAccepted }
 {
     verified_grammars_are_accepted();
+}
+
+/// The law that the certificate which the check prints of a grammar file is verified, but for the line feed behind it.
+pub fn printed_certificates_are_verified()
+    ensures { PrintedCertificatesAreVerified }
+{
+    own_certificates_are_verified();
 }

@@ -17,7 +17,7 @@ mod verify;
 pub use check::check_bytes;
 pub use fault::BenchFault;
 pub use grammar_file::{checked_of, grammar_of};
-pub use laws::verified_files_are_accepted;
+pub use laws::{printed_certificates_are_verified, verified_files_are_accepted};
 pub use output::write_page;
 pub use print::print_bytes;
 pub use sets::sets_bytes;

@@ -5,3 +5,13 @@ pub mod Listable
 pub mod Accepted
 pub mod OwnClaims
 pub mod OwnClosed
+pub mod OwnRanks
+pub mod OwnCosts
+pub mod OwnHolds
+pub mod OwnBack
+pub mod SameFacts
+pub mod OwnFaultless
+pub mod Making
+pub mod OwnMade
+pub mod OwnSets
+pub mod OwnVerified

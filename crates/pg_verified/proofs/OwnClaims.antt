@@ -149,12 +149,12 @@ module _ (g : Grammar) (grammar : IsGrammar g) (claims : List RuleClaim) (all : 
       let body : Nullable g so.rule.body = subst (λ (named : Rule). Nullable g named.body) (sym same) (nullable_so rule.body is) in
       ap (λ found. option_map_or (λ claim. claim.nullable) found false) claim.1 ∙ so.so.nullable.1 body
 
-  marked : (p : ℕ) → Nullable g p → is_marked marks p ≡ true
+  pub marked : (p : ℕ) → Nullable g p → is_marked marks p ≡ true
   marked = nullable_enough g claims marks are holds
 
   -- ---- first sets
 
-  first_claimed : (listed : ListedStart) (r : ℕ) (found : Option RuleClaim) → slice_get claims r ≡ found → IsClaimedAs g (option_map_or (λ claim. claim.first) found []) listed
+  pub first_claimed : (listed : ListedStart) (r : ℕ) (found : Option RuleClaim) → slice_get claims r ≡ found → IsClaimedAs g (option_map_or (λ claim. claim.first) found []) listed
       → (rule : Rule) × (slice_get g.rules r ≡ Some rule) × IsFirst g listed.start rule.body
   first_claimed listed r None at is = absurd is
   first_claimed listed r (Some claim) at is = let so = all.rules r claim at in (so.rule, so.there, (so.so.first listed.start).0 (claimed_in g claim.first listed is))
@@ -166,7 +166,7 @@ module _ (g : Grammar) (grammar : IsGrammar g) (claims : List RuleClaim) (all : 
 
   -- ---- follow sets
 
-  follow_claimed : (listed : ListedStart) (r : ℕ) (named : Rule) → slice_get g.rules r ≡ Some named → (found : Option RuleClaim) → slice_get claims r ≡ found
+  pub follow_claimed : (listed : ListedStart) (r : ℕ) (named : Rule) → slice_get g.rules r ≡ Some named → (found : Option RuleClaim) → slice_get claims r ≡ found
       → IsClaimedAs g (option_map_or (λ claim. claim.follow) found []) listed → IsFollow g listed.start named.body
   follow_claimed listed r named there None at is = absurd is
   follow_claimed listed r named there (Some claim) at is =

@@ -30,12 +30,12 @@ use Rattle.pg_verified.proofs.OwnClaims.{AreExact, are_exact, holds, first_so, f
 
 -- ---- names
 
-first_named : {g : Grammar} {claims : List RuleClaim} {marks : List Bool} {listed : ListedStart} {p : ℕ} → IsFirstBy g claims marks listed p → IsListed g listed
+pub first_named : {g : Grammar} {claims : List RuleClaim} {marks : List Bool} {listed : ListedStart} {p : ℕ} → IsFirstBy g claims marks listed p → IsListed g listed
 first_named (by_first.own at owns) = owns.named
 first_named (by_first.part at plain reached is) = first_named is
 first_named {g} {claims} {listed = listed} (by_first.used {r = r} at is) = claimed_named g (claimed_first claims r) listed is
 
-follow_named : {g : Grammar} {claims : List RuleClaim} {marks : List Bool} {listed : ListedStart} {p : ℕ} → IsFollowBy g claims marks listed p → IsListed g listed
+pub follow_named : {g : Grammar} {claims : List RuleClaim} {marks : List Bool} {listed : ListedStart} {p : ℕ} → IsFollowBy g claims marks listed p → IsListed g listed
 follow_named {g} {claims} {listed = listed} (by_follow.claimed r there is) = claimed_named g (claimed_follow claims r) listed is
 follow_named (by_follow.next p at before is) = first_named is
 follow_named (by_follow.over p at before empty is) = follow_named is
@@ -53,7 +53,7 @@ follow_named (by_follow.last_term at is) = follow_named is
 follow_named (by_follow.only at only is) = follow_named is
 
 -- a start for which a claim stands that the grammar can have
-as_claimed : (g : Grammar) (claimed : List ClaimedStart) (listed : ListedStart) → AllByRecursion (FitsStart g) claimed → IsClaimedIn g claimed listed.start → IsListed g listed
+pub as_claimed : (g : Grammar) (claimed : List ClaimedStart) (listed : ListedStart) → AllByRecursion (FitsStart g) claimed → IsClaimedIn g claimed listed.start → IsListed g listed
     → IsClaimedAs g claimed listed
 as_claimed g [] listed fits is named = absurd is
 as_claimed g (one ∷ others) listed fits (inl stands) named = inl (record { fits = fits.0; stands = stands; named = named })

@@ -1,2 +1,3 @@
 pub mod Verified
 pub mod Own
+pub mod Certified

@@ -1,10 +1,13 @@
 -- What the claims of a grammar's own certificate say of its nodes.
 use Rattle.std.specs.Prelude.{◌≡◌, ℕ, Bool, true, List, Some, slice_get, length}
 use Rattle.pg_certificate.specs.declared.certificate.RuleClaim.{RuleClaim}
+use Rattle.pg_costs.specs.FoundCost.{IsCostByCosts}
+use Rattle.pg_costs.specs.Rounds.{AreCutCosts}
 use Rattle.pg_graph.specs.Marks.{is_marked}
 use Rattle.pg_heads.specs.Nullable.{Nullable}
 use Rattle.pg_least_certificate.specs.Least.{AreLeast}
 use Rattle.pg_own_starts.specs.declared.listed.ListedStart.{ListedStart}
+use Rattle.pg_predict.specs.Conditions.{claimed_facts, IsFaultless, IsFaultlessBy}
 use Rattle.pg_sets.specs.First.{IsFirst}
 use Rattle.pg_sets.specs.Follow.{IsFollow}
 use Rattle.pg_sets.specs.Sets.{Sets, AreSets}
@@ -15,7 +18,10 @@ use Rattle.pg_verify.specs.Claimed.{claimed_nullable}
 use Rattle.pg_verify.specs.Closed.{IsFirstClosed, IsFollowClosed}
 use Rattle.pg_verify.specs.First.{IsFirstBy}
 use Rattle.pg_verify.specs.Follow.{IsFollowBy}
+use Rattle.pg_verify.specs.Judged.{Said, IsSaid, AllHold}
 use Rattle.pg_verify.specs.Nullable.{AreNullableBy}
+use Rattle.pg_verify.specs.Refuted.{judged_sets}
+use Rattle.pg_verify.specs.SetsBy.{SetsBy, AreSetsBy}
 
 -- what is nullable by the claims is nullable, and starts that begin or follow a node by the claims do so by the least sets
 pub record SayNoMore (g : Grammar) (claims : List RuleClaim) (marks : List Bool) : Type 0 where
@@ -40,3 +46,22 @@ abbrev pub OwnSetsAreClosed : Type 0
 OwnSetsAreClosed = (g : Grammar) (sets : Sets) (costs : List ℕ) (claims : List RuleClaim) → IsGrammar g → BodiesAreNodes (length g.nodes) g.rules → AreSets g sets
     → AreLeast g sets costs 0 g.rules claims → (marks : List Bool) → AreNullableBy g claims marks → (r : ℕ) (rule : Rule) → slice_get g.rules r ≡ Some rule
     → IsClosed g claims marks r rule
+
+-- ---- with costs
+
+-- the claims are those that the sets of the grammar and the costs of its nodes make
+pub record AreOwnClaims (g : Grammar) (claims : List RuleClaim) : Type 0 where
+  pub sets : Sets
+  pub are_sets : AreSets g sets
+  pub costs : List ℕ
+  pub are_costs : AreCutCosts g sets.nullable costs
+  pub least : AreLeast g sets costs 0 g.rules claims
+
+-- all five conditions hold of each rule
+abbrev pub OwnClaimsHold : Type 0
+OwnClaimsHold = (g : Grammar) (claims : List RuleClaim) (said : Said) → IsGrammar g → AreOwnClaims g claims → IsSaid g claims said → AllHold g claims said
+
+-- and where nothing is wrong with the grammar, nothing is broken by the sets and the cost that are claimed
+abbrev pub OwnClaimsBreakNothing : Type 0
+OwnClaimsBreakNothing = (g : Grammar) (claims : List RuleClaim) (said : Said) (sets : SetsBy) (cost : ℕ) → IsGrammar g → IsFaultless g → AreOwnClaims g claims
+    → IsSaid g claims said → AreSetsBy g claims said.nullable sets → IsCostByCosts g said.costs cost → IsFaultlessBy g (claimed_facts (judged_sets said sets) cost)

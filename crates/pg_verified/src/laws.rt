@@ -2,7 +2,8 @@
 //!
 //! A law is a function that does nothing when it runs: its clause is the law, and whoever calls it has the clause.
 
-ghost use Rattle.pg_verified.specs.Own.{OwnClaimsSayNoMore, OwnSetsAreClosed};
+ghost use Rattle.pg_verified.specs.Certified.{OwnCertificatesAreVerified};
+ghost use Rattle.pg_verified.specs.Own.{OwnClaimsBreakNothing, OwnClaimsHold, OwnClaimsSayNoMore, OwnSetsAreClosed};
 ghost use Rattle.pg_verified.specs.Verified.{VerifiedGrammarsAreAccepted};
 
 /// The law that a grammar for which bytes are verified as a certificate is accepted by its least sets and its step cost too: whatever
@@ -20,4 +21,22 @@ pub fn own_claims_say_no_more()
 /// The law that such claims are closed: of their five conditions those on nullable rules, first and follow sets hold.
 pub fn own_sets_are_closed()
     ensures { OwnSetsAreClosed }
+{}
+
+/// The law that of such claims all five conditions hold, where the costs are the grammar's own: ranks fall along heads too, and no body
+/// costs more by the claims than is claimed of its rule.
+pub fn own_claims_hold()
+    ensures { OwnClaimsHold }
+{}
+
+/// The law that by such claims nothing is broken where nothing is wrong with the grammar: they claim the sets and the step cost that are
+/// so, and no others.
+pub fn own_claims_break_nothing()
+    ensures { OwnClaimsBreakNothing }
+{}
+
+/// The law that where nothing is wrong with a grammar, as in each that was checked, its own certificate is verified: the claims of the text
+/// hold, and nothing is broken by them.
+pub fn own_certificates_are_verified()
+    ensures { OwnCertificatesAreVerified }
 {}

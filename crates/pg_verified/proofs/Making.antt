@@ -1,0 +1,99 @@
+-- Lists that are there: numbers of nodes that are found by those of their parts, and sets of the numbers of which something is so.
+use Rattle.std.proofs.Common.{◌≡◌, ◌<◌, ◌≤◌, ◌+◌, inl, inr, ℕ, zero, suc, Bool, true, false, true≢false, List, [], ◌∷◌, Some, slice_get, slice_set, length, map, replicate, refl, sym, ap, ◌∙◌, arith}
+use Rattle.std.specs.List.{range_with_len, slice_index_or}
+use Rattle.std.proofs.lemmas.List.{length-map, length-replicate, length-set}
+use Rattle.std.proofs.lemmas.List.FromFn.{length-range_with_len, get_or-map-range_with_len}
+use Rattle.std.proofs.lemmas.Option.{slice_get_within}
+use Rattle.pg_bit_set.specs.Numbers.{contains}
+use Rattle.pg_derive.proofs.Least.{Decided}
+use Rattle.pg_derive.proofs.Quiet.{found}
+use Rattle.pg_form.specs.Forms.{Node}
+use Rattle.pg_value.specs.Grammar.{Grammar, IsGrammar}
+use Rattle.pg_verify.proofs.OnePass.{IsLocal, IsKept, still_kept}
+
+-- ---- numbers of nodes
+
+-- there is one for each node, and from this one on it is what is found of it
+record AreKeptFrom {V : Type 0} (d : V) (find : (ℕ → V) → Node → V) (g : Grammar) (from : ℕ) : Type 0 where
+  kept : List V
+  long : length kept ≡ length g.nodes
+  each : (p : ℕ) → from ≤ p → IsKept d find g kept p
+
+module _ {V : Type 0} (d : V) (find : (ℕ → V) → Node → V) (g : Grammar) (grammar : IsGrammar g) (local : IsLocal find) where
+  last_kept : (from : ℕ) → length g.nodes ≤ from → AreKeptFrom d find g from
+  last_kept from past = record {
+    kept = replicate (length g.nodes) d;
+    long = length-replicate (length g.nodes) d;
+    each = λ p after n at. (let inside = slice_get_within g.nodes p n at in absurd (omega (arith, past, after, inside)));
+  }
+
+  one_more : (i : ℕ) → i < length g.nodes → AreKeptFrom d find g (suc i) → AreKeptFrom d find g i
+  one_more i inside behind =
+      let node = found g.nodes i inside in
+      let long = behind.long in
+      let new = find (λ q. slice_index_or behind.kept q d) node.0 in
+      record {
+        kept = slice_set behind.kept i new;
+        long = length-set behind.kept i new ∙ long;
+        each = still_kept d find g behind.kept i node.0 local grammar.preorder (omega (arith, inside, long)) node.1 behind.each;
+      }
+
+  kept_from : (count i : ℕ) → i + count ≡ length g.nodes → AreKeptFrom d find g i
+  kept_from zero i all = last_kept i (omega (arith, all))
+  kept_from (suc count) i all = one_more i (omega (arith, all)) (kept_from count (suc i) (omega (arith, all)))
+
+  pub all_kept : (kept : List V) × (length kept ≡ length g.nodes) × ((p : ℕ) → IsKept d find g kept p)
+  all_kept = let made = kept_from (length g.nodes) 0 (omega arith) in (made.kept, made.long, λ p. made.each p (omega arith))
+
+-- ---- lists of what a function gives
+
+abbrev pub listed_from : {A : Type 0} → (ℕ → A) → ℕ → List A
+listed_from f count = map f (range_with_len 0 count)
+
+pub listed_long : {A : Type 0} (f : ℕ → A) (count : ℕ) → length (listed_from f count) ≡ count
+listed_long f count = length-map (range_with_len 0 count) f ∙ length-range_with_len 0 count
+
+pub listed_at : {A : Type 0} (f : ℕ → A) (count k : ℕ) (d : A) → k < count → slice_index_or (listed_from f count) k d ≡ f k
+listed_at f count k d inside = get_or-map-range_with_len f 0 count k k d inside (omega arith)
+
+-- ---- sets
+
+yes_or_no : {A : Type 0} → Decided A → Bool
+yes_or_no (inl a) = true
+yes_or_no (inr n) = false
+
+yes : {A : Type 0} (d : Decided A) → yes_or_no d ≡ true → A
+unfolding yes_or_no
+yes (inl a) is = a
+yes (inr n) is = absurd (true≢false (sym is))
+
+is_yes : {A : Type 0} (d : Decided A) → A → yes_or_no d ≡ true
+unfolding yes_or_no
+is_yes (inl a) h = refl
+is_yes (inr n) h = absurd (n h)
+
+-- no number that isn't below the length of a set is in it
+pub contained_inside : (set : List Bool) (k : ℕ) → contains set k ≡ true → k < length set
+contained_inside [] k is = cc
+contained_inside (b ∷ bs) zero is = omega arith
+contained_inside (b ∷ bs) (suc k) is = let rest = contained_inside bs k is in omega (arith, rest)
+
+module _ (P : ℕ → Type 0) (decide : (k : ℕ) → Decided (P k)) (count : ℕ) where
+  -- the numbers below the count of which it is so
+  pub set_of : List Bool
+  set_of = listed_from (λ k. yes_or_no (decide k)) count
+
+  pub set_long : length set_of ≡ count
+  unfolding set_of
+  set_long = listed_long (λ k. yes_or_no (decide k)) count
+
+  pub so_in : (k : ℕ) → contains set_of k ≡ true → P k
+  unfolding set_of
+  so_in k is =
+      let inside = contained_inside set_of k is in
+      let long = set_long in
+      yes (decide k) (sym (listed_at (λ j. yes_or_no (decide j)) count k false (omega (arith, inside, long))) ∙ is)
+
+  pub in_set : (k : ℕ) → k < count → P k → contains set_of k ≡ true
+  unfolding set_of
+  in_set k inside h = listed_at (λ j. yes_or_no (decide j)) count k false inside ∙ is_yes (decide k) h
