@@ -1,5 +1,5 @@
 -- Chains: the operand, the rounds and the folds lead to what the chain does.
-use Rattle.std.proofs.Common.{◌≡◌, ◌==◌, ◌≤◌, ◌-◌, ◌&&◌, ◌||◌, not, ℕ, zero, suc, Bool, true, false, List, [], ◌∷◌, ◌++◌, refl, sym, ap, ◌∙◌, subst, eqb-true, length, append_assoc, arith}
+use Rattle.std.proofs.Common.{◌≡◌, ◌==◌, ◌≤◌, ◌-◌, ℕ, zero, suc, Bool, true, false, List, [], ◌∷◌, ◌++◌, refl, sym, ap, ◌∙◌, subst, eqb-true, length, append_assoc, arith, if◌then◌else◌}
 use Rattle.std.specs.Prelude.{Some, slice_get}
 use Rattle.pg_tree.specs.Trees.{Tree}
 use Rattle.pg_form.specs.declared.form.Form.TheVariants as form
@@ -13,8 +13,8 @@ use Rattle.pg_language.specs.Derives.{Spot, Link, folded}
 use Rattle.pg_language.proofs.Onward.{leads_on}
 use Rattle.pg_replay.specs.Refusals as refusal
 use Rattle.pg_replay.specs.Refusals.{Stop, still_entered, RefusesLinks}
-use Rattle.pg_replay.specs.Tasks.{Chain, OnTask, node, links, operand, settle, fold, Setting, loosened, State, joins, joins_rounds, folded_after, with_links, chain_turn, links_turn, operand_turn}
-use Rattle.pg_replay.proofs.Alike.{Alike, AreAlike, no_round, one_round, alike_folded, folded_shaped}
+use Rattle.pg_replay.specs.Tasks.{Chain, OnTask, node, links, operand, settle, fold, Setting, loosened, Looseness, State, inside, inside_chain, folded_after, with_links, chain_turn, links_turn, operand_turn}
+use Rattle.pg_replay.proofs.Alike.{Alike, AreAlike, no_round, one_round, alike_folded}
 use Rattle.pg_replay.proofs.ChainTrees.{chained, chained_on, chained_folded}
 use Rattle.pg_replay.proofs.Items.{positive, no_count_at_end, no_count_for_choice, no_count_for_operators}
 use Rattle.pg_replay.proofs.Leads.{End, Leads, does, refuses, does_node, does_links, does_operand, does_settle, does_fold, refuses_node, refuses_links, refuses_operand, refuses_after_operand, spot_of, TaskLeads, Follows, follows_if, still_here, still_none, still_after_item, still_twice, links_onward}
@@ -110,24 +110,24 @@ module _ (g : Grammar) (text : List ℕ) where
 
   -- ---- chains
 
-  some_round : (c : Chain) (n : ℕ) → joins_rounds c (suc n) ≡ joins c.used.shape
-  some_round c n = go (suc n == 0) refl
+  some_round : (c : Chain) (n : ℕ) (l : Looseness) → inside_chain c (suc n) l ≡ inside c.used.shape l
+  some_round c n l = go (suc n == 0) refl
     where
-      go : (b : Bool) → (suc n == 0) ≡ b → not b && joins c.used.shape ≡ joins c.used.shape
+      go : (b : Bool) → (suc n == 0) ≡ b → (if b then l else inside c.used.shape l) ≡ inside c.used.shape l
       go true e = let none : suc n ≡ 0 = eqb-true (suc n) 0 e in absurd (omega arith)
       go false e = refl
 
   -- what the chain makes of alike trees is alike
-  alike_chain : (c : Chain) (loose : Bool) (n : ℕ) (b m : Spot) (x w : List Tree) (js ls : List Link) (u : List TrailItem) → derives.DerivesLinks g text c.part c.separator n b m ls u →
-      Alike (joins_rounds c n || loose) x w → AreAlike (joins_rounds c n || loose) js ls → Alike loose (folded c.side c.used.shape x js) (folded c.side c.used.shape w ls)
-  alike_chain c loose zero b m x w js ls u derives.no_link h no_round = alike_folded loose c.side c.used.shape x w [] [] h no_round
+  alike_chain : (c : Chain) (loose : Looseness) (n : ℕ) (b m : Spot) (x w : List Tree) (js ls : List Link) (u : List TrailItem) → derives.DerivesLinks g text c.part c.separator n b m ls u →
+      Alike (inside_chain c n loose) x w → AreAlike (inside_chain c n loose) js ls → Alike loose (folded c.side c.used.shape x js) (folded c.side c.used.shape w ls)
+  alike_chain c loose zero b m x w js ls u derives.no_link h no_round = h
   alike_chain c loose (suc n) b m x w js ls u (derives.first_link f k ds) h (one_round {j = j} {l = l} {js = others} {ls = more} p q hs) =
-      let some = some_round c n in
-      folded_shaped loose c.side c.used.shape x w j l others more (subst (λ d. Alike (d || loose) x w) some h)
-      (subst (λ d. Alike (d || loose) j.0 l.0) some p) (subst (λ d. Alike (d || loose) j.1 l.1) some q) (subst (λ d. AreAlike (d || loose) others more) some hs)
+      let some = some_round c n loose in
+      alike_folded loose c.side c.used.shape x w j l others more (subst (λ d. Alike d x w) some h)
+      (subst (λ d. Alike d j.0 l.0) some p) (subst (λ d. Alike d j.1 l.1) some q) (subst (λ d. AreAlike d others more) some hs)
 
   chain_leads : (ms : Setting) (p n : ℕ) (c : Chain) (ts : List OnTask) (entered : List ℕ) (a : Spot) (v : List Tree) (items : List TrailItem) (e : End) → slice_get g.nodes p ≡ Some (form.Chain c.side c.used c.part c.separator) →
-      Leads g text (loosened (joins_rounds c n || ms.loose) ms) (node c.part ∷ links c n (length v) ∷ settle ms.loose ∷ ts) [] a v items e → Leads g text ms (node p ∷ ts) entered a v (Rounds n ∷ items) e
+      Leads g text (loosened (inside_chain c n ms.loose) ms) (node c.part ∷ links c n (length v) ∷ settle ms.loose ∷ ts) [] a v items e → Leads g text ms (node p ∷ ts) entered a v (Rounds n ∷ items) e
   chain_leads ms p n c ts entered a v items e is (refuses (refuses_node h)) = refuses (refuses_node (refusal.at_node is (refusal.operand h)))
   chain_leads ms p n c ts entered a v items e is (does {b = b} {u = t} (does_node d i) (refuses {items = rest} {s = s} (refuses_links h))) =
       refuses (refuses_node (refusal.at_node is (refusal.links d (subst (λ o. RefusesLinks g text o c.part c.separator n b rest s) (still_none a b t) h))))

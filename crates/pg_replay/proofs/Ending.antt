@@ -1,6 +1,6 @@
 -- Going along a trail comes to an end: each turn takes a character or an item, or enters a rule that isn't open, or goes down a
 -- rule's body, or ends a task. So it does from every state, whatever its tasks are.
-use Rattle.std.proofs.Common.{◌≡◌, ◌==◌, ◌+◌, ◌-◌, ◌<◌, ◌≤◌, ◌≢◌, ℕ, zero, suc, Bool, true, false, not, ◌||◌, List, [], ◌∷◌, ◌++◌, refl, ap, subst, eqb-true, eq-eqb, arith, if◌then◌else◌, length, take, drop}
+use Rattle.std.proofs.Common.{◌≡◌, ◌==◌, ◌+◌, ◌-◌, ◌<◌, ◌≤◌, ◌≢◌, ℕ, zero, suc, Bool, true, false, not, List, [], ◌∷◌, ◌++◌, refl, ap, subst, eqb-true, eq-eqb, arith, if◌then◌else◌, length, take, drop}
 use Rattle.std.specs.Prelude.{Option, Some, None, slice_get}
 use Rattle.std.specs.List.{AllByRecursion}
 use Rattle.std.proofs.lemmas.Option.{slice_get_within}
@@ -32,8 +32,7 @@ use Rattle.pg_language.specs.Declarations.{Declaration, no_keyword, no_digit, no
 use Rattle.pg_language.specs.Derives.{leaf_of, declaration_tree}
 use Rattle.pg_language.proofs.DeclarationsDerived.{declaration_stands}
 use Rattle.pg_language.proofs.DeclarationsDerived.{Stands as IsStanding}
-use Rattle.pg_replay.specs.Tasks.{Chain, OnTask, node, parts, rounds, more_rounds, links, operand, settle, fold, marked, operator_symbol, application, unmark, close, leave, Setting, under_marks, loosened, State, Turn, on, with_task, next_in, satisfied, spelled, word_by, takes, stays_if, declares, declared_turn, declare_turn, leaf_turn, part_turn, choice_turn, many_turn, joins_rounds, chain_turn, joins_last, with_steps, steps_turn, operators_turn, expression_turn, operator_end, ended_turn, symbol_turn, applied_after, first_mark, marks_after, is_place, loosens, blank_after, is_known, known_after, is_entered, rule_turn, form_turn, node_turn, rounds_turn, is_unchanged, links_turn, with_links, folded_after, closed_table, closed_forest, without_newest, next_turn}
-use Rattle.pg_replay.specs.declared.replayer.Known.{Known}
+use Rattle.pg_replay.specs.Tasks.{Looseness, Known, Chain, OnTask, node, parts, rounds, more_rounds, links, operand, settle, fold, marked, operator_symbol, application, unmark, close, leave, Setting, under_marks, loosened, State, Turn, on, with_task, next_in, satisfied, spelled, word_by, takes, stays_if, declares, declared_turn, declare_turn, leaf_turn, part_turn, choice_turn, many_turn, inside_chain, chain_turn, inside_steps, with_steps, steps_turn, operators_turn, expression_turn, operator_end, ended_turn, symbol_turn, applied_after, first_mark, marks_after, is_place, inside_form, blank_after, is_known, known_after, is_entered, rule_turn, form_turn, node_turn, rounds_turn, is_unchanged, links_turn, with_links, folded_after, closed_table, closed_forest, without_newest, next_turn}
 use Rattle.pg_replay.specs.Halts.{first_state}
 use Rattle.pg_replay.specs.Turns.{ComesToLast, begun, Halts}
 use Rattle.pg_replay.proofs.FreeRules.{free, fewer_free}
@@ -142,14 +141,14 @@ module _ (g : Grammar) (text : List ℕ) (preorder : InPreorder 0 g.nodes) (i : 
       ComesToLast g text (chain_turn c xs (state_at i items ts u v es ms kn bl))
   chain_ends c [] e ts es u v ms kn bl = (0, refl)
   chain_ends c (Alt k ∷ rest) e ts es u v ms kn bl = (0, refl)
-  chain_ends c (Rounds n ∷ rest) e ts es u v ms kn bl = item_ends (Rounds n) rest (node c.part ∷ links c n (length v) ∷ settle ms.loose ∷ ts) u v (loosened (joins_rounds c n || ms.loose) ms) kn bl e
+  chain_ends c (Rounds n ∷ rest) e ts es u v ms kn bl = item_ends (Rounds n) rest (node c.part ∷ links c n (length v) ∷ settle ms.loose ∷ ts) u v (loosened (inside_chain c n ms.loose) ms) kn bl e
   chain_ends c (Ops o ∷ rest) e ts es u v ms kn bl = (0, refl)
 
   steps_end : (builders : OperatorBuilders) (p : ℕ) (steps : Option (List Step)) (os : List AppliedOperator) (rest : List TrailItem) → items ≡ Ops os ∷ rest →
       (ts : List OnTask) (es : List ℕ) (u : Table) (v : List Tree) (ms : Setting) (kn : List (Option Known)) (bl : List (Option ℕ)) → ComesToLast g text (steps_turn builders p steps rest (state_at i items ts u v es ms kn bl))
   steps_end builders p None os rest e ts es u v ms kn bl = (0, refl)
   steps_end builders p (Some steps) os rest e ts es u v ms kn bl =
-      item_ends (Ops os) rest (with_steps builders p steps (state_at i rest (unmark ∷ settle ms.loose ∷ ts) u v [] ms kn bl)).tasks u v (loosened (joins_last builders steps || ms.loose) ms) kn bl e
+      item_ends (Ops os) rest (with_steps builders p steps (state_at i rest (unmark ∷ settle ms.loose ∷ ts) u v [] ms kn bl)).tasks u v (loosened (inside_steps builders steps ms.loose) ms) kn bl e
 
   operators_end : (item : Option OperatorsItem) (builders : OperatorBuilders) (p : ℕ) (os : List AppliedOperator) (rest : List TrailItem) → items ≡ Ops os ∷ rest →
       (ts : List OnTask) (es : List ℕ) (u : Table) (v : List Tree) (ms : Setting) (kn : List (Option Known)) (bl : List (Option ℕ)) → ComesToLast g text (operators_turn item builders p os rest (state_at i items ts u v es ms kn bl))
@@ -218,9 +217,9 @@ module _ (g : Grammar) (text : List ℕ) (preorder : InPreorder 0 g.nodes) (i : 
   operand_pass es c n trees pass next ts k u v ms kn bl = next_ends (state_at i items (operand c n trees ∷ ts) u v es ms kn bl)
       (after_separator es c n trees pass (λ later. links_pass es c n later pass next) c.side ts k u v ms kn bl)
 
-  close_pass : (es : List ℕ) (k : Around) (p place trees operators count : ℕ) (loose : Bool) → Passes es (close k p place trees operators count loose)
+  close_pass : (es : List ℕ) (k : Around) (p place trees operators count : ℕ) (loose : Looseness) → Passes es (close k p place trees operators count loose)
   close_pass es k p place trees operators count loose ts h u v ms kn bl = next_ends (state_at i items (close k p place trees operators count loose ∷ ts) u v es ms kn bl)
-      (h (closed_table k operators u) (closed_forest k text place i trees v) (loosened loose ms) kn (blank_after k p place count (state_at i items ts u v es ms kn bl)))
+      (h (closed_table k operators u) (closed_forest k loose text place i trees v) (loosened loose ms) kn (blank_after k p place count (state_at i items ts u v es ms kn bl)))
 
   -- ---- nodes
 
@@ -250,7 +249,7 @@ module _ (g : Grammar) (text : List ℕ) (preorder : InPreorder 0 g.nodes) (i : 
   form_ends es p (form.Rule r) pass bodies ts k u v ms kn bl = rule_ends es r (slice_get g.rules r) refl bodies ts k u v ms kn bl
   form_ends es p (form.Expression builders q) pass bodies ts k u v ms kn bl = expression_ends builders q items refl ts es u v ms kn bl
   form_ends es p (form.Around a q) pass bodies ts k u v ms kn bl = ends_if (is_place i (slice_get bl p)) _ _ (λ h. k u (v ++ leaf_of [] ∷ []) ms kn bl) (λ h.
-      pass.0 (close a p i (length v) (length u.operators) (length items) ms.loose ∷ ts) (close_pass es a p i (length v) (length u.operators) (length items) ms.loose ts k) u v (loosened (loosens a || ms.loose) ms) kn bl)
+      pass.0 (close a p i (length v) (length u.operators) (length items) ms.loose ∷ ts) (close_pass es a p i (length v) (length u.operators) (length items) ms.loose ts k) u v (loosened (inside_form a ms.loose) ms) kn bl)
 
   node_ends : (es : List ℕ) (p : ℕ) (n : Option Node) → ((m : Node) → n ≡ Some m → AllByRecursion (λ q. Passes es (node q)) (parts_of m)) → BodiesPass es → (ts : List OnTask) → Ends es ts →
       (u : Table) (v : List Tree) (ms : Setting) (kn : List (Option Known)) (bl : List (Option ℕ)) → ComesToLast g text (node_turn g text p n (state_at i items ts u v es ms kn bl))

@@ -16,14 +16,14 @@ use Rattle.pg_table.specs.Tables.{Table, admit_fault, with_operator, whole, adde
 use Rattle.pg_table.specs.declared.fault.AdmitFault.{AdmitFault}
 use Rattle.pg_language.specs.Derives as derives
 use Rattle.pg_language.specs.Derives.{Spot, leaf_of, Derives, DerivesParts, DerivesRounds, made_by, table_by, left_by}
+use Rattle.std.proofs.lemmas.Slice.Eq.{bytes_eq-Decides}
 use Rattle.std.proofs.Math.Seq.{take-append_seam, drop-append_seam}
 use Rattle.pg_language.specs.Onward.{LeadsOn}
 use Rattle.pg_language.proofs.Onward.{leads_on}
 use Rattle.pg_replay.specs.Refusals as refusal
 use Rattle.pg_replay.specs.Refusals.{still_entered, if_no_item, IsEntered, ChoosesNone, CountsNone}
-use Rattle.pg_replay.specs.Tasks.{OnTask, node, parts, rounds, more_rounds, links, operand, settle, fold, marked, operator_symbol, application, unmark, close, leave, Setting, under_marks, loosened, State, Turn, on, stops, ended, part_turn, numbered_turn, choice_turn, many_turn, is_place, is_known_at, is_known, loosens, is_still, is_entered, rule_turn, around_turn, form_turn, node_turn, parts_turn, rounds_turn, is_unchanged, more_turn, closed_table, closed_forest, without_newest, turn}
-use Rattle.pg_replay.specs.declared.replayer.Known.{Known}
-use Rattle.pg_replay.proofs.Alike.{text_in, text_append, IsAlike, Alike, alike_same, alike_both, alike_made}
+use Rattle.pg_replay.specs.Tasks.{Looseness, tight, apart, only_text, Known, OnTask, node, parts, rounds, more_rounds, links, operand, settle, fold, marked, operator_symbol, application, unmark, close, leave, Setting, under_marks, loosened, State, Turn, on, stops, ended, part_turn, numbered_turn, choice_turn, many_turn, is_place, is_known_at, is_known, covers, inside_form, is_text, given_by, is_still, is_entered, rule_turn, around_turn, form_turn, node_turn, parts_turn, rounds_turn, is_unchanged, more_turn, closed_table, closed_forest, without_newest, turn}
+use Rattle.pg_replay.proofs.Alike.{text_in, IsAlike, Alike, is_same, alike_same, alike_both, alike_given}
 use Rattle.pg_replay.proofs.Known.{AreKnown, AreBlank, IsSo}
 use Rattle.pg_replay.proofs.NoText.{no_text}
 use Rattle.pg_replay.proofs.Items.{positive, no_count_at_end, no_count_for_choice, no_count_for_operators}
@@ -70,19 +70,10 @@ module _ (g : Grammar) (text : List ℕ) where
   parts_follow (p ∷ ps) s = λ e k. part_more s.setting p ps s.tasks s.entered (spot_of s) s.forest s.rest e k
 
   -- rounds that take nothing, as many as there are
-  nothing_again : (p n : ℕ) (a : Spot) (w : List Tree) → Derives g text p a a w [] → (z : List Tree) × (DerivesRounds g text p n a a z [] × ((w ≡ [] → z ≡ []) × (text_in w ≡ [] → text_in z ≡ [])))
-  nothing_again p zero a w d = ([], (derives.no_round, ((λ e. refl), (λ e. refl))))
-  nothing_again p (suc n) a w d =
-      let more = nothing_again p n a w d in (
-        w ++ more.0,
-        (
-          derives.first_round d more.1.0,
-          (
-            (λ e. ap (λ x. x ++ more.0) e ∙ more.1.1.0 e),
-            (λ e. text_append w more.0 ∙ ap (λ x. x ++ text_in more.0) e ∙ more.1.1.1 e),
-          ),
-        ),
-      )
+  nothing_again : (l : Looseness) (p n : ℕ) (a : Spot) (w : List Tree) → Derives g text p a a w [] → (z : List Tree) × (DerivesRounds g text p n a a z [] × (Alike l [] w → Alike l [] z))
+  nothing_again l p zero a w d = ([], (derives.no_round, (λ h. alike_same l [] [] refl)))
+  nothing_again l p (suc n) a w d =
+      let more = nothing_again l p n a w d in (w ++ more.0, (derives.first_round d more.1.0, (λ h. alike_both l [] w [] more.0 h (more.1.1 h))))
 
   pub no_tree_more : (v w : List Tree) → length v ≡ length (v ++ w) → w ≡ []
   no_tree_more v [] e = refl
@@ -92,15 +83,11 @@ module _ (g : Grammar) (text : List ℕ) where
   no_item_more [] rest e = refl
   no_item_more (i ∷ x) rest e = let more = length-append (i ∷ x) rest in absurd (omega arith)
 
-  -- what was put there by the first of them stands for all
-  is_enough : (loose : Bool) (v x w z : List Tree) → IsAlike loose x w → AsMany loose (length v) (length (v ++ x)) → text_in w ≡ [] → (w ≡ [] → z ≡ []) → (text_in w ≡ [] → text_in z ≡ []) →
-      IsAlike loose x (w ++ z)
-  is_enough false v x w z h many none trees texts = h ∙ sym (ap (λ y. w ++ y) (trees (sym h ∙ no_tree_more v x many)) ∙ append-nil w)
-  is_enough true v x w z h many none trees texts = h ∙ sym (text_append w z ∙ ap (λ y. text_in w ++ y) (texts none) ∙ append-nil (text_in w))
-
-  enough : (loose : Bool) (v x w z : List Tree) → Alike loose x w → AsMany loose (length v) (length (v ++ x)) → text_in w ≡ [] → (w ≡ [] → z ≡ []) → (text_in w ≡ [] → text_in z ≡ []) →
-      Alike loose x (w ++ z)
-  enough loose v x w z h many none trees texts = record { is = is_enough loose v x w z h.is many none trees texts }
+  -- the first of them gave nothing that can't be left out
+  left_out : (l : Looseness) (v x w : List Tree) → Alike l x w → AsMany l (length v) (length (v ++ x)) → text_in w ≡ [] → Alike l [] w
+  left_out tight v x w h many none = subst (λ y. Alike tight y w) (no_tree_more v x many) h
+  left_out (apart label) v x w h many none = subst (λ y. Alike (apart label) y w) (no_tree_more v x many) h
+  left_out only_text v x w h many none = record { is = sym none }
 
   -- a round that took nothing and gave nothing that can't be left out, and the others at once
   round_over : (ms : Setting) (p n : ℕ) (ts : List OnTask) (entered : List ℕ) (a b : Spot) (v j w : List Tree) (x rest : List TrailItem) (e : End) → Derives g text p a b w x → Alike ms.loose j w →
@@ -108,9 +95,9 @@ module _ (g : Grammar) (text : List ℕ) where
   round_over ms p n ts entered a b v j w x rest e d h place many taken k =
       let here : a ≡ b = (leads_on d).still place in
       let again : Derives g text p b b w [] = subst (λ u. Derives g text p b b w u) taken (subst (λ a. Derives g text p a b w x) here d) in
-      let more = nothing_again p n b w again in
+      let more = nothing_again ms.loose p n b w again in
       joined ms (rounds p (suc n)) ts entered a b b v j [] x [] rest e (leads_on d).onward (omega arith)
-      (does_rounds (derives.first_round d more.1.0) (subst (λ y. Alike ms.loose y (w ++ more.0)) (sym (append-nil j)) (enough ms.loose v j w more.0 h many (no_text again refl refl) more.1.1.0 more.1.1.1))) refl
+      (does_rounds (derives.first_round d more.1.0) (alike_both ms.loose j w [] more.0 h (more.1.1 (left_out ms.loose v j w h many (no_text again refl refl))))) refl
       (subst (λ q. Leads g text ms ts q b (v ++ j ++ []) rest e) (sym (still_here b (still_entered a b x entered)))
       (subst (λ f. Leads g text ms ts (still_entered a b x entered) b f rest e) (sym (append-nil (v ++ j))) k))
 
@@ -144,17 +131,18 @@ module _ (g : Grammar) (text : List ℕ) where
   both true c e = (refl, e)
   both false c e = absurd cc
 
-  as_many : (loose : Bool) (trees count : ℕ) → (trees == count) || loose ≡ true → AsMany loose trees count
-  as_many true trees count e = tt
-  as_many false trees count e = go (trees == count) refl e
-    where
-      go : (b : Bool) → (trees == count) ≡ b → b || false ≡ true → trees ≡ count
-      go true f e = eqb-true trees count f
-      go false f e = absurd cc
+  count_same : (trees count : ℕ) (b : Bool) → (trees == count) ≡ b → b || false ≡ true → trees ≡ count
+  count_same trees count true f e = eqb-true trees count f
+  count_same trees count false f e = absurd cc
+
+  as_many : (loose : Looseness) (trees count : ℕ) → (trees == count) || is_text loose ≡ true → AsMany loose trees count
+  as_many tight trees count e = count_same trees count (trees == count) refl e
+  as_many (apart label) trees count e = count_same trees count (trees == count) refl e
+  as_many only_text trees count e = tt
 
   pub more_follow : (p n place trees count : ℕ) (s : State) → Follows g text (more_rounds p n place trees count) s (more_turn p n place trees count s)
   more_follow p n place trees count s = follows_if g text (more_rounds p n place trees count) s (is_unchanged place trees count s) _ _
-      (λ h. λ e k. (let first = both (is_still place count s) ((trees == length s.forest) || s.setting.loose) h in
+      (λ h. λ e k. (let first = both (is_still place count s) ((trees == length s.forest) || is_text s.setting.loose) h in
       let second = both (place == s.place) (count == length s.rest) first.0 in
       over (eqb-true place s.place second.0) (as_many s.setting.loose trees (length s.forest) first.1) (eqb-true count (length s.rest) second.1) k))
       (λ h. more_by p n place trees count s (rounds_turn p n s) (rounds_follow p n s))
@@ -271,20 +259,26 @@ module _ (g : Grammar) (text : List ℕ) where
       Derives g text named.body (spot_of s) (spot_of s) w [] → Alike s.setting.loose [] w → StateLeads g text s e → TaskLeads g text (node p) s e
   known_leads p r named w s e is there d h k = stayed (node p) s e (does_node (derives.at_node is (derives.rule there d)) h) refl k
 
-  is_left_out : (loose empty : Bool) (w : List Tree) → empty || loose ≡ true → (empty ≡ true → w ≡ []) → text_in w ≡ [] → IsAlike loose [] w
-  is_left_out true true w e no_tree none = sym none
-  is_left_out false true w e no_tree none = sym (no_tree refl)
-  is_left_out true false w e no_tree none = sym none
-  is_left_out false false w e no_tree none = absurd cc
+  -- what is left out where trees are so loose is left out where they are as loose as the other
+  is_covered : (k l : Looseness) (w : List Tree) → covers k l ≡ true → IsAlike k [] w → text_in w ≡ [] → IsAlike l [] w
+  is_covered tight tight w e h none = h
+  is_covered tight (apart label) w e h none = is_same (apart label) [] w h
+  is_covered tight only_text w e h none = sym none
+  is_covered (apart label) tight w e h none = absurd cc
+  is_covered (apart label) (apart other) w e h none = subst (λ m. IsAlike (apart m) [] w) ((bytes_eq-Decides label other).0 e) h
+  is_covered (apart label) only_text w e h none = sym none
+  is_covered only_text tight w e h none = absurd cc
+  is_covered only_text (apart other) w e h none = absurd cc
+  is_covered only_text only_text w e h none = h
 
-  left_out : (loose empty : Bool) (w : List Tree) → empty || loose ≡ true → (empty ≡ true → w ≡ []) → text_in w ≡ [] → Alike loose [] w
-  left_out loose empty w e no_tree none = record { is = is_left_out loose empty w e no_tree none }
+  covered : (k l : Looseness) (w : List Tree) → covers k l ≡ true → Alike k [] w → text_in w ≡ [] → Alike l [] w
+  covered k l w e h none = record { is = is_covered k l w e h.is none }
 
-  here_known : (r i : ℕ) (known : List (Option Known)) (loose : Bool) (x : Option (Option Known)) → slice_get known r ≡ x → is_known_at i loose x ≡ true →
-      (here : Known) × ((slice_get known r ≡ Some (Some here)) × ((here.place ≡ i) × (here.empty || loose ≡ true)))
+  here_known : (r i : ℕ) (known : List (Option Known)) (loose : Looseness) (x : Option (Option Known)) → slice_get known r ≡ x → is_known_at i loose x ≡ true →
+      (here : Known) × ((slice_get known r ≡ Some (Some here)) × ((here.place ≡ i) × (covers here.loose loose ≡ true)))
   here_known r i known loose None e h = absurd cc
   here_known r i known loose (Some None) e h = absurd cc
-  here_known r i known loose (Some (Some here)) e h = let parts = both (here.place == i) (here.empty || loose) h in (here, (e, (eqb-true here.place i parts.0, parts.1)))
+  here_known r i known loose (Some (Some here)) e h = let parts = both (here.place == i) (covers here.loose loose) h in (here, (e, (eqb-true here.place i parts.0, parts.1)))
 
   known_follows : (p r : ℕ) (named : declared.Rule) (s : State) (e : End) → slice_get g.nodes p ≡ Some (form.Rule r) → slice_get g.rules r ≡ Some named → AreKnown g text s.known →
       is_known r s ≡ true → StateLeads g text s e → TaskLeads g text (node p) s e
@@ -293,7 +287,7 @@ module _ (g : Grammar) (text : List ℕ) where
       let here = found.0 in
       let nothing = known r here found.1.0 named there s.table in
       let d : Derives g text named.body (spot_of s) (spot_of s) nothing.0 [] = subst (λ i. Derives g text named.body (spot_at i s.table) (spot_at i s.table) nothing.0 []) found.1.1.0 nothing.1.0 in
-      known_leads p r named nothing.0 s e is there d (left_out s.setting.loose here.empty nothing.0 found.1.1.1 nothing.1.1 (no_text d refl refl)) k
+      known_leads p r named nothing.0 s e is there d (covered here.loose s.setting.loose nothing.0 found.1.1.1 nothing.1.1 (no_text d refl refl)) k
 
   rule_follows : (p r : ℕ) (named : Option declared.Rule) (s : State) → slice_get g.nodes p ≡ Some (form.Rule r) → slice_get g.rules r ≡ named → AreKnown g text s.known →
       Follows g text (node p) s (rule_turn r named s)
@@ -332,18 +326,18 @@ module _ (g : Grammar) (text : List ℕ) where
   table_closed (kind.Build used symbol) a b h = refl
   table_closed (kind.Label message) a b h = refl
 
-  forest_closed : (k : Around) (from to : ℕ) (v w : List Tree) → closed_forest k text from to (length v) (v ++ w) ≡ v ++ made_by k text from to w
-  forest_closed k from to v w =
-      ap (λ x. x ++ made_by k text from to (drop (length v) (v ++ w))) (take-append_seam v w) ∙ ap (λ x. v ++ made_by k text from to x) (drop-append_seam v w)
+  forest_closed : (k : Around) (l : Looseness) (from to : ℕ) (v w : List Tree) → closed_forest k l text from to (length v) (v ++ w) ≡ v ++ given_by k l text from to w
+  forest_closed k l from to v w =
+      ap (λ x. x ++ given_by k l text from to (drop (length v) (v ++ w))) (take-append_seam v w) ∙ ap (λ x. v ++ given_by k l text from to x) (drop-append_seam v w)
 
   around_leads : (ms : Setting) (p q count : ℕ) (k : Around) (ts : List OnTask) (entered : List ℕ) (a : Spot) (v : List Tree) (items : List TrailItem) (e : End) → slice_get g.nodes p ≡ Some (form.Around k q) →
-      Leads g text (loosened (loosens k || ms.loose) ms) (node q ∷ close k p a.place (length v) (length a.table.operators) count ms.loose ∷ ts) entered a v items e → Leads g text ms (node p ∷ ts) entered a v items e
+      Leads g text (loosened (inside_form k ms.loose) ms) (node q ∷ close k p a.place (length v) (length a.table.operators) count ms.loose ∷ ts) entered a v items e → Leads g text ms (node p ∷ ts) entered a v items e
   around_leads ms p q count k ts entered a v items e is (refuses (refuses_node h)) = refuses (refuses_node (refusal.at_node is (refusal.around h)))
   around_leads ms p q count k ts entered a v items e is (does (does_node d i) (refuses h)) = elim h [ ]
   around_leads ms p q count k ts entered a v items e is (does {b = b} {u = u} (does_node {w = w} {x = x} d h) (does {items = rest} does_close m)) =
-      does (does_node (derives.at_node is (derives.around d)) (alike_made k ms.loose text a.place b.place x w h))
-      (subst (λ y. Leads g text ms ts (still_entered a b u entered) (left_by k a b) y rest e) (forest_closed k a.place b.place v x)
-      (subst (λ t. Leads g text ms ts (still_entered a b u entered) (spot_at b.place t) (closed_forest k text a.place b.place (length v) (v ++ x)) rest e) (table_closed k a b (leads_on d)) m))
+      does (does_node (derives.at_node is (derives.around d)) (alike_given k ms.loose text a.place b.place x w h))
+      (subst (λ y. Leads g text ms ts (still_entered a b u entered) (left_by k a b) y rest e) (forest_closed k ms.loose a.place b.place v x)
+      (subst (λ t. Leads g text ms ts (still_entered a b u entered) (spot_at b.place t) (closed_forest k ms.loose text a.place b.place (length v) (v ++ x)) rest e) (table_closed k a b (leads_on d)) m))
 
   -- an empty leaf
   blank_leads : (p : ℕ) (s : State) (e : End) → Derives g text p (spot_of s) (spot_of s) (leaf_of [] ∷ []) [] →

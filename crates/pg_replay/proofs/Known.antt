@@ -1,21 +1,22 @@
 -- What is known of rules and nodes is so: at its place the body of the rule takes nothing from text and trail, and what
 -- stands at the node takes nothing and gives an empty leaf.
-use Rattle.std.proofs.Common.{◌≡◌, ◌⊎◌, ℕ, zero, suc, true, List, [], ◌∷◌, inl, inr, refl, sym, ap, subst}
+use Rattle.std.proofs.Common.{◌≡◌, ◌⊎◌, ℕ, zero, suc, List, [], ◌∷◌, inl, inr, refl, sym, ap, subst}
 use Rattle.std.specs.Prelude.{Option, Some, None, slice_get, set, replicate}
 use Rattle.pg_tree.specs.Trees.{Tree}
 use Rattle.pg_value.specs.Grammar.{Grammar}
 use Rattle.pg_value.specs.declared.grammar.Rule as declared
 use Rattle.pg_table.specs.Tables.{Table}
 use Rattle.pg_language.specs.Derives.{Spot, leaf_of, Derives}
-use Rattle.pg_replay.specs.declared.replayer.Known.{Known}
+use Rattle.pg_replay.specs.Tasks.{Known}
+use Rattle.pg_replay.proofs.Alike.{Alike}
 
 abbrev spot_at : ℕ → Table → Spot
 spot_at place table = record { place = place; table = table }
 
--- the rule's body takes nothing there, whatever the table, and gives no tree if it is empty
+-- the rule's body takes nothing there, whatever the table, and gives nothing where trees are so loose
 abbrev pub TakesNothing : Grammar → List ℕ → ℕ → Known → Type 0
 TakesNothing g text r known = (named : declared.Rule) → slice_get g.rules r ≡ Some named → (table : Table) →
-    (w : List Tree) × (Derives g text named.body (spot_at known.place table) (spot_at known.place table) w [] × (known.empty ≡ true → w ≡ []))
+    (w : List Tree) × (Derives g text named.body (spot_at known.place table) (spot_at known.place table) w [] × Alike known.loose [] w)
 
 abbrev pub AreKnown : Grammar → List ℕ → List (Option Known) → Type 0
 AreKnown g text known = (r : ℕ) (here : Known) → slice_get known r ≡ Some (Some here) → TakesNothing g text r here

@@ -14,13 +14,13 @@ use Rattle.pg_replay.specs.declared.fault.Mismatch.TheVariants.{TextDiffers}
 use Rattle.pg_language.specs.Derives.{Spot, at, Link, Derives, DerivesParts, DerivesRounds, DerivesLinks, no_part, first_part, no_round, first_round, no_link, first_link}
 use Rattle.pg_language.proofs.Onward.{leads_on}
 use Rattle.pg_replay.specs.Refusals.{Stop, stop, if_no_item, still_entered, Refuses, RefusesParts, RefusesRounds, RefusesLinks}
-use Rattle.pg_replay.specs.Tasks.{Chain, OnTask, node, parts, rounds, more_rounds, links, operand, settle, fold, marked, operator_symbol, application, unmark, close, leave, Setting, under_marks, loosened, State, Turn, on, stops, ended, folded_after, first_mark, marks_after, applied_after, closed_table, closed_forest, without_newest}
+use Rattle.pg_replay.specs.Tasks.{Looseness, tight, apart, only_text, Chain, OnTask, node, parts, rounds, more_rounds, links, operand, settle, fold, marked, operator_symbol, application, unmark, close, leave, Setting, under_marks, loosened, State, Turn, on, stops, ended, folded_after, first_mark, marks_after, applied_after, closed_table, closed_forest, without_newest}
 use Rattle.pg_replay.proofs.ChainTrees.{chained, chained_on}
 use Rattle.pg_replay.proofs.Alike.{Alike, AreAlike}
 
--- it comes to the end of the tasks at a spot, with a forest whose trees are loose or aren't, and with items left, or stops
+-- it comes to the end of the tasks at a spot, with a forest whose trees are so loose, and with items left, or stops
 pub data End : Type 0 where
-  arrived : (loose : Bool) → Spot → List Tree → List TrailItem → End
+  arrived : (loose : Looseness) → Spot → List Tree → List TrailItem → End
   halted : Stop → End
 
 -- the task leads from the one spot and forest to the other, and takes these items; what it puts to the forest is alike what is derived
@@ -35,10 +35,10 @@ pub data Does (g : Grammar) (text : List ℕ) : Setting → Setting → OnTask �
       Does g text ms ms (links c n trees) a v b (chained c.side c.used.shape trees v js) u
   does_operand : {ms : Setting} {c : Chain} {n trees : ℕ} {a b d : Spot} {v w x : List Tree} {js ls : List Link} {t u : List TrailItem} → Derives g text c.part a b w t → Alike ms.loose x w →
       DerivesLinks g text c.part c.separator n b d ls u → AreAlike ms.loose js ls → Does g text ms ms (operand c n trees) a v d (chained_on c.side c.used.shape trees v x js) (t ++ u)
-  does_settle : {ms : Setting} {loose : Bool} {a : Spot} {v : List Tree} → Does g text ms (loosened loose ms) (settle loose) a v a v []
+  does_settle : {ms : Setting} {loose : Looseness} {a : Spot} {v : List Tree} → Does g text ms (loosened loose ms) (settle loose) a v a v []
   does_fold : {ms : Setting} {used : BuilderUse} {trees : ℕ} {a : Spot} {v : List Tree} → Does g text ms ms (fold used trees) a v a (folded_after used.shape trees v) []
-  does_close : {ms : Setting} {k : Around} {p from trees operators count : ℕ} {loose : Bool} {a : Spot} {v : List Tree} →
-      Does g text ms (loosened loose ms) (close k p from trees operators count loose) a v (record { place = a.place; table = closed_table k operators a.table }) (closed_forest k text from a.place trees v) []
+  does_close : {ms : Setting} {k : Around} {p from trees operators count : ℕ} {loose : Looseness} {a : Spot} {v : List Tree} →
+      Does g text ms (loosened loose ms) (close k p from trees operators count loose) a v (record { place = a.place; table = closed_table k operators a.table }) (closed_forest k loose text from a.place trees v) []
   does_leave : {ms : Setting} {r place trees count : ℕ} {a : Spot} {v : List Tree} → Does g text ms ms (leave r place trees count) a v a v []
   does_term : {ms : Setting} {p : ℕ} {a b : Spot} {v w x : List Tree} {u : List TrailItem} → Derives g text p a b w u → Alike ms.loose x w →
       Does g text ms (under_marks (length v ∷ ms.marks) ms) (marked p) a v b (v ++ x) u
@@ -82,10 +82,11 @@ entered_after (application builders o) a b u entered = entered
 entered_after unmark a b u entered = entered
 entered_after (leave r place trees count) a b u entered = without_newest entered
 
--- so many trees are as many as there are, unless they are loose
-abbrev pub AsMany : Bool → ℕ → ℕ → Type 0
-AsMany false trees count = trees ≡ count
-AsMany true trees count = Unit {0}
+-- so many trees are as many as there are, unless only their text is answered
+abbrev pub AsMany : Looseness → ℕ → ℕ → Type 0
+AsMany tight trees count = trees ≡ count
+AsMany (apart label) trees count = trees ≡ count
+AsMany only_text trees count = Unit {0}
 
 -- the tasks lead to this end
 pub data Leads (g : Grammar) (text : List ℕ) : Setting → List OnTask → List ℕ → Spot → List Tree → List TrailItem → End → Type 0 where

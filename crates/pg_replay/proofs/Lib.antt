@@ -8,6 +8,7 @@ pub mod Alike
 pub mod Leads
 pub mod Items
 pub mod Known
+pub mod KnownRules
 pub mod LeavesFollow
 pub mod ChainsFollow
 pub mod ExpressionsFollow

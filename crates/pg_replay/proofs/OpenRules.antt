@@ -1,5 +1,5 @@
 -- Turn by turn, what is known of rules is so, and the ends of those that are open tell the truth.
-use Rattle.std.proofs.Common.{◌≡◌, ◌==◌, ◌&&◌, not, ℕ, Bool, true, false, List, [], ◌∷◌, ◌++◌, length, refl, sym, ap, ◌∙◌, subst, eqb-true, append-nil, if◌then◌else◌}
+use Rattle.std.proofs.Common.{◌≡◌, ◌==◌, ◌&&◌, ℕ, Bool, true, false, List, [], ◌∷◌, ◌++◌, length, refl, sym, ap, ◌∙◌, subst, eqb-true, append-nil, if◌then◌else◌}
 use Rattle.std.specs.Prelude.{Some, set}
 use Rattle.pg_tree.specs.Trees.{Tree}
 use Rattle.pg_form.specs.declared.form.Around.{Around}
@@ -11,8 +11,8 @@ use Rattle.pg_table.specs.Tables.{Table}
 use Rattle.pg_language.specs.Derives as derives
 use Rattle.pg_language.specs.Derives.{Spot, left_by, made_by, Derives, DerivesForm}
 use Rattle.pg_language.proofs.Onward.{left_still}
-use Rattle.pg_replay.specs.Tasks.{OnTask, close, leave, State, Turn, on, stops, ended, with_tasks, is_still, known_now, makes_empty_leaf, turn, turn_by}
-use Rattle.pg_replay.proofs.Alike.{IsAlike}
+use Rattle.pg_replay.specs.Tasks.{Looseness, only_text, OnTask, close, leave, State, Turn, on, stops, ended, with_tasks, is_still, known_now, makes_empty_leaf, turn, turn_by}
+use Rattle.pg_replay.proofs.Alike.{text_in, Alike}
 use Rattle.pg_replay.proofs.AnyTable.{any_table}
 use Rattle.pg_replay.proofs.Follow.{task_follows, no_tree_more, no_item_more}
 use Rattle.pg_replay.proofs.Known.{TakesNothing, AreKnown, IsBlank, AreBlank, IsSo, one_more_known, one_more_blank}
@@ -34,23 +34,23 @@ module _ (g : Grammar) (text : List ℕ) where
   -- ---- what took nothing
 
   -- it takes nothing whatever the table
-  still : (q trees : ℕ) (loose : Bool) (s : State) (h : HasDerived g text q s.place trees (length s.rest) loose (spot_of s) s.forest s.rest) → (table : Table) →
+  still : (q trees : ℕ) (loose : Looseness) (s : State) (h : HasDerived g text q s.place trees (length s.rest) loose (spot_of s) s.forest s.rest) → (table : Table) →
       Derives g text q (spot_at s.place table) (spot_at s.place table) h.real []
   still q trees loose s h table =
       let taken : h.taken ≡ [] = no_item_more g text h.taken s.rest h.counted in
       subst (λ i. Derives g text q (spot_at i table) (spot_at i table) h.real []) h.at_place
       (subst (λ u. Derives g text q (spot_at h.from.place table) (spot_at h.from.place table) h.real u) taken (any_table h.derived taken h.at_place table))
 
-  -- where trees aren't loose, and there are as many as before, there is none
-  no_tree_given : (q trees : ℕ) (loose : Bool) (s : State) (h : HasDerived g text q s.place trees (length s.rest) loose (spot_of s) s.forest s.rest) →
-      loose ≡ false → trees ≡ length s.forest → h.real ≡ []
-  no_tree_given q trees loose s h calm many =
-      let same : h.given ≡ h.real = subst (λ l. IsAlike l h.given h.real) calm h.alike.is in
-      sym same ∙ no_tree_more g text h.before h.given (h.after_trees ∙ many ∙ ap length h.made)
+  -- where there are as many trees as before, it gives none that can't be left out
+  no_tree_given : (q trees : ℕ) (loose : Looseness) (s : State) (h : HasDerived g text q s.place trees (length s.rest) loose (spot_of s) s.forest s.rest) →
+      trees ≡ length s.forest → Alike loose [] h.real
+  no_tree_given q trees loose s h many =
+      subst (λ x. Alike loose x h.real) (no_tree_more g text h.before h.given (h.after_trees ∙ many ∙ ap length h.made)) h.alike
 
-  empty_parts : (loose many : Bool) → not loose && many ≡ true → (loose ≡ false) × (many ≡ true)
-  empty_parts true many e = absurd cc
-  empty_parts false many e = (refl, e)
+  given_then : (q trees : ℕ) (loose : Looseness) (s : State) (h : HasDerived g text q s.place trees (length s.rest) loose (spot_of s) s.forest s.rest) → text_in h.real ≡ [] →
+      (many : Bool) → (trees == length s.forest) ≡ many → Alike (if many then loose else only_text) [] h.real
+  given_then q trees loose s h none true e = no_tree_given q trees loose s h (eqb-true trees (length s.forest) e)
+  given_then q trees loose s h none false e = record { is = sym none }
 
   nothing_taken : (r trees : ℕ) (s : State) → BodyDerived g text r s.place trees (length s.rest) s.setting.loose (spot_of s) s.forest s.rest → TakesNothing g text r (known_now trees s)
   nothing_taken r trees s b =
@@ -61,12 +61,11 @@ module _ (g : Grammar) (text : List ℕ) where
         h.real,
         (
           subst (λ (n : declared.Rule). Derives g text n.body (spot_at s.place table) (spot_at s.place table) h.real []) one (still b.0.body trees s.setting.loose s h table),
-          (λ e. let parts = empty_parts s.setting.loose (trees == length s.forest) e in
-              no_tree_given b.0.body trees s.setting.loose s h parts.0 (eqb-true trees (length s.forest) parts.1)),
+          given_then b.0.body trees s.setting.loose s h (no_text (still b.0.body trees s.setting.loose s h s.table) refl refl) (trees == length s.forest) refl,
         ),
       )
 
-  blank_made : (k : Around) (p trees : ℕ) (loose : Bool) (s : State) → makes_empty_leaf k ≡ true → PartDerived g text k p s.place trees (length s.rest) loose (spot_of s) s.forest s.rest → IsBlank g text p s.place
+  blank_made : (k : Around) (p trees : ℕ) (loose : Looseness) (s : State) → makes_empty_leaf k ≡ true → PartDerived g text k p s.place trees (length s.rest) loose (spot_of s) s.forest s.rest → IsBlank g text p s.place
   blank_made k p trees loose s makes b = λ table.
       let q = b.0 in
       let h : HasDerived g text q s.place trees (length s.rest) loose (spot_of s) s.forest s.rest = b.2 in
@@ -80,7 +79,7 @@ module _ (g : Grammar) (text : List ℕ) where
   all_two false b e = absurd cc
 
   known_then : (r place trees count : ℕ) (s : State) → AreKnown g text s.known →
-      ((loose : Bool) (b : Spot) (x : List Tree) (rest : List TrailItem) → Leads g text s.setting [] s.entered (spot_of s) s.forest s.rest (arrived loose b x rest) → BodyDerived g text r place trees count loose b x rest) →
+      ((loose : Looseness) (b : Spot) (x : List Tree) (rest : List TrailItem) → Leads g text s.setting [] s.entered (spot_of s) s.forest s.rest (arrived loose b x rest) → BodyDerived g text r place trees count loose b x rest) →
       (unchanged : Bool) → is_still place count s ≡ unchanged → AreKnown g text (if unchanged then set s.known r (Some (known_now trees s)) else s.known)
   known_then r place trees count s known told false e = known
   known_then r place trees count s known told true e =
@@ -91,7 +90,7 @@ module _ (g : Grammar) (text : List ℕ) where
       one_more_known g text s.known r (known_now trees s) known (nothing_taken r trees s h)
 
   blank_then : (k : Around) (p place trees count : ℕ) (s : State) → AreBlank g text s.blank →
-      ((loose : Bool) (b : Spot) (x : List Tree) (rest : List TrailItem) → Leads g text s.setting [] s.entered (spot_of s) s.forest s.rest (arrived loose b x rest) → PartDerived g text k p place trees count loose b x rest) →
+      ((loose : Looseness) (b : Spot) (x : List Tree) (rest : List TrailItem) → Leads g text s.setting [] s.entered (spot_of s) s.forest s.rest (arrived loose b x rest) → PartDerived g text k p place trees count loose b x rest) →
       (blank : Bool) → makes_empty_leaf k && is_still place count s ≡ blank → AreBlank g text (if blank then set s.blank p (Some s.place) else s.blank)
   blank_then k p place trees count s are told false e = are
   blank_then k p place trees count s are told true e =

@@ -1,11 +1,11 @@
 -- The steps of a tree are tasks, which stand in the code the other way round.
-use Rattle.std.proofs.Common.{◌≡◌, ◌-◌, ℕ, Bool, false, List, [], ◌∷◌, ◌++◌, length, refl, sym, ap, ◌∙◌, append_assoc, arith}
+use Rattle.std.proofs.Common.{◌≡◌, ◌-◌, ℕ, List, [], ◌∷◌, ◌++◌, length, refl, sym, ap, ◌∙◌, append_assoc, arith}
 use Rattle.std.specs.Prelude.{Some, None, slice_get, map}
 use Rattle.std.proofs.lemmas.List.{map-append}
 use Rattle.pg_form.specs.declared.used.OperatorBuilders.{OperatorBuilders}
 use Rattle.pg_fitting.specs.declared.step.Step as declared
 use Rattle.pg_fitting.specs.Judge.{step_of}
-use Rattle.pg_replay.specs.Tasks.{State, joins_step, joins_last, step_task, with_task, with_tasks, with_steps}
+use Rattle.pg_replay.specs.Tasks.{Looseness, State, inside_step, inside_steps, step_task, with_task, with_tasks, with_steps}
 
 pub no_steps : (builders : OperatorBuilders) (p : ℕ) (s : State) → with_steps builders p (map step_of []) s ≡ s
 no_steps builders p s = refl
@@ -30,21 +30,21 @@ last_there : (x : declared.Step) (xs : List declared.Step) → slice_get (x ∷ 
 last_there x [] = refl
 last_there x (y ∷ ys) = last_there y ys
 
-told_by_last : (builders : OperatorBuilders) (x : declared.Step) (xs : List declared.Step) → joins_last builders (map step_of (x ∷ xs)) ≡ joins_step builders (step_of (last_of x xs))
-told_by_last builders x [] = refl
-told_by_last builders x (y ∷ ys) = told_by_last builders y ys
+told_by_last : (builders : OperatorBuilders) (x : declared.Step) (xs : List declared.Step) (l : Looseness) → inside_steps builders (map step_of (x ∷ xs)) l ≡ inside_step builders (step_of (last_of x xs)) l
+told_by_last builders x [] l = refl
+told_by_last builders x (y ∷ ys) l = told_by_last builders y ys l
 
-pub joins_by_last : (builders : OperatorBuilders) (xs : List declared.Step) (step : declared.Step) → slice_get xs (length xs - 1) ≡ Some step →
-    joins_last builders (map step_of xs) ≡ joins_step builders (step_of step)
-joins_by_last builders [] step e = absurd cc
-joins_by_last builders (x ∷ xs) step e =
+pub inside_by_last : (builders : OperatorBuilders) (xs : List declared.Step) (step : declared.Step) (l : Looseness) → slice_get xs (length xs - 1) ≡ Some step →
+    inside_steps builders (map step_of xs) l ≡ inside_step builders (step_of step) l
+inside_by_last builders [] step l e = absurd cc
+inside_by_last builders (x ∷ xs) step l e =
     let one : length (x ∷ xs) - 1 ≡ length xs = omega arith in
     let same : Some step ≡ Some (last_of x xs) = sym e ∙ ap (slice_get (x ∷ xs)) one ∙ last_there x xs in
-    told_by_last builders x xs ∙ ap (λ z. joins_step builders (step_of z)) (let there : last_of x xs ≡ step = cc in there)
+    told_by_last builders x xs l ∙ ap (λ z. inside_step builders (step_of z) l) (let there : last_of x xs ≡ step = cc in there)
 
-pub joins_by_none : (builders : OperatorBuilders) (xs : List declared.Step) → slice_get xs (length xs - 1) ≡ None → joins_last builders (map step_of xs) ≡ false
-joins_by_none builders [] e = refl
-joins_by_none builders (x ∷ xs) e =
+pub inside_by_none : (builders : OperatorBuilders) (xs : List declared.Step) (l : Looseness) → slice_get xs (length xs - 1) ≡ None → inside_steps builders (map step_of xs) l ≡ l
+inside_by_none builders [] l e = refl
+inside_by_none builders (x ∷ xs) l e =
     let one : length (x ∷ xs) - 1 ≡ length xs = omega arith in
     let same : None ≡ Some (last_of x xs) = sym e ∙ ap (slice_get (x ∷ xs)) one ∙ last_there x xs in
     absurd cc

@@ -1,5 +1,5 @@
 -- A turn doesn't look at the tasks after the one that is done, and says nothing new of the ends of rules but where it enters one.
-use Rattle.std.proofs.Common.{◌≡◌, ◌==◌, ◌-◌, ◌||◌, ℕ, Bool, true, false, not, List, [], ◌∷◌, ◌++◌, length, refl, sym, ap, append_assoc, map, if◌then◌else◌}
+use Rattle.std.proofs.Common.{◌≡◌, ◌==◌, ◌-◌, ℕ, Bool, true, false, not, List, [], ◌∷◌, ◌++◌, length, refl, sym, ap, append_assoc, map, if◌then◌else◌}
 use Rattle.std.specs.Prelude.{Option, Some, None, slice_get}
 use Rattle.pg_form.specs.Operators.{Operator}
 use Rattle.pg_form.specs.Forms.{Node}
@@ -22,8 +22,7 @@ use Rattle.pg_table.specs.declared.fault.AdmitFault.{AdmitFault}
 use Rattle.pg_fitting.specs.Steps.{Step, a_term, a_symbol, an_application}
 use Rattle.pg_fitting.specs.Judge.{known_in, judgement}
 use Rattle.pg_language.specs.Declarations.{Declaration, no_keyword, no_digit, no_symbol, declared, declaration_at}
-use Rattle.pg_replay.specs.Tasks.{Chain, OnTask, node, parts, rounds, more_rounds, links, operand, settle, fold, marked, operator_symbol, application, unmark, close, leave, loosened, State, Turn, on, stops, ended, with_task, next_in, satisfied, spelled, word_by, takes, stays_if, declares, declared_turn, declare_turn, leaf_turn, part_turn, choice_turn, many_turn, chain_turn, joins_last, step_task, steps_turn, operators_turn, expression_turn, operator_end, ended_turn, symbol_turn, is_place, is_known, known_after, is_entered, rule_turn, loosens, around_turn, blank_after, form_turn, node_turn, parts_turn, rounds_turn, is_unchanged, links_turn, with_links, with_tasks, turn}
-use Rattle.pg_replay.specs.declared.replayer.Known.{Known}
+use Rattle.pg_replay.specs.Tasks.{Looseness, Known, Chain, OnTask, node, parts, rounds, more_rounds, links, operand, settle, fold, marked, operator_symbol, application, unmark, close, leave, loosened, State, Turn, on, stops, ended, with_task, next_in, satisfied, spelled, word_by, takes, stays_if, declares, declared_turn, declare_turn, leaf_turn, part_turn, choice_turn, many_turn, chain_turn, inside_steps, step_task, steps_turn, operators_turn, expression_turn, operator_end, ended_turn, symbol_turn, is_place, is_known, known_after, is_entered, rule_turn, inside_form, around_turn, blank_after, form_turn, node_turn, parts_turn, rounds_turn, is_unchanged, links_turn, with_links, with_tasks, turn}
 use Rattle.pg_replay.proofs.Open.{AreTrueAfter, entered_true}
 
 -- the turn, with further tasks after those that it leaves
@@ -113,7 +112,7 @@ module _ (g : Grammar) (text : List ℕ) where
   chain_goes c (Ops o ∷ rest) s = (λ ts. refl, tt)
 
   -- the steps of an expression enter no rule
-  steps_true : (builders : OperatorBuilders) (p : ℕ) (steps : List Step) (loose : Bool) (s : State) (above : List OnTask) → AreTrueAfter g text s above (map (step_task builders p) steps ++ (unmark ∷ settle loose ∷ []))
+  steps_true : (builders : OperatorBuilders) (p : ℕ) (steps : List Step) (loose : Looseness) (s : State) (above : List OnTask) → AreTrueAfter g text s above (map (step_task builders p) steps ++ (unmark ∷ settle loose ∷ []))
   steps_true builders p [] loose s above = (tt, (tt, tt))
   steps_true builders p (a_term ∷ steps) loose s above = (tt, steps_true builders p steps loose s (above ++ marked p ∷ []))
   steps_true builders p (a_symbol o ∷ steps) loose s above = (tt, steps_true builders p steps loose s (above ++ operator_symbol o ∷ []))
@@ -122,9 +121,9 @@ module _ (g : Grammar) (text : List ℕ) where
   steps_goes : (builders : OperatorBuilders) (p : ℕ) (steps : Option (List Step)) (rest : List TrailItem) (s : State) → Goes s.known s.blank (λ ts. steps_turn builders p steps rest (with_tasks ts s))
   steps_goes builders p None rest s = (λ ts. refl, tt)
   steps_goes builders p (Some steps) rest s = (
-    λ ts. ap (λ l. on (let z : State = record { tasks = l; place = s.place; table = s.table; forest = s.forest; rest = rest; entered = []; setting = loosened (joins_last builders steps || s.setting.loose) s.setting; known = s.known; blank = s.blank } in z))
+    λ ts. ap (λ l. on (let z : State = record { tasks = l; place = s.place; table = s.table; forest = s.forest; rest = rest; entered = []; setting = loosened (inside_steps builders steps s.setting.loose) s.setting; known = s.known; blank = s.blank } in z))
         (sym (append_assoc (map (step_task builders p) steps) (unmark ∷ settle s.setting.loose ∷ []) ts)),
-    (steps_true builders p steps s.setting.loose (let z : State = record { tasks = []; place = s.place; table = s.table; forest = s.forest; rest = rest; entered = []; setting = loosened (joins_last builders steps || s.setting.loose) s.setting; known = s.known; blank = s.blank } in z) [], (refl, refl)),
+    (steps_true builders p steps s.setting.loose (let z : State = record { tasks = []; place = s.place; table = s.table; forest = s.forest; rest = rest; entered = []; setting = loosened (inside_steps builders steps s.setting.loose) s.setting; known = s.known; blank = s.blank } in z) [], (refl, refl)),
   )
 
   operators_goes : (item : Option OperatorsItem) (builders : OperatorBuilders) (p : ℕ) (os : List AppliedOperator) (rest : List TrailItem) (s : State) →
@@ -146,7 +145,7 @@ module _ (g : Grammar) (text : List ℕ) where
 
   around_goes : (k : Around) (p q : ℕ) (s : State) → slice_get g.nodes p ≡ Some (form.Around k q) → Goes s.known s.blank (λ ts. around_turn k p q (with_tasks ts s))
   around_goes k p q s there = goes_if s.known s.blank (is_place s.place (slice_get s.blank p)) _ _ (λ ts. refl, (tt, (refl, refl)))
-      (λ ts. refl, ((tt, ((λ loose b x rest m. (q, there, entered_true g text q (loosened (loosens k || s.setting.loose) s.setting) s.entered (record { place = s.place; table = s.table }) loose b s.forest x s.rest rest m)), tt)), (refl, refl)))
+      (λ ts. refl, ((tt, ((λ loose b x rest m. (q, there, entered_true g text q (loosened (inside_form k s.setting.loose) s.setting) s.entered (record { place = s.place; table = s.table }) loose b s.forest x s.rest rest m)), tt)), (refl, refl)))
 
   form_goes : (p : ℕ) (n : Node) (s : State) → slice_get g.nodes p ≡ Some n → Goes s.known s.blank (λ ts. form_turn g text p n (with_tasks ts s))
   form_goes p (form.Leaf l) s there = leaf_goes l s

@@ -1,5 +1,5 @@
 -- What a whole run comes to.
-use Rattle.std.proofs.Common.{◌≡◌, ℕ, Bool, false, List, [], ◌∷◌, ◌++◌, refl, sym, ap, ◌∙◌, subst, length, append-nil}
+use Rattle.std.proofs.Common.{◌≡◌, ℕ, List, [], ◌∷◌, ◌++◌, refl, sym, ap, ◌∙◌, subst, length, append-nil}
 use Rattle.std.specs.Prelude.{Option, Some, None, slice_get, option_map}
 use Rattle.pg_tree.specs.Trees.{Tree}
 use Rattle.pg_value.specs.Grammar.{Grammar, rule_body}
@@ -14,7 +14,7 @@ use Rattle.pg_replay.specs.declared.fault.Mismatch.TheVariants.{LeftOver}
 use Rattle.pg_replay.specs.Refusals.{Stop, Refuses}
 use Rattle.pg_replay.specs.Ends.{IsDerived, beginning, Stops, in_start, left_over, IsTold, IsTheForest, IsFault}
 use Rattle.pg_replay.specs.Halts.{first_state, IsEnd, IsStopOf, IsHalt, stop_told}
-use Rattle.pg_replay.specs.Tasks.{OnTask, node, Setting, State, Turn, on, stops, ended, turn, turn_by, next_turn, with_tasks}
+use Rattle.pg_replay.specs.Tasks.{Looseness, tight, OnTask, node, Setting, State, Turn, on, stops, ended, turn, turn_by, next_turn, with_tasks}
 use Rattle.pg_replay.proofs.Alike.{IsAlike}
 use Rattle.pg_replay.proofs.Leads.{End, arrived, halted, Leads, no_task, does, refuses, does_node, refuses_node, spot_of, StateLeads, Follows}
 use Rattle.pg_replay.proofs.ProperTables.{IsProper, ProperTurn, next_proper}
@@ -63,14 +63,14 @@ spot_at place table = record { place = place; table = table }
 
 -- what is around the start rule
 abbrev calm_setting : Setting
-calm_setting = record { marks = []; loose = false }
+calm_setting = record { marks = []; loose = tight }
 
 abbrev stop_with : declared_stop.Stop → List TrailItem → Stop
 stop_with z rest = record { why = z.why; place = z.place; rest = rest }
 
 module _ (g : Grammar) (text : List ℕ) (table : Table) (items : List TrailItem) where
   -- from the end of the start rule's body
-  arrived_start : (ms : Setting) (named : declared.Rule) (entered : List ℕ) (v x : List Tree) (all rest : List TrailItem) (loose : Bool) (b : Spot) → ms.loose ≡ false →
+  arrived_start : (ms : Setting) (named : declared.Rule) (entered : List ℕ) (v x : List Tree) (all rest : List TrailItem) (loose : Looseness) (b : Spot) → ms.loose ≡ tight →
       Leads g text ms (node named.body ∷ []) entered (beginning table) v all (arrived loose b x rest) → v ≡ [] →
       (taken : List TrailItem) × (Derives g text named.body (beginning table) b x taken × (all ≡ taken ++ rest))
   arrived_start ms named entered v x all rest loose b calm (does {u = u} (does_node {w = w} {x = y} d h) no_task) e =

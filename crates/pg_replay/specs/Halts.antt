@@ -1,5 +1,5 @@
 -- What is made of the end of all tasks.
-use Rattle.std.specs.Prelude.{◌≡◌, ℕ, List, [], ◌∷◌, length, replicate, None, false}
+use Rattle.std.specs.Prelude.{◌≡◌, ℕ, List, [], ◌∷◌, length, replicate, None}
 use Rattle.pg_tree.specs.Trees.{Tree}
 use Rattle.pg_value.specs.Grammar.{Grammar}
 use Rattle.pg_value.specs.declared.trail.TrailItem.{TrailItem}
@@ -9,7 +9,7 @@ use Rattle.pg_replay.specs.declared.fault.Mismatch.TheVariants.{LeftOver}
 use Rattle.pg_replay.specs.declared.fault.Stop as declared_stop
 use Rattle.pg_replay.specs.declared.fault.ReplayFault.{ReplayFault}
 use Rattle.pg_replay.specs.declared.fault.ReplayFault.TheVariants.{Stopped, Memory}
-use Rattle.pg_replay.specs.Tasks.{State, Turn, on, stops, ended, node}
+use Rattle.pg_replay.specs.Tasks.{tight, State, Turn, on, stops, ended, node}
 
 -- the state before the body of the start rule is gone along, of which nothing is known
 abbrev pub first_state : Grammar → ℕ → Table → List TrailItem → State
@@ -20,7 +20,7 @@ first_state g body table items = record {
   forest = [];
   rest = items;
   entered = g.start ∷ [];
-  setting = record { marks = []; loose = false };
+  setting = record { marks = []; loose = tight };
   known = replicate (length g.rules) None;
   blank = replicate (length g.nodes) None;
 }

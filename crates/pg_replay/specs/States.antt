@@ -1,5 +1,5 @@
 -- What is left to do while a trail is gone along, as a list of tasks, and what was derived before.
-use Rattle.std.specs.Prelude.{◌==◌, if◌then◌else◌, ℕ, Bool, List, [], ◌∷◌, Option, None, Some}
+use Rattle.std.specs.Prelude.{◌==◌, if◌then◌else◌, ℕ, List, [], ◌∷◌, Option, None, Some}
 use Rattle.pg_tree.specs.Trees.{Tree}
 use Rattle.pg_form.specs.declared.form.Around.{Around}
 use Rattle.pg_form.specs.declared.side.Side.{Side}
@@ -9,9 +9,22 @@ use Rattle.pg_value.specs.declared.trail.AppliedOperator.{AppliedOperator}
 use Rattle.pg_value.specs.declared.trail.TrailItem.{TrailItem}
 use Rattle.pg_table.specs.Tables.{Table}
 use Rattle.pg_replay.specs.declared.fault.Mismatch.{Mismatch}
-use Rattle.pg_replay.specs.declared.replayer.Known.{Known}
 use Rattle.pg_replay.specs.declared.task.Halt.{Halt}
 use Rattle.pg_replay.specs.declared.task.Halt.TheVariants.{Stopped, Ended}
+
+-- how loose trees are: what of them comes into what is answered, where they belong to others
+pub data Looseness : Type 0 where
+  -- they themselves
+  tight : Looseness
+  -- of those that have the label, the kids in their place, as they are flattened
+  apart : (label : List ℕ) → Looseness
+  -- nothing but their text, or nothing, so that one without text can be left out
+  only_text : Looseness
+
+-- the place where a rule's body took nothing, and how loose trees may be there so that it gives none
+pub record Known : Type 0 where
+  pub place : ℕ
+  pub loose : Looseness
 
 -- a chain: from which side it is folded by which builder, its operand and its separator
 pub record Chain : Type 0 where
@@ -33,8 +46,8 @@ pub data OnTask : Type 0 where
   links : Chain → (left trees : ℕ) → OnTask
   -- the operand after a separator, and then so many rounds
   operand : Chain → (left trees : ℕ) → OnTask
-  -- from here on trees are loose, or they aren't
-  settle : (loose : Bool) → OnTask
+  -- from here on trees are so loose
+  settle : Looseness → OnTask
   -- the trees after so many are made into one
   fold : BuilderUse → (trees : ℕ) → OnTask
   -- a term of an expression, whose trees begin the next operand
@@ -46,8 +59,8 @@ pub data OnTask : Type 0 where
   -- the last operand ends the expression
   unmark : OnTask
   -- what the form at a node makes of its part, which began at the place, with so many trees and operators before it and so many items left;
-  -- and whether trees are loose after it
-  close : Around → (node place trees operators items : ℕ) → (loose : Bool) → OnTask
+  -- and how loose trees are after it
+  close : Around → (node place trees operators items : ℕ) → Looseness → OnTask
   -- the body of a rule ends, which began at the place, with so many trees before it and so many items left
   leave : (rule place trees items : ℕ) → OnTask
 
@@ -55,18 +68,17 @@ pub data OnTask : Type 0 where
 pub record Setting : Type 0 where
   -- how many trees there are before each operand that isn't applied yet, the newest first
   pub marks : List ℕ
-  -- whether the trees are loose: of those to which they belong only the text is answered, or nothing, so that one without text can be left out
-  pub loose : Bool
+  -- how loose the trees are
+  pub loose : Looseness
 
 abbrev pub under_marks : List ℕ → Setting → Setting
 under_marks marks m = record { marks = marks; loose = m.loose }
 
-abbrev pub loosened : Bool → Setting → Setting
+abbrev pub loosened : Looseness → Setting → Setting
 loosened loose m = record { marks = m.marks; loose = loose }
 
 -- the tasks, the next one first, the place and the table, the forest so far, the items left, the rules entered since something was
--- last taken, the newest first, what is around the next task, for each rule the place where its body was last found to take nothing, and
--- whether it gave no tree, if it was, and for each node the place where the form there was last found to take nothing and to make an
+-- last taken, the newest first, what is around the next task, for each rule where its body was last found to take nothing, if it was, and for each node the place where the form there was last found to take nothing and to make an
 -- empty leaf of it, if it was
 pub record State : Type 0 where
   pub tasks : List OnTask
@@ -100,8 +112,8 @@ with_task t s = record { tasks = t ∷ s.tasks; place = s.place; table = s.table
 abbrev pub with_marks : List ℕ → State → State
 with_marks marks s = record { tasks = s.tasks; place = s.place; table = s.table; forest = s.forest; rest = s.rest; entered = s.entered; setting = under_marks marks s.setting; known = s.known; blank = s.blank }
 
--- the trees are loose, or they aren't
-abbrev pub with_loose : Bool → State → State
+-- the trees are so loose
+abbrev pub with_loose : Looseness → State → State
 with_loose loose s = record { tasks = s.tasks; place = s.place; table = s.table; forest = s.forest; rest = s.rest; entered = s.entered; setting = loosened loose s.setting; known = s.known; blank = s.blank }
 
 -- the trees and the table changed

@@ -36,8 +36,7 @@ use Rattle.pg_language.specs.Runs.{run_at, past_run, stands_at}
 use Rattle.pg_language.specs.Declarations.{Declaration, no_keyword, no_digit, no_symbol, declared, declaration_at}
 use Rattle.pg_language.specs.Derives.{leaf_of, declaration_tree, made_by}
 use Rattle.pg_replay.specs.declared.fault.Mismatch.TheVariants.{ItemDiffers, TextDiffers, NotAdmitted}
-use Rattle.pg_replay.specs.declared.replayer.Known.{Known}
-pub use Rattle.pg_replay.specs.States.{Chain, OnTask, node, parts, rounds, more_rounds, links, operand, settle, fold, marked, operator_symbol, application, unmark, close, leave, Setting, under_marks, loosened, State, Turn, on, stops, ended, told, with_task, with_marks, with_loose, with_forest, with_entered, with_known, with_blank, after_item, moved_to, without_newest, with_tasks}
+pub use Rattle.pg_replay.specs.States.{Looseness, tight, apart, only_text, Known, Chain, OnTask, node, parts, rounds, more_rounds, links, operand, settle, fold, marked, operator_symbol, application, unmark, close, leave, Setting, under_marks, loosened, State, Turn, on, stops, ended, told, with_task, with_marks, with_loose, with_forest, with_entered, with_known, with_blank, after_item, moved_to, without_newest, with_tasks}
 
 -- ---- leaves
 
@@ -130,16 +129,35 @@ joins shaped.Symbol = false
 joins shaped.Join = true
 joins (shaped.Flat label) = false
 
--- whether the trees of a chain are loose in it: where there is a round, nothing but their text comes into what is joined
-abbrev pub joins_rounds : Chain → ℕ → Bool
-joins_rounds c n = not (n == 0) && joins c.used.shape
+-- trees that are taken apart are tight in a tree whose kids they are
+abbrev pub as_kids : Looseness → Looseness
+as_kids tight = tight
+as_kids (apart label) = tight
+as_kids only_text = only_text
+
+-- or they are taken apart there
+abbrev pub as_flat : List ℕ → Looseness → Looseness
+as_flat label tight = apart label
+as_flat label (apart other) = apart label
+as_flat label only_text = only_text
+
+-- how loose the trees are of which a tree of the shape is built, where that one is so loose
+abbrev pub inside : Shape → Looseness → Looseness
+inside (shaped.Node label) l = as_kids l
+inside shaped.Symbol l = as_kids l
+inside shaped.Join l = only_text
+inside (shaped.Flat label) l = as_flat label l
+
+-- so they are in a chain that has a round
+abbrev pub inside_chain : Chain → ℕ → Looseness → Looseness
+inside_chain c n l = if n == 0 then l else inside c.used.shape l
 
 -- the first operand, and then the rounds
 abbrev pub chain_turn : Chain → List TrailItem → State → Turn
 chain_turn c [] s = stops ItemDiffers s.place s.rest
 chain_turn c (Alt k ∷ rest) s = stops ItemDiffers s.place s.rest
 chain_turn c (Rounds n ∷ rest) s =
-    on (with_task (node c.part) (with_loose (joins_rounds c n || s.setting.loose) (with_task (links c n (length s.forest)) (with_task (settle s.setting.loose) (after_item rest s)))))
+    on (with_task (node c.part) (with_loose (inside_chain c n s.setting.loose) (with_task (links c n (length s.forest)) (with_task (settle s.setting.loose) (after_item rest s)))))
 chain_turn c (Ops o ∷ rest) s = stops ItemDiffers s.place s.rest
 
 -- ---- expressions
@@ -158,23 +176,26 @@ builder_on fixity.Prefix builders = builders.prefix
 builder_on fixity.Infix builders = builders.infix
 builder_on fixity.Postfix builders = builders.postfix
 
--- whether the step applies an operator whose builder joins
-abbrev pub joins_step : OperatorBuilders → Step → Bool
-joins_step builders a_term = false
-joins_step builders (a_symbol o) = false
-joins_step builders (an_application o) = joins (builder_on o.fixity builders).shape
+-- how loose the trees of operands are, where that of the operator is so loose
+abbrev pub inside_applied : Shape → Looseness → Looseness
+inside_applied shape l = if joins shape then only_text else as_kids l
 
--- whether the last step does, so that nothing but the text of the terms comes into what is made
-abbrev pub joins_last : OperatorBuilders → List Step → Bool
-joins_last builders [] = false
-joins_last builders (step ∷ []) = joins_step builders step
-joins_last builders (step ∷ next ∷ steps) = joins_last builders (next ∷ steps)
+abbrev pub inside_step : OperatorBuilders → Step → Looseness → Looseness
+inside_step builders a_term l = l
+inside_step builders (a_symbol o) l = l
+inside_step builders (an_application o) l = inside_applied (builder_on o.fixity builders).shape l
+
+-- as the last step tells, how loose the trees of the terms are
+abbrev pub inside_steps : OperatorBuilders → List Step → Looseness → Looseness
+inside_steps builders [] l = l
+inside_steps builders (step ∷ []) l = inside_step builders step l
+inside_steps builders (step ∷ next ∷ steps) l = inside_steps builders (next ∷ steps) l
 
 -- the steps of the tree that fits, if there is one
 abbrev pub steps_turn : OperatorBuilders → ℕ → Option (List Step) → List TrailItem → State → Turn
 steps_turn builders p None rest s = stops ItemDiffers s.place s.rest
 steps_turn builders p (Some steps) rest s =
-    on (with_steps builders p steps (with_loose (joins_last builders steps || s.setting.loose) (with_task unmark (with_task (settle s.setting.loose) (after_item rest s)))))
+    on (with_steps builders p steps (with_loose (inside_steps builders steps s.setting.loose) (with_task unmark (with_task (settle s.setting.loose) (after_item rest s)))))
 
 -- they are looked for where the grammar has operators
 abbrev pub operators_turn : Option OperatorsItem → OperatorBuilders → ℕ → List AppliedOperator → List TrailItem → State → Turn
@@ -237,11 +258,21 @@ is_place i None = false
 is_place i (Some None) = false
 is_place i (Some (Some j)) = j == i
 
--- whether it is known that nothing is taken at this place, and no tree is given, unless trees are loose
-abbrev pub is_known_at : ℕ → Bool → Option (Option Known) → Bool
+-- whether trees that are left out where they are so loose can be left out where they are as loose as the other
+abbrev pub covers : Looseness → Looseness → Bool
+covers tight l = true
+covers (apart label) tight = false
+covers (apart label) (apart other) = bytes_eq label other
+covers (apart label) only_text = true
+covers only_text tight = false
+covers only_text (apart label) = false
+covers only_text only_text = true
+
+-- whether it is known that nothing is taken at this place, and no tree is given that can't be left out
+abbrev pub is_known_at : ℕ → Looseness → Option (Option Known) → Bool
 is_known_at i loose None = false
 is_known_at i loose (Some None) = false
-is_known_at i loose (Some (Some known)) = (known.place == i) && (known.empty || loose)
+is_known_at i loose (Some (Some known)) = (known.place == i) && covers known.loose loose
 
 -- whether the rule's body is known to take nothing here and to give no tree that can't be left out
 abbrev pub is_known : ℕ → State → Bool
@@ -256,19 +287,19 @@ rule_turn r (Some named) s = if is_known r s then on s
 
 -- ---- forms around a part
 
--- whether the trees of the part are loose in the form, as nothing but their text comes into what it makes
-abbrev pub loosens : Around → Bool
-loosens kind.Try = false
-loosens kind.Text = true
-loosens kind.Skip = true
-loosens (kind.Build used symbol) = joins used.shape
-loosens (kind.Label message) = false
-loosens kind.Local = false
+-- how loose the trees of the part are in the form, where what it makes is so loose
+abbrev pub inside_form : Around → Looseness → Looseness
+inside_form kind.Try l = l
+inside_form kind.Text l = only_text
+inside_form kind.Skip l = only_text
+inside_form (kind.Build used symbol) l = inside used.shape l
+inside_form (kind.Label message) l = l
+inside_form kind.Local l = l
 
 -- a form that is known to take nothing here and to make an empty leaf of it isn't gone along again
 abbrev pub around_turn : Around → (node part : ℕ) → State → Turn
 around_turn k p q s = if is_place s.place (slice_get s.blank p) then on (with_forest (s.forest ++ leaf_of [] ∷ []) s.table s)
-    else on (with_task (node q) (with_loose (loosens k || s.setting.loose) (with_task (close k p s.place (length s.forest) (length s.table.operators) (length s.rest) s.setting.loose) s)))
+    else on (with_task (node q) (with_loose (inside_form k s.setting.loose) (with_task (close k p s.place (length s.forest) (length s.table.operators) (length s.rest) s.setting.loose) s)))
 
 -- whether the form makes an empty leaf of a part that takes nothing
 abbrev pub makes_empty_leaf : Around → Bool
@@ -308,17 +339,23 @@ parts_turn (p ∷ ps) s = on (with_task (node p) (with_task (parts ps) s))
 abbrev pub rounds_turn : ℕ → ℕ → State → Turn
 rounds_turn p n s = if n == 0 then on s else on (with_task (node p) (with_task (more_rounds p (n - 1) s.place (length s.forest) (length s.rest)) s))
 
+-- whether nothing but the text of trees is answered
+abbrev pub is_text : Looseness → Bool
+is_text tight = false
+is_text (apart label) = false
+is_text only_text = true
+
 -- whether nothing was taken since then, and no tree was given that can't be left out
 abbrev pub is_unchanged : ℕ → ℕ → ℕ → State → Bool
-is_unchanged place trees items s = is_still place items s && ((trees == length s.forest) || s.setting.loose)
+is_unchanged place trees items s = is_still place items s && ((trees == length s.forest) || is_text s.setting.loose)
 
 -- where a round takes and gives nothing, the others do so too
 abbrev pub more_turn : (part left place trees items : ℕ) → State → Turn
 more_turn p n place trees items s = if is_unchanged place trees items s then on s else rounds_turn p n s
 
--- what is known of a body that took nothing: where trees are loose, it may have given some that were left out
+-- what is known of a body that took nothing, and gave a tree or not
 abbrev pub known_now : ℕ → State → Known
-known_now trees s = record { place = s.place; empty = not s.setting.loose && (trees == length s.forest) }
+known_now trees s = record { place = s.place; loose = if trees == length s.forest then s.setting.loose else only_text }
 
 -- what is known after a body that began there
 abbrev pub known_after : (rule place trees items : ℕ) → State → List (Option Known)
@@ -354,12 +391,38 @@ closed_table (kind.Build used symbol) operators table = table
 closed_table (kind.Label message) operators table = table
 closed_table kind.Local operators table = first_operators operators table
 
-abbrev pub closed_forest : Around → List ℕ → ℕ → ℕ → ℕ → List Tree → List Tree
-closed_forest k text from to trees forest = take trees forest ++ made_by k text from to (drop trees forest)
+-- whether the shape's tree has the label
+abbrev pub has_label : Shape → (symbol label : List ℕ) → Bool
+has_label (shaped.Node other) symbol label = bytes_eq other label
+has_label shaped.Symbol symbol label = bytes_eq symbol label
+has_label shaped.Join symbol label = false
+has_label (shaped.Flat other) symbol label = bytes_eq other label
 
-abbrev pub close_turn : List ℕ → Around → (node place trees operators items : ℕ) → (loose : Bool) → State → Turn
+abbrev pub makes_node : Around → List ℕ → Bool
+makes_node kind.Try label = false
+makes_node kind.Text label = false
+makes_node kind.Skip label = false
+makes_node (kind.Build used symbol) label = has_label used.shape symbol label
+makes_node (kind.Label message) label = false
+makes_node kind.Local label = false
+
+-- whether a tree without kids that the form makes is left out, since its kids take its place
+abbrev pub leaves_out : Around → Looseness → Bool
+leaves_out k tight = false
+leaves_out k (apart label) = makes_node k label
+leaves_out k only_text = false
+
+-- what the form gives of these trees, where they are so loose
+abbrev pub given_by : Around → Looseness → List ℕ → ℕ → ℕ → List Tree → List Tree
+given_by k l text from to [] = if leaves_out k l then [] else made_by k text from to []
+given_by k l text from to (t ∷ w) = made_by k text from to (t ∷ w)
+
+abbrev pub closed_forest : Around → Looseness → List ℕ → ℕ → ℕ → ℕ → List Tree → List Tree
+closed_forest k l text from to trees forest = take trees forest ++ given_by k l text from to (drop trees forest)
+
+abbrev pub close_turn : List ℕ → Around → (node place trees operators items : ℕ) → Looseness → State → Turn
 close_turn text k p place trees operators items loose s =
-    on (with_loose loose (with_blank (blank_after k p place items s) (with_forest (closed_forest k text place s.place trees s.forest) (closed_table k operators s.table) s)))
+    on (with_loose loose (with_blank (blank_after k p place items s) (with_forest (closed_forest k loose text place s.place trees s.forest) (closed_table k operators s.table) s)))
 
 -- doing the task, after which the others are left
 abbrev pub turn : Grammar → List ℕ → OnTask → State → Turn

@@ -1,13 +1,28 @@
 -- What the definitions see of the code's tasks.
-use Rattle.std.specs.Prelude.{List, [], ◌∷◌, reverse}
+use Rattle.std.specs.Prelude.{Option, Some, None, List, [], ◌∷◌, map, reverse}
 use Rattle.pg_replay.specs.declared.task.Task.{Task}
 use Rattle.pg_replay.specs.declared.task.Task.TheVariants as task
 use Rattle.pg_replay.specs.declared.task.Chain as declared
 use Rattle.pg_replay.specs.declared.replayer.Replayer.{Replayer}
-use Rattle.pg_replay.specs.Tasks.{Chain, OnTask, node, parts, rounds, more_rounds, links, operand, settle, fold, marked, operator_symbol, application, unmark, close, leave, State}
+use Rattle.pg_replay.specs.declared.replayer.Known as declared_known
+use Rattle.pg_replay.specs.declared.task.Looseness as declared_loose
+use Rattle.pg_replay.specs.declared.task.Looseness.TheVariants.{Tight, Apart, OnlyText}
+use Rattle.pg_replay.specs.Tasks.{Looseness, tight, apart, only_text, Known, Chain, OnTask, node, parts, rounds, more_rounds, links, operand, settle, fold, marked, operator_symbol, application, unmark, close, leave, State}
 
 abbrev pub chain_of : declared.Chain → Chain
 chain_of c = record { side = c.side; used = c.used.now; part = c.part; separator = c.separator }
+
+abbrev pub loose_of : declared_loose.Looseness → Looseness
+loose_of Tight = tight
+loose_of (Apart label) = apart label.now
+loose_of OnlyText = only_text
+
+abbrev pub known_of : declared_known.Known → Known
+known_of known = record { place = known.place; loose = loose_of known.loose }
+
+abbrev pub if_known : Option declared_known.Known → Option Known
+if_known None = None
+if_known (Some known) = Some (known_of known)
 
 abbrev pub task_of : Task → OnTask
 task_of (task.Node p) = node p
@@ -16,13 +31,13 @@ task_of (task.Rounds part left) = rounds part left
 task_of (task.MoreRounds part left place trees items) = more_rounds part left place trees items
 task_of (task.Links side used part separator left trees) = links (record { side = side; used = used.now; part = part; separator = separator }) left trees
 task_of (task.Operand side used part separator left trees) = operand (record { side = side; used = used.now; part = part; separator = separator }) left trees
-task_of (task.Settle loose) = settle loose
+task_of (task.Settle loose) = settle (loose_of loose)
 task_of (task.Fold side used trees) = fold used.now trees
 task_of (task.Term p) = marked p
 task_of (task.Symbol o) = operator_symbol o.now
 task_of (task.Application builders o) = application builders.now o.now
 task_of task.Unmark = unmark
-task_of (task.Close around p place trees operators items loose) = close around.now p place trees operators items loose
+task_of (task.Close around p place trees operators items loose) = close around.now p place trees operators items (loose_of loose)
 task_of (task.Leave rule place trees items) = leave rule place trees items
 
 -- the next task stands last in the code
@@ -41,7 +56,7 @@ state_of r = record {
   forest = r.forest;
   rest = r.rest.now;
   entered = reverse r.entered.items;
-  setting = record { marks = reverse r.marks.items; loose = r.loose };
-  known = r.known.items;
+  setting = record { marks = reverse r.marks.items; loose = loose_of r.loose };
+  known = map if_known r.known.items;
   blank = r.blank.items;
 }

@@ -1,13 +1,14 @@
 //! Forms around a part: the part, and then what is made of what it gave.
 
-ghost use Rattle.std.specs.Prelude.{◌≡◌, ◌∷◌, ◌++◌, [], length, set, slice_get, Some, IfOk, OnOk};
-ghost use Rattle.pg_language.specs.Derives.{span};
-ghost use Rattle.pg_replay.specs.Tasks.{told, with_blank, is_place, around_turn, joins, loosens, makes_empty_leaf, blank_after, closed_table, closed_forest, close_turn};
-ghost use Rattle.pg_replay.specs.View.{state_of};
+ghost use Rattle.std.specs.Prelude.{◌≡◌, ◌∷◌, ◌++◌, [], length, take, drop, set, slice_get, Some, IfOk, OnOk};
+ghost use Rattle.pg_language.specs.Derives.{span, made_by};
+ghost use Rattle.pg_replay.specs.Tasks.{told, with_blank, is_place, around_turn, given_by, makes_empty_leaf, blank_after, closed_table, closed_forest, close_turn};
+ghost use Rattle.pg_replay.specs.View.{state_of, loose_of};
 
+use crate::looseness::{inside_form, joins, leaves_out};
 use crate::replayer::Replayer;
 use crate::step::build;
-use crate::task::{Closing, Halt};
+use crate::task::{Closing, Halt, Looseness};
 use pg_form::{Around, NodeId};
 use pg_table::Table;
 use pg_text::Text;
@@ -33,7 +34,7 @@ impl<'a> Replayer<'a> {
         let operators = self.table.operators().len();
         open_forest(alloc, around, &mut self.forest)?;
         self.push_close(node, around, operators)?;
-        self.set_loose(loosens(around) || self.loose);
+        self.set_loose(inside_form(around, self.loose));
         self.go_on(part)
     }
 
@@ -45,7 +46,7 @@ impl<'a> Replayer<'a> {
         closing: &Closing<'a>,
     ) -> Result<Option<Halt>, AllocError>
         ensures { IfOk result (λ halt. told halt (state_of self.new) ≡
-            close_turn text.now closing.now.around.now closing.now.node closing.now.place closing.now.trees closing.now.operators closing.now.items closing.now.loose (state_of self.old)) }
+            close_turn text.now closing.now.around.now closing.now.node closing.now.place closing.now.trees closing.now.operators closing.now.items (loose_of closing.now.loose) (state_of self.old)) }
     {
         let Closing {
             around,
@@ -60,6 +61,7 @@ impl<'a> Replayer<'a> {
             alloc,
             text,
             around,
+            loose,
             *place,
             self.place,
             *trees,
@@ -101,17 +103,6 @@ impl<'a> Replayer<'a> {
     }
 }
 
-/// Whether the trees of the part are loose in the form, as nothing but their text comes into what it makes.
-fn loosens(around: &Around) -> bool
-    ensures { result ≡ loosens around.now }
-{
-    match around {
-        Around::Text | Around::Skip => true,
-        Around::Build(builder, _) => joins(&builder.shape),
-        Around::Try | Around::Label(_) | Around::Local => false,
-    }
-}
-
 /// Whether the form makes an empty leaf of a part that takes nothing.
 fn makes_empty_leaf(around: &Around) -> bool
     ensures { result ≡ makes_empty_leaf around.now }
@@ -120,16 +111,6 @@ fn makes_empty_leaf(around: &Around) -> bool
         Around::Text => true,
         Around::Build(used, _) => joins(&used.shape),
         Around::Try | Around::Skip | Around::Label(_) | Around::Local => false,
-    }
-}
-
-/// Whether the shape joins texts to a leaf.
-pub(crate) fn joins(shape: &Shape) -> bool
-    ensures { result ≡ joins shape.now }
-{
-    match shape {
-        Shape::Join => true,
-        Shape::Node(_) | Shape::Symbol | Shape::Flat(_) => false,
     }
 }
 
@@ -143,8 +124,27 @@ fn open_forest(alloc: Global, around: &Around, forest: &mut ForestTape) -> Resul
     }
 }
 
-/// What a form makes of the trees after so many.
+/// What a form gives of the trees after so many.
 fn close_forest(
+    alloc: Global,
+    text: &Text,
+    around: &Around,
+    loose: &Looseness,
+    from: usize,
+    to: usize,
+    trees: usize,
+    forest: &mut ForestTape,
+) -> Result<(), AllocError>
+    ensures { OnOk result (forest.new ≡ closed_forest around.now (loose_of loose.now) text.now from to trees forest.old) }
+{
+    if forest.len() <= trees && leaves_out(around, loose) {
+        return forest.close(trees);
+    }
+    make_forest(alloc, text, around, from, to, trees, forest)
+}
+
+/// What a form makes of the trees after so many.
+fn make_forest(
     alloc: Global,
     text: &Text,
     around: &Around,
@@ -153,7 +153,7 @@ fn close_forest(
     trees: usize,
     forest: &mut ForestTape,
 ) -> Result<(), AllocError>
-    ensures { OnOk result (forest.new ≡ closed_forest around.now text.now from to trees forest.old) }
+    ensures { OnOk result (forest.new ≡ take trees forest.old ++ made_by around.now text.now from to (drop trees forest.old)) }
 {
     match around {
         Around::Try | Around::Label(_) | Around::Local => Ok(()),

@@ -1,14 +1,14 @@
 //! Chains: an operand, and then rounds of a separator and an operand, whose trees are folded from a side.
 
 ghost use Rattle.std.specs.Prelude.{◌≡◌, IfOk, OnOk};
-ghost use Rattle.pg_replay.specs.Tasks.{on, told, with_links, joins_rounds, chain_turn, links_turn, operand_turn, fold_turn};
-ghost use Rattle.pg_replay.specs.View.{state_of, chain_of};
+ghost use Rattle.pg_replay.specs.Tasks.{on, told, with_links, inside_chain, chain_turn, links_turn, operand_turn, fold_turn};
+ghost use Rattle.pg_replay.specs.View.{state_of, chain_of, loose_of};
 
-use crate::around::joins;
 use crate::fault::Mismatch;
+use crate::looseness::inside;
 use crate::replayer::Replayer;
 use crate::step::{build, build_stretch};
-use crate::task::{Chain, Halt};
+use crate::task::{Chain, Halt, Looseness};
 use pg_form::{BuilderUse, Side};
 use pg_value::TrailItem;
 use std::alloc::{AllocError, Global};
@@ -29,7 +29,7 @@ impl<'a> Replayer<'a> {
                 self.forest.open(alloc)?;
                 self.push_settle(self.loose)?;
                 self.push_links(chain, left, trees)?;
-                self.set_loose(joins_rounds(chain, left) || self.loose);
+                self.set_loose(inside_chain(chain, left, self.loose));
                 self.go_on(chain.part)
             }
             Some((TrailItem::Alt(_) | TrailItem::Ops(_), _)) | None => Ok(Some(Halt::Stopped(
@@ -112,9 +112,12 @@ impl<'a> Replayer<'a> {
     }
 }
 
-/// Whether the trees of the chain are loose in it: where there is a round, nothing but their text comes into what is joined.
-fn joins_rounds(chain: &Chain, left: usize) -> bool
-    ensures { result ≡ joins_rounds (chain_of chain.now) left }
+/// How loose the trees are in a chain of so many rounds, where what it makes is so loose.
+fn inside_chain<'a>(chain: &Chain<'a>, left: usize, loose: Looseness<'a>) -> Looseness<'a>
+    ensures { loose_of result ≡ inside_chain (chain_of chain.now) left (loose_of loose.entry) }
 {
-    left != 0 && joins(&chain.used.shape)
+    match left {
+        0 => loose,
+        _ => inside(&chain.used.shape, loose),
+    }
 }

@@ -1,12 +1,12 @@
 //! Expressions: the steps of the tree that fits the table and has the item's operators.
 
-ghost use Rattle.std.specs.Prelude.{◌≡◌, IfOk, OnOk, map, reverse};
+ghost use Rattle.std.specs.Prelude.{◌≡◌, ◌∷◌, IfOk, OnOk, length, map, reverse};
 ghost use Rattle.pg_fitting.specs.Judge.{step_of};
-ghost use Rattle.pg_replay.specs.Tasks.{told, step_task, with_task, with_steps, operators_turn, expression_turn, symbol_turn, ended_turn, operator_end, builder_on, joins_step, joins_last, marks_after, built_after, applied_under, application_turn, with_forest, with_marks, without_newest, first_mark};
+ghost use Rattle.pg_replay.specs.Tasks.{on, told, node, step_task, with_task, with_steps, operators_turn, expression_turn, symbol_turn, ended_turn, operator_end, builder_on, marks_after, built_after, applied_under, application_turn, with_forest, with_marks, without_newest, first_mark};
 ghost use Rattle.pg_replay.specs.View.{state_of};
 
-use crate::around::joins;
 use crate::fault::Mismatch;
+use crate::looseness::inside_steps;
 use crate::operators::{operator_end, utf8};
 use crate::replayer::Replayer;
 use crate::step::build_stretch;
@@ -58,7 +58,7 @@ impl<'a> Replayer<'a> {
                 self.take_item(rest);
                 self.push_settle(self.loose)?;
                 self.push_unmark()?;
-                self.set_loose(joins_last(builders, steps.as_slice()) || self.loose);
+                self.set_loose(inside_steps(builders, steps.as_slice(), self.loose));
                 self.push_steps(builders, part, steps)?;
                 Ok(None)
             }
@@ -97,6 +97,24 @@ impl<'a> Replayer<'a> {
             Step::Symbol(operator) => self.push_symbol(operator),
             Step::Application(operator) => self.push_application(builders, operator),
         }
+    }
+
+    /// A term, whose trees begin the next operand.
+    pub(crate) fn term(&mut self, alloc: Global, part: NodeId) -> Result<Option<Halt>, AllocError>
+        ensures { IfOk result (λ halt. told halt (state_of self.new) ≡
+            on (with_task (node part) (with_marks (length self.old.forest ∷ reverse self.old.marks.items) (state_of self.old)))) }
+    {
+        self.mark(alloc)?;
+        self.go_on(part)
+    }
+
+    /// The last operand ends the expression.
+    pub(crate) fn end_expression(&mut self) -> Result<Option<Halt>, AllocError>
+        ensures { IfOk result (λ halt. told halt (state_of self.new) ≡
+            on (with_marks (without_newest (reverse self.old.marks.items)) (state_of self.old))) }
+    {
+        self.end_operand()?;
+        Ok(None)
     }
 
     /// The symbol of an operator, and the gap after it.
@@ -179,34 +197,12 @@ impl<'a> Replayer<'a> {
 }
 
 /// The builder of operators on this side of their operands.
-fn builder_on(fixity: Fixity, builders: &OperatorBuilders) -> &BuilderUse
+pub(crate) fn builder_on(fixity: Fixity, builders: &OperatorBuilders) -> &BuilderUse
     ensures { result.now ≡ builder_on fixity builders.now }
 {
     match fixity {
         Fixity::Prefix => &builders.prefix,
         Fixity::Infix => &builders.infix,
         Fixity::Postfix => &builders.postfix,
-    }
-}
-
-/// Whether the last step applies an operator whose builder joins, so that nothing but the text of the terms comes into what is
-/// made.
-#[tactic(auto, using(crate::proofs::Steps::joins_by_last, crate::proofs::Steps::joins_by_none))]
-fn joins_last(builders: &OperatorBuilders, steps: &[Step]) -> bool
-    ensures { result ≡ joins_last builders.now (map step_of steps.now) }
-{
-    match steps.last() {
-        Some(step) => joins_step(builders, step),
-        None => false,
-    }
-}
-
-/// Whether the step does.
-fn joins_step(builders: &OperatorBuilders, step: &Step) -> bool
-    ensures { result ≡ joins_step builders.now (step_of step.now) }
-{
-    match step {
-        Step::Application(operator) => joins(&builder_on(operator.fixity, builders).shape),
-        Step::Term | Step::Symbol(_) => false,
     }
 }

@@ -7,6 +7,7 @@ mod expressions;
 mod fault;
 mod laws;
 mod leaves;
+mod looseness;
 mod operators;
 mod replayer;
 mod rounds;

@@ -1,21 +1,23 @@
 //! What was derived so far, and what is left to do.
 
-ghost use Rattle.std.specs.Prelude.{◌≡◌, ◌∷◌, [], reverse, length, set, Some, OnOk};
+ghost use Rattle.std.specs.Prelude.{◌≡◌, ◌∷◌, [], reverse, length, map, set, Some, OnOk};
 ghost use Rattle.pg_replay.specs.Tasks.{node as one_node, parts as all_parts, rounds as some_rounds, more_rounds as some_more, links as some_links, operand as one_operand, settle, fold as one_fold, marked, operator_symbol as one_symbol, application as one_application, unmark as end_mark, close, leave, with_task, with_entered, after_item, moved_to, without_newest, with_marks, with_loose, first_mark, with_known, is_known};
-ghost use Rattle.pg_replay.specs.View.{state_of, chain_of};
+ghost use Rattle.pg_replay.specs.View.{state_of, chain_of, loose_of, if_known};
 
-use crate::task::{Chain, Task};
+use crate::looseness::covers;
+use crate::task::{Chain, Looseness, Task};
 use pg_form::{Around, BuilderUse, NodeId, OperatorBuilders, RuleId, Side};
 use pg_table::Table;
 use pg_tree::ForestTape;
 use pg_value::{AppliedOperator, TrailItem};
 use std::alloc::{AllocError, Global};
 
-/// The place where a rule's body was last found to take nothing from text and trail, and whether it gave no tree.
+/// The place where a rule's body was last found to take nothing from text and trail, and how loose trees may be there so that
+/// it gives none.
 #[derive(Clone, Copy)]
-pub struct Known {
+pub struct Known<'a> {
     pub place: usize,
-    pub empty: bool,
+    pub loose: Looseness<'a>,
 }
 
 /// The tasks, of which the last is the next, and what was derived before them.
@@ -33,11 +35,10 @@ pub struct Replayer<'a> {
     pub entered: Vec<RuleId>,
     /// How many trees there are before each operand that isn't applied yet; the newest last.
     pub marks: Vec<usize>,
-    /// Whether the trees are loose: of those to which they belong only the text is answered, or nothing, so that one without text
-    /// can be left out.
-    pub loose: bool,
+    /// How loose the trees are.
+    pub loose: Looseness<'a>,
     /// For each rule, by its number, where its body was last found to take nothing, if it was: there it does so again.
-    pub known: Vec<Option<Known>>,
+    pub known: Vec<Option<Known<'a>>>,
     /// For each node, by its number, the place where the form there was last found to take nothing and to make an empty leaf of
     /// it, if it was.
     pub blank: Vec<Option<usize>>,
@@ -135,10 +136,10 @@ impl<'a> Replayer<'a> {
         Ok(())
     }
 
-    /// That trees are loose from there on is, or that they aren't.
+    /// That trees are so loose from there on is.
     #[tactic(auto, using(crate::proofs::Stack::task_pushed))]
-    pub(crate) fn push_settle(&mut self, loose: bool) -> Result<(), AllocError>
-        ensures { OnOk result (state_of self.new ≡ with_task (settle loose) (state_of self.old)) }
+    pub(crate) fn push_settle(&mut self, loose: Looseness<'a>) -> Result<(), AllocError>
+        ensures { OnOk result (state_of self.new ≡ with_task (settle (loose_of loose.entry)) (state_of self.old)) }
     {
         self.tasks.reserve(1)?;
         self.tasks.push_reserved(Task::Settle(loose));
@@ -213,7 +214,7 @@ impl<'a> Replayer<'a> {
         around: &'a Around,
         operators: usize,
     ) -> Result<(), AllocError>
-        ensures { OnOk result (state_of self.new ≡ with_task (close around.now node self.old.place (length self.old.forest) operators (length self.old.rest.now) self.old.loose) (state_of self.old)) }
+        ensures { OnOk result (state_of self.new ≡ with_task (close around.now node self.old.place (length self.old.forest) operators (length self.old.rest.now) (loose_of self.old.loose)) (state_of self.old)) }
     {
         let (place, trees, items) = (self.place, self.forest.len(), self.rest.len());
         let loose = self.loose;
@@ -273,32 +274,33 @@ impl<'a> Replayer<'a> {
         Ok(())
     }
 
-    /// From here on trees are loose, or they aren't.
-    pub(crate) fn set_loose(&mut self, loose: bool)
-        ensures { state_of self.new ≡ with_loose loose (state_of self.old) }
+    /// From here on trees are so loose.
+    pub(crate) fn set_loose(&mut self, loose: Looseness<'a>)
+        ensures { state_of self.new ≡ with_loose (loose_of loose.entry) (state_of self.old) }
     {
         self.loose = loose;
     }
 
-    /// Here the rule's body takes nothing, and gives no tree if it is empty.
-    pub(crate) fn keep(&mut self, rule: RuleId, empty: bool)
-        ensures { state_of self.new ≡ with_known (set self.old.known.items rule (Some (record { place = self.old.place; empty = empty }))) (state_of self.old) }
+    /// Here the rule's body takes nothing, and gives no tree where they are so loose.
+    pub(crate) fn keep(&mut self, rule: RuleId, loose: Looseness<'a>)
+        ensures { state_of self.new ≡ with_known (map if_known (set self.old.known.items rule (Some (record { place = self.old.place; loose = loose.entry })))) (state_of self.old) }
     {
         let number = rule.index();
         if number < self.known.len() {
             self.known[number] = Some(Known {
                 place: self.place,
-                empty,
+                loose,
             });
         }
     }
 
     /// Whether it is known to take nothing here and to give no tree that can't be left out.
+    #[tactic(auto, using(crate::proofs::KnownRules::looked_up, crate::proofs::KnownRules::not_there))]
     pub(crate) fn is_known(&self, rule: RuleId) -> bool
         ensures { result ≡ is_known rule (state_of self.now) }
     {
         match self.known.get(rule.index()) {
-            Some(Some(known)) => known.place == self.place && (known.empty || self.loose),
+            Some(Some(known)) => known.place == self.place && covers(&known.loose, &self.loose),
             Some(None) | None => false,
         }
     }

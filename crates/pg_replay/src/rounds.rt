@@ -5,6 +5,7 @@ ghost use Rattle.pg_replay.specs.Tasks.{told, many_turn, rounds_turn, is_still, 
 ghost use Rattle.pg_replay.specs.View.{state_of};
 
 use crate::fault::Mismatch;
+use crate::looseness::is_text;
 use crate::replayer::Replayer;
 use crate::task::Halt;
 use pg_form::NodeId;
@@ -62,7 +63,7 @@ impl Replayer<'_> {
     fn is_unchanged(&self, place: usize, trees: usize, items: usize) -> bool
         ensures { result ≡ is_unchanged place trees items (state_of self.now) }
     {
-        self.is_still(place, items) && (trees == self.forest.len() || self.loose)
+        self.is_still(place, items) && (trees == self.forest.len() || is_text(&self.loose))
     }
 
     /// Whether nothing was taken since then.

@@ -7,7 +7,7 @@ ghost use Rattle.pg_replay.specs.View.{state_of, task_of};
 
 use crate::fault::Mismatch;
 use crate::replayer::Replayer;
-use crate::task::{Chain, Closing, Halt, Task};
+use crate::task::{Chain, Closing, Halt, Looseness, Task};
 use pg_form::{Form, Node, NodeId, RuleId};
 use pg_text::Text;
 use pg_tree::{Forest, ForestTape, Shape, built};
@@ -26,7 +26,7 @@ impl<'a> Replayer<'a> {
         ensures { IfOk result (λ halt. told halt (state_of self.new) ≡ next_turn grammar.now text.now (state_of self.old)) }
     {
         match self.tasks.pop() {
-            Some(task) => self.perform(alloc, grammar, text, task),
+            Some(task) => self.perform(alloc, grammar, text, &task),
             None => Ok(Some(Halt::Ended)),
         }
     }
@@ -37,21 +37,21 @@ impl<'a> Replayer<'a> {
         alloc: Global,
         grammar: &'a Grammar,
         text: &Text,
-        task: Task<'a>,
+        task: &Task<'a>,
     ) -> Result<Option<Halt>, AllocError>
-        ensures { IfOk result (λ halt. told halt (state_of self.new) ≡ turn grammar.now text.now (task_of task.entry) (state_of self.old)) }
+        ensures { IfOk result (λ halt. told halt (state_of self.new) ≡ turn grammar.now text.now (task_of task.now) (state_of self.old)) }
     {
         match task {
-            Task::Node(node) => self.enter(alloc, grammar, text, node),
+            Task::Node(node) => self.enter(alloc, grammar, text, *node),
             Task::Parts(parts) => self.part(parts),
-            Task::Rounds { part, left } => self.round(part, left),
+            Task::Rounds { part, left } => self.round(*part, *left),
             Task::MoreRounds {
                 part,
                 left,
                 place,
                 trees,
                 items,
-            } => self.more_rounds(part, left, place, trees, items),
+            } => self.more_rounds(*part, *left, *place, *trees, *items),
             Task::Links {
                 side,
                 used,
@@ -61,12 +61,12 @@ impl<'a> Replayer<'a> {
                 trees,
             } => {
                 let chain = Chain {
-                    side,
+                    side: *side,
                     used,
-                    part,
-                    separator,
+                    part: *part,
+                    separator: *separator,
                 };
-                self.links(&chain, left, trees)
+                self.links(&chain, *left, *trees)
             }
             Task::Operand {
                 side,
@@ -77,28 +77,22 @@ impl<'a> Replayer<'a> {
                 trees,
             } => {
                 let chain = Chain {
-                    side,
+                    side: *side,
                     used,
-                    part,
-                    separator,
+                    part: *part,
+                    separator: *separator,
                 };
-                self.operand(alloc, &chain, left, trees)
+                self.operand(alloc, &chain, *left, *trees)
             }
             Task::Settle(loose) => {
-                self.set_loose(loose);
+                self.set_loose(*loose);
                 Ok(None)
             }
-            Task::Fold { side, used, trees } => self.fold(alloc, side, used, trees),
-            Task::Term(part) => {
-                self.mark(alloc)?;
-                self.go_on(part)
-            }
+            Task::Fold { side, used, trees } => self.fold(alloc, *side, used, *trees),
+            Task::Term(part) => self.term(alloc, *part),
             Task::Symbol(operator) => Ok(self.symbol(grammar, text, operator)),
             Task::Application { builders, operator } => self.apply(alloc, builders, operator),
-            Task::Unmark => {
-                self.end_operand()?;
-                Ok(None)
-            }
+            Task::Unmark => self.end_expression(),
             Task::Close {
                 around,
                 node,
@@ -110,12 +104,12 @@ impl<'a> Replayer<'a> {
             } => {
                 let closing = Closing {
                     around,
-                    node,
-                    place,
-                    trees,
-                    operators,
-                    items,
-                    loose,
+                    node: *node,
+                    place: *place,
+                    trees: *trees,
+                    operators: *operators,
+                    items: *items,
+                    loose: *loose,
                 };
                 self.close(alloc, text, &closing)
             }
@@ -125,7 +119,7 @@ impl<'a> Replayer<'a> {
                 trees,
                 items,
             } => {
-                self.leave(rule, place, trees, items);
+                self.leave(*rule, *place, *trees, *items);
                 Ok(None)
             }
         }
@@ -248,13 +242,18 @@ impl<'a> Replayer<'a> {
         }
     }
 
-    /// The rule's body ends: where it took nothing, that is known from then on, and whether it gave no tree.
+    /// The rule's body ends: where it took nothing, that is known from then on, and whether it gave no tree where they are so loose.
+    #[tactic(auto, using(crate::proofs::KnownRules::kept))]
     fn leave(&mut self, rule: RuleId, place: usize, trees: usize, items: usize)
         ensures { on (state_of self.new) ≡ leave_turn rule place trees items (state_of self.old) }
     {
         if self.is_still(place, items) {
-            let empty = !self.loose && trees == self.forest.len();
-            self.keep(rule, empty);
+            let loose = if trees == self.forest.len() {
+                self.loose
+            } else {
+                Looseness::OnlyText
+            };
+            self.keep(rule, loose);
         }
         self.leave_body();
     }

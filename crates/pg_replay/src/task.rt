@@ -2,7 +2,19 @@
 
 use crate::fault::Mismatch;
 use pg_form::{Around, BuilderUse, NodeId, OperatorBuilders, RuleId, Side};
+use pg_tree::Label;
 use pg_value::AppliedOperator;
+
+/// How loose trees are: what of them comes into what is answered, where they belong to others.
+#[derive(Clone, Copy)]
+pub enum Looseness<'a> {
+    /// They themselves.
+    Tight,
+    /// Of those that have the label, the kids in their place, as they are flattened.
+    Apart(&'a Label),
+    /// Nothing but their text, or nothing, so that one without text can be left out.
+    OnlyText,
+}
 
 /// A chain: from which side it is folded by which builder, its operand and its separator.
 #[derive(Drop)]
@@ -14,7 +26,7 @@ pub struct Chain<'a> {
 }
 
 /// A form around a part: its node, the place where the part began, with so many trees and operators before it and so many items
-/// left, and whether trees are loose after it.
+/// left, and how loose trees are after it.
 #[derive(Drop)]
 pub struct Closing<'a> {
     pub around: &'a Around,
@@ -23,7 +35,7 @@ pub struct Closing<'a> {
     pub trees: usize,
     pub operators: usize,
     pub items: usize,
-    pub loose: bool,
+    pub loose: Looseness<'a>,
 }
 
 /// What is left to do: a node, or the rest of one that was entered.
@@ -64,8 +76,8 @@ pub enum Task<'a> {
         left: usize,
         trees: usize,
     },
-    /// From here on trees are loose, or they aren't.
-    Settle(bool),
+    /// From here on trees are so loose.
+    Settle(Looseness<'a>),
     /// The trees after so many are made into one; from the left that one is folded again.
     Fold {
         side: Side,
@@ -84,7 +96,7 @@ pub enum Task<'a> {
     /// The last operand ends the expression.
     Unmark,
     /// What the form at a node makes of its part, which began at the place, with so many trees and operators before it and so
-    /// many items left; and whether trees are loose after it.
+    /// many items left; and how loose trees are after it.
     Close {
         around: &'a Around,
         node: NodeId,
@@ -92,7 +104,7 @@ pub enum Task<'a> {
         trees: usize,
         operators: usize,
         items: usize,
-        loose: bool,
+        loose: Looseness<'a>,
     },
     /// The body of a rule ends, which began at the place, with so many trees before it and so many items left.
     Leave {

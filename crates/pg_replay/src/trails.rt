@@ -11,7 +11,7 @@ ghost use Rattle.pg_replay.specs.View.{state_of};
 
 use crate::fault::{Mismatch, ReplayFault, Stop};
 use crate::replayer::Replayer;
-use crate::task::Halt;
+use crate::task::{Halt, Looseness};
 use pg_form::NodeId;
 use pg_table::Table;
 use pg_text::Text;
@@ -86,6 +86,7 @@ fn start_of(grammar: &Grammar) -> NodeId
 }
 
 /// The start rule is entered, at the start of the text.
+#[tactic(auto, using(crate::proofs::KnownRules::none_kept))]
 fn begin<'a>(
     alloc: Global,
     grammar: &'a Grammar,
@@ -103,7 +104,7 @@ fn begin<'a>(
         rest: trail.items(),
         entered: Vec::new(alloc),
         marks: Vec::new(alloc),
-        loose: false,
+        loose: Looseness::Tight,
         known: vec![in alloc; None; grammar.rules().len()]?,
         blank: vec![in alloc; None; grammar.nodes().len()]?,
     };

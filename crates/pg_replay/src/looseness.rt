@@ -1,0 +1,160 @@
+//! How loose trees are in forms, chains and expressions.
+
+ghost use Rattle.std.specs.Prelude.{◌≡◌, map};
+ghost use Rattle.std.specs.Str.{bytes_eq};
+ghost use Rattle.pg_fitting.specs.Judge.{step_of};
+ghost use Rattle.pg_replay.specs.Tasks.{joins, as_kids, inside, inside_form, inside_applied, inside_step, inside_steps, covers, is_text, has_label, makes_node, leaves_out};
+ghost use Rattle.pg_replay.specs.View.{loose_of};
+
+use crate::expressions::builder_on;
+use crate::task::Looseness;
+use pg_fitting::Step;
+use pg_form::{Around, OperatorBuilders};
+use pg_tree::{Label, Shape};
+
+/// How loose the trees of the part are in the form, where what it makes is so loose.
+pub(crate) fn inside_form<'a>(around: &'a Around, loose: Looseness<'a>) -> Looseness<'a>
+    ensures { loose_of result ≡ inside_form around.now (loose_of loose.entry) }
+{
+    match around {
+        Around::Text | Around::Skip => Looseness::OnlyText,
+        Around::Build(used, _) => inside(&used.shape, loose),
+        Around::Try | Around::Label(_) | Around::Local => loose,
+    }
+}
+
+/// How loose the trees are of which a tree of the shape is built, where that one is so loose.
+pub(crate) fn inside<'a>(shape: &'a Shape, loose: Looseness<'a>) -> Looseness<'a>
+    ensures { loose_of result ≡ inside shape.now (loose_of loose.entry) }
+{
+    match shape {
+        Shape::Node(_) | Shape::Symbol => as_kids(loose),
+        Shape::Join => Looseness::OnlyText,
+        Shape::Flat(label) => match loose {
+            Looseness::Tight | Looseness::Apart(_) => Looseness::Apart(label),
+            Looseness::OnlyText => Looseness::OnlyText,
+        },
+    }
+}
+
+/// Trees that are taken apart are tight in a tree whose kids they are.
+fn as_kids(loose: Looseness<'_>) -> Looseness<'_>
+    ensures { loose_of result ≡ as_kids (loose_of loose.entry) }
+{
+    match loose {
+        Looseness::Tight | Looseness::Apart(_) => Looseness::Tight,
+        Looseness::OnlyText => loose,
+    }
+}
+
+/// As the last step tells, how loose the trees of the terms are.
+#[tactic(auto, using(crate::proofs::Steps::inside_by_last, crate::proofs::Steps::inside_by_none))]
+pub(crate) fn inside_steps<'a>(
+    builders: &'a OperatorBuilders,
+    steps: &[Step],
+    loose: Looseness<'a>,
+) -> Looseness<'a>
+    ensures { loose_of result ≡ inside_steps builders.now (map step_of steps.now) (loose_of loose.entry) }
+{
+    match steps.last() {
+        Some(step) => inside_step(builders, step, loose),
+        None => loose,
+    }
+}
+
+/// As this step tells.
+fn inside_step<'a>(
+    builders: &'a OperatorBuilders,
+    step: &Step,
+    loose: Looseness<'a>,
+) -> Looseness<'a>
+    ensures { loose_of result ≡ inside_step builders.now (step_of step.now) (loose_of loose.entry) }
+{
+    match step {
+        Step::Application(operator) => {
+            inside_applied(&builder_on(operator.fixity, builders).shape, loose)
+        }
+        Step::Term | Step::Symbol(_) => loose,
+    }
+}
+
+/// How loose the trees of operands are, where that of the operator is so loose.
+fn inside_applied<'a>(shape: &Shape, loose: Looseness<'a>) -> Looseness<'a>
+    ensures { loose_of result ≡ inside_applied shape.now (loose_of loose.entry) }
+{
+    if joins(shape) {
+        Looseness::OnlyText
+    } else {
+        as_kids(loose)
+    }
+}
+
+/// Whether the shape joins texts to a leaf.
+pub(crate) fn joins(shape: &Shape) -> bool
+    ensures { result ≡ joins shape.now }
+{
+    match shape {
+        Shape::Join => true,
+        Shape::Node(_) | Shape::Symbol | Shape::Flat(_) => false,
+    }
+}
+
+/// Whether trees that are left out where they are so loose can be left out where they are as loose as the other.
+pub(crate) fn covers(known: &Looseness, loose: &Looseness) -> bool
+    ensures { result ≡ covers (loose_of known.now) (loose_of loose.now) }
+{
+    match (known, loose) {
+        (Looseness::Tight, _) | (_, Looseness::OnlyText) => true,
+        (Looseness::Apart(label), Looseness::Apart(other)) => is_label(label.as_str(), other),
+        (Looseness::Apart(_), Looseness::Tight) => false,
+        (Looseness::OnlyText, Looseness::Tight | Looseness::Apart(_)) => false,
+    }
+}
+
+/// Whether nothing but the text of trees is answered.
+pub(crate) fn is_text(loose: &Looseness) -> bool
+    ensures { result ≡ is_text (loose_of loose.now) }
+{
+    match loose {
+        Looseness::OnlyText => true,
+        Looseness::Tight | Looseness::Apart(_) => false,
+    }
+}
+
+/// Whether a tree without kids that the form makes is left out, since its kids take its place.
+pub(crate) fn leaves_out(around: &Around, loose: &Looseness) -> bool
+    ensures { result ≡ leaves_out around.now (loose_of loose.now) }
+{
+    match loose {
+        Looseness::Apart(label) => makes_node(around, label),
+        Looseness::Tight | Looseness::OnlyText => false,
+    }
+}
+
+/// Whether the form makes a node with the label.
+fn makes_node(around: &Around, label: &Label) -> bool
+    ensures { result ≡ makes_node around.now label.now }
+{
+    match around {
+        Around::Build(used, symbol) => has_label(&used.shape, symbol.as_str(), label),
+        Around::Try | Around::Text | Around::Skip | Around::Label(_) | Around::Local => false,
+    }
+}
+
+/// Whether the shape's tree has the label.
+fn has_label(shape: &Shape, symbol: &str, label: &Label) -> bool
+    ensures { result ≡ has_label shape.now symbol.now label.now }
+{
+    match shape {
+        Shape::Node(other) | Shape::Flat(other) => is_label(other.as_str(), label),
+        Shape::Symbol => is_label(symbol, label),
+        Shape::Join => false,
+    }
+}
+
+/// Whether these are the characters of the label.
+fn is_label(characters: &str, label: &Label) -> bool
+    ensures { result ≡ bytes_eq characters.now label.now }
+{
+    characters == label.as_str()
+}
