@@ -14,4 +14,6 @@ pub mod OwnFaultless
 pub mod Making
 pub mod OwnMade
 pub mod OwnSets
+pub mod OneReading
+pub mod Unrefuted
 pub mod OwnVerified

@@ -1,21 +1,18 @@
 -- What a grammar's own claims say is what is so, and where nothing is wrong by that, nothing is broken by the claims.
-use Rattle.std.proofs.Common.{◌≡◌, ◌<◌, ◌≤◌, ℕ, zero, suc, Bool, true, List, [], ◌∷◌, Some, slice_get, length, refl, sym, ap, ◌∙◌, subst, arith}
-use Rattle.std.specs.Prelude.{◌↔◌}
+use Rattle.std.proofs.Common.{◌≡◌, ◌<◌, ℕ, zero, suc, Bool, true, List, [], ◌∷◌, length, refl, ◌∙◌, subst, arith}
 use Rattle.std.specs.List.{AllByRecursion}
 use Rattle.std.proofs.lemmas.Option.{slice_get_within}
 use Rattle.pg_bit_set.specs.Numbers.{contains, set_at}
 use Rattle.pg_certificate.specs.Fitting.{FitsClaim}
 use Rattle.pg_certificate.specs.declared.certificate.RuleClaim.{RuleClaim}
 use Rattle.pg_costs.proofs.Sizing.{cut_step_cost}
-use Rattle.pg_costs.specs.Costs.{AreCosts}
 use Rattle.pg_costs.specs.FoundCost.{IsCostByCosts}
 use Rattle.pg_costs.specs.Rounds.{AreCutCosts}
 use Rattle.pg_costs.specs.StepCost.{IsStepCost}
 use Rattle.pg_costs.specs.Steps.{cut_off}
 use Rattle.pg_least_certificate.proofs.Origin.{least_fits}
-use Rattle.pg_own_starts.specs.Listed.{IsListed}
 use Rattle.pg_own_starts.specs.declared.listed.ListedStart.{ListedStart}
-use Rattle.pg_predict.specs.Conditions.{HasStepCost, NodeFacts, IsFaultless, IsFaultlessBy, claimed_facts, least_facts, cost_limit}
+use Rattle.pg_predict.specs.Conditions.{HasStepCost, claimed_facts, least_facts, cost_limit}
 use Rattle.pg_sets.specs.First.{IsFirst}
 use Rattle.pg_sets.specs.First as first_by
 use Rattle.pg_sets.specs.Follow.{IsFollow}
@@ -35,7 +32,7 @@ use Rattle.pg_verified.proofs.OwnHolds.{bodies_of, exact, own_hold}
 use Rattle.pg_verified.proofs.SameFacts.{AreOne, HasAbove, SayTheSame, violates_there}
 
 -- a set that isn't there has no number
-set_inside : (sets : List (List Bool)) (p n : ℕ) → contains (set_at sets p) n ≡ true → p < length sets
+pub set_inside : (sets : List (List Bool)) (p n : ℕ) → contains (set_at sets p) n ≡ true → p < length sets
 set_inside [] p n is = cc
 set_inside (s ∷ ss) zero n is = omega arith
 set_inside (s ∷ ss) (suc p) n is = let rest = set_inside ss p n is in omega (arith, rest)

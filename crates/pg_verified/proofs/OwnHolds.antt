@@ -1,10 +1,9 @@
 -- All that a grammar's own claims say holds.
-use Rattle.std.proofs.Common.{◌≡◌, ℕ, List, Some, slice_get, length}
+use Rattle.std.proofs.Common.{List, length}
 use Rattle.pg_certificate.specs.declared.certificate.RuleClaim.{RuleClaim}
 use Rattle.pg_value.proofs.Numbers.{bodies_are_nodes}
 use Rattle.pg_value.specs.Follows.{BodiesAreNodes}
 use Rattle.pg_value.specs.Grammar.{Grammar, IsGrammar}
-use Rattle.pg_value.specs.declared.grammar.Rule.{Rule}
 use Rattle.pg_verify.specs.Judged.{Holds}
 use Rattle.pg_verify.specs.declared.fault.Condition.{Condition}
 use Rattle.pg_verify.specs.declared.fault.Condition.TheVariants as condition

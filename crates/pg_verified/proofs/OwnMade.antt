@@ -21,10 +21,10 @@ steps_same f h k count [] same after = refl
 steps_same f h k count (p ∷ ps) same after = ap₂ (λ a b. a + b) (same p after.0.0) (steps_same f h k count ps same after.1)
 
 -- the size of a node by the sizes of its parts
-abbrev size_by : Grammar → List ℕ → (ℕ → ℕ) → Node → ℕ
+abbrev pub size_by : Grammar → List ℕ → (ℕ → ℕ) → Node → ℕ
 size_by g costs size n = cut_off (own_steps g (number_at costs) n + steps_of_all size (parts_of n))
 
-size_local : (g : Grammar) (costs : List ℕ) → IsLocal (size_by g costs)
+pub size_local : (g : Grammar) (costs : List ℕ) → IsLocal (size_by g costs)
 size_local g costs f h k count n same after = ap (λ x. cut_off (own_steps g (number_at costs) n + x)) (steps_same f h k count (parts_of n) same after)
 
 pub sizes_there : (g : Grammar) → IsGrammar g → (costs : List ℕ) → (sizes : List ℕ) × AreCutSizes g costs sizes

@@ -19,7 +19,6 @@ use Rattle.pg_heads.specs.Ranks as ranks
 use Rattle.pg_heads.specs.Reached.{ReachedIn, ReachedPart, ReachesUse, Heads}
 use Rattle.pg_heads.specs.Reached as way
 use Rattle.pg_value.specs.Grammar.{Grammar, IsGrammar}
-use Rattle.pg_value.specs.declared.grammar.Rule.{Rule}
 use Rattle.pg_verify.specs.Claimed.{claimed_rank}
 use Rattle.pg_verify.specs.Holding.{RankHolds}
 use Rattle.pg_verify.specs.Nullable.{AreNullableBy}

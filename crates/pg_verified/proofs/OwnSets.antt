@@ -7,11 +7,10 @@ use Rattle.std.specs.Option.{option_map_or}
 use Rattle.std.proofs.lemmas.Bool.{cases_eq}
 use Rattle.std.proofs.lemmas.List.{get_or_append_left, get_or-append-add, length-append}
 use Rattle.std.proofs.lemmas.Option.{none-some, same_Some, slice_get_within}
-use Rattle.pg_bit_set.specs.Numbers.{contains, set_at}
+use Rattle.pg_bit_set.specs.Numbers.{set_at}
 use Rattle.pg_certificate.specs.Fitting.{FitsClaim}
 use Rattle.pg_certificate.specs.declared.certificate.RuleClaim.{RuleClaim}
 use Rattle.pg_derive.proofs.Least.{Decided, decided_true, decided_as, decided_both, decided_either, decided_some}
-use Rattle.pg_derive.proofs.Meetings.{IsListable}
 use Rattle.pg_derive.proofs.Quiet.{found}
 use Rattle.pg_form.proofs.Each.{all-get}
 use Rattle.pg_form.specs.Forms.{Node}
@@ -20,7 +19,7 @@ use Rattle.pg_graph.proofs.Lists.{has_first}
 use Rattle.pg_graph.specs.Graphs.{has}
 use Rattle.pg_heads.proofs.Heading.{used_is}
 use Rattle.pg_heads.specs.Parts.{used_rules}
-use Rattle.pg_own_starts.specs.Listed.{IsListed, start_order}
+use Rattle.pg_own_starts.specs.Listed.{IsListed}
 use Rattle.pg_own_starts.specs.declared.listed.ListedStart.{ListedStart}
 use Rattle.pg_predict.proofs.Numbered.{listed_once}
 use Rattle.pg_sets.specs.First.{IsFirst}
@@ -194,12 +193,15 @@ module _ (g : Grammar) (claims : List RuleClaim) (grammar : IsGrammar g) (own : 
   of_behind_start : (r : ℕ) (listed : ListedStart) → IsBehind g claims marks listed r → StandsBehind r listed
   of_behind_start r listed (by_follow.at_use {p} at is) =
       let inside = slice_get_within g.nodes p (form.Rule r) at in
-      inl (p, record {
-        node = form.Rule r;
-        there = at;
-        uses = has_first [] r;
-        follows_it = (own.are_sets.start_sets.follow p listed.start inside).1 (follow_so g grammar claims all marks are is);
-      })
+      inl (
+        p,
+        record {
+          node = form.Rule r;
+          there = at;
+          uses = has_first [] r;
+          follows_it = (own.are_sets.start_sets.follow p listed.start inside).1 (follow_so g grammar claims all marks are is);
+        },
+      )
   of_behind_start r listed (by_follow.at_end start same) = inr (start, ap (λ (one : ListedStart). one.start) same)
 
   behind_decided : (r k : ℕ) (listed : ListedStart) → slice_get starts k ≡ Some listed → Decided (IsBehind g claims marks listed r)

@@ -1,9 +1,10 @@
--- A grammar's own certificate is verified.
+-- A grammar's own certificate is verified, and not refuted.
 use Rattle.std.proofs.Common.{ℕ, List}
 use Rattle.pg_least_certificate.specs.Own.{IsOwnCertificate}
 use Rattle.pg_value.specs.Grammar.{Grammar}
-use Rattle.pg_verified.specs.Certified.{OwnCertificatesAreVerified}
+use Rattle.pg_verified.specs.Certified.{OwnCertificatesAreVerified, OwnCertificatesAreNotRefuted}
 use Rattle.pg_verified.specs.Own.{AreOwnClaims}
+use Rattle.pg_verified.proofs.Unrefuted.{not_refuted}
 use Rattle.pg_verified.proofs.OwnFaultless.{own_break_nothing}
 use Rattle.pg_verified.proofs.OwnHolds.{own_hold}
 use Rattle.pg_verified.proofs.OwnMade.{said_there, cost_by_costs_there}
@@ -27,3 +28,6 @@ own_verified g text grammar faultless is =
       is_cost = cost.1;
       faultless = own_break_nothing g is.claims said.0 sets.0 cost.0 grammar faultless own said.1 sets.1 cost.1;
     }
+
+pub own_not_refuted : OwnCertificatesAreNotRefuted
+own_not_refuted g text fault grammar faultless is refuted = not_refuted g text fault grammar (own_verified g text grammar faultless is) refuted

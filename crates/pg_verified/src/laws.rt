@@ -2,14 +2,20 @@
 //!
 //! A law is a function that does nothing when it runs: its clause is the law, and whoever calls it has the clause.
 
-ghost use Rattle.pg_verified.specs.Certified.{OwnCertificatesAreVerified};
+ghost use Rattle.pg_verified.specs.Certified.{OwnCertificatesAreNotRefuted, OwnCertificatesAreVerified};
 ghost use Rattle.pg_verified.specs.Own.{OwnClaimsBreakNothing, OwnClaimsHold, OwnClaimsSayNoMore, OwnSetsAreClosed};
-ghost use Rattle.pg_verified.specs.Verified.{VerifiedGrammarsAreAccepted};
+ghost use Rattle.pg_verified.specs.Verified.{VerifiedBytesAreNotRefuted, VerifiedGrammarsAreAccepted};
 
 /// The law that a grammar for which bytes are verified as a certificate is accepted by its least sets and its step cost too: whatever
 /// were wrong with it would be wrong by the claims, which are no less.
 pub fn verified_grammars_are_accepted()
     ensures { VerifiedGrammarsAreAccepted }
+{}
+
+/// The law that bytes which are verified aren't refuted: they are read as one certificate, whose claims say one thing. So what
+/// `pg_verify::verify` answers of them is ok, or that memory ran out, and it answers ok of no others.
+pub fn verified_bytes_are_not_refuted()
+    ensures { VerifiedBytesAreNotRefuted }
 {}
 
 /// The law that the claims which a grammar's own sets make say no more of its nodes than is so: neither which are nullable, nor which
@@ -39,4 +45,9 @@ pub fn own_claims_break_nothing()
 /// hold, and nothing is broken by them.
 pub fn own_certificates_are_verified()
     ensures { OwnCertificatesAreVerified }
+{}
+
+/// The law that it isn't refuted either: what `pg_verify::verify` answers of it is ok, or that memory ran out.
+pub fn own_certificates_are_not_refuted()
+    ensures { OwnCertificatesAreNotRefuted }
 {}

@@ -4,6 +4,7 @@
 mod laws;
 
 pub use laws::{
-    own_certificates_are_verified, own_claims_break_nothing, own_claims_hold,
-    own_claims_say_no_more, own_sets_are_closed, verified_grammars_are_accepted,
+    own_certificates_are_not_refuted, own_certificates_are_verified, own_claims_break_nothing,
+    own_claims_hold, own_claims_say_no_more, own_sets_are_closed, verified_bytes_are_not_refuted,
+    verified_grammars_are_accepted,
 };
