@@ -22,3 +22,5 @@ pub mod Below
 pub mod StepCosts
 pub mod Facts
 pub mod FirstBroken
+pub mod Kept
+pub mod AtNode

@@ -24,7 +24,7 @@ use Rattle.pg_predict.specs.Violations.{Violation}
 use Rattle.pg_predict.specs.declared.violation.ViolationKind.{ViolationKind}
 use Rattle.pg_predict.specs.declared.violation.ViolationKind.TheVariants.{LeftRecursion, EmptyRound, EmptyAlternative, AlternativesMeet, AlternativeMeetsFollow, RoundMeetsFollow, EmptyOperand, OperandMeetsOperators, FollowMeetsOperators, GapMeets, StepCostOver}
 use Rattle.pg_predict.specs.declared.meetings.Meeting.{Meeting}
-use Rattle.pg_predict.specs.Refusals.{IsRefusal, IsRefused}
+use Rattle.pg_predict.specs.Refusals.{IsRefusal, IsRefused, refused_by}
 use Rattle.pg_predict.specs.declared.source.Source.{Source}
 use Rattle.pg_predict.proofs.Complete.{violation_noted}
 use Rattle.pg_predict.proofs.Lists.{In, in_all_below, all_below_has, in_noted, in_noted_meeting, in_noted_start, in_cases, Precedes, Ascends, ascends_append, ascends_below, ascends_noted, ascends_meeting, ascends_start, key_less, key_same, node_precedes, tags_precede, contains_noted, noted_contains, ascends_sorted}
@@ -251,10 +251,12 @@ are_findings g facts are grammar = record {
 -- ---- refusals
 
 -- what is said of a grammar in which something is noted
-pub refusal_is : (source : Source) → IsRefusal source → IsRefused source.grammar (record { grammar = source.grammar; findings = findings_noted source.grammar source.judge })
+pub refusal_is : (source : Source) → IsRefusal source → IsRefused source.grammar (refused_by source)
 refusal_is source is = record {
   same = refl;
+  sets = is.is_source.facts.sets;
   findings = are_findings source.grammar source.judge is.is_source.facts is.is_source.grammar;
+  violations = are_violations source.grammar (least_facts source.grammar) source.judge is.is_source.facts is.is_source.grammar;
   some = some_said (noted_grammar source.grammar source.judge) is.any;
 }
   where

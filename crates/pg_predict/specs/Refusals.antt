@@ -1,22 +1,51 @@
 -- Grammars that aren't accepted.
-use Rattle.std.specs.Prelude.{◌≡◌, ◌<◌, List, length}
+use Rattle.std.specs.Prelude.{◌≡◌, ◌<◌, ℕ, nat_eq, List, length, map}
+use Rattle.std.specs.List.{filter}
 use Rattle.pg_value.specs.Grammar.{Grammar}
-use Rattle.pg_predict.specs.Findings.{Finding, AreFindings}
-use Rattle.pg_predict.specs.Judged.{noted_grammar}
+use Rattle.pg_sets.specs.Sets.{Sets}
+use Rattle.pg_own_starts.specs.declared.listed.ListedStart.{ListedStart}
+use Rattle.pg_predict.specs.Conditions.{least_facts}
+use Rattle.pg_predict.specs.Findings.{Finding, AreFindings, AreViolations}
+use Rattle.pg_predict.specs.Judged.{all_starts, findings_noted, noted_grammar}
+use Rattle.pg_predict.specs.Shown.{SetsSay}
 use Rattle.pg_predict.specs.Texts.{IsSource}
+use Rattle.pg_predict.specs.Violations.{Violation, kinds_of}
+use Rattle.pg_predict.specs.WithStarts.{with_starts}
 use Rattle.pg_predict.specs.declared.source.Source.{Source}
+use Rattle.pg_predict.specs.declared.violation.ViolationKind.{ViolationKind}
 
+-- a grammar with its sets, the start of operators, which needn't be one of theirs, and all that is wrong with it: as it is printed, and
+-- with the numbers of starts
 pub record RefusedGrammar : Type 0 where
   pub grammar : Grammar
+  pub sets : Sets
+  pub operator : ListedStart
   pub findings : List Finding
+  pub violations : List (Violation ℕ)
 
 -- the findings are written from this, and there are any
 pub record IsRefusal (source : Source) : Type 0 where
   pub is_source : IsSource source
   pub any : 0 < length (noted_grammar source.grammar source.judge)
 
+-- what is refused by it
+abbrev pub refused_by : Source → RefusedGrammar
+refused_by source = record {
+  grammar = source.grammar;
+  sets = source.judge.sets;
+  operator = (all_starts source.judge).own;
+  findings = findings_noted source.grammar source.judge;
+  violations = noted_grammar source.grammar source.judge;
+}
+
 -- a grammar with all that is wrong with it, which is something
 pub record IsRefused (g : Grammar) (refused : RefusedGrammar) : Type 0 where
   pub same : refused.grammar ≡ g
+  pub sets : SetsSay g (least_facts g) refused.sets
   pub findings : AreFindings g refused.findings
+  pub violations : AreViolations g (map (with_starts (record { listed = refused.sets.starts; own = refused.operator })) refused.violations)
   pub some : 0 < length refused.findings
+
+-- what is wrong at a node
+abbrev pub kinds_at : ℕ → List (Violation ℕ) → List (ViolationKind ℕ)
+kinds_at p violations = kinds_of (filter (λ v. nat_eq v.node p) violations)

@@ -115,6 +115,13 @@ impl Judge {
         }
     }
 
+    /// The sets.
+    pub(crate) fn sets(&self) -> &Sets
+        ensures { result.now ≡ self.now.sets }
+    {
+        &self.sets
+    }
+
     /// The starts of the grammar.
     pub(crate) fn starts(&self) -> &[ListedStart]
         ensures { result.now ≡ self.now.sets.starts }

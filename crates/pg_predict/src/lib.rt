@@ -5,11 +5,12 @@
 //! for each kind: `choices.rt`, `repetitions.rt`, `expressions.rt`, `declarations.rt` and `recursion.rt`; last of all the step cost
 //! (`pg_costs`) is judged, in `costly.rt`. A condition that is broken at a node is a violation (`violation.rt`), whose finding is
 //! put into words in one place (`texts.rt`). A grammar that is accepted keeps its sets and its step cost; one that isn't keeps what
-//! its findings are found by, and each is found anew when it is written (`lines.rt`).
+//! its findings are found by, and each is found anew when it is written (`lines.rt`) or asked for (`at_node.rt`).
 //!
 //! [`first_broken`] judges sets that are claimed of a grammar, by the same questions (`broken.rt`).
 #![tactic(auto)]
 
+mod at_node;
 mod bounds;
 mod broken;
 mod checked;
@@ -42,5 +43,6 @@ pub use broken::{broken_text, first_broken};
 pub use checked::Checked;
 pub use checking::{CheckFault, check};
 pub use laws::findings_speak_of_nodes;
+pub use places::{Place, place_of};
 pub use refused::Refused;
-pub use violation::Broken;
+pub use violation::{Broken, ViolationKind};

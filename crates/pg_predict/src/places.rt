@@ -8,16 +8,17 @@ use pg_value::Rule;
 
 /// A node, and where it stands.
 #[derive(Clone, Copy)]
-pub(crate) struct Place {
-    pub(crate) node: NodeId,
+pub struct Place {
+    /// The node.
+    pub node: NodeId,
     /// The number of the rule, from 0 in file order.
-    pub(crate) rule: usize,
+    pub rule: usize,
     /// The node's number in the rule's body, from 1, in preorder.
-    pub(crate) number: usize,
+    pub number: usize,
 }
 
-/// Where a node stands.
-pub(crate) fn place_of(rules: &[Rule], node: NodeId) -> Place
+/// Where a node stands (ours). It takes no memory.
+pub fn place_of(rules: &[Rule], node: NodeId) -> Place
     requires { node < 8192 }
     ensures { result ≡ place_at rules.now node }
 {

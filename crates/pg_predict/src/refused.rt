@@ -2,16 +2,21 @@
 //!
 //! The findings can be very many, as those of each two alternatives of a choice. So they are computed one by one as they are
 //! written, from the grammar and its sets, and never stand in memory together.
-ghost use Rattle.std.specs.Prelude.{◌≡◌, false, true, OnOk, OnErr, IsErrOf};
+ghost use Rattle.std.specs.Prelude.{◌≡◌, ◌<◌, false, true, length, take, IfOk, OnOk, OnErr, IsErrOf};
 ghost use Rattle.std.specs.Io.KnownBytes.{Appends};
 ghost use Rattle.pg_tree.specs.Bytes.{AppendsPrefix};
 ghost use Rattle.pg_predict.specs.Findings.{lines_of};
+ghost use Rattle.pg_predict.specs.Refusals.{kinds_at};
 
+use crate::at_node::first_kinds;
 use crate::lines::write_lines;
 use crate::source::Source;
+use crate::violation::ViolationKind;
+use pg_form::NodeId;
+use pg_sets::Sets;
 use pg_tree::{Meter, WriteFault};
 use pg_value::Grammar;
-use std::alloc::Global;
+use std::alloc::{AllocError, Global};
 use std::fmt;
 use std::io::Write;
 use std::marker::Model;
@@ -26,24 +31,22 @@ pub struct Refused {
 }
 
 impl Model for Refused {
-    ghost use Rattle.pg_predict.specs.Refusals.{RefusedGrammar, IsRefusal};
-    ghost use Rattle.pg_predict.specs.Judged.{findings_noted};
+    ghost use Rattle.pg_predict.specs.Refusals.{RefusedGrammar, IsRefusal, refused_by};
 
     ghost Value = { RefusedGrammar };
 
-    ghost view = { λ refused. record { grammar = refused.source.grammar; findings = findings_noted refused.source.grammar refused.source.judge } };
+    ghost view = { λ refused. refused_by refused.source };
 
     ghost invariant = { λ refused. IsRefusal refused.source };
 }
 
 impl Refused {
-    ghost use Rattle.pg_predict.specs.Refusals.{RefusedGrammar, IsRefusal, IsRefused};
-    ghost use Rattle.pg_predict.specs.Judged.{findings_noted};
+    ghost use Rattle.pg_predict.specs.Refusals.{IsRefusal, IsRefused, refused_by};
 
     /// The grammar of the source, in which something is wrong.
     pub(crate) fn new(source: Source) -> Refused
         requires { IsRefusal source }
-        ensures { result ≡ record { grammar = source.grammar; findings = findings_noted source.grammar source.judge } }
+        ensures { result ≡ refused_by source }
     {
         Refused { source }
     }
@@ -54,6 +57,29 @@ impl Refused {
         ensures refused { IsRefused self.now.grammar self.now }
     {
         &self.source.grammar
+    }
+
+    /// Its sets. It takes no memory.
+    pub fn sets(&self) -> &Sets
+        ensures sets { result.now ≡ self.now.sets }
+        ensures refused { IsRefused self.now.grammar self.now }
+    {
+        self.source.judge.sets()
+    }
+
+    /// What is wrong at a node, in the order of conditions and alternatives, and no more than so many. A start is known by its number
+    /// in the sets; that of operators, which needn't be one of theirs, by the number after all of those. The only error is that
+    /// memory ran out.
+    pub fn kinds_at(
+        &self,
+        alloc: Global,
+        node: NodeId,
+        most: usize,
+    ) -> Result<Vec<ViolationKind<usize>>, AllocError>
+        requires { node < length self.now.grammar.nodes }
+        ensures { IfOk result (λ kinds. kinds.items ≡ take most (kinds_at node self.now.violations)) }
+    {
+        first_kinds(alloc, &self.source, node, most)
     }
 
     /// The grammar, as it was handed in.

@@ -19,7 +19,7 @@ pub struct Broken {
 
 /// How a condition is broken. Alternatives count from 1.
 #[derive(Debug, Drop)]
-pub(crate) enum ViolationKind<S> {
+pub enum ViolationKind<S> {
     /// C1: the rule heads itself.
     LeftRecursion,
     /// C2: a round can be empty.

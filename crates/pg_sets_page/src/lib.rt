@@ -7,4 +7,4 @@
 
 mod page;
 
-pub use page::sets_page;
+pub use page::{form_word, sets_page};

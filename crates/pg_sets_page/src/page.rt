@@ -185,7 +185,7 @@ fn word_of(grammar: &Grammar, node: usize) -> &'static str
 }
 
 /// The word that a grammar file has for the form; a use of a rule, which has none there, is called `rule`.
-fn form_word(node: &Node) -> &'static str
+pub fn form_word(node: &Node) -> &'static str
     ensures { result.now ≡ form_word node.now }
 {
     match node {

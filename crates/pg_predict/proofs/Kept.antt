@@ -1,0 +1,34 @@
+-- How conditions are broken, kept one after another up to so many.
+use Rattle.std.proofs.Common.{◌≡◌, ℕ, zero, suc, ◌+◌, ◌<◌, ◌≤◌, List, [], ◌∷◌, ◌++◌, take, length, append-nil, append_assoc, refl, sym, ap, ◌∙◌, arith}
+use Rattle.std.proofs.Math.Numerals.{add-one}
+use Rattle.std.proofs.lemmas.List.{map-append, take_all, take-append-le}
+use Rattle.pg_predict.specs.Judged.{all_below}
+use Rattle.pg_predict.specs.Violations.{Violation, kinds_of}
+use Rattle.pg_predict.specs.declared.violation.ViolationKind.{ViolationKind}
+
+-- keeping so many of what comes after those that were kept
+take_on : (n : ℕ) (xs ys : List (ViolationKind ℕ)) → take n (take n xs ++ ys) ≡ take n (xs ++ ys)
+take_on zero xs ys = refl
+take_on (suc n) [] ys = refl
+take_on (suc n) (x ∷ xs) ys = ap (λ (zs : List (ViolationKind ℕ)). x ∷ zs) (take_on n xs ys)
+
+-- first some, then others
+pub kept_both : (n : ℕ) (old before after : List (ViolationKind ℕ)) (xs ys : List (Violation ℕ)) → before ≡ take n (old ++ kinds_of xs) → after ≡ take n (before ++ kinds_of ys)
+    → after ≡ take n (old ++ kinds_of (xs ++ ys))
+kept_both n old before after xs ys first then =
+    then ∙ ap (λ (zs : List (ViolationKind ℕ)). take n (zs ++ kinds_of ys)) first ∙ take_on n (old ++ kinds_of xs) (kinds_of ys)
+    ∙ ap (take n) (append_assoc old (kinds_of xs) (kinds_of ys) ∙ ap (λ (zs : List (ViolationKind ℕ)). old ++ zs) (sym (map-append (λ (v : Violation ℕ). v.kind) xs ys)))
+
+-- what is found for the next number
+pub kept_next : (f : ℕ → List (Violation ℕ)) (k n : ℕ) (old before after : List (ViolationKind ℕ)) → before ≡ take n (old ++ kinds_of (all_below f k))
+    → after ≡ take n (before ++ kinds_of (f k)) → after ≡ take n (old ++ kinds_of (all_below f (k + 1)))
+kept_next f k n old before after first then =
+    kept_both n old before after (all_below f k) (f k) first then ∙ ap (λ (m : ℕ). take n (old ++ kinds_of (all_below f m))) (sym (add-one k))
+
+-- nothing comes
+pub kept_none : (n : ℕ) (old : List (ViolationKind ℕ)) → length old ≤ n → old ≡ take n (old ++ [])
+kept_none n old few = sym (ap (take n) (append-nil old) ∙ take_all n old few)
+
+-- there are enough
+pub kept_full : (n : ℕ) (old xs : List (ViolationKind ℕ)) → length old ≤ n → n ≤ length old → old ≡ take n (old ++ xs)
+kept_full n old xs few full = sym (take-append-le n old xs full ∙ take_all n old few)
