@@ -1,5 +1,5 @@
 -- What is so of checking a grammar file and judging a certificate of it together.
-use Rattle.std.specs.Prelude.{◌≡◌, ◌++◌, ℕ, List, true, false, codes}
+use Rattle.std.specs.Prelude.{ℕ, List, true, false, codes}
 use Rattle.pg_pred.specs.Offer.{Offer}
 use Rattle.pg_grammar_bench.specs.Checking.{IsJudgedFile}
 use Rattle.pg_grammar_bench.specs.Verifying.{IsVerifiedFile}
@@ -8,12 +8,6 @@ use Rattle.pg_grammar_bench.specs.Verifying.{IsVerifiedFile}
 abbrev pub VerifiedFilesAreAccepted : Type 0
 VerifiedFilesAreAccepted = (offer : Offer) (file certificate : List ℕ) → IsVerifiedFile offer file certificate → IsJudgedFile offer file false true (codes "accepted\n")
 
--- a line is a certificate that is verified
-pub record IsVerifiedLine (offer : Offer) (file line : List ℕ) : Type 0 where
-  pub certificate : List ℕ
-  pub is_line : line ≡ certificate ++ codes "\n"
-  pub verified : IsVerifiedFile offer file certificate
-
--- where a grammar file's grammar is accepted and its certificate is asked for, what is printed is one that is verified
+-- where a grammar file's grammar is accepted and its certificate is asked for, what is printed is verified as a certificate
 abbrev pub PrintedCertificatesAreVerified : Type 0
-PrintedCertificatesAreVerified = (offer : Offer) (file said : List ℕ) → IsJudgedFile offer file true true said → IsVerifiedLine offer file said
+PrintedCertificatesAreVerified = (offer : Offer) (file said : List ℕ) → IsJudgedFile offer file true true said → IsVerifiedFile offer file said

@@ -4,7 +4,7 @@
 
 ghost use Rattle.pg_grammar_bench.specs.Laws.{PrintedCertificatesAreVerified, VerifiedFilesAreAccepted};
 
-use pg_verified::{own_certificates_are_verified, verified_grammars_are_accepted};
+use pg_verified::{own_certificate_lines_are_verified, verified_grammars_are_accepted};
 
 /// The law that a grammar file of which bytes are verified as a certificate is accepted by the check, whoever made them.
 pub fn verified_files_are_accepted()
@@ -13,9 +13,9 @@ pub fn verified_files_are_accepted()
     verified_grammars_are_accepted();
 }
 
-/// The law that the certificate which the check prints of a grammar file is verified, but for the line feed behind it.
+/// The law that the line which the check prints of a grammar file, where its certificate is asked for, is verified as one.
 pub fn printed_certificates_are_verified()
     ensures { PrintedCertificatesAreVerified }
 {
-    own_certificates_are_verified();
+    own_certificate_lines_are_verified();
 }

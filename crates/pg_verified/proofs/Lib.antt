@@ -16,4 +16,5 @@ pub mod OwnMade
 pub mod OwnSets
 pub mod OneReading
 pub mod Unrefuted
+pub mod LineEnd
 pub mod OwnVerified

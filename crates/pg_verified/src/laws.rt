@@ -2,7 +2,7 @@
 //!
 //! A law is a function that does nothing when it runs: its clause is the law, and whoever calls it has the clause.
 
-ghost use Rattle.pg_verified.specs.Certified.{OwnCertificatesAreNotRefuted, OwnCertificatesAreVerified};
+ghost use Rattle.pg_verified.specs.Certified.{OwnCertificateLinesAreVerified, OwnCertificatesAreNotRefuted, OwnCertificatesAreVerified};
 ghost use Rattle.pg_verified.specs.Own.{OwnClaimsBreakNothing, OwnClaimsHold, OwnClaimsSayNoMore, OwnSetsAreClosed};
 ghost use Rattle.pg_verified.specs.Verified.{VerifiedBytesAreNotRefuted, VerifiedGrammarsAreAccepted};
 
@@ -45,6 +45,11 @@ pub fn own_claims_break_nothing()
 /// hold, and nothing is broken by them.
 pub fn own_certificates_are_verified()
     ensures { OwnCertificatesAreVerified }
+{}
+
+/// The law that so it is with a line end behind it, as `pgw check --certificate` prints it.
+pub fn own_certificate_lines_are_verified()
+    ensures { OwnCertificateLinesAreVerified }
 {}
 
 /// The law that it isn't refuted either: what `pg_verify::verify` answers of it is ok, or that memory ran out.
