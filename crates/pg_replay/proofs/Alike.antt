@@ -1,6 +1,7 @@
 -- Forests that are alike: the same, or the same as they are flattened, or of the same text, as loose as trees are.
 use Rattle.std.proofs.Common.{◌≡◌, ℕ, Bool, true, false, List, [], ◌∷◌, ◌++◌, refl, sym, ap, ◌∙◌, append-nil, append_assoc, subst, if◌then◌else◌}
 use Rattle.std.specs.Str.{bytes_eq}
+use Rattle.std.proofs.lemmas.Slice.Eq.{bytes_eq-Decides}
 use Rattle.pg_tree.specs.Trees.{Tree, Trees, leaf, node, no_trees, tree, kids_of}
 use Rattle.pg_tree.specs.Built.{tree_text, kids_text, with_kids, flattened, built}
 use Rattle.pg_tree.specs.declared.shape.Shape.{Shape}
@@ -10,7 +11,7 @@ use Rattle.pg_form.specs.declared.form.Around.TheVariants as kind
 use Rattle.pg_form.specs.declared.side.Side.{Side}
 use Rattle.pg_form.specs.declared.side.Side.TheVariants.{Left, Right}
 use Rattle.pg_language.specs.Derives.{Link, folded, made_by}
-use Rattle.pg_replay.specs.Tasks.{Looseness, tight, apart, only_text, as_kids, as_flat, inside, inside_applied, inside_form, has_label, makes_node, leaves_out, given_by}
+use Rattle.pg_replay.specs.Tasks.{Looseness, tight, apart, only_text, as_kids, as_flat, inside, inside_form, is_steady, has_label, makes_node, leaves_out, given_by}
 
 -- ---- texts of lists
 
@@ -98,15 +99,6 @@ is_both only_text v w x y e f = text_append v x ∙ ap (λ z. z ++ text_in x) e 
 pub alike_both : (loose : Looseness) (v w x y : List Tree) → Alike loose v w → Alike loose x y → Alike loose (v ++ x) (w ++ y)
 alike_both loose v w x y h k = record { is = is_both loose v w x y h.is k.is }
 
--- where trees aren't taken apart
-is_built : (loose : Looseness) (shape : Shape) (symbol : List ℕ) (x w : List Tree) → as_kids loose ≡ loose → IsAlike loose x w → IsAlike loose (built shape symbol x ∷ []) (built shape symbol w ∷ [])
-is_built tight shape symbol x w firm e = ap (λ z. built shape symbol z ∷ []) e
-is_built (apart label) shape symbol x w firm e = absurd cc
-is_built only_text shape symbol x w firm e = built_text shape symbol x ∙ e ∙ sym (built_text shape symbol w)
-
-pub alike_built : (loose : Looseness) (shape : Shape) (symbol : List ℕ) (x w : List Tree) → as_kids loose ≡ loose → Alike loose x w → Alike loose (built shape symbol x ∷ []) (built shape symbol w ∷ [])
-alike_built loose shape symbol x w firm h = record { is = is_built loose shape symbol x w firm h.is }
-
 -- a tree of alike trees, as loose as they are in it
 is_node : (loose : Looseness) (shape : Shape) (symbol : List ℕ) (x w : List Tree) → IsAlike (as_kids loose) x w → IsAlike loose (built shape symbol x ∷ []) (built shape symbol w ∷ [])
 is_node tight shape symbol x w e = ap (λ z. built shape symbol z ∷ []) e
@@ -142,28 +134,6 @@ inside_twice (shaped.Flat label) only_text = refl
 -- a tree of such a shape again
 alike_again : (loose : Looseness) (shape : Shape) (symbol : List ℕ) (x w : List Tree) → Alike (inside shape loose) x w → Alike (inside shape loose) (built shape symbol x ∷ []) (built shape symbol w ∷ [])
 alike_again loose shape symbol x w h = alike_shaped (inside shape loose) shape symbol x w (subst (λ m. Alike m x w) (sym (inside_twice shape loose)) h)
-
--- the tree is one of this shape
-abbrev pub IsBuilt : Shape → List ℕ → List Tree → Type 0
-IsBuilt shape symbol w = (kids : List Tree) × (w ≡ built shape symbol kids ∷ [])
-
-same_leaf : (s t : List ℕ) (x w : List Tree) → x ≡ leaf s ∷ [] → w ≡ leaf t ∷ [] → text_in x ≡ text_in w → x ≡ w
-same_leaf s t x w e f h = let same : s ≡ t = sym (append-nil s) ∙ sym (ap text_in e) ∙ h ∙ ap text_in f ∙ append-nil t in e ∙ ap (λ z. leaf z ∷ []) same ∙ sym f
-
-is_kid : (loose : Looseness) (x w : List Tree) → IsAlike (as_kids loose) x w → IsAlike loose x w
-is_kid tight x w e = e
-is_kid (apart label) x w e = is_same (apart label) x w e
-is_kid only_text x w e = e
-
--- two leaves of the same text are the same
-is_one : (loose : Looseness) (shape : Shape) (symbol : List ℕ) (x w : List Tree) → IsBuilt shape symbol x → IsBuilt shape symbol w → IsAlike (inside_applied shape loose) x w → IsAlike loose x w
-is_one loose (shaped.Node label) symbol x w p q e = is_kid loose x w e
-is_one loose shaped.Symbol symbol x w p q e = is_kid loose x w e
-is_one loose shaped.Join symbol x w p q e = is_same loose x w (same_leaf (text_in p.0) (text_in q.0) x w p.1 q.1 e)
-is_one loose (shaped.Flat label) symbol x w p q e = is_kid loose x w e
-
-pub alike_one : (loose : Looseness) (shape : Shape) (symbol : List ℕ) (x w : List Tree) → IsBuilt shape symbol x → IsBuilt shape symbol w → Alike (inside_applied shape loose) x w → Alike loose x w
-alike_one loose shape symbol x w p q h = record { is = is_one loose shape symbol x w p q h.is }
 
 -- ---- forms around a part
 
@@ -212,34 +182,141 @@ alike_given k loose text from to x w h = record { is = is_given k loose text fro
 
 -- ---- rounds of chains
 
-pub data AreAlike (loose : Looseness) : List Link → List Link → Type 0 where
-  no_round : AreAlike loose [] []
-  one_round : {j l : Link} {js ls : List Link} → Alike loose j.0 l.0 → Alike loose j.1 l.1 → AreAlike loose js ls → AreAlike loose (j ∷ js) (l ∷ ls)
+-- rounds that put nothing to what is folded
+abbrev pub AreIdle : Looseness → List Link → Type 0
+AreIdle loose [] = Unit {0}
+AreIdle loose (l ∷ ls) = (Alike loose [] l.0 × Alike loose [] l.1) × AreIdle loose ls
+
+-- rounds that are alike one by one, up to the first of those at the end that put nothing to what the chain makes
+pub data AreAlike (shape : Shape) (loose : Looseness) : List Link → List Link → Type 0 where
+  no_round : AreAlike shape loose [] []
+  one_round : {j l : Link} {js ls : List Link} → Alike loose j.0 l.0 → Alike loose j.1 l.1 → AreAlike shape loose js ls → AreAlike shape loose (j ∷ js) (l ∷ ls)
+  idle_rounds : {j l : Link} {ls : List Link} → is_steady shape loose ≡ true → Alike loose j.0 l.0 → Alike loose j.1 l.1 → AreIdle loose (l ∷ ls) → AreAlike shape loose (j ∷ []) (l ∷ ls)
+
+is_back : (loose : Looseness) (x w : List Tree) → IsAlike loose x w → IsAlike loose w x
+is_back tight x w e = sym e
+is_back (apart label) x w e = sym e
+is_back only_text x w e = sym e
+
+alike_back : (loose : Looseness) (x w : List Tree) → Alike loose x w → Alike loose w x
+alike_back loose x w h = record { is = is_back loose x w h.is }
+
+alike_through : (loose : Looseness) (x y w : List Tree) → Alike loose x y → Alike loose y w → Alike loose x w
+alike_through loose x y w h k = record { is = is_through loose x y w h.is k.is }
+
+alike_three : (loose : Looseness) (u v w x y z : List Tree) → Alike loose u x → Alike loose v y → Alike loose w z → Alike loose (u ++ v ++ w) (x ++ y ++ z)
+alike_three loose u v w x y z h k l = alike_both loose (u ++ v) (x ++ y) w z (alike_both loose u x v y h k) l
+
+all_kids : (ks : Trees) → with_kids ks no_trees ≡ ks
+all_kids no_trees = refl
+all_kids (tree k ks) = ap (tree k) (all_kids ks)
+
+own_label : (label : List ℕ) (ks : Trees) → flattened label (tree (node label ks) no_trees) ≡ ks
+own_label label ks = go (bytes_eq label label) ((bytes_eq-Decides label label).1 refl)
+  where
+    go : (b : Bool) → b ≡ true → (if b then with_kids ks no_trees else tree (node label ks) no_trees) ≡ ks
+    go true e = all_kids ks
+    go false e = absurd cc
+
+is_text_twice : (shape : Shape) (z : List Tree) → text_in (built shape [] z ∷ []) ≡ text_in (built shape [] (built shape [] z ∷ []) ∷ [])
+is_text_twice shape z = sym (built_text shape [] (built shape [] z ∷ []))
+
+-- what is made again of itself stays as it is
+is_twice : (loose : Looseness) (shape : Shape) (z : List Tree) → is_steady shape (inside shape loose) ≡ true → IsAlike loose (built shape [] z ∷ []) (built shape [] (built shape [] z ∷ []) ∷ [])
+is_twice tight (shaped.Node label) z e = absurd cc
+is_twice (apart other) (shaped.Node label) z e = absurd cc
+is_twice only_text (shaped.Node label) z e = is_text_twice (shaped.Node label) z
+is_twice tight shaped.Symbol z e = absurd cc
+is_twice (apart other) shaped.Symbol z e = absurd cc
+is_twice only_text shaped.Symbol z e = is_text_twice shaped.Symbol z
+is_twice loose shaped.Join z e = is_same loose (leaf (text_in z) ∷ []) (leaf (text_in z ++ []) ∷ []) (ap (λ t. leaf t ∷ []) (sym (append-nil (text_in z))))
+is_twice loose (shaped.Flat label) z e =
+    is_same loose (built (shaped.Flat label) [] z ∷ []) (built (shaped.Flat label) [] (built (shaped.Flat label) [] z ∷ []) ∷ []) (ap (λ ks. node label ks ∷ []) (sym (own_label label (flat_of label z))))
+
+-- and so it does where nothing is put to it
+alike_steady : (loose : Looseness) (shape : Shape) (z u y : List Tree) → is_steady shape (inside shape loose) ≡ true → Alike (inside shape loose) [] u → Alike (inside shape loose) [] y →
+    Alike loose (built shape [] z ∷ []) (built shape [] (built shape [] z ∷ [] ++ u ++ y) ∷ [])
+alike_steady loose shape z u y e h k =
+    let one : List Tree = built shape [] z ∷ [] in
+    alike_through loose one (built shape [] one ∷ []) (built shape [] (one ++ u ++ y) ∷ []) (record { is = is_twice loose shape z e })
+    (alike_shaped loose shape [] one (one ++ u ++ y)
+    (alike_three (inside shape loose) one [] [] one u y (alike_same (inside shape loose) one one refl) h k))
+
+-- what is made of nothing is nothing
+is_nothing : (loose : Looseness) (shape : Shape) (z : List Tree) → is_steady shape (inside shape loose) ≡ true → IsAlike (inside shape loose) [] z → IsAlike (inside shape loose) [] (built shape [] z ∷ [])
+is_nothing tight (shaped.Node label) z e h = absurd cc
+is_nothing (apart other) (shaped.Node label) z e h = absurd cc
+is_nothing only_text (shaped.Node label) z e h = h ∙ sym (built_text (shaped.Node label) [] z)
+is_nothing tight shaped.Symbol z e h = absurd cc
+is_nothing (apart other) shaped.Symbol z e h = absurd cc
+is_nothing only_text shaped.Symbol z e h = h ∙ sym (built_text shaped.Symbol [] z)
+is_nothing loose shaped.Join z e h = h ∙ sym (built_text shaped.Join [] z)
+is_nothing tight (shaped.Flat label) z e h = h ∙ sym (own_label label (flat_of label z))
+is_nothing (apart other) (shaped.Flat label) z e h = h ∙ sym (own_label label (flat_of label z))
+is_nothing only_text (shaped.Flat label) z e h = h ∙ sym (built_text (shaped.Flat label) [] z)
+
+idle_right : (loose : Looseness) (shape : Shape) (y : List Tree) (ls : List Link) → is_steady shape (inside shape loose) ≡ true → Alike (inside shape loose) [] y → AreIdle (inside shape loose) ls →
+    Alike (inside shape loose) [] (folded Right shape y ls)
+idle_right loose shape y [] e h i = h
+idle_right loose shape y (l ∷ ls) e h i =
+    let z : List Tree = folded Right shape l.1 ls in
+    let all = alike_three (inside shape loose) [] [] [] y l.0 z h i.0.0 (idle_right loose shape l.1 ls e i.0.1 i.1) in
+    record { is = is_nothing loose shape (y ++ l.0 ++ z) e all.is }
+
+idle_left : (loose : Looseness) (shape : Shape) (z : List Tree) (ls : List Link) → is_steady shape (inside shape loose) ≡ true → AreIdle (inside shape loose) ls →
+    Alike loose (built shape [] z ∷ []) (folded Left shape (built shape [] z ∷ []) ls)
+idle_left loose shape z [] e i = alike_same loose (built shape [] z ∷ []) (built shape [] z ∷ []) refl
+idle_left loose shape z (l ∷ ls) e i =
+    let more : List Tree = built shape [] z ∷ [] ++ l.0 ++ l.1 in
+    alike_through loose (built shape [] z ∷ []) (built shape [] more ∷ []) (folded Left shape (built shape [] more ∷ []) ls) (alike_steady loose shape z l.0 l.1 e i.0.0 i.0.1)
+    (idle_left loose shape more ls e i.1)
+
+-- the operand of an idle round stands for all after it
+idle_operand : (loose : Looseness) (shape : Shape) (j l : Link) (ls : List Link) → is_steady shape (inside shape loose) ≡ true → Alike (inside shape loose) j.1 l.1 → AreIdle (inside shape loose) (l ∷ ls) →
+    Alike (inside shape loose) j.1 (folded Right shape l.1 ls)
+idle_operand loose shape j l ls e q i =
+    alike_through (inside shape loose) j.1 l.1 (folded Right shape l.1 ls) q
+    (alike_through (inside shape loose) l.1 [] (folded Right shape l.1 ls) (alike_back (inside shape loose) [] l.1 i.0.1) (idle_right loose shape l.1 ls e i.0.1 i.1))
 
 -- what is folded so that it will be folded again
-folded_again : (loose : Looseness) (shape : Shape) (x w : List Tree) (js ls : List Link) → Alike (inside shape loose) x w → AreAlike (inside shape loose) js ls →
+folded_again : (loose : Looseness) (shape : Shape) (x w : List Tree) {js ls : List Link} → Alike (inside shape loose) x w → AreAlike shape (inside shape loose) js ls →
     Alike (inside shape loose) (folded Right shape x js) (folded Right shape w ls)
-folded_again loose shape x w [] [] e no_round = e
-folded_again loose shape x w [] (l ∷ ls) e h = elim h [ ]
-folded_again loose shape x w (j ∷ js) [] e h = elim h [ ]
-folded_again loose shape x w (j ∷ js) (l ∷ ls) e (one_round p q h) =
+folded_again loose shape x w e no_round = e
+folded_again loose shape x w e (one_round {j = j} {l = l} {js = js} {ls = ls} p q h) =
     let y : List Tree = folded Right shape j.1 js in
     let z : List Tree = folded Right shape l.1 ls in
-    alike_again loose shape [] (x ++ j.0 ++ y) (w ++ l.0 ++ z)
-    (alike_both (inside shape loose) (x ++ j.0) (w ++ l.0) y z (alike_both (inside shape loose) x w j.0 l.0 e p) (folded_again loose shape j.1 l.1 js ls q h))
+    alike_again loose shape [] (x ++ j.0 ++ y) (w ++ l.0 ++ z) (alike_three (inside shape loose) x j.0 y w l.0 z e p (folded_again loose shape j.1 l.1 q h))
+folded_again loose shape x w e (idle_rounds {j = j} {l = l} {ls = ls} s p q i) =
+    let z : List Tree = folded Right shape l.1 ls in
+    alike_again loose shape [] (x ++ j.0 ++ j.1) (w ++ l.0 ++ z) (alike_three (inside shape loose) x j.0 j.1 w l.0 z e p (idle_operand loose shape j l ls s q i))
+
+-- what idle rounds are folded to
+pub alike_idle : (loose : Looseness) (side : Side) (shape : Shape) (x w : List Tree) (j l : Link) (ls : List Link) → is_steady shape (inside shape loose) ≡ true → Alike (inside shape loose) x w →
+    Alike (inside shape loose) j.0 l.0 → Alike (inside shape loose) j.1 l.1 → AreIdle (inside shape loose) (l ∷ ls) → Alike loose (folded side shape x (j ∷ [])) (folded side shape w (l ∷ ls))
+alike_idle loose Left shape x w j l ls s e p q i =
+    let y : List Tree = x ++ j.0 ++ j.1 in
+    let z : List Tree = w ++ l.0 ++ l.1 in
+    alike_through loose (built shape [] y ∷ []) (built shape [] z ∷ []) (folded Left shape (built shape [] z ∷ []) ls)
+    (alike_shaped loose shape [] y z (alike_three (inside shape loose) x j.0 j.1 w l.0 l.1 e p q)) (idle_left loose shape z ls s i.1)
+alike_idle loose Right shape x w j l ls s e p q i =
+    let z : List Tree = folded Right shape l.1 ls in
+    alike_shaped loose shape [] (x ++ j.0 ++ j.1) (w ++ l.0 ++ z) (alike_three (inside shape loose) x j.0 j.1 w l.0 z e p (idle_operand loose shape j l ls s q i))
+
+folded_left : (loose : Looseness) (shape : Shape) (x w : List Tree) {js ls : List Link} → Alike (inside shape loose) x w → AreAlike shape (inside shape loose) js ls →
+    Alike loose (folded Left shape (built shape [] x ∷ []) js) (folded Left shape (built shape [] w ∷ []) ls)
+folded_left loose shape x w e no_round = alike_shaped loose shape [] x w e
+folded_left loose shape x w e (one_round {j = j} {l = l} p q h) =
+    folded_left loose shape (built shape [] x ∷ [] ++ j.0 ++ j.1) (built shape [] w ∷ [] ++ l.0 ++ l.1)
+    (alike_three (inside shape loose) (built shape [] x ∷ []) j.0 j.1 (built shape [] w ∷ []) l.0 l.1 (alike_again loose shape [] x w e) p q) h
+folded_left loose shape x w e (idle_rounds {j = j} {l = l} {ls = ls} s p q i) =
+    alike_idle loose Left shape (built shape [] x ∷ []) (built shape [] w ∷ []) j l ls s (alike_again loose shape [] x w e) p q i
 
 -- what at least one round is folded to
-pub alike_folded : (loose : Looseness) (side : Side) (shape : Shape) (x w : List Tree) (j l : Link) (js ls : List Link) → Alike (inside shape loose) x w → Alike (inside shape loose) j.0 l.0 →
-    Alike (inside shape loose) j.1 l.1 → AreAlike (inside shape loose) js ls → Alike loose (folded side shape x (j ∷ js)) (folded side shape w (l ∷ ls))
-alike_folded loose Left shape x w j l [] [] e p q no_round =
-    alike_shaped loose shape [] (x ++ j.0 ++ j.1) (w ++ l.0 ++ l.1) (alike_both (inside shape loose) (x ++ j.0) (w ++ l.0) j.1 l.1 (alike_both (inside shape loose) x w j.0 l.0 e p) q)
-alike_folded loose Left shape x w j l [] (m ∷ ls) e p q h = elim h [ ]
-alike_folded loose Left shape x w j l (k ∷ js) [] e p q h = elim h [ ]
-alike_folded loose Left shape x w j l (k ∷ js) (m ∷ ls) e p q (one_round r s h) =
-    alike_folded loose Left shape (built shape [] (x ++ j.0 ++ j.1) ∷ []) (built shape [] (w ++ l.0 ++ l.1) ∷ []) k m js ls
-    (alike_again loose shape [] (x ++ j.0 ++ j.1) (w ++ l.0 ++ l.1) (alike_both (inside shape loose) (x ++ j.0) (w ++ l.0) j.1 l.1 (alike_both (inside shape loose) x w j.0 l.0 e p) q)) r s h
-alike_folded loose Right shape x w j l js ls e p q h =
+pub alike_folded : (loose : Looseness) (side : Side) (shape : Shape) (x w : List Tree) (j l : Link) {js ls : List Link} → Alike (inside shape loose) x w → Alike (inside shape loose) j.0 l.0 →
+    Alike (inside shape loose) j.1 l.1 → AreAlike shape (inside shape loose) js ls → Alike loose (folded side shape x (j ∷ js)) (folded side shape w (l ∷ ls))
+alike_folded loose Left shape x w j l e p q h =
+    folded_left loose shape (x ++ j.0 ++ j.1) (w ++ l.0 ++ l.1) (alike_three (inside shape loose) x j.0 j.1 w l.0 l.1 e p q) h
+alike_folded loose Right shape x w j l {js} {ls} e p q h =
     let y : List Tree = folded Right shape j.1 js in
     let z : List Tree = folded Right shape l.1 ls in
-    alike_shaped loose shape [] (x ++ j.0 ++ y) (w ++ l.0 ++ z)
-    (alike_both (inside shape loose) (x ++ j.0) (w ++ l.0) y z (alike_both (inside shape loose) x w j.0 l.0 e p) (folded_again loose shape j.1 l.1 js ls q h))
+    alike_shaped loose shape [] (x ++ j.0 ++ y) (w ++ l.0 ++ z) (alike_three (inside shape loose) x j.0 y w l.0 z e p (folded_again loose shape j.1 l.1 q h))

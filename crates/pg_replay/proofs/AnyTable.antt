@@ -9,7 +9,7 @@ use Rattle.pg_value.specs.Grammar.{Grammar}
 use Rattle.pg_value.specs.declared.trail.TrailItem.{TrailItem}
 use Rattle.pg_table.specs.Tables.{Table}
 use Rattle.pg_language.specs.Derives as derives
-use Rattle.pg_language.specs.Derives.{Spot, leaf_of, left_by, made_by, Reads, Derives, DerivesForm, DerivesParts}
+use Rattle.pg_language.specs.Derives.{Spot, leaf_of, made_by, Reads, Derives, DerivesForm, DerivesParts}
 use Rattle.pg_language.proofs.Onward.{leads_on, left_still}
 use Rattle.pg_replay.proofs.Leads.{parts_onward}
 use Rattle.pg_replay.proofs.Within.{declared_within}

@@ -10,9 +10,9 @@ use Rattle.pg_language.specs.Derives.{Link, folded}
 use Rattle.pg_replay.specs.Tasks.{folded_after}
 
 -- the trees to be folded after a separator: from the right they begin with the operand
-abbrev pub trees_after : Side → ℕ → List Tree → ℕ
-trees_after Left trees forest = trees
-trees_after Right trees forest = length forest
+abbrev pub trees_after : Side → (trees later : ℕ) → ℕ
+trees_after Left trees later = trees
+trees_after Right trees later = later
 
 -- from the left an operand is folded at once
 abbrev pub folded_first : Side → Shape → ℕ → List Tree → List Tree
@@ -28,12 +28,21 @@ folded_last Right shape trees forest = folded_after shape trees forest
 abbrev pub chained : Side → Shape → ℕ → List Tree → List Link → List Tree
 chained side shape trees forest [] = forest
 chained side shape trees forest (link ∷ links) =
-    folded_last side shape trees (chained side shape (trees_after side trees (forest ++ link.0)) (folded_first side shape trees (forest ++ link.0 ++ link.1)) links)
+    folded_last side shape trees (chained side shape (trees_after side trees (length (forest ++ link.0))) (folded_first side shape trees (forest ++ link.0 ++ link.1)) links)
 
--- the same from an operand on
+-- the same after an operand
+abbrev pub chained_from : Side → Shape → (trees later : ℕ) → List Tree → List Link → List Tree
+chained_from side shape trees later forest links =
+    folded_last side shape trees (chained side shape (trees_after side trees later) (folded_first side shape trees forest) links)
+
+-- and from an operand on
 abbrev pub chained_on : Side → Shape → ℕ → List Tree → List Tree → List Link → List Tree
-chained_on side shape trees forest operand links =
-    folded_last side shape trees (chained side shape (trees_after side trees forest) (folded_first side shape trees (forest ++ operand)) links)
+chained_on side shape trees forest operand links = chained_from side shape trees (length forest) (forest ++ operand) links
+
+-- where an idle round is folded, the others are left out
+pub chained_idle : (side : Side) (shape : Shape) (trees : ℕ) (forest : List Tree) (link : Link) → chained side shape trees forest (link ∷ []) ≡ folded_after shape trees (forest ++ link.0 ++ link.1)
+chained_idle Left shape trees forest link = refl
+chained_idle Right shape trees forest link = refl
 
 -- the trees of a chain are folded after those before it
 pub folded_seam : (shape : Shape) (v w : List Tree) → folded_after shape (length v) (v ++ w) ≡ v ++ built shape [] w ∷ []

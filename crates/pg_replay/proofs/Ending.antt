@@ -32,7 +32,7 @@ use Rattle.pg_language.specs.Declarations.{Declaration, no_keyword, no_digit, no
 use Rattle.pg_language.specs.Derives.{leaf_of, declaration_tree}
 use Rattle.pg_language.proofs.DeclarationsDerived.{declaration_stands}
 use Rattle.pg_language.proofs.DeclarationsDerived.{Stands as IsStanding}
-use Rattle.pg_replay.specs.Tasks.{Looseness, Known, Chain, OnTask, node, parts, rounds, more_rounds, links, operand, settle, fold, marked, operator_symbol, application, unmark, close, leave, Setting, under_marks, loosened, State, Turn, on, with_task, next_in, satisfied, spelled, word_by, takes, stays_if, declares, declared_turn, declare_turn, leaf_turn, part_turn, choice_turn, many_turn, inside_chain, chain_turn, inside_steps, with_steps, steps_turn, operators_turn, expression_turn, operator_end, ended_turn, symbol_turn, applied_after, first_mark, marks_after, is_place, inside_form, blank_after, is_known, known_after, is_entered, rule_turn, form_turn, node_turn, rounds_turn, is_unchanged, links_turn, with_links, folded_after, closed_table, closed_forest, without_newest, next_turn}
+use Rattle.pg_replay.specs.Tasks.{Looseness, Known, Chain, RoundStart, OnTask, node, parts, rounds, more_rounds, links, operand, linked, settle, fold, marked, operator_symbol, application, unmark, close, leave, Setting, under_marks, loosened, State, Turn, on, next_in, satisfied, spelled, word_by, takes, stays_if, declares, declared_turn, declare_turn, leaf_turn, part_turn, choice_turn, many_turn, inside_chain, chain_turn, step_tasks, steps_turn, operators_turn, expression_turn, operator_end, ended_turn, symbol_turn, applied_after, first_mark, marks_after, is_place, inside_form, blank_after, is_known, known_after, is_entered, rule_turn, form_turn, node_turn, rounds_turn, is_unchanged, round_start, links_turn, with_links, is_idle, folded_after, closed_table, closed_forest, without_newest, next_turn}
 use Rattle.pg_replay.specs.Halts.{first_state}
 use Rattle.pg_replay.specs.Turns.{ComesToLast, begun, Halts}
 use Rattle.pg_replay.proofs.FreeRules.{free, fewer_free}
@@ -148,7 +148,7 @@ module _ (g : Grammar) (text : List ℕ) (preorder : InPreorder 0 g.nodes) (i : 
       (ts : List OnTask) (es : List ℕ) (u : Table) (v : List Tree) (ms : Setting) (kn : List (Option Known)) (bl : List (Option ℕ)) → ComesToLast g text (steps_turn builders p steps rest (state_at i items ts u v es ms kn bl))
   steps_end builders p None os rest e ts es u v ms kn bl = (0, refl)
   steps_end builders p (Some steps) os rest e ts es u v ms kn bl =
-      item_ends (Ops os) rest (with_steps builders p steps (state_at i rest (unmark ∷ settle ms.loose ∷ ts) u v [] ms kn bl)).tasks u v (loosened (inside_steps builders steps ms.loose) ms) kn bl e
+      item_ends (Ops os) rest (step_tasks builders p steps (ms.loose ∷ []) ++ (unmark ∷ settle ms.loose ∷ ts)) u v ms kn bl e
 
   operators_end : (item : Option OperatorsItem) (builders : OperatorBuilders) (p : ℕ) (os : List AppliedOperator) (rest : List TrailItem) → items ≡ Ops os ∷ rest →
       (ts : List OnTask) (es : List ℕ) (u : Table) (v : List Tree) (ms : Setting) (kn : List (Option Known)) (bl : List (Option ℕ)) → ComesToLast g text (operators_turn item builders p os rest (state_at i items ts u v es ms kn bl))
@@ -189,13 +189,19 @@ module _ (g : Grammar) (text : List ℕ) (preorder : InPreorder 0 g.nodes) (i : 
   fold_pass : (es : List ℕ) (used : BuilderUse) (trees : ℕ) → Passes es (fold used trees)
   fold_pass es used trees ts k u v ms kn bl = next_ends (state_at i items (fold used trees ∷ ts) u v es ms kn bl) (k u (folded_after used.shape trees v) ms kn bl)
 
-  -- the operand after a separator, and then what comes of the other links
-  after_separator : (es : List ℕ) (c : Chain) (n trees : ℕ) → Passes es (node c.part) → ((trees : ℕ) → Passes es (links c n trees)) → (side : Side) → (ts : List OnTask) → Ends es ts →
-      (u : Table) (v : List Tree) (ms : Setting) (kn : List (Option Known)) (bl : List (Option ℕ)) → ComesToLast g text (on (with_task (node c.part) (with_links side c n trees (state_at i items ts u v es ms kn bl))))
-  after_separator es c n trees pass others Left ts k u v ms kn bl =
-      pass (fold c.used trees ∷ links c n trees ∷ ts) (fold_pass es c.used trees (links c n trees ∷ ts) (others trees ts k)) u v ms kn bl
-  after_separator es c n trees pass others Right ts k u v ms kn bl =
-      pass (links c n (length v) ∷ fold c.used trees ∷ ts) (others (length v) (fold c.used trees ∷ ts) (fold_pass es c.used trees ts k)) u v ms kn bl
+  -- what comes after an operand
+  after_operand : (es : List ℕ) (c : Chain) (n trees later : ℕ) → ((trees : ℕ) → Passes es (links c n trees)) → (side : Side) → (ts : List OnTask) → Ends es ts →
+      (u : Table) (v : List Tree) (ms : Setting) (kn : List (Option Known)) (bl : List (Option ℕ)) → ComesToLast g text (on (with_links side c n trees later (state_at i items ts u v es ms kn bl)))
+  after_operand es c n trees later others Left ts k u v ms kn bl = fold_pass es c.used trees (links c n trees ∷ ts) (others trees ts k) u v ms kn bl
+  after_operand es c n trees later others Right ts k u v ms kn bl = others later (fold c.used trees ∷ ts) (fold_pass es c.used trees ts k) u v ms kn bl
+
+  linked_pass : (es : List ℕ) (c : Chain) (n trees later : ℕ) (from : RoundStart) → ((trees : ℕ) → Passes es (links c n trees)) → Passes es (linked c n trees later from)
+  linked_pass es c n trees later from others ts k u v ms kn bl = next_ends (state_at i items (linked c n trees later from ∷ ts) u v es ms kn bl)
+      (ends_if (is_idle c.used.shape from (state_at i items ts u v es ms kn bl)) _ _ (λ h. fold_pass es c.used trees ts k u v ms kn bl) (λ h. after_operand es c n trees later others c.side ts k u v ms kn bl))
+
+  operand_pass : (es : List ℕ) (c : Chain) (n trees : ℕ) (from : RoundStart) → Passes es (node c.part) → ((trees : ℕ) → Passes es (links c n trees)) → Passes es (operand c n trees from)
+  operand_pass es c n trees from pass others ts k u v ms kn bl = next_ends (state_at i items (operand c n trees from ∷ ts) u v es ms kn bl)
+      (pass (linked c n trees (length v) from ∷ ts) (linked_pass es c n trees (length v) from others ts k) u v ms kn bl)
 
   links_end : (m : ℕ) (es : List ℕ) (c : Chain) (n trees : ℕ) → n ≤ m → Passes es (node c.part) → Passes es (node c.separator) → (ts : List OnTask) → Ends es ts →
       (u : Table) (v : List Tree) (ms : Setting) (kn : List (Option Known)) (bl : List (Option ℕ)) → ComesToLast g text (links_turn c n trees (state_at i items ts u v es ms kn bl))
@@ -203,19 +209,15 @@ module _ (g : Grammar) (text : List ℕ) (preorder : InPreorder 0 g.nodes) (i : 
   links_end (suc m) es c n trees few pass next ts k u v ms kn bl = ends_if (n == 0) _ _ (λ e. k u v ms kn bl) (λ e.
       let more = positive n e in
       let less : n - 1 ≤ m = omega arith in
-      next (operand c (n - 1) trees ∷ ts)
-      (λ w x ns ln bn. next_ends (state_at i items (operand c (n - 1) trees ∷ ts) w x es ns ln bn)
-      (after_separator es c (n - 1) trees pass
+      let from : RoundStart = round_start (state_at i items ts u v es ms kn bl) in
+      next (operand c (n - 1) trees from ∷ ts)
+      (operand_pass es c (n - 1) trees from pass
       (λ later ls l y z os mn cn. next_ends (state_at i items (links c (n - 1) later ∷ ls) y z es os mn cn) (links_end m es c (n - 1) later less pass next ls l y z os mn cn))
-      c.side ts k w x ns ln bn))
+      ts k)
       u v ms kn bl)
 
   links_pass : (es : List ℕ) (c : Chain) (n trees : ℕ) → Passes es (node c.part) → Passes es (node c.separator) → Passes es (links c n trees)
   links_pass es c n trees pass next ts k u v ms kn bl = next_ends (state_at i items (links c n trees ∷ ts) u v es ms kn bl) (links_end n es c n trees (omega arith) pass next ts k u v ms kn bl)
-
-  operand_pass : (es : List ℕ) (c : Chain) (n trees : ℕ) → Passes es (node c.part) → Passes es (node c.separator) → Passes es (operand c n trees)
-  operand_pass es c n trees pass next ts k u v ms kn bl = next_ends (state_at i items (operand c n trees ∷ ts) u v es ms kn bl)
-      (after_separator es c n trees pass (λ later. links_pass es c n later pass next) c.side ts k u v ms kn bl)
 
   close_pass : (es : List ℕ) (k : Around) (p place trees operators count : ℕ) (loose : Looseness) → Passes es (close k p place trees operators count loose)
   close_pass es k p place trees operators count loose ts h u v ms kn bl = next_ends (state_at i items (close k p place trees operators count loose ∷ ts) u v es ms kn bl)
@@ -297,11 +299,12 @@ module _ (g : Grammar) (text : List ℕ) (preorder : InPreorder 0 g.nodes) (i : 
   task_ends (rounds p n) ts k es = rounds_pass es p n (node_passes es p) ts (k es)
   task_ends (more_rounds p n place trees count) ts k es = more_pass es p n place trees count (node_passes es p) ts (k es)
   task_ends (links c n trees) ts k es = links_pass es c n trees (node_passes es c.part) (node_passes es c.separator) ts (k es)
-  task_ends (operand c n trees) ts k es = operand_pass es c n trees (node_passes es c.part) (node_passes es c.separator) ts (k es)
+  task_ends (operand c n trees from) ts k es = operand_pass es c n trees from (node_passes es c.part) (λ later. links_pass es c n later (node_passes es c.part) (node_passes es c.separator)) ts (k es)
+  task_ends (linked c n trees later from) ts k es = linked_pass es c n trees later from (λ later. links_pass es c n later (node_passes es c.part) (node_passes es c.separator)) ts (k es)
   task_ends (settle loose) ts k es = λ u v ms kn bl. next_ends (state_at i items (settle loose ∷ ts) u v es ms kn bl) (k es u v (loosened loose ms) kn bl)
   task_ends (fold used trees) ts k es = fold_pass es used trees ts (k es)
   task_ends (close a p place trees operators count loose) ts k es = close_pass es a p place trees operators count loose ts (k es)
-  task_ends (marked p) ts k es = λ u v ms kn bl. next_ends (state_at i items (marked p ∷ ts) u v es ms kn bl) (node_passes es p ts (k es) u v (under_marks (length v ∷ ms.marks) ms) kn bl)
+  task_ends (marked p loose) ts k es = λ u v ms kn bl. next_ends (state_at i items (marked p loose ∷ ts) u v es ms kn bl) (node_passes es p ts (k es) u v (loosened loose (under_marks (length v ∷ ms.marks) ms)) kn bl)
   task_ends (operator_symbol o) ts k es = λ u v ms kn bl. next_ends (state_at i items (operator_symbol o ∷ ts) u v es ms kn bl) (symbol_ends g.operators o ts es (k es) u v ms kn bl)
   task_ends (application builders o) ts k es = λ u v ms kn bl. next_ends (state_at i items (application builders o ∷ ts) u v es ms kn bl)
       (k es u (applied_after builders o (first_mark (marks_after o.fixity ms.marks)) v) (under_marks (marks_after o.fixity ms.marks) ms) kn bl)

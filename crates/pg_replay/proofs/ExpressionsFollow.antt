@@ -1,14 +1,12 @@
 -- Expressions: the steps of the tree that fits lead to what the expression does.
-use Rattle.std.proofs.Common.{◌≡◌, ◌+◌, ℕ, Bool, true, false, List, [], ◌∷◌, ◌++◌, refl, sym, ap, ◌∙◌, subst, length, drop, append_assoc, if◌then◌else◌}
-use Rattle.std.specs.Prelude.{Option, None, Some, slice_get, map}
+use Rattle.std.proofs.Common.{◌≡◌, ◌+◌, ℕ, Bool, true, false, List, [], ◌∷◌, ◌++◌, refl, sym, ap, ◌∙◌, subst, length, drop, append-nil, append_assoc, if◌then◌else◌}
+use Rattle.std.specs.Prelude.{Option, None, Some, slice_get}
 use Rattle.std.specs.Str.{bytes_eq, encode_utf8_all}
-use Rattle.std.proofs.lemmas.List.{map-append}
 use Rattle.std.proofs.lemmas.Slice.Eq.{bytes_eq-Decides}
 use Rattle.std.proofs.Math.Seq.{take-append_seam, drop-append_seam}
 use Rattle.pg_tree.specs.Trees.{Tree}
 use Rattle.pg_tree.specs.Built.{built}
 use Rattle.pg_tree.specs.declared.shape.Shape.{Shape}
-use Rattle.pg_tree.specs.declared.shape.Shape.TheVariants as shaped
 use Rattle.pg_form.specs.Operators.{Operator}
 use Rattle.pg_form.specs.declared.form.Form.TheVariants as form
 use Rattle.pg_form.specs.declared.operators_item.OperatorsItem.{OperatorsItem}
@@ -27,9 +25,9 @@ use Rattle.pg_language.specs.Runs.{run_at, past_run, IsOperatorAt}
 use Rattle.pg_language.specs.Derives as derives
 use Rattle.pg_language.specs.Derives.{Spot, at, DerivesExpression, a_term as derives_term, a_prefix, a_postfix, an_infix}
 use Rattle.pg_replay.specs.Refusals as refusal
-use Rattle.pg_replay.specs.Refusals.{Stop, stop, FitsNone, still_entered, RefusesExpression}
-use Rattle.pg_replay.specs.Tasks.{OnTask, node, operator_symbol, application, unmark, settle, marked, Setting, under_marks, loosened, Looseness, tight, apart, only_text, State, as_kids, inside_applied, inside_step, inside_steps, step_task, operators_turn, steps_turn, expression_turn, ended_turn, symbol_turn, built_after}
-use Rattle.pg_replay.proofs.Alike.{Alike, IsBuilt, alike_both, alike_built, alike_one}
+use Rattle.pg_replay.specs.Refusals.{Stop, still_entered, RefusesExpression}
+use Rattle.pg_replay.specs.Tasks.{OnTask, node, operator_symbol, application, unmark, settle, marked, Setting, Looseness, State, inside, newest_waiting, others_waiting, waiting_before, waiting, step_tasks, operators_turn, steps_turn, expression_turn, ended_turn, symbol_turn, built_after}
+use Rattle.pg_replay.proofs.Alike.{Alike, alike_both, alike_shaped}
 use Rattle.pg_replay.proofs.ProperTables.{IsProper}
 use Rattle.pg_replay.proofs.Leads.{End, halted, Leads, does, refuses, does_node, does_term, does_symbol, does_application, does_unmark, does_settle, refuses_node, refuses_term, refuses_symbol, spot_of, TaskLeads, Follows, still_none, still_after_item}
 
@@ -44,91 +42,74 @@ built_joined : (shape : Shape) (characters : List ℕ) (v w x : List Tree) → b
 built_joined shape characters v w x = ap (built_after shape characters (length v)) (append_assoc v w x) ∙ built_seam shape characters v (w ++ x)
 
 module _ (g : Grammar) (text : List ℕ) (item : OperatorsItem) (there : g.operators ≡ Some item) (builders : OperatorBuilders) (p : ℕ) where
-  -- the tasks of a tree
-  abbrev tasks : Expression → List OnTask
-  tasks x = map (step_task builders p) (steps_of x)
+  -- the tasks of a tree whose trees are so loose, before others
+  abbrev tasks : Expression → Looseness → List OnTask → List OnTask
+  tasks term l ts = marked p l ∷ ts
+  tasks (prefixed o x) l ts = operator_symbol (applied fixity.Prefix o) ∷ tasks x (inside builders.prefix.shape l) (application builders (applied fixity.Prefix o) ∷ ts)
+  tasks (postfixed o x) l ts = tasks x (inside builders.postfix.shape l) (operator_symbol (applied fixity.Postfix o) ∷ application builders (applied fixity.Postfix o) ∷ ts)
+  tasks (joined o x y) l ts =
+      tasks x (inside builders.infix.shape l) (operator_symbol (applied fixity.Infix o) ∷ tasks y (inside builders.infix.shape l) (application builders (applied fixity.Infix o) ∷ ts))
 
-  then_more : (steps more : List Step) (ts : List OnTask) → map (step_task builders p) (steps ++ more) ++ ts ≡ map (step_task builders p) steps ++ (map (step_task builders p) more ++ ts)
-  then_more steps more ts =
-      ap (λ z. z ++ ts) (map-append (step_task builders p) steps more) ∙ append_assoc (map (step_task builders p) steps) (map (step_task builders p) more) ts
+  -- the steps of one operand, and then others
+  after_prefix : (o : Operator) (x : Expression) (more : List Step) → steps_of (prefixed o x) ++ more ≡ a_symbol (applied fixity.Prefix o) ∷ (steps_of x ++ an_application (applied fixity.Prefix o) ∷ more)
+  after_prefix o x more = ap (λ z. a_symbol (applied fixity.Prefix o) ∷ z) (append_assoc (steps_of x) (an_application (applied fixity.Prefix o) ∷ []) more)
 
-  -- the operator that is applied last made the tree
-  abbrev IsTreeOf : Expression → List Tree → Type 0
-  IsTreeOf term l = Unit {0}
-  IsTreeOf (prefixed o x) l = IsBuilt builders.prefix.shape (encode_utf8_all o.symbol) l
-  IsTreeOf (postfixed o x) l = IsBuilt builders.postfix.shape (encode_utf8_all o.symbol) l
-  IsTreeOf (joined o x y) l = IsBuilt builders.infix.shape (encode_utf8_all o.symbol) l
+  after_postfix : (o : Operator) (x : Expression) (more : List Step) →
+      steps_of (postfixed o x) ++ more ≡ steps_of x ++ a_symbol (applied fixity.Postfix o) ∷ an_application (applied fixity.Postfix o) ∷ more
+  after_postfix o x more = append_assoc (steps_of x) (a_symbol (applied fixity.Postfix o) ∷ an_application (applied fixity.Postfix o) ∷ []) more
 
-  derived_tree : {x : Expression} {a b : Spot} {w : List Tree} {u : List TrailItem} → DerivesExpression g text item builders p x a b w u → IsTreeOf x w
-  derived_tree (derives_term d) = tt
-  derived_tree (a_prefix {forest = w} is d) = (w, refl)
-  derived_tree (a_postfix {forest = w} d is) = (w, refl)
-  derived_tree (an_infix {left = w} {right = z} d is f) = (w ++ z, refl)
+  after_infix : (o : Operator) (x y : Expression) (more : List Step) →
+      steps_of (joined o x y) ++ more ≡ steps_of x ++ a_symbol (applied fixity.Infix o) ∷ (steps_of y ++ an_application (applied fixity.Infix o) ∷ more)
+  after_infix o x y more =
+      append_assoc (steps_of x) (a_symbol (applied fixity.Infix o) ∷ (steps_of y ++ an_application (applied fixity.Infix o) ∷ [])) more
+      ∙ ap (λ z. steps_of x ++ a_symbol (applied fixity.Infix o) ∷ z) (append_assoc (steps_of y) (an_application (applied fixity.Infix o) ∷ []) more)
 
-  -- how loose the trees of the terms are
-  abbrev inside_root : Expression → Looseness → Looseness
-  inside_root term l = l
-  inside_root (prefixed o x) l = inside_applied builders.prefix.shape l
-  inside_root (postfixed o x) l = inside_applied builders.postfix.shape l
-  inside_root (joined o x y) l = inside_applied builders.infix.shape l
+  -- the tree is the newest operand that waits behind its steps, and none of those that wait before them
+  waits : (x : Expression) (l : Looseness) (ls ends : List Looseness) (more : List Step) → waiting builders more ends ≡ l ∷ ls → waiting builders (steps_of x ++ more) ends ≡ ls
+  waits term l ls ends more e = ap others_waiting e
+  waits (prefixed o x) l ls ends more e =
+      ap (λ z. waiting builders z ends) (after_prefix o x more)
+      ∙ waits x (inside builders.prefix.shape l) ls ends (an_application (applied fixity.Prefix o) ∷ more) (ap (waiting_before builders (an_application (applied fixity.Prefix o))) e)
+  waits (postfixed o x) l ls ends more e =
+      ap (λ z. waiting builders z ends) (after_postfix o x more)
+      ∙ waits x (inside builders.postfix.shape l) ls ends (a_symbol (applied fixity.Postfix o) ∷ an_application (applied fixity.Postfix o) ∷ more)
+      (ap (waiting_before builders (an_application (applied fixity.Postfix o))) e)
+  waits (joined o x y) l ls ends more e =
+      ap (λ z. waiting builders z ends) (after_infix o x y more)
+      ∙ waits x (inside builders.infix.shape l) ls ends (a_symbol (applied fixity.Infix o) ∷ (steps_of y ++ an_application (applied fixity.Infix o) ∷ more))
+      (waits y (inside builders.infix.shape l) (inside builders.infix.shape l ∷ ls) ends (an_application (applied fixity.Infix o) ∷ more) (ap (waiting_before builders (an_application (applied fixity.Infix o))) e))
 
-  by_last : (steps : List Step) (step : Step) (l : Looseness) → inside_steps builders (steps ++ step ∷ []) l ≡ inside_step builders step l
-  by_last [] step l = refl
-  by_last (x ∷ []) step l = refl
-  by_last (x ∷ y ∷ steps) step l = by_last (y ∷ steps) step l
+  tasks_are : (x : Expression) (l : Looseness) (ls ends : List Looseness) (more : List Step) (ts : List OnTask) → waiting builders more ends ≡ l ∷ ls →
+      step_tasks builders p (steps_of x ++ more) ends ++ ts ≡ tasks x l (step_tasks builders p more ends ++ ts)
+  tasks_are term l ls ends more ts e = ap (λ ms. marked p (newest_waiting ms) ∷ (step_tasks builders p more ends ++ ts)) e
+  tasks_are (prefixed o x) l ls ends more ts e =
+      ap (λ z. step_tasks builders p z ends ++ ts) (after_prefix o x more)
+      ∙ ap (λ z. operator_symbol (applied fixity.Prefix o) ∷ z)
+      (tasks_are x (inside builders.prefix.shape l) ls ends (an_application (applied fixity.Prefix o) ∷ more) ts (ap (waiting_before builders (an_application (applied fixity.Prefix o))) e))
+  tasks_are (postfixed o x) l ls ends more ts e =
+      ap (λ z. step_tasks builders p z ends ++ ts) (after_postfix o x more)
+      ∙ tasks_are x (inside builders.postfix.shape l) ls ends (a_symbol (applied fixity.Postfix o) ∷ an_application (applied fixity.Postfix o) ∷ more) ts
+      (ap (waiting_before builders (an_application (applied fixity.Postfix o))) e)
+  tasks_are (joined o x y) l ls ends more ts e =
+      let behind : waiting builders (an_application (applied fixity.Infix o) ∷ more) ends ≡ inside builders.infix.shape l ∷ (inside builders.infix.shape l ∷ ls) =
+      ap (waiting_before builders (an_application (applied fixity.Infix o))) e in
+      ap (λ z. step_tasks builders p z ends ++ ts) (after_infix o x y more)
+      ∙ tasks_are x (inside builders.infix.shape l) ls ends (a_symbol (applied fixity.Infix o) ∷ (steps_of y ++ an_application (applied fixity.Infix o) ∷ more)) ts
+      (waits y (inside builders.infix.shape l) (inside builders.infix.shape l ∷ ls) ends (an_application (applied fixity.Infix o) ∷ more) behind)
+      ∙ ap (λ z. tasks x (inside builders.infix.shape l) (operator_symbol (applied fixity.Infix o) ∷ z))
+      (tasks_are y (inside builders.infix.shape l) (inside builders.infix.shape l ∷ ls) ends (an_application (applied fixity.Infix o) ∷ more) ts behind)
 
-  by_root : (x : Expression) (l : Looseness) → inside_steps builders (steps_of x) l ≡ inside_root x l
-  by_root term l = refl
-  by_root (prefixed o x) l = by_last (a_symbol (applied fixity.Prefix o) ∷ steps_of x) (an_application (applied fixity.Prefix o)) l
-  by_root (postfixed o x) l =
-      ap (λ steps. inside_steps builders steps l) (sym (append_assoc (steps_of x) (a_symbol (applied fixity.Postfix o) ∷ []) (an_application (applied fixity.Postfix o) ∷ [])))
-      ∙ by_last (steps_of x ++ a_symbol (applied fixity.Postfix o) ∷ []) (an_application (applied fixity.Postfix o)) l
-  by_root (joined o x y) l =
-      ap (λ steps. inside_steps builders steps l) (sym (append_assoc (steps_of x) (a_symbol (applied fixity.Infix o) ∷ steps_of y) (an_application (applied fixity.Infix o) ∷ [])))
-      ∙ by_last (steps_of x ++ (a_symbol (applied fixity.Infix o) ∷ steps_of y)) (an_application (applied fixity.Infix o)) l
+  all_tasks : (x : Expression) (l : Looseness) (ts : List OnTask) → step_tasks builders p (steps_of x) (l ∷ []) ++ ts ≡ tasks x l ts
+  all_tasks x l ts = ap (λ z. step_tasks builders p z (l ∷ []) ++ ts) (sym (append-nil (steps_of x))) ∙ tasks_are x l [] (l ∷ []) [] ts refl
 
-  -- what is made of alike terms is alike
-  alike_root : (x : Expression) (loose : Looseness) (l w : List Tree) → IsTreeOf x l → IsTreeOf x w → Alike (inside_root x loose) l w → Alike loose l w
-  alike_root term loose l w i j h = h
-  alike_root (prefixed o x) loose l w i j h = alike_one loose builders.prefix.shape (encode_utf8_all o.symbol) l w i j h
-  alike_root (postfixed o x) loose l w i j h = alike_one loose builders.postfix.shape (encode_utf8_all o.symbol) l w i j h
-  alike_root (joined o x y) loose l w i j h = alike_one loose builders.infix.shape (encode_utf8_all o.symbol) l w i j h
+  abbrev around : List ℕ → Looseness → Setting
+  around marks l = record { marks = marks; loose = l }
 
-  -- the trees of operands aren't taken apart
-  abbrev IsFirm : Expression → Looseness → Type 0
-  IsFirm term l = Unit {0}
-  IsFirm (prefixed o x) l = as_kids l ≡ l
-  IsFirm (postfixed o x) l = as_kids l ≡ l
-  IsFirm (joined o x y) l = as_kids l ≡ l
-
-  firm_operand : (x : Expression) (l : Looseness) → as_kids l ≡ l → IsFirm x l
-  firm_operand term l e = tt
-  firm_operand (prefixed o x) l e = e
-  firm_operand (postfixed o x) l e = e
-  firm_operand (joined o x y) l e = e
-
-  kids_twice : (l : Looseness) → as_kids (as_kids l) ≡ as_kids l
-  kids_twice tight = refl
-  kids_twice (apart label) = refl
-  kids_twice only_text = refl
-
-  firm_applied : (shape : Shape) (l : Looseness) → as_kids (inside_applied shape l) ≡ inside_applied shape l
-  firm_applied (shaped.Node label) l = kids_twice l
-  firm_applied shaped.Symbol l = kids_twice l
-  firm_applied shaped.Join l = refl
-  firm_applied (shaped.Flat label) l = kids_twice l
-
-  firm_root : (x : Expression) (l : Looseness) → IsFirm x (inside_root x l)
-  firm_root term l = tt
-  firm_root (prefixed o x) l = firm_applied builders.prefix.shape l
-  firm_root (postfixed o x) l = firm_applied builders.postfix.shape l
-  firm_root (joined o x y) l = firm_applied builders.infix.shape l
-
-  -- the tree is gone along up to its end, from which the other tasks lead on, or it stops
-  data Gone (x : Expression) (ts : List OnTask) (ms : Setting) (a : Spot) (v : List Tree) : List TrailItem → End → Type 0 where
-    gone : {b : Spot} {w l : List Tree} {u rest : List TrailItem} {e : End} → DerivesExpression g text item builders p x a b w u → Alike ms.loose l w → IsTreeOf x l →
-        Leads g text (under_marks (length v ∷ ms.marks) ms) ts [] b (v ++ l) rest e → Gone x ts ms a v (u ++ rest) e
-    stopped : {items : List TrailItem} {s : Stop} → RefusesExpression g text item builders p x a items s → Gone x ts ms a v items (halted s)
+  -- the tree, which is so loose, is gone along up to its end, from which the other tasks lead on, or it stops
+  data Gone (x : Expression) (loose : Looseness) (ts : List OnTask) (marks : List ℕ) (a : Spot) (v : List Tree) : List TrailItem → End → Type 0 where
+    gone : {after : Looseness} {b : Spot} {w l : List Tree} {u rest : List TrailItem} {e : End} → DerivesExpression g text item builders p x a b w u → Alike loose l w →
+        Leads g text (around (length v ∷ marks) after) ts [] b (v ++ l) rest e → Gone x loose ts marks a v (u ++ rest) e
+    stopped : {items : List TrailItem} {s : Stop} → RefusesExpression g text item builders p x a items s → Gone x loose ts marks a v items (halted s)
 
   -- the operators item is one
   same_item : (other : OperatorsItem) (o : Operator) (i j : ℕ) → g.operators ≡ Some other → IsOperatorAt g text other o.symbol i j → IsOperatorAt g text item o.symbol i j
@@ -141,96 +122,92 @@ module _ (g : Grammar) (text : List ℕ) (item : OperatorsItem) (there : g.opera
 
   -- ---- prefix operators
 
-  prefixed_gone : (o : Operator) (x : Expression) (ts : List OnTask) (ms : Setting) (a : Spot) (v : List Tree) (j : ℕ) (items : List TrailItem) (e : End) → as_kids ms.loose ≡ ms.loose → IsOperatorAt g text item o.symbol a.place j →
-      Gone x (application builders (applied fixity.Prefix o) ∷ ts) ms (at a j) v items e → Gone (prefixed o x) ts ms a v items e
-  prefixed_gone o x ts ms a v j items e firm is (stopped h) = stopped (refusal.in_prefixed is h)
-  prefixed_gone o x ts ms a v j items e firm is (gone d i is_tree (refuses h)) = elim h [ ]
-  prefixed_gone o x ts ms a v j items e firm is (gone {b = b} {w = w} {l = l} d h is_tree (does {items = rest} does_application k)) =
-      gone (a_prefix is d) (alike_built ms.loose builders.prefix.shape (encode_utf8_all o.symbol) l w firm h) (l, refl)
-      (subst (λ f. Leads g text (under_marks (length v ∷ ms.marks) ms) ts [] b f rest e) (built_seam builders.prefix.shape o.symbol v l) k)
+  prefixed_gone : (o : Operator) (x : Expression) (loose : Looseness) (ts : List OnTask) (marks : List ℕ) (a : Spot) (v : List Tree) (j : ℕ) (items : List TrailItem) (e : End) → IsOperatorAt g text item o.symbol a.place j →
+      Gone x (inside builders.prefix.shape loose) (application builders (applied fixity.Prefix o) ∷ ts) marks (at a j) v items e → Gone (prefixed o x) loose ts marks a v items e
+  prefixed_gone o x loose ts marks a v j items e is (stopped h) = stopped (refusal.in_prefixed is h)
+  prefixed_gone o x loose ts marks a v j items e is (gone d i (refuses h)) = elim h [ ]
+  prefixed_gone o x loose ts marks a v j items e is (gone {after = after} {b = b} {w = w} {l = l} d h (does {items = rest} does_application k)) =
+      gone {after = after} (a_prefix is d) (alike_shaped loose builders.prefix.shape (encode_utf8_all o.symbol) l w h)
+      (subst (λ f. Leads g text (around (length v ∷ marks) after) ts [] b f rest e) (built_seam builders.prefix.shape o.symbol v l) k)
 
-  prefix_step : (o : Operator) (x : Expression) (ts : List OnTask) (ms : Setting) (a : Spot) (v : List Tree) (items : List TrailItem) (e : End) → as_kids ms.loose ≡ ms.loose →
-      ((b : Spot) → Leads g text ms (tasks x ++ (application builders (applied fixity.Prefix o) ∷ ts)) [] b v items e → Gone x (application builders (applied fixity.Prefix o) ∷ ts) ms b v items e) →
-      Leads g text ms (operator_symbol (applied fixity.Prefix o) ∷ (tasks x ++ (application builders (applied fixity.Prefix o) ∷ ts))) [] a v items e → Gone (prefixed o x) ts ms a v items e
-  prefix_step o x ts ms a v items e firm more (refuses (refuses_symbol h)) = stopped (refusal.prefix_differs (λ j is. h item j there is))
-  prefix_step o x ts ms a v items e firm more (does (does_symbol {item = other} {j = j} is h) k) =
-      prefixed_gone o x ts ms a v j items e firm (same_item other o a.place j is h) (more (at a j) (past_symbol ms (tasks x ++ (application builders (applied fixity.Prefix o) ∷ ts)) a j v items e k))
+  prefix_step : (o : Operator) (x : Expression) (loose : Looseness) (ts more : List OnTask) (ms : Setting) (a : Spot) (v : List Tree) (items : List TrailItem) (e : End) →
+      ((b : Spot) → Leads g text ms more [] b v items e → Gone x (inside builders.prefix.shape loose) (application builders (applied fixity.Prefix o) ∷ ts) ms.marks b v items e) →
+      Leads g text ms (operator_symbol (applied fixity.Prefix o) ∷ more) [] a v items e → Gone (prefixed o x) loose ts ms.marks a v items e
+  prefix_step o x loose ts more ms a v items e on (refuses (refuses_symbol h)) = stopped (refusal.prefix_differs (λ j is. h item j there is))
+  prefix_step o x loose ts more ms a v items e on (does (does_symbol {item = other} {j = j} is h) k) =
+      prefixed_gone o x loose ts ms.marks a v j items e (same_item other o a.place j is h) (on (at a j) (past_symbol ms more a j v items e k))
 
   -- ---- postfix operators
 
-  postfixed_gone : (o : Operator) (x : Expression) (ts : List OnTask) (ms : Setting) (a : Spot) (v : List Tree) (items : List TrailItem) (e : End) → as_kids ms.loose ≡ ms.loose →
-      Gone x (operator_symbol (applied fixity.Postfix o) ∷ application builders (applied fixity.Postfix o) ∷ ts) ms a v items e → Gone (postfixed o x) ts ms a v items e
-  postfixed_gone o x ts ms a v items e firm (stopped h) = stopped (refusal.in_postfixed h)
-  postfixed_gone o x ts ms a v items e firm (gone d i is_tree (refuses (refuses_symbol h))) = stopped (refusal.postfix_differs d (λ j is. h item j there is))
-  postfixed_gone o x ts ms a v items e firm (gone d i is_tree (does (does_symbol is h) (refuses r))) = elim r [ ]
-  postfixed_gone o x ts ms a v items e firm (gone {b = b} {w = w} {l = l} d i is_tree (does (does_symbol {item = other} {j = j} is h) (does {items = rest} does_application k))) =
-      gone (a_postfix d (same_item other o b.place j is h)) (alike_built ms.loose builders.postfix.shape (encode_utf8_all o.symbol) l w firm i) (l, refl)
-      (past_symbol (under_marks (length v ∷ ms.marks) ms) ts b j (v ++ built builders.postfix.shape (encode_utf8_all o.symbol) l ∷ []) rest e
-      (subst (λ f. Leads g text (under_marks (length v ∷ ms.marks) ms) ts (still_entered b (at b j) [] []) (at b j) f rest e) (built_seam builders.postfix.shape o.symbol v l) k))
+  postfixed_gone : (o : Operator) (x : Expression) (loose : Looseness) (ts : List OnTask) (marks : List ℕ) (a : Spot) (v : List Tree) (items : List TrailItem) (e : End) →
+      Gone x (inside builders.postfix.shape loose) (operator_symbol (applied fixity.Postfix o) ∷ application builders (applied fixity.Postfix o) ∷ ts) marks a v items e → Gone (postfixed o x) loose ts marks a v items e
+  postfixed_gone o x loose ts marks a v items e (stopped h) = stopped (refusal.in_postfixed h)
+  postfixed_gone o x loose ts marks a v items e (gone d i (refuses (refuses_symbol h))) = stopped (refusal.postfix_differs d (λ j is. h item j there is))
+  postfixed_gone o x loose ts marks a v items e (gone d i (does (does_symbol is h) (refuses r))) = elim r [ ]
+  postfixed_gone o x loose ts marks a v items e (gone {after = after} {b = b} {w = w} {l = l} d i (does (does_symbol {item = other} {j = j} is h) (does {items = rest} does_application k))) =
+      gone {after = after} (a_postfix d (same_item other o b.place j is h)) (alike_shaped loose builders.postfix.shape (encode_utf8_all o.symbol) l w i)
+      (past_symbol (around (length v ∷ marks) after) ts b j (v ++ built builders.postfix.shape (encode_utf8_all o.symbol) l ∷ []) rest e
+      (subst (λ f. Leads g text (around (length v ∷ marks) after) ts (still_entered b (at b j) [] []) (at b j) f rest e) (built_seam builders.postfix.shape o.symbol v l) k))
 
   -- ---- infix operators
 
-  joined_gone : (o : Operator) (x y : Expression) (ts : List OnTask) (ms : Setting) (a b : Spot) (v w l : List Tree) (j : ℕ) (u items : List TrailItem) (e : End) → as_kids ms.loose ≡ ms.loose →
-      DerivesExpression g text item builders p x a b w u → Alike ms.loose l w → IsOperatorAt g text item o.symbol b.place j →
-      Gone y (application builders (applied fixity.Infix o) ∷ ts) (under_marks (length v ∷ ms.marks) ms) (at b j) (v ++ l) items e → Gone (joined o x y) ts ms a v (u ++ items) e
-  joined_gone o x y ts ms a b v w l j u items e firm d i is (stopped h) = stopped (refusal.in_right d is h)
-  joined_gone o x y ts ms a b v w l j u items e firm d i is (gone f m is_tree (refuses h)) = elim h [ ]
-  joined_gone o x y ts ms a b v w l j u items e firm d i is (gone {b = c} {w = z} {l = n} {u = t} f m is_tree (does {items = rest} does_application k)) =
-      subst (λ q. Gone (joined o x y) ts ms a v q e) (append_assoc u t rest)
-      (gone (an_infix d is f) (alike_built ms.loose builders.infix.shape (encode_utf8_all o.symbol) (l ++ n) (w ++ z) firm (alike_both ms.loose l w n z i m)) (l ++ n, refl)
-      (subst (λ q. Leads g text (under_marks (length v ∷ ms.marks) ms) ts [] c q rest e) (built_joined builders.infix.shape o.symbol v l n) k))
+  joined_gone : (o : Operator) (x y : Expression) (loose : Looseness) (ts : List OnTask) (marks : List ℕ) (a b : Spot) (v w l : List Tree) (j : ℕ) (u items : List TrailItem) (e : End) →
+      DerivesExpression g text item builders p x a b w u → Alike (inside builders.infix.shape loose) l w → IsOperatorAt g text item o.symbol b.place j →
+      Gone y (inside builders.infix.shape loose) (application builders (applied fixity.Infix o) ∷ ts) (length v ∷ marks) (at b j) (v ++ l) items e → Gone (joined o x y) loose ts marks a v (u ++ items) e
+  joined_gone o x y loose ts marks a b v w l j u items e d i is (stopped h) = stopped (refusal.in_right d is h)
+  joined_gone o x y loose ts marks a b v w l j u items e d i is (gone f m (refuses h)) = elim h [ ]
+  joined_gone o x y loose ts marks a b v w l j u items e d i is (gone {after = after} {b = c} {w = z} {l = n} {u = t} f m (does {items = rest} does_application k)) =
+      subst (λ q. Gone (joined o x y) loose ts marks a v q e) (append_assoc u t rest)
+      (gone {after = after} (an_infix d is f)
+      (alike_shaped loose builders.infix.shape (encode_utf8_all o.symbol) (l ++ n) (w ++ z) (alike_both (inside builders.infix.shape loose) l w n z i m))
+      (subst (λ q. Leads g text (around (length v ∷ marks) after) ts [] c q rest e) (built_joined builders.infix.shape o.symbol v l n) k))
 
-  infix_step : (o : Operator) (x y : Expression) (ts : List OnTask) (ms : Setting) (a : Spot) (v : List Tree) (items : List TrailItem) (e : End) → as_kids ms.loose ≡ ms.loose →
-      ((ns : Setting) → as_kids ns.loose ≡ ns.loose → (b : Spot) (z : List Tree) (rest : List TrailItem) → Leads g text ns (tasks y ++ (application builders (applied fixity.Infix o) ∷ ts)) [] b z rest e →
-      Gone y (application builders (applied fixity.Infix o) ∷ ts) ns b z rest e) →
-      Gone x (operator_symbol (applied fixity.Infix o) ∷ (tasks y ++ (application builders (applied fixity.Infix o) ∷ ts))) ms a v items e → Gone (joined o x y) ts ms a v items e
-  infix_step o x y ts ms a v items e firm more (stopped h) = stopped (refusal.in_left h)
-  infix_step o x y ts ms a v items e firm more (gone d i is_tree (refuses (refuses_symbol h))) = stopped (refusal.infix_differs d (λ j is. h item j there is))
-  infix_step o x y ts ms a v items e firm more (gone {b = b} {w = w} {l = l} {u = u} d i is_tree (does {items = rest} (does_symbol {item = other} {j = j} is h) k)) =
-      joined_gone o x y ts ms a b v w l j u rest e firm d i (same_item other o b.place j is h)
-      (more (under_marks (length v ∷ ms.marks) ms) firm (at b j) (v ++ l) rest (past_symbol (under_marks (length v ∷ ms.marks) ms) (tasks y ++ (application builders (applied fixity.Infix o) ∷ ts)) b j (v ++ l) rest e k))
+  infix_step : (o : Operator) (x y : Expression) (loose : Looseness) (ts more : List OnTask) (marks : List ℕ) (a : Spot) (v : List Tree) (items : List TrailItem) (e : End) →
+      ((ns : Setting) (b : Spot) (z : List Tree) (rest : List TrailItem) → Leads g text ns more [] b z rest e → Gone y (inside builders.infix.shape loose) (application builders (applied fixity.Infix o) ∷ ts) ns.marks b z rest e) →
+      Gone x (inside builders.infix.shape loose) (operator_symbol (applied fixity.Infix o) ∷ more) marks a v items e → Gone (joined o x y) loose ts marks a v items e
+  infix_step o x y loose ts more marks a v items e on (stopped h) = stopped (refusal.in_left h)
+  infix_step o x y loose ts more marks a v items e on (gone d i (refuses (refuses_symbol h))) = stopped (refusal.infix_differs d (λ j is. h item j there is))
+  infix_step o x y loose ts more marks a v items e on (gone {after = after} {b = b} {w = w} {l = l} {u = u} d i (does {items = rest} (does_symbol {item = other} {j = j} is h) k)) =
+      joined_gone o x y loose ts marks a b v w l j u rest e d i (same_item other o b.place j is h)
+      (on (around (length v ∷ marks) after) (at b j) (v ++ l) rest (past_symbol (around (length v ∷ marks) after) more b j (v ++ l) rest e k))
 
   -- ---- trees
 
-  term_gone : (ts : List OnTask) (ms : Setting) (a : Spot) (v : List Tree) (items : List TrailItem) (e : End) → Leads g text ms (marked p ∷ ts) [] a v items e → Gone term ts ms a v items e
-  term_gone ts ms a v items e (refuses (refuses_term h)) = stopped (refusal.in_term h)
-  term_gone ts ms a v items e (does {b = b} {u = u} {items = rest} (does_term {x = l} d h) k) =
-      gone (derives_term d) h tt (subst (λ o. Leads g text (under_marks (length v ∷ ms.marks) ms) ts o b (v ++ l) rest e) (still_none a b u) k)
+  term_gone : (loose : Looseness) (ts : List OnTask) (ms : Setting) (a : Spot) (v : List Tree) (items : List TrailItem) (e : End) → Leads g text ms (marked p loose ∷ ts) [] a v items e → Gone term loose ts ms.marks a v items e
+  term_gone loose ts ms a v items e (refuses (refuses_term h)) = stopped (refusal.in_term h)
+  term_gone loose ts ms a v items e (does {b = b} {u = u} {items = rest} (does_term {x = l} d h) k) =
+      gone {after = loose} (derives_term d) h (subst (λ o. Leads g text (around (length v ∷ ms.marks) loose) ts o b (v ++ l) rest e) (still_none a b u) k)
 
-  tree_gone : (x : Expression) (ts : List OnTask) (ms : Setting) (a : Spot) (v : List Tree) (items : List TrailItem) (e : End) → IsFirm x ms.loose → Leads g text ms (tasks x ++ ts) [] a v items e → Gone x ts ms a v items e
-  tree_gone term ts ms a v items e firm k = term_gone ts ms a v items e k
-  tree_gone (prefixed o x) ts ms a v items e firm k =
-      prefix_step o x ts ms a v items e firm (λ b m. tree_gone x (application builders (applied fixity.Prefix o) ∷ ts) ms b v items e (firm_operand x ms.loose firm) m)
-      (subst (λ l. Leads g text ms (operator_symbol (applied fixity.Prefix o) ∷ l) [] a v items e) (then_more (steps_of x) (an_application (applied fixity.Prefix o) ∷ []) ts) k)
-  tree_gone (postfixed o x) ts ms a v items e firm k =
-      postfixed_gone o x ts ms a v items e firm (tree_gone x (operator_symbol (applied fixity.Postfix o) ∷ application builders (applied fixity.Postfix o) ∷ ts) ms a v items e (firm_operand x ms.loose firm)
-      (subst (λ l. Leads g text ms l [] a v items e) (then_more (steps_of x) (a_symbol (applied fixity.Postfix o) ∷ (an_application (applied fixity.Postfix o) ∷ [])) ts) k))
-  tree_gone (joined o x y) ts ms a v items e firm k =
-      infix_step o x y ts ms a v items e firm (λ ns calm b z rest m. tree_gone y (application builders (applied fixity.Infix o) ∷ ts) ns b z rest e (firm_operand y ns.loose calm) m)
-      (tree_gone x (operator_symbol (applied fixity.Infix o) ∷ (tasks y ++ (application builders (applied fixity.Infix o) ∷ ts))) ms a v items e (firm_operand x ms.loose firm)
-      (subst (λ l. Leads g text ms l [] a v items e)
-      (then_more (steps_of x) (a_symbol (applied fixity.Infix o) ∷ (steps_of y ++ an_application (applied fixity.Infix o) ∷ [])) ts
-      ∙ ap (λ l. tasks x ++ (operator_symbol (applied fixity.Infix o) ∷ l)) (then_more (steps_of y) (an_application (applied fixity.Infix o) ∷ []) ts)) k))
+  tree_gone : (x : Expression) (loose : Looseness) (ts : List OnTask) (ms : Setting) (a : Spot) (v : List Tree) (items : List TrailItem) (e : End) → Leads g text ms (tasks x loose ts) [] a v items e → Gone x loose ts ms.marks a v items e
+  tree_gone term loose ts ms a v items e k = term_gone loose ts ms a v items e k
+  tree_gone (prefixed o x) loose ts ms a v items e k =
+      prefix_step o x loose ts (tasks x (inside builders.prefix.shape loose) (application builders (applied fixity.Prefix o) ∷ ts)) ms a v items e
+      (λ b m. tree_gone x (inside builders.prefix.shape loose) (application builders (applied fixity.Prefix o) ∷ ts) ms b v items e m) k
+  tree_gone (postfixed o x) loose ts ms a v items e k =
+      postfixed_gone o x loose ts ms.marks a v items e
+      (tree_gone x (inside builders.postfix.shape loose) (operator_symbol (applied fixity.Postfix o) ∷ application builders (applied fixity.Postfix o) ∷ ts) ms a v items e k)
+  tree_gone (joined o x y) loose ts ms a v items e k =
+      infix_step o x y loose ts (tasks y (inside builders.infix.shape loose) (application builders (applied fixity.Infix o) ∷ ts)) ms.marks a v items e
+      (λ ns b z rest m. tree_gone y (inside builders.infix.shape loose) (application builders (applied fixity.Infix o) ∷ ts) ns b z rest e m)
+      (tree_gone x (inside builders.infix.shape loose) (operator_symbol (applied fixity.Infix o) ∷ tasks y (inside builders.infix.shape loose) (application builders (applied fixity.Infix o) ∷ ts)) ms a v items e k)
 
   -- ---- expressions
 
   whole_gone : (q : ℕ) (x : Expression) (ts : List OnTask) (ms : Setting) (entered : List ℕ) (a : Spot) (v : List Tree) (items : List TrailItem) (e : End) → slice_get g.nodes q ≡ Some (form.Expression builders p) →
-      IsFitting a.table.operators x → Gone x (unmark ∷ settle ms.loose ∷ ts) (loosened (inside_steps builders (steps_of x) ms.loose) ms) a v items e → Leads g text ms (node q ∷ ts) entered a v (Ops (operators_read x) ∷ items) e
+      IsFitting a.table.operators x → Gone x ms.loose (unmark ∷ settle ms.loose ∷ ts) ms.marks a v items e → Leads g text ms (node q ∷ ts) entered a v (Ops (operators_read x) ∷ items) e
   whole_gone q x ts ms entered a v items e is fit (stopped h) = refuses (refuses_node (refusal.at_node is (refusal.expression there fit h)))
-  whole_gone q x ts ms entered a v items e is fit (gone d i is_tree (refuses h)) = elim h [ ]
-  whole_gone q x ts ms entered a v items e is fit (gone d i is_tree (does does_unmark (refuses h))) = elim h [ ]
-  whole_gone q x ts ms entered a v items e is fit (gone {b = b} {w = w} {l = l} {u = u} d h is_tree (does does_unmark (does {items = rest} does_settle k))) =
-      does (does_node (derives.at_node is (derives.expression there fit d))
-      (alike_root x ms.loose l w is_tree (derived_tree d) (subst (λ j. Alike j l w) (by_root x ms.loose) h)))
+  whole_gone q x ts ms entered a v items e is fit (gone d i (refuses h)) = elim h [ ]
+  whole_gone q x ts ms entered a v items e is fit (gone d i (does does_unmark (refuses h))) = elim h [ ]
+  whole_gone q x ts ms entered a v items e is fit (gone {b = b} {w = w} {l = l} {u = u} d h (does does_unmark (does {items = rest} does_settle k))) =
+      does (does_node (derives.at_node is (derives.expression there fit d)) h)
       (subst (λ o. Leads g text ms ts o b (v ++ l) rest e) (sym (still_after_item a b (Ops (operators_read x)) u entered)) k)
 
   pub expression_leads : (q : ℕ) (x : Expression) (ts : List OnTask) (ms : Setting) (entered : List ℕ) (a : Spot) (v : List Tree) (items : List TrailItem) (e : End) →
       slice_get g.nodes q ≡ Some (form.Expression builders p) → IsFitting a.table.operators x →
-      Leads g text (loosened (inside_steps builders (steps_of x) ms.loose) ms) (map (step_task builders p) (steps_of x) ++ (unmark ∷ settle ms.loose ∷ ts)) [] a v items e →
-      Leads g text ms (node q ∷ ts) entered a v (Ops (operators_read x) ∷ items) e
+      Leads g text ms (step_tasks builders p (steps_of x) (ms.loose ∷ []) ++ (unmark ∷ settle ms.loose ∷ ts)) [] a v items e → Leads g text ms (node q ∷ ts) entered a v (Ops (operators_read x) ∷ items) e
   expression_leads q x ts ms entered a v items e is fit k = whole_gone q x ts ms entered a v items e is fit
-      (tree_gone x (unmark ∷ settle ms.loose ∷ ts) (loosened (inside_steps builders (steps_of x) ms.loose) ms) a v items e
-      (subst (IsFirm x) (sym (by_root x ms.loose)) (firm_root x ms.loose)) k)
+      (tree_gone x ms.loose (unmark ∷ settle ms.loose ∷ ts) ms a v items e
+      (subst (λ l. Leads g text ms l [] a v items e) (all_tasks x ms.loose (unmark ∷ settle ms.loose ∷ ts)) k))
 
 -- ---- what the next item isn't
 
@@ -252,7 +229,7 @@ module _ (g : Grammar) (text : List ℕ) (builders : OperatorBuilders) (q p : �
       let same : Ops (operators_read h.tree) ∷ rest ≡ s.rest = ap (λ r. Ops r ∷ rest) h.is_read ∙ sym e in
       subst (λ items. TaskLeads g text (node q) (let t : State = record s { rest = items } in t) end) same
       (expression_leads g text item there builders p q h.tree s.tasks s.setting s.entered (spot_of s) s.forest rest end is h.fits
-      (subst (λ l. Leads g text (loosened (inside_steps builders l s.setting.loose) s.setting) (map (step_task builders p) l ++ (unmark ∷ settle s.setting.loose ∷ s.tasks)) [] (spot_of s) s.forest rest end)
+      (subst (λ l. Leads g text s.setting (step_tasks builders p l (s.setting.loose ∷ []) ++ (unmark ∷ settle s.setting.loose ∷ s.tasks)) [] (spot_of s) s.forest rest end)
       (sym h.is_done) k))
 
   operators_follow : (s : State) (item : Option OperatorsItem) (read : List AppliedOperator) (rest : List TrailItem) → slice_get g.nodes q ≡ Some (form.Expression builders p) →

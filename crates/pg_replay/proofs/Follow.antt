@@ -1,5 +1,5 @@
 -- Each task leads to what comes of its turn.
-use Rattle.std.proofs.Common.{◌≡◌, ◌==◌, ◌≤◌, ◌-◌, ◌&&◌, ℕ, zero, suc, Bool, true, false, List, [], ◌∷◌, ◌++◌, refl, sym, ap, ◌∙◌, subst, eqb-true, eq-eqb, arith, if◌then◌else◌, take, drop, length, append-nil, append_assoc, length-append}
+use Rattle.std.proofs.Common.{◌≡◌, ◌==◌, ◌≤◌, ◌-◌, ℕ, zero, suc, Bool, true, false, List, [], ◌∷◌, ◌++◌, refl, sym, ap, ◌∙◌, subst, eqb-true, eq-eqb, arith, if◌then◌else◌, take, drop, length, append-nil, append_assoc}
 use Rattle.std.specs.Prelude.{Option, Some, None, slice_get, ◌||◌}
 use Rattle.pg_tree.specs.Trees.{Tree}
 use Rattle.pg_form.specs.Forms.{Node}
@@ -15,22 +15,23 @@ use Rattle.pg_value.specs.declared.trail.TrailItem.TheVariants.{Alt, Rounds, Ops
 use Rattle.pg_table.specs.Tables.{Table, admit_fault, with_operator, whole, added_unless, added_from, first_operators}
 use Rattle.pg_table.specs.declared.fault.AdmitFault.{AdmitFault}
 use Rattle.pg_language.specs.Derives as derives
-use Rattle.pg_language.specs.Derives.{Spot, leaf_of, Derives, DerivesParts, DerivesRounds, made_by, table_by, left_by}
+use Rattle.pg_language.specs.Derives.{Spot, leaf_of, Derives, DerivesRounds, table_by, left_by}
 use Rattle.std.proofs.lemmas.Slice.Eq.{bytes_eq-Decides}
 use Rattle.std.proofs.Math.Seq.{take-append_seam, drop-append_seam}
 use Rattle.pg_language.specs.Onward.{LeadsOn}
 use Rattle.pg_language.proofs.Onward.{leads_on}
 use Rattle.pg_replay.specs.Refusals as refusal
-use Rattle.pg_replay.specs.Refusals.{still_entered, if_no_item, IsEntered, ChoosesNone, CountsNone}
-use Rattle.pg_replay.specs.Tasks.{Looseness, tight, apart, only_text, Known, OnTask, node, parts, rounds, more_rounds, links, operand, settle, fold, marked, operator_symbol, application, unmark, close, leave, Setting, under_marks, loosened, State, Turn, on, stops, ended, part_turn, numbered_turn, choice_turn, many_turn, is_place, is_known_at, is_known, covers, inside_form, is_text, given_by, is_still, is_entered, rule_turn, around_turn, form_turn, node_turn, parts_turn, rounds_turn, is_unchanged, more_turn, closed_table, closed_forest, without_newest, turn}
+use Rattle.pg_replay.specs.Refusals.{still_entered, if_no_item, IsEntered, ChoosesNone}
+use Rattle.pg_replay.specs.Tasks.{Looseness, tight, apart, only_text, Known, OnTask, node, parts, rounds, more_rounds, links, operand, linked, settle, fold, marked, operator_symbol, application, unmark, close, leave, Setting, under_marks, loosened, State, Turn, on, stops, ended, part_turn, numbered_turn, choice_turn, many_turn, is_place, is_known_at, is_known, covers, inside_form, is_text, given_by, is_still, is_entered, rule_turn, around_turn, form_turn, node_turn, parts_turn, rounds_turn, is_unchanged, more_turn, closed_table, closed_forest, without_newest, turn}
 use Rattle.pg_replay.proofs.Alike.{text_in, IsAlike, Alike, is_same, alike_same, alike_both, alike_given}
 use Rattle.pg_replay.proofs.Known.{AreKnown, AreBlank, IsSo}
 use Rattle.pg_replay.proofs.NoText.{no_text}
 use Rattle.pg_replay.proofs.Items.{positive, no_count_at_end, no_count_for_choice, no_count_for_operators}
 use Rattle.pg_replay.proofs.LeavesFollow.{leaf_follows}
+use Rattle.pg_replay.proofs.LeftOut.{no_item_more, left_out, both, as_many}
 use Rattle.pg_replay.proofs.ProperTables.{IsProper}
 use Rattle.pg_replay.proofs.ExpressionsFollow.{expression_follows, symbol_follows}
-use Rattle.pg_replay.proofs.ChainsFollow.{chain_follows, links_follow, operand_follows}
+use Rattle.pg_replay.proofs.ChainsFollow.{chain_follows, links_follow, operand_follows, linked_follows}
 use Rattle.pg_replay.proofs.Leads.{End, entered_after, Does, Leads, AsMany, does, refuses, does_node, does_parts, does_rounds, does_more, over, does_settle, does_fold, does_term, does_application, does_unmark, does_close, does_leave, refuses_node, refuses_parts, refuses_rounds, refuses_more, refuses_term, spot_of, StateLeads, TaskLeads, Follows, follows_if, still_here, still_none, still_after_item, still_twice, parts_onward, rounds_onward}
 
 abbrev spot_at : ℕ → Table → Spot
@@ -75,20 +76,6 @@ module _ (g : Grammar) (text : List ℕ) where
   nothing_again l p (suc n) a w d =
       let more = nothing_again l p n a w d in (w ++ more.0, (derives.first_round d more.1.0, (λ h. alike_both l [] w [] more.0 h (more.1.1 h))))
 
-  pub no_tree_more : (v w : List Tree) → length v ≡ length (v ++ w) → w ≡ []
-  no_tree_more v [] e = refl
-  no_tree_more v (t ∷ w) e = let more = length-append v (t ∷ w) in absurd (omega arith)
-
-  pub no_item_more : (x rest : List TrailItem) → length (x ++ rest) ≡ length rest → x ≡ []
-  no_item_more [] rest e = refl
-  no_item_more (i ∷ x) rest e = let more = length-append (i ∷ x) rest in absurd (omega arith)
-
-  -- the first of them gave nothing that can't be left out
-  left_out : (l : Looseness) (v x w : List Tree) → Alike l x w → AsMany l (length v) (length (v ++ x)) → text_in w ≡ [] → Alike l [] w
-  left_out tight v x w h many none = subst (λ y. Alike tight y w) (no_tree_more v x many) h
-  left_out (apart label) v x w h many none = subst (λ y. Alike (apart label) y w) (no_tree_more v x many) h
-  left_out only_text v x w h many none = record { is = sym none }
-
   -- a round that took nothing and gave nothing that can't be left out, and the others at once
   round_over : (ms : Setting) (p n : ℕ) (ts : List OnTask) (entered : List ℕ) (a b : Spot) (v j w : List Tree) (x rest : List TrailItem) (e : End) → Derives g text p a b w x → Alike ms.loose j w →
       a.place ≡ b.place → AsMany ms.loose (length v) (length (v ++ j)) → x ≡ [] → Leads g text ms ts (still_entered a b x entered) b (v ++ j) rest e → Leads g text ms (rounds p (suc n) ∷ ts) entered a v (x ++ rest) e
@@ -126,19 +113,6 @@ module _ (g : Grammar) (text : List ℕ) where
   more_by p n place trees count s (on after) h = λ e k. as_more p n place trees count s.tasks s.setting s.entered (spot_of s) s.forest s.rest e (h e k)
   more_by p n place trees count s (stops why at rest) h = as_more p n place trees count s.tasks s.setting s.entered (spot_of s) s.forest s.rest _ h
   more_by p n place trees count s (ended after) h = h
-
-  both : (b c : Bool) → b && c ≡ true → (b ≡ true) × (c ≡ true)
-  both true c e = (refl, e)
-  both false c e = absurd cc
-
-  count_same : (trees count : ℕ) (b : Bool) → (trees == count) ≡ b → b || false ≡ true → trees ≡ count
-  count_same trees count true f e = eqb-true trees count f
-  count_same trees count false f e = absurd cc
-
-  as_many : (loose : Looseness) (trees count : ℕ) → (trees == count) || is_text loose ≡ true → AsMany loose trees count
-  as_many tight trees count e = count_same trees count (trees == count) refl e
-  as_many (apart label) trees count e = count_same trees count (trees == count) refl e
-  as_many only_text trees count e = tt
 
   pub more_follow : (p n place trees count : ℕ) (s : State) → Follows g text (more_rounds p n place trees count) s (more_turn p n place trees count s)
   more_follow p n place trees count s = follows_if g text (more_rounds p n place trees count) s (is_unchanged place trees count s) _ _
@@ -372,10 +346,10 @@ module _ (g : Grammar) (text : List ℕ) where
   node_follows p (Some n) s is proper known = form_follows p n s is proper known
 
   -- a term of an expression
-  term_more : (p : ℕ) (ts : List OnTask) (ms : Setting) (entered : List ℕ) (a : Spot) (v : List Tree) (items : List TrailItem) (e : End) →
-      Leads g text (under_marks (length v ∷ ms.marks) ms) (node p ∷ ts) entered a v items e → Leads g text ms (marked p ∷ ts) entered a v items e
-  term_more p ts ms entered a v items e (refuses (refuses_node h)) = refuses (refuses_term h)
-  term_more p ts ms entered a v items e (does (does_node d h) k) = does (does_term d h) k
+  term_more : (p : ℕ) (loose : Looseness) (ts : List OnTask) (ms : Setting) (entered : List ℕ) (a : Spot) (v : List Tree) (items : List TrailItem) (e : End) →
+      Leads g text (loosened loose (under_marks (length v ∷ ms.marks) ms)) (node p ∷ ts) entered a v items e → Leads g text ms (marked p loose ∷ ts) entered a v items e
+  term_more p loose ts ms entered a v items e (refuses (refuses_node h)) = refuses (refuses_term h)
+  term_more p loose ts ms entered a v items e (does (does_node d h) k) = does (does_term d h) k
 
   pub task_follows : (t : OnTask) (s : State) → IsProper s.table → IsSo g text s.known s.blank → Follows g text t s (turn g text t s)
   task_follows (node p) s proper known = node_follows p (slice_get g.nodes p) s refl proper known
@@ -383,11 +357,12 @@ module _ (g : Grammar) (text : List ℕ) where
   task_follows (rounds p n) s proper known = rounds_follow p n s
   task_follows (more_rounds p n place trees count) s proper known = more_follow p n place trees count s
   task_follows (links c n trees) s proper known = links_follow g text c n trees s
-  task_follows (operand c n trees) s proper known = operand_follows g text c n trees s
+  task_follows (operand c n trees from) s proper known = operand_follows g text c n trees from s
+  task_follows (linked c n trees later from) s proper known = linked_follows g text c n trees later from s
   task_follows (settle loose) s proper known = λ e h. does does_settle h
   task_follows (fold used trees) s proper known = λ e h. does does_fold h
   task_follows (close k p from trees operators count loose) s proper known = λ e h. does does_close h
-  task_follows (marked p) s proper known = λ e k. term_more p s.tasks s.setting s.entered (spot_of s) s.forest s.rest e k
+  task_follows (marked p loose) s proper known = λ e k. term_more p loose s.tasks s.setting s.entered (spot_of s) s.forest s.rest e k
   task_follows (operator_symbol o) s proper known = symbol_follows g text o s
   task_follows (application builders o) s proper known = λ e h. does does_application h
   task_follows unmark s proper known = λ e h. does does_unmark h

@@ -1,6 +1,7 @@
 -- What doing tasks one after another leads to: each derives a stretch and takes its items, or refuses.
 use Rattle.std.proofs.Common.{◌≡◌, ◌==◌, ◌≤◌, ℕ, Bool, true, false, List, [], ◌∷◌, ◌++◌, length, refl, sym, ◌∙◌, eq-eqb, eqb-true, arith, if◌then◌else◌}
 use Rattle.pg_tree.specs.Trees.{Tree}
+use Rattle.pg_tree.specs.declared.shape.Shape.{Shape}
 use Rattle.pg_value.specs.Grammar.{Grammar}
 use Rattle.pg_value.specs.declared.trail.TrailItem.{TrailItem}
 use Rattle.pg_form.specs.declared.form.Around.{Around}
@@ -14,8 +15,8 @@ use Rattle.pg_replay.specs.declared.fault.Mismatch.TheVariants.{TextDiffers}
 use Rattle.pg_language.specs.Derives.{Spot, at, Link, Derives, DerivesParts, DerivesRounds, DerivesLinks, no_part, first_part, no_round, first_round, no_link, first_link}
 use Rattle.pg_language.proofs.Onward.{leads_on}
 use Rattle.pg_replay.specs.Refusals.{Stop, stop, if_no_item, still_entered, Refuses, RefusesParts, RefusesRounds, RefusesLinks}
-use Rattle.pg_replay.specs.Tasks.{Looseness, tight, apart, only_text, Chain, OnTask, node, parts, rounds, more_rounds, links, operand, settle, fold, marked, operator_symbol, application, unmark, close, leave, Setting, under_marks, loosened, State, Turn, on, stops, ended, folded_after, first_mark, marks_after, applied_after, closed_table, closed_forest, without_newest}
-use Rattle.pg_replay.proofs.ChainTrees.{chained, chained_on}
+use Rattle.pg_replay.specs.Tasks.{Looseness, tight, apart, only_text, Chain, RoundStart, OnTask, node, parts, rounds, more_rounds, links, operand, linked, settle, fold, marked, operator_symbol, application, unmark, close, leave, Setting, under_marks, loosened, State, Turn, on, stops, ended, is_steady, folded_after, first_mark, marks_after, applied_after, closed_table, closed_forest, without_newest}
+use Rattle.pg_replay.proofs.ChainTrees.{chained, chained_from, chained_on}
 use Rattle.pg_replay.proofs.Alike.{Alike, AreAlike}
 
 -- it comes to the end of the tasks at a spot, with a forest whose trees are so loose, and with items left, or stops
@@ -31,17 +32,19 @@ pub data Does (g : Grammar) (text : List ℕ) : Setting → Setting → OnTask �
       Does g text ms ms (rounds p n) a v b (v ++ x) u
   does_more : {ms : Setting} {p n place trees count : ℕ} {a b : Spot} {v w x : List Tree} {u : List TrailItem} → DerivesRounds g text p n a b w u → Alike ms.loose x w →
       Does g text ms ms (more_rounds p n place trees count) a v b (v ++ x) u
-  does_links : {ms : Setting} {c : Chain} {n trees : ℕ} {a b : Spot} {v : List Tree} {js ls : List Link} {u : List TrailItem} → DerivesLinks g text c.part c.separator n a b ls u → AreAlike ms.loose js ls →
+  does_links : {ms : Setting} {c : Chain} {n trees : ℕ} {a b : Spot} {v : List Tree} {js ls : List Link} {u : List TrailItem} → DerivesLinks g text c.part c.separator n a b ls u → AreAlike c.used.shape ms.loose js ls →
       Does g text ms ms (links c n trees) a v b (chained c.side c.used.shape trees v js) u
-  does_operand : {ms : Setting} {c : Chain} {n trees : ℕ} {a b d : Spot} {v w x : List Tree} {js ls : List Link} {t u : List TrailItem} → Derives g text c.part a b w t → Alike ms.loose x w →
-      DerivesLinks g text c.part c.separator n b d ls u → AreAlike ms.loose js ls → Does g text ms ms (operand c n trees) a v d (chained_on c.side c.used.shape trees v x js) (t ++ u)
+  does_operand : {ms : Setting} {c : Chain} {n trees : ℕ} {from : RoundStart} {a b d : Spot} {v w x : List Tree} {js ls : List Link} {t u : List TrailItem} → Derives g text c.part a b w t → Alike ms.loose x w →
+      DerivesLinks g text c.part c.separator n b d ls u → AreAlike c.used.shape ms.loose js ls → Does g text ms ms (operand c n trees from) a v d (chained_on c.side c.used.shape trees v x js) (t ++ u)
+  does_linked : {ms : Setting} {c : Chain} {n trees later : ℕ} {from : RoundStart} {a b : Spot} {v : List Tree} {js ls : List Link} {u : List TrailItem} →
+      DerivesLinks g text c.part c.separator n a b ls u → AreAlike c.used.shape ms.loose js ls → Does g text ms ms (linked c n trees later from) a v b (chained_from c.side c.used.shape trees later v js) u
   does_settle : {ms : Setting} {loose : Looseness} {a : Spot} {v : List Tree} → Does g text ms (loosened loose ms) (settle loose) a v a v []
   does_fold : {ms : Setting} {used : BuilderUse} {trees : ℕ} {a : Spot} {v : List Tree} → Does g text ms ms (fold used trees) a v a (folded_after used.shape trees v) []
   does_close : {ms : Setting} {k : Around} {p from trees operators count : ℕ} {loose : Looseness} {a : Spot} {v : List Tree} →
       Does g text ms (loosened loose ms) (close k p from trees operators count loose) a v (record { place = a.place; table = closed_table k operators a.table }) (closed_forest k loose text from a.place trees v) []
   does_leave : {ms : Setting} {r place trees count : ℕ} {a : Spot} {v : List Tree} → Does g text ms ms (leave r place trees count) a v a v []
-  does_term : {ms : Setting} {p : ℕ} {a b : Spot} {v w x : List Tree} {u : List TrailItem} → Derives g text p a b w u → Alike ms.loose x w →
-      Does g text ms (under_marks (length v ∷ ms.marks) ms) (marked p) a v b (v ++ x) u
+  does_term : {ms : Setting} {p : ℕ} {loose : Looseness} {a b : Spot} {v w x : List Tree} {u : List TrailItem} → Derives g text p a b w u → Alike loose x w →
+      Does g text ms (loosened loose (under_marks (length v ∷ ms.marks) ms)) (marked p loose) a v b (v ++ x) u
   does_symbol : {ms : Setting} {item : OperatorsItem} {o : AppliedOperator} {a : Spot} {v : List Tree} {j : ℕ} → g.operators ≡ Some item → IsOperatorAt g text item o.symbol a.place j →
       Does g text ms ms (operator_symbol o) a v (at a j) v []
   does_application : {ms : Setting} {builders : OperatorBuilders} {o : AppliedOperator} {a : Spot} {v : List Tree} →
@@ -57,11 +60,13 @@ pub data RefusesTask (g : Grammar) (text : List ℕ) : List ℕ → OnTask → S
       RefusesTask g text entered (more_rounds p n place trees count) a items s
   refuses_links : {entered : List ℕ} {c : Chain} {n trees : ℕ} {a : Spot} {items : List TrailItem} {s : Stop} → RefusesLinks g text entered c.part c.separator n a items s →
       RefusesTask g text entered (links c n trees) a items s
-  refuses_operand : {entered : List ℕ} {c : Chain} {n trees : ℕ} {a : Spot} {items : List TrailItem} {s : Stop} → Refuses g text entered c.part a items s →
-      RefusesTask g text entered (operand c n trees) a items s
-  refuses_after_operand : {entered : List ℕ} {c : Chain} {n trees : ℕ} {a b : Spot} {w : List Tree} {t items : List TrailItem} {s : Stop} → Derives g text c.part a b w t →
-      RefusesLinks g text (still_entered a b t entered) c.part c.separator n b items s → RefusesTask g text entered (operand c n trees) a (t ++ items) s
-  refuses_term : {entered : List ℕ} {p : ℕ} {a : Spot} {items : List TrailItem} {s : Stop} → Refuses g text entered p a items s → RefusesTask g text entered (marked p) a items s
+  refuses_operand : {entered : List ℕ} {c : Chain} {n trees : ℕ} {from : RoundStart} {a : Spot} {items : List TrailItem} {s : Stop} → Refuses g text entered c.part a items s →
+      RefusesTask g text entered (operand c n trees from) a items s
+  refuses_after_operand : {entered : List ℕ} {c : Chain} {n trees : ℕ} {from : RoundStart} {a b : Spot} {w : List Tree} {t items : List TrailItem} {s : Stop} → Derives g text c.part a b w t →
+      RefusesLinks g text (still_entered a b t entered) c.part c.separator n b items s → RefusesTask g text entered (operand c n trees from) a (t ++ items) s
+  refuses_linked : {entered : List ℕ} {c : Chain} {n trees later : ℕ} {from : RoundStart} {a : Spot} {items : List TrailItem} {s : Stop} → RefusesLinks g text entered c.part c.separator n a items s →
+      RefusesTask g text entered (linked c n trees later from) a items s
+  refuses_term : {entered : List ℕ} {p : ℕ} {loose : Looseness} {a : Spot} {items : List TrailItem} {s : Stop} → Refuses g text entered p a items s → RefusesTask g text entered (marked p loose) a items s
   refuses_symbol : {entered : List ℕ} {o : AppliedOperator} {a : Spot} {items : List TrailItem} →
       ((item : OperatorsItem) (j : ℕ) → g.operators ≡ Some item → IsOperatorAt g text item o.symbol a.place j → ⊥) → RefusesTask g text entered (operator_symbol o) a items (stop TextDiffers a items)
 
@@ -72,11 +77,12 @@ entered_after (parts ps) a b u entered = still_entered a b u entered
 entered_after (rounds p n) a b u entered = still_entered a b u entered
 entered_after (more_rounds p n place trees count) a b u entered = still_entered a b u entered
 entered_after (links c n trees) a b u entered = still_entered a b u entered
-entered_after (operand c n trees) a b u entered = still_entered a b u entered
+entered_after (operand c n trees from) a b u entered = still_entered a b u entered
+entered_after (linked c n trees later from) a b u entered = still_entered a b u entered
 entered_after (settle loose) a b u entered = entered
 entered_after (fold used trees) a b u entered = entered
 entered_after (close k p from trees operators count loose) a b u entered = entered
-entered_after (marked p) a b u entered = still_entered a b u entered
+entered_after (marked p loose) a b u entered = still_entered a b u entered
 entered_after (operator_symbol o) a b u entered = still_entered a b u entered
 entered_after (application builders o) a b u entered = entered
 entered_after unmark a b u entered = entered
@@ -88,6 +94,13 @@ AsMany tight trees count = trees ≡ count
 AsMany (apart label) trees count = trees ≡ count
 AsMany only_text trees count = Unit {0}
 
+-- a round that began there took nothing and gave nothing that can't be left out, and what the chain makes stays as it is
+pub record IsIdle (loose : Looseness) (shape : Shape) (from : RoundStart) (a : Spot) (v : List Tree) (items : List TrailItem) : Type 0 where
+  pub steady : is_steady shape loose ≡ true
+  pub place : from.place ≡ a.place
+  pub many : AsMany loose from.trees (length v)
+  pub counted : from.items ≡ length items
+
 -- the tasks lead to this end
 pub data Leads (g : Grammar) (text : List ℕ) : Setting → List OnTask → List ℕ → Spot → List Tree → List TrailItem → End → Type 0 where
   no_task : {ms : Setting} {entered : List ℕ} {a : Spot} {v : List Tree} {items : List TrailItem} → Leads g text ms [] entered a v items (arrived ms.loose a v items)
@@ -98,6 +111,12 @@ pub data Leads (g : Grammar) (text : List ℕ) : Setting → List OnTask → Lis
   -- the rounds left take nothing, and give nothing that can't be left out, as the one before them did
   over : {ms : Setting} {p n place trees count : ℕ} {ts : List OnTask} {entered : List ℕ} {a : Spot} {v : List Tree} {items : List TrailItem} {e : End} → place ≡ a.place → AsMany ms.loose trees (length v) →
       count ≡ length items → Leads g text ms ts entered a v items e → Leads g text ms (more_rounds p n place trees count ∷ ts) entered a v items e
+  -- so they do in a chain, where what it makes stays as it is
+  idle : {ms : Setting} {c : Chain} {n trees later : ℕ} {from : RoundStart} {ts : List OnTask} {entered : List ℕ} {a : Spot} {v : List Tree} {items : List TrailItem} {e : End} →
+      IsIdle ms.loose c.used.shape from a v items → Leads g text ms ts entered a (folded_after c.used.shape trees v) items e → Leads g text ms (linked c n trees later from ∷ ts) entered a v items e
+  idle_after : {ms : Setting} {c : Chain} {n trees : ℕ} {from : RoundStart} {ts : List OnTask} {entered : List ℕ} {a b : Spot} {v w x : List Tree} {t items : List TrailItem} {e : End} →
+      Derives g text c.part a b w t → Alike ms.loose x w → IsIdle ms.loose c.used.shape from b (v ++ x) items →
+      Leads g text ms ts (still_entered a b t entered) b (folded_after c.used.shape trees (v ++ x)) items e → Leads g text ms (operand c n trees from ∷ ts) entered a v (t ++ items) e
 
 abbrev pub spot_of : State → Spot
 spot_of s = record { place = s.place; table = s.table }

@@ -19,13 +19,13 @@ use Rattle.pg_table.specs.declared.fault.AdmitFault.{AdmitFault}
 use Rattle.pg_language.specs.Runs.{run_at, stands_at, HasAt, IsDeclarationAt}
 use Rattle.pg_language.specs.Declarations.{Declaration, no_keyword, no_digit, no_symbol, declared, declaration_at}
 use Rattle.pg_language.specs.Derives as derives
-use Rattle.pg_language.specs.Derives.{Spot, after, leaf_of, declaration_tree, Reads, Derives}
+use Rattle.pg_language.specs.Derives.{Spot, after, leaf_of, declaration_tree, Reads}
 use Rattle.pg_language.proofs.DeclarationsDerived.{declaration_stands}
 use Rattle.pg_language.proofs.DeclarationsDerived.{Stands as IsStanding}
 use Rattle.pg_language.proofs.KeywordsRead.{declaration_read}
 use Rattle.pg_replay.specs.declared.fault.Mismatch.TheVariants.{TextDiffers}
 use Rattle.pg_replay.specs.Refusals as refusal
-use Rattle.pg_replay.specs.Refusals.{Stands, HasWordAt, HasDeclarationAt, LeafRefuses, text_differs, not_admitted, if_no_item, still_entered}
+use Rattle.pg_replay.specs.Refusals.{Stands, HasDeclarationAt, text_differs, not_admitted, still_entered}
 use Rattle.pg_replay.specs.Tasks.{State, node, on, stops, next_in, satisfied, spelled, unreserved, word_from, word_by, takes, stays_if, declares, declared_turn, declare_turn, leaf_turn}
 use Rattle.pg_replay.proofs.Characters.{begins, whole_word}
 use Rattle.pg_replay.proofs.Alike.{alike_same}

@@ -6,6 +6,7 @@ pub mod ChainTrees
 pub mod ProperTables
 pub mod Alike
 pub mod Leads
+pub mod LeftOut
 pub mod Items
 pub mod Known
 pub mod KnownRules

@@ -15,7 +15,7 @@ use Rattle.pg_language.specs.Derives.{Spot, at, Link}
 use Rattle.pg_language.specs.Onward.{LeadsOn}
 use Rattle.pg_language.proofs.Onward.{leads_on, expression_on, joins}
 use Rattle.pg_replay.specs.Refusals as refusal
-use Rattle.pg_replay.specs.Refusals.{Stop, if_no_item, still_entered, IsEntered, Refuses, RefusesForm, RefusesParts, RefusesRounds, RefusesLinks, RefusesExpression}
+use Rattle.pg_replay.specs.Refusals.{Stop, if_no_item, still_entered, Refuses, RefusesForm, RefusesParts, RefusesRounds, RefusesLinks, RefusesExpression}
 use Rattle.pg_replay.proofs.ProperTables.{IsProper}
 use Rattle.pg_replay.proofs.SameReads.{not_unread}
 use Rattle.pg_replay.proofs.SameDerivation.{same, same_expression, same_rest, proper_on, one_tree, one_end}

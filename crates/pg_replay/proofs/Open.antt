@@ -9,7 +9,7 @@ use Rattle.pg_value.specs.Grammar.{Grammar}
 use Rattle.pg_value.specs.declared.grammar.Rule as declared
 use Rattle.pg_value.specs.declared.trail.TrailItem.{TrailItem}
 use Rattle.pg_language.specs.Derives.{Spot, Derives}
-use Rattle.pg_replay.specs.Tasks.{Looseness, OnTask, node, parts, rounds, more_rounds, links, operand, settle, fold, marked, operator_symbol, application, unmark, close, leave, Setting, State}
+use Rattle.pg_replay.specs.Tasks.{Looseness, OnTask, node, parts, rounds, more_rounds, links, operand, linked, settle, fold, marked, operator_symbol, application, unmark, close, leave, Setting, State}
 use Rattle.pg_replay.proofs.Alike.{Alike}
 use Rattle.pg_replay.proofs.Leads.{arrived, Leads, no_task, does, does_node, spot_of}
 
@@ -42,10 +42,11 @@ IsTrueAfter g text s above (parts ps) = Unit {0}
 IsTrueAfter g text s above (rounds p n) = Unit {0}
 IsTrueAfter g text s above (more_rounds p n place trees count) = Unit {0}
 IsTrueAfter g text s above (links c n trees) = Unit {0}
-IsTrueAfter g text s above (operand c n trees) = Unit {0}
+IsTrueAfter g text s above (operand c n trees from) = Unit {0}
+IsTrueAfter g text s above (linked c n trees later from) = Unit {0}
 IsTrueAfter g text s above (settle loose) = Unit {0}
 IsTrueAfter g text s above (fold used trees) = Unit {0}
-IsTrueAfter g text s above (marked p) = Unit {0}
+IsTrueAfter g text s above (marked p loose) = Unit {0}
 IsTrueAfter g text s above (operator_symbol o) = Unit {0}
 IsTrueAfter g text s above (application builders o) = Unit {0}
 IsTrueAfter g text s above unmark = Unit {0}
@@ -78,10 +79,11 @@ module _ (g : Grammar) (text : List ℕ) (t : OnTask) (new : List OnTask) (s z :
   one_true above (rounds p n) h = tt
   one_true above (more_rounds p n place trees count) h = tt
   one_true above (links c n trees) h = tt
-  one_true above (operand c n trees) h = tt
+  one_true above (operand c n trees from) h = tt
+  one_true above (linked c n trees later from) h = tt
   one_true above (settle loose) h = tt
   one_true above (fold used trees) h = tt
-  one_true above (marked p) h = tt
+  one_true above (marked p loose) h = tt
   one_true above (operator_symbol o) h = tt
   one_true above (application builders o) h = tt
   one_true above unmark h = tt

@@ -14,9 +14,10 @@ use Rattle.pg_language.proofs.Onward.{left_still}
 use Rattle.pg_replay.specs.Tasks.{Looseness, only_text, OnTask, close, leave, State, Turn, on, stops, ended, with_tasks, is_still, known_now, makes_empty_leaf, turn, turn_by}
 use Rattle.pg_replay.proofs.Alike.{text_in, Alike}
 use Rattle.pg_replay.proofs.AnyTable.{any_table}
-use Rattle.pg_replay.proofs.Follow.{task_follows, no_tree_more, no_item_more}
+use Rattle.pg_replay.proofs.Follow.{task_follows}
 use Rattle.pg_replay.proofs.Known.{TakesNothing, AreKnown, IsBlank, AreBlank, IsSo, one_more_known, one_more_blank}
 use Rattle.pg_replay.proofs.Leads.{arrived, Leads, no_task, spot_of, Follows}
+use Rattle.pg_replay.proofs.LeftOut.{no_tree_more, no_item_more}
 use Rattle.pg_replay.proofs.NoText.{no_text, empty_made}
 use Rattle.pg_replay.proofs.Open.{HasDerived, BodyDerived, PartDerived, AreTrueAfter, true_after_both, all_true}
 use Rattle.pg_replay.proofs.ProperTables.{IsProper}
@@ -37,7 +38,7 @@ module _ (g : Grammar) (text : List ℕ) where
   still : (q trees : ℕ) (loose : Looseness) (s : State) (h : HasDerived g text q s.place trees (length s.rest) loose (spot_of s) s.forest s.rest) → (table : Table) →
       Derives g text q (spot_at s.place table) (spot_at s.place table) h.real []
   still q trees loose s h table =
-      let taken : h.taken ≡ [] = no_item_more g text h.taken s.rest h.counted in
+      let taken : h.taken ≡ [] = no_item_more h.taken s.rest h.counted in
       subst (λ i. Derives g text q (spot_at i table) (spot_at i table) h.real []) h.at_place
       (subst (λ u. Derives g text q (spot_at h.from.place table) (spot_at h.from.place table) h.real u) taken (any_table h.derived taken h.at_place table))
 
@@ -45,7 +46,7 @@ module _ (g : Grammar) (text : List ℕ) where
   no_tree_given : (q trees : ℕ) (loose : Looseness) (s : State) (h : HasDerived g text q s.place trees (length s.rest) loose (spot_of s) s.forest s.rest) →
       trees ≡ length s.forest → Alike loose [] h.real
   no_tree_given q trees loose s h many =
-      subst (λ x. Alike loose x h.real) (no_tree_more g text h.before h.given (h.after_trees ∙ many ∙ ap length h.made)) h.alike
+      subst (λ x. Alike loose x h.real) (no_tree_more h.before h.given (h.after_trees ∙ many ∙ ap length h.made)) h.alike
 
   given_then : (q trees : ℕ) (loose : Looseness) (s : State) (h : HasDerived g text q s.place trees (length s.rest) loose (spot_of s) s.forest s.rest) → text_in h.real ≡ [] →
       (many : Bool) → (trees == length s.forest) ≡ many → Alike (if many then loose else only_text) [] h.real

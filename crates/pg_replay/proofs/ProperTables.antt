@@ -34,7 +34,7 @@ use Rattle.pg_fitting.specs.Judge.{known_in, judgement}
 use Rattle.pg_language.specs.Declarations.{Declaration, no_keyword, no_digit, no_symbol, declared, declaration_at}
 use Rattle.pg_language.proofs.DeclarationsDerived.{declaration_stands}
 use Rattle.pg_language.proofs.DeclarationsDerived.{Stands as IsStanding}
-use Rattle.pg_replay.specs.Tasks.{Chain, OnTask, node, parts, rounds, more_rounds, links, operand, settle, fold, marked, operator_symbol, application, unmark, close, leave, State, Turn, on, stops, ended, takes, stays_if, declares, declared_turn, declare_turn, leaf_turn, part_turn, choice_turn, many_turn, chain_turn, steps_turn, operators_turn, expression_turn, operator_end, ended_turn, symbol_turn, is_place, is_known, is_entered, rule_turn, around_turn, form_turn, node_turn, parts_turn, is_unchanged, with_links, closed_table, turn, turn_by, with_tasks}
+use Rattle.pg_replay.specs.Tasks.{Chain, OnTask, node, parts, rounds, more_rounds, links, operand, linked, settle, fold, marked, operator_symbol, application, unmark, close, leave, State, Turn, on, stops, ended, takes, stays_if, declares, declared_turn, declare_turn, leaf_turn, part_turn, choice_turn, many_turn, chain_turn, steps_turn, operators_turn, expression_turn, operator_end, ended_turn, symbol_turn, is_place, is_known, is_entered, rule_turn, around_turn, form_turn, node_turn, parts_turn, is_unchanged, is_idle, with_links, closed_table, turn, turn_by, with_tasks}
 
 pub record IsProper (table : Table) : Type 0 where
   pub told : AreTold table.operators
@@ -235,9 +235,9 @@ module _ (g : Grammar) (text : List ℕ) where
   parts_proper [] s h = h
   parts_proper (p ∷ ps) s h = h
 
-  links_proper : (side : Side) (c : Chain) (n trees : ℕ) (s : State) → IsProper s.table → IsProper (with_links side c n trees s).table
-  links_proper Left c n trees s h = h
-  links_proper Right c n trees s h = h
+  links_proper : (side : Side) (c : Chain) (n trees later : ℕ) (s : State) → IsProper s.table → IsProper (with_links side c n trees later s).table
+  links_proper Left c n trees later s h = h
+  links_proper Right c n trees later s h = h
 
   ended_proper : (j : Option ℕ) (s : State) → IsProper s.table → ProperTurn (ended_turn j s)
   ended_proper None s h = tt
@@ -261,11 +261,12 @@ module _ (g : Grammar) (text : List ℕ) where
   turn_proper (rounds p n) s h = proper_if (n == 0) _ _ h h
   turn_proper (more_rounds p n place trees items) s h = proper_if (is_unchanged place trees items s) _ _ h (proper_if (n == 0) _ _ h h)
   turn_proper (links c n trees) s h = proper_if (n == 0) _ _ h h
-  turn_proper (operand c n trees) s h = links_proper c.side c n trees s h
+  turn_proper (operand c n trees from) s h = h
+  turn_proper (linked c n trees later from) s h = proper_if (is_idle c.used.shape from s) _ _ h (links_proper c.side c n trees later s h)
   turn_proper (settle loose) s h = h
   turn_proper (fold used trees) s h = h
   turn_proper (close k p place trees operators items loose) s h = close_proper k operators s.table h
-  turn_proper (marked p) s h = h
+  turn_proper (marked p loose) s h = h
   turn_proper (operator_symbol o) s h = symbol_proper g.operators o s h
   turn_proper (application builders o) s h = h
   turn_proper unmark s h = h

@@ -1,5 +1,5 @@
 -- A turn doesn't look at the tasks after the one that is done, and says nothing new of the ends of rules but where it enters one.
-use Rattle.std.proofs.Common.{◌≡◌, ◌==◌, ◌-◌, ℕ, Bool, true, false, not, List, [], ◌∷◌, ◌++◌, length, refl, sym, ap, append_assoc, map, if◌then◌else◌}
+use Rattle.std.proofs.Common.{◌≡◌, ◌==◌, ◌-◌, ℕ, Bool, true, false, not, List, [], ◌∷◌, ◌++◌, length, refl, sym, ap, append_assoc, if◌then◌else◌}
 use Rattle.std.specs.Prelude.{Option, Some, None, slice_get}
 use Rattle.pg_form.specs.Operators.{Operator}
 use Rattle.pg_form.specs.Forms.{Node}
@@ -22,7 +22,7 @@ use Rattle.pg_table.specs.declared.fault.AdmitFault.{AdmitFault}
 use Rattle.pg_fitting.specs.Steps.{Step, a_term, a_symbol, an_application}
 use Rattle.pg_fitting.specs.Judge.{known_in, judgement}
 use Rattle.pg_language.specs.Declarations.{Declaration, no_keyword, no_digit, no_symbol, declared, declaration_at}
-use Rattle.pg_replay.specs.Tasks.{Looseness, Known, Chain, OnTask, node, parts, rounds, more_rounds, links, operand, settle, fold, marked, operator_symbol, application, unmark, close, leave, loosened, State, Turn, on, stops, ended, with_task, next_in, satisfied, spelled, word_by, takes, stays_if, declares, declared_turn, declare_turn, leaf_turn, part_turn, choice_turn, many_turn, chain_turn, inside_steps, step_task, steps_turn, operators_turn, expression_turn, operator_end, ended_turn, symbol_turn, is_place, is_known, known_after, is_entered, rule_turn, inside_form, around_turn, blank_after, form_turn, node_turn, parts_turn, rounds_turn, is_unchanged, links_turn, with_links, with_tasks, turn}
+use Rattle.pg_replay.specs.Tasks.{Looseness, Known, Chain, RoundStart, OnTask, node, parts, rounds, more_rounds, links, operand, linked, settle, fold, marked, operator_symbol, application, unmark, close, leave, loosened, State, Turn, on, stops, ended, next_in, satisfied, spelled, word_by, takes, stays_if, declares, declared_turn, declare_turn, leaf_turn, part_turn, choice_turn, many_turn, after_item, chain_turn, newest_waiting, waiting, step_tasks, steps_turn, operators_turn, expression_turn, operator_end, ended_turn, symbol_turn, is_place, is_known, known_after, is_entered, rule_turn, inside_form, around_turn, blank_after, form_turn, node_turn, parts_turn, rounds_turn, is_unchanged, links_turn, with_links, is_idle, linked_turn, with_tasks, turn}
 use Rattle.pg_replay.proofs.Open.{AreTrueAfter, entered_true}
 
 -- the turn, with further tasks after those that it leaves
@@ -112,18 +112,18 @@ module _ (g : Grammar) (text : List ℕ) where
   chain_goes c (Ops o ∷ rest) s = (λ ts. refl, tt)
 
   -- the steps of an expression enter no rule
-  steps_true : (builders : OperatorBuilders) (p : ℕ) (steps : List Step) (loose : Looseness) (s : State) (above : List OnTask) → AreTrueAfter g text s above (map (step_task builders p) steps ++ (unmark ∷ settle loose ∷ []))
-  steps_true builders p [] loose s above = (tt, (tt, tt))
-  steps_true builders p (a_term ∷ steps) loose s above = (tt, steps_true builders p steps loose s (above ++ marked p ∷ []))
-  steps_true builders p (a_symbol o ∷ steps) loose s above = (tt, steps_true builders p steps loose s (above ++ operator_symbol o ∷ []))
-  steps_true builders p (an_application o ∷ steps) loose s above = (tt, steps_true builders p steps loose s (above ++ application builders o ∷ []))
+  steps_true : (builders : OperatorBuilders) (p : ℕ) (steps : List Step) (ls : List Looseness) (loose : Looseness) (s : State) (above : List OnTask) →
+      AreTrueAfter g text s above (step_tasks builders p steps ls ++ (unmark ∷ settle loose ∷ []))
+  steps_true builders p [] ls loose s above = (tt, (tt, tt))
+  steps_true builders p (a_term ∷ steps) ls loose s above = (tt, steps_true builders p steps ls loose s (above ++ marked p (newest_waiting (waiting builders steps ls)) ∷ []))
+  steps_true builders p (a_symbol o ∷ steps) ls loose s above = (tt, steps_true builders p steps ls loose s (above ++ operator_symbol o ∷ []))
+  steps_true builders p (an_application o ∷ steps) ls loose s above = (tt, steps_true builders p steps ls loose s (above ++ application builders o ∷ []))
 
   steps_goes : (builders : OperatorBuilders) (p : ℕ) (steps : Option (List Step)) (rest : List TrailItem) (s : State) → Goes s.known s.blank (λ ts. steps_turn builders p steps rest (with_tasks ts s))
   steps_goes builders p None rest s = (λ ts. refl, tt)
   steps_goes builders p (Some steps) rest s = (
-    λ ts. ap (λ l. on (let z : State = record { tasks = l; place = s.place; table = s.table; forest = s.forest; rest = rest; entered = []; setting = loosened (inside_steps builders steps s.setting.loose) s.setting; known = s.known; blank = s.blank } in z))
-        (sym (append_assoc (map (step_task builders p) steps) (unmark ∷ settle s.setting.loose ∷ []) ts)),
-    (steps_true builders p steps s.setting.loose (let z : State = record { tasks = []; place = s.place; table = s.table; forest = s.forest; rest = rest; entered = []; setting = loosened (inside_steps builders steps s.setting.loose) s.setting; known = s.known; blank = s.blank } in z) [], (refl, refl)),
+    λ ts. ap (λ l. on (with_tasks l (after_item rest s))) (sym (append_assoc (step_tasks builders p steps (s.setting.loose ∷ [])) (unmark ∷ settle s.setting.loose ∷ []) ts)),
+    (steps_true builders p steps (s.setting.loose ∷ []) s.setting.loose (bare (after_item rest s)) [], (refl, refl)),
   )
 
   operators_goes : (item : Option OperatorsItem) (builders : OperatorBuilders) (p : ℕ) (os : List AppliedOperator) (rest : List TrailItem) (s : State) →
@@ -171,9 +171,12 @@ module _ (g : Grammar) (text : List ℕ) where
   links_goes : (c : Chain) (n trees : ℕ) (s : State) → Goes s.known s.blank (λ ts. links_turn c n trees (with_tasks ts s))
   links_goes c n trees s = goes_if s.known s.blank (n == 0) _ _ (λ ts. refl, (tt, (refl, refl))) (λ ts. refl, ((tt, (tt, tt)), (refl, refl)))
 
-  operand_goes : (side : Side) (c : Chain) (n trees : ℕ) (s : State) → Goes s.known s.blank (λ ts. on (with_task (node c.part) (with_links side c n trees (with_tasks ts s))))
-  operand_goes Left c n trees s = (λ ts. refl, ((tt, (tt, (tt, tt))), (refl, refl)))
-  operand_goes Right c n trees s = (λ ts. refl, ((tt, (tt, (tt, tt))), (refl, refl)))
+  more_links_go : (side : Side) (c : Chain) (n trees later : ℕ) (s : State) → Goes s.known s.blank (λ ts. on (with_links side c n trees later (with_tasks ts s)))
+  more_links_go Left c n trees later s = (λ ts. refl, ((tt, (tt, tt)), (refl, refl)))
+  more_links_go Right c n trees later s = (λ ts. refl, ((tt, (tt, tt)), (refl, refl)))
+
+  linked_goes : (c : Chain) (n trees later : ℕ) (from : RoundStart) (s : State) → Goes s.known s.blank (λ ts. linked_turn c n trees later from (with_tasks ts s))
+  linked_goes c n trees later from s = goes_if s.known s.blank (is_idle c.used.shape from s) _ _ (λ ts. refl, ((tt, tt), (refl, refl))) (more_links_go c.side c n trees later s)
 
   ended_goes : (j : Option ℕ) (s : State) → Goes s.known s.blank (λ ts. ended_turn j (with_tasks ts s))
   ended_goes None s = (λ ts. refl, tt)
@@ -189,11 +192,12 @@ module _ (g : Grammar) (text : List ℕ) where
   turn_goes (rounds p n) s = rounds_goes p n s
   turn_goes (more_rounds p n place trees items) s = goes_if s.known s.blank (is_unchanged place trees items s) _ _ (λ ts. refl, (tt, (refl, refl))) (rounds_goes p n s)
   turn_goes (links c n trees) s = links_goes c n trees s
-  turn_goes (operand c n trees) s = operand_goes c.side c n trees s
+  turn_goes (operand c n trees from) s = (λ ts. refl, ((tt, (tt, tt)), (refl, refl)))
+  turn_goes (linked c n trees later from) s = linked_goes c n trees later from s
   turn_goes (settle loose) s = (λ ts. refl, (tt, (refl, refl)))
   turn_goes (fold used trees) s = (λ ts. refl, (tt, (refl, refl)))
   turn_goes (close k p place trees operators items loose) s = (λ ts. refl, (tt, (refl, refl)))
-  turn_goes (marked p) s = (λ ts. refl, ((tt, tt), (refl, refl)))
+  turn_goes (marked p loose) s = (λ ts. refl, ((tt, tt), (refl, refl)))
   turn_goes (operator_symbol o) s = symbol_goes g.operators o s
   turn_goes (application builders o) s = (λ ts. refl, (tt, (refl, refl)))
   turn_goes unmark s = (λ ts. refl, (tt, (refl, refl)))

@@ -1,6 +1,7 @@
 pub mod Refusals
 pub mod Ends
 pub mod States
+pub mod Loose
 pub mod Tasks
 pub mod View
 pub mod Halts

@@ -33,6 +33,12 @@ pub record Chain : Type 0 where
   pub part : ℕ
   pub separator : ℕ
 
+-- where a round of a chain begins: at the place, with so many trees before it and so many items left
+pub record RoundStart : Type 0 where
+  pub place : ℕ
+  pub trees : ℕ
+  pub items : ℕ
+
 pub data OnTask : Type 0 where
   -- a node
   node : ℕ → OnTask
@@ -44,14 +50,16 @@ pub data OnTask : Type 0 where
   more_rounds : (part left place trees items : ℕ) → OnTask
   -- so many rounds of a chain: a separator and an operand each, where the trees to be folded come after so many
   links : Chain → (left trees : ℕ) → OnTask
-  -- the operand after a separator, and then so many rounds
-  operand : Chain → (left trees : ℕ) → OnTask
+  -- the operand after a separator, with which a round began there, and then so many rounds
+  operand : Chain → (left trees : ℕ) → RoundStart → OnTask
+  -- what comes after an operand of a round that began there: the folding and so many rounds, whose trees come from the right after so many
+  linked : Chain → (left trees later : ℕ) → RoundStart → OnTask
   -- from here on trees are so loose
   settle : Looseness → OnTask
   -- the trees after so many are made into one
   fold : BuilderUse → (trees : ℕ) → OnTask
-  -- a term of an expression, whose trees begin the next operand
-  marked : ℕ → OnTask
+  -- a term of an expression, whose trees are so loose and begin the next operand
+  marked : ℕ → Looseness → OnTask
   -- the symbol of an operator
   operator_symbol : AppliedOperator → OnTask
   -- the operator is applied to the trees of its operands

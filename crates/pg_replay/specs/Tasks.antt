@@ -1,11 +1,10 @@
 -- What one task does to what was derived so far.
-use Rattle.std.specs.Prelude.{◌+◌, ◌-◌, ◌==◌, ◌&&◌, ◌||◌, not, if◌then◌else◌, ℕ, List, [], ◌∷◌, ◌++◌, Bool, true, false, Option, Some, None, slice_get, length, take, drop, map, set}
+use Rattle.std.specs.Prelude.{◌+◌, ◌-◌, ◌==◌, ◌&&◌, ◌||◌, not, if◌then◌else◌, ℕ, List, [], ◌∷◌, ◌++◌, Bool, true, false, Option, Some, None, slice_get, length, take, drop, set}
 use Rattle.std.specs.List.{list_any}
 use Rattle.std.specs.Str.{bytes_eq, encode_utf8_all}
 use Rattle.pg_tree.specs.Trees.{Tree}
 use Rattle.pg_tree.specs.Built.{built}
 use Rattle.pg_tree.specs.declared.shape.Shape.{Shape}
-use Rattle.pg_tree.specs.declared.shape.Shape.TheVariants as shaped
 use Rattle.pg_form.specs.ClassItems.{has_character}
 use Rattle.pg_value.specs.Grammar.{Grammar}
 use Rattle.pg_form.specs.Operators.{Operator}
@@ -36,7 +35,8 @@ use Rattle.pg_language.specs.Runs.{run_at, past_run, stands_at}
 use Rattle.pg_language.specs.Declarations.{Declaration, no_keyword, no_digit, no_symbol, declared, declaration_at}
 use Rattle.pg_language.specs.Derives.{leaf_of, declaration_tree, made_by}
 use Rattle.pg_replay.specs.declared.fault.Mismatch.TheVariants.{ItemDiffers, TextDiffers, NotAdmitted}
-pub use Rattle.pg_replay.specs.States.{Looseness, tight, apart, only_text, Known, Chain, OnTask, node, parts, rounds, more_rounds, links, operand, settle, fold, marked, operator_symbol, application, unmark, close, leave, Setting, under_marks, loosened, State, Turn, on, stops, ended, told, with_task, with_marks, with_loose, with_forest, with_entered, with_known, with_blank, after_item, moved_to, without_newest, with_tasks}
+pub use Rattle.pg_replay.specs.States.{Looseness, tight, apart, only_text, Known, Chain, RoundStart, OnTask, node, parts, rounds, more_rounds, links, operand, linked, settle, fold, marked, operator_symbol, application, unmark, close, leave, Setting, under_marks, loosened, State, Turn, on, stops, ended, told, with_task, with_marks, with_loose, with_forest, with_entered, with_known, with_blank, after_item, moved_to, without_newest, with_tasks}
+pub use Rattle.pg_replay.specs.Loose.{as_kids, as_flat, inside, inside_chain, inside_form, builder_on, newest_waiting, others_waiting, operands_waiting, waiting_before, waiting, covers, is_text, joins, flattens, is_steady, has_label, makes_node, leaves_out}
 
 -- ---- leaves
 
@@ -122,36 +122,6 @@ many_turn p (Alt k ∷ rest) s = stops ItemDiffers s.place s.rest
 many_turn p (Rounds n ∷ rest) s = on (with_task (rounds p n) (after_item rest s))
 many_turn p (Ops o ∷ rest) s = stops ItemDiffers s.place s.rest
 
--- whether the shape joins texts to a leaf
-abbrev pub joins : Shape → Bool
-joins (shaped.Node label) = false
-joins shaped.Symbol = false
-joins shaped.Join = true
-joins (shaped.Flat label) = false
-
--- trees that are taken apart are tight in a tree whose kids they are
-abbrev pub as_kids : Looseness → Looseness
-as_kids tight = tight
-as_kids (apart label) = tight
-as_kids only_text = only_text
-
--- or they are taken apart there
-abbrev pub as_flat : List ℕ → Looseness → Looseness
-as_flat label tight = apart label
-as_flat label (apart other) = apart label
-as_flat label only_text = only_text
-
--- how loose the trees are of which a tree of the shape is built, where that one is so loose
-abbrev pub inside : Shape → Looseness → Looseness
-inside (shaped.Node label) l = as_kids l
-inside shaped.Symbol l = as_kids l
-inside shaped.Join l = only_text
-inside (shaped.Flat label) l = as_flat label l
-
--- so they are in a chain that has a round
-abbrev pub inside_chain : Chain → ℕ → Looseness → Looseness
-inside_chain c n l = if n == 0 then l else inside c.used.shape l
-
 -- the first operand, and then the rounds
 abbrev pub chain_turn : Chain → List TrailItem → State → Turn
 chain_turn c [] s = stops ItemDiffers s.place s.rest
@@ -162,40 +132,25 @@ chain_turn c (Ops o ∷ rest) s = stops ItemDiffers s.place s.rest
 
 -- ---- expressions
 
-abbrev pub step_task : OperatorBuilders → ℕ → Step → OnTask
-step_task builders p a_term = marked p
-step_task builders p (a_symbol o) = operator_symbol o
-step_task builders p (an_application o) = application builders o
+-- a term's trees are as loose as those of the newest operand after it
+abbrev pub step_task : OperatorBuilders → ℕ → Looseness → Step → OnTask
+step_task builders p l a_term = marked p l
+step_task builders p l (a_symbol o) = operator_symbol o
+step_task builders p l (an_application o) = application builders o
+
+abbrev pub step_tasks : OperatorBuilders → ℕ → List Step → List Looseness → List OnTask
+step_tasks builders p [] ls = []
+step_tasks builders p (step ∷ steps) ls = step_task builders p (newest_waiting (waiting builders steps ls)) step ∷ step_tasks builders p steps ls
 
 -- the tasks come before the others
-abbrev pub with_steps : OperatorBuilders → ℕ → List Step → State → State
-with_steps builders p steps s = record { tasks = map (step_task builders p) steps ++ s.tasks; place = s.place; table = s.table; forest = s.forest; rest = s.rest; entered = s.entered; setting = s.setting; known = s.known; blank = s.blank }
-
-abbrev pub builder_on : Fixity → OperatorBuilders → BuilderUse
-builder_on fixity.Prefix builders = builders.prefix
-builder_on fixity.Infix builders = builders.infix
-builder_on fixity.Postfix builders = builders.postfix
-
--- how loose the trees of operands are, where that of the operator is so loose
-abbrev pub inside_applied : Shape → Looseness → Looseness
-inside_applied shape l = if joins shape then only_text else as_kids l
-
-abbrev pub inside_step : OperatorBuilders → Step → Looseness → Looseness
-inside_step builders a_term l = l
-inside_step builders (a_symbol o) l = l
-inside_step builders (an_application o) l = inside_applied (builder_on o.fixity builders).shape l
-
--- as the last step tells, how loose the trees of the terms are
-abbrev pub inside_steps : OperatorBuilders → List Step → Looseness → Looseness
-inside_steps builders [] l = l
-inside_steps builders (step ∷ []) l = inside_step builders step l
-inside_steps builders (step ∷ next ∷ steps) l = inside_steps builders (next ∷ steps) l
+abbrev pub with_steps : OperatorBuilders → ℕ → List Step → List Looseness → State → State
+with_steps builders p steps ls s = record { tasks = step_tasks builders p steps ls ++ s.tasks; place = s.place; table = s.table; forest = s.forest; rest = s.rest; entered = s.entered; setting = s.setting; known = s.known; blank = s.blank }
 
 -- the steps of the tree that fits, if there is one
 abbrev pub steps_turn : OperatorBuilders → ℕ → Option (List Step) → List TrailItem → State → Turn
 steps_turn builders p None rest s = stops ItemDiffers s.place s.rest
 steps_turn builders p (Some steps) rest s =
-    on (with_steps builders p steps (with_loose (inside_steps builders steps s.setting.loose) (with_task unmark (with_task (settle s.setting.loose) (after_item rest s)))))
+    on (with_steps builders p steps (s.setting.loose ∷ []) (with_task unmark (with_task (settle s.setting.loose) (after_item rest s))))
 
 -- they are looked for where the grammar has operators
 abbrev pub operators_turn : Option OperatorsItem → OperatorBuilders → ℕ → List AppliedOperator → List TrailItem → State → Turn
@@ -258,16 +213,6 @@ is_place i None = false
 is_place i (Some None) = false
 is_place i (Some (Some j)) = j == i
 
--- whether trees that are left out where they are so loose can be left out where they are as loose as the other
-abbrev pub covers : Looseness → Looseness → Bool
-covers tight l = true
-covers (apart label) tight = false
-covers (apart label) (apart other) = bytes_eq label other
-covers (apart label) only_text = true
-covers only_text tight = false
-covers only_text (apart label) = false
-covers only_text only_text = true
-
 -- whether it is known that nothing is taken at this place, and no tree is given that can't be left out
 abbrev pub is_known_at : ℕ → Looseness → Option (Option Known) → Bool
 is_known_at i loose None = false
@@ -286,15 +231,6 @@ rule_turn r (Some named) s = if is_known r s then on s
     else on (with_task (node named.body) (with_task (leave r s.place (length s.forest) (length s.rest)) (with_entered (r ∷ s.entered) s)))
 
 -- ---- forms around a part
-
--- how loose the trees of the part are in the form, where what it makes is so loose
-abbrev pub inside_form : Around → Looseness → Looseness
-inside_form kind.Try l = l
-inside_form kind.Text l = only_text
-inside_form kind.Skip l = only_text
-inside_form (kind.Build used symbol) l = inside used.shape l
-inside_form (kind.Label message) l = l
-inside_form kind.Local l = l
 
 -- a form that is known to take nothing here and to make an empty leaf of it isn't gone along again
 abbrev pub around_turn : Around → (node part : ℕ) → State → Turn
@@ -339,12 +275,6 @@ parts_turn (p ∷ ps) s = on (with_task (node p) (with_task (parts ps) s))
 abbrev pub rounds_turn : ℕ → ℕ → State → Turn
 rounds_turn p n s = if n == 0 then on s else on (with_task (node p) (with_task (more_rounds p (n - 1) s.place (length s.forest) (length s.rest)) s))
 
--- whether nothing but the text of trees is answered
-abbrev pub is_text : Looseness → Bool
-is_text tight = false
-is_text (apart label) = false
-is_text only_text = true
-
 -- whether nothing was taken since then, and no tree was given that can't be left out
 abbrev pub is_unchanged : ℕ → ℕ → ℕ → State → Bool
 is_unchanged place trees items s = is_still place items s && ((trees == length s.forest) || is_text s.setting.loose)
@@ -364,16 +294,28 @@ known_after r place trees items s = if is_still place items s then set s.known r
 abbrev pub leave_turn : (rule place trees items : ℕ) → State → Turn
 leave_turn r place trees items s = on (with_known (known_after r place trees items s) (with_entered (without_newest s.entered) s))
 
+-- a round that begins here
+abbrev pub round_start : State → RoundStart
+round_start s = record { place = s.place; trees = length s.forest; items = length s.rest }
+
 abbrev pub links_turn : Chain → ℕ → ℕ → State → Turn
-links_turn c n trees s = if n == 0 then on s else on (with_task (node c.separator) (with_task (operand c (n - 1) trees) s))
+links_turn c n trees s = if n == 0 then on s else on (with_task (node c.separator) (with_task (operand c (n - 1) trees (round_start s)) s))
+
+abbrev pub operand_turn : Chain → ℕ → ℕ → RoundStart → State → Turn
+operand_turn c n trees from s = on (with_task (node c.part) (with_task (linked c n trees (length s.forest) from) s))
 
 -- from the left the operand is folded with all before it, and then come the other rounds; from the right these come first
-abbrev pub with_links : Side → Chain → ℕ → ℕ → State → State
-with_links Left c n trees s = with_task (fold c.used trees) (with_task (links c n trees) s)
-with_links Right c n trees s = with_task (links c n (length s.forest)) (with_task (fold c.used trees) s)
+abbrev pub with_links : Side → Chain → (left trees later : ℕ) → State → State
+with_links Left c n trees later s = with_task (fold c.used trees) (with_task (links c n trees) s)
+with_links Right c n trees later s = with_task (links c n later) (with_task (fold c.used trees) s)
 
-abbrev pub operand_turn : Chain → ℕ → ℕ → State → Turn
-operand_turn c n trees s = on (with_task (node c.part) (with_links c.side c n trees s))
+-- whether such a round began there: it took nothing, and gave no tree that can't be left out
+abbrev pub is_idle : Shape → RoundStart → State → Bool
+is_idle shape from s = is_steady shape s.setting.loose && is_unchanged from.place from.trees from.items s
+
+-- after it the others put nothing to it either
+abbrev pub linked_turn : Chain → (left trees later : ℕ) → RoundStart → State → Turn
+linked_turn c n trees later from s = if is_idle c.used.shape from s then on (with_task (fold c.used trees) s) else on (with_links c.side c n trees later s)
 
 -- the trees after so many are made into one, without a symbol
 abbrev pub folded_after : Shape → ℕ → List Tree → List Tree
@@ -390,27 +332,6 @@ closed_table kind.Skip operators table = table
 closed_table (kind.Build used symbol) operators table = table
 closed_table (kind.Label message) operators table = table
 closed_table kind.Local operators table = first_operators operators table
-
--- whether the shape's tree has the label
-abbrev pub has_label : Shape → (symbol label : List ℕ) → Bool
-has_label (shaped.Node other) symbol label = bytes_eq other label
-has_label shaped.Symbol symbol label = bytes_eq symbol label
-has_label shaped.Join symbol label = false
-has_label (shaped.Flat other) symbol label = bytes_eq other label
-
-abbrev pub makes_node : Around → List ℕ → Bool
-makes_node kind.Try label = false
-makes_node kind.Text label = false
-makes_node kind.Skip label = false
-makes_node (kind.Build used symbol) label = has_label used.shape symbol label
-makes_node (kind.Label message) label = false
-makes_node kind.Local label = false
-
--- whether a tree without kids that the form makes is left out, since its kids take its place
-abbrev pub leaves_out : Around → Looseness → Bool
-leaves_out k tight = false
-leaves_out k (apart label) = makes_node k label
-leaves_out k only_text = false
 
 -- what the form gives of these trees, where they are so loose
 abbrev pub given_by : Around → Looseness → List ℕ → ℕ → ℕ → List Tree → List Tree
@@ -431,11 +352,12 @@ turn g text (parts ps) s = parts_turn ps s
 turn g text (rounds p n) s = rounds_turn p n s
 turn g text (more_rounds p n place trees items) s = more_turn p n place trees items s
 turn g text (links c n trees) s = links_turn c n trees s
-turn g text (operand c n trees) s = operand_turn c n trees s
+turn g text (operand c n trees from) s = operand_turn c n trees from s
+turn g text (linked c n trees later from) s = linked_turn c n trees later from s
 turn g text (settle loose) s = on (with_loose loose s)
 turn g text (fold used trees) s = fold_turn used trees s
 turn g text (close k p place trees operators items loose) s = close_turn text k p place trees operators items loose s
-turn g text (marked p) s = on (with_task (node p) (with_marks (length s.forest ∷ s.setting.marks) s))
+turn g text (marked p l) s = on (with_task (node p) (with_loose l (with_marks (length s.forest ∷ s.setting.marks) s)))
 turn g text (operator_symbol o) s = symbol_turn g text g.operators o s
 turn g text (application builders o) s = application_turn builders o s
 turn g text unmark s = on (with_marks (without_newest s.setting.marks) s)

@@ -3,14 +3,18 @@ use Rattle.std.specs.Prelude.{Option, Some, None, List, [], ◌∷◌, map, reve
 use Rattle.pg_replay.specs.declared.task.Task.{Task}
 use Rattle.pg_replay.specs.declared.task.Task.TheVariants as task
 use Rattle.pg_replay.specs.declared.task.Chain as declared
+use Rattle.pg_replay.specs.declared.task.RoundStart as declared_start
 use Rattle.pg_replay.specs.declared.replayer.Replayer.{Replayer}
 use Rattle.pg_replay.specs.declared.replayer.Known as declared_known
 use Rattle.pg_replay.specs.declared.task.Looseness as declared_loose
 use Rattle.pg_replay.specs.declared.task.Looseness.TheVariants.{Tight, Apart, OnlyText}
-use Rattle.pg_replay.specs.Tasks.{Looseness, tight, apart, only_text, Known, Chain, OnTask, node, parts, rounds, more_rounds, links, operand, settle, fold, marked, operator_symbol, application, unmark, close, leave, State}
+use Rattle.pg_replay.specs.Tasks.{Looseness, tight, apart, only_text, Known, Chain, RoundStart, OnTask, node, parts, rounds, more_rounds, links, operand, linked, settle, fold, marked, operator_symbol, application, unmark, close, leave, State}
 
 abbrev pub chain_of : declared.Chain → Chain
 chain_of c = record { side = c.side; used = c.used.now; part = c.part; separator = c.separator }
+
+abbrev pub start_of : declared_start.RoundStart → RoundStart
+start_of from = record { place = from.place; trees = from.trees; items = from.items }
 
 abbrev pub loose_of : declared_loose.Looseness → Looseness
 loose_of Tight = tight
@@ -30,10 +34,11 @@ task_of (task.Parts ps) = parts ps.now
 task_of (task.Rounds part left) = rounds part left
 task_of (task.MoreRounds part left place trees items) = more_rounds part left place trees items
 task_of (task.Links side used part separator left trees) = links (record { side = side; used = used.now; part = part; separator = separator }) left trees
-task_of (task.Operand side used part separator left trees) = operand (record { side = side; used = used.now; part = part; separator = separator }) left trees
+task_of (task.Operand side used part separator left trees from) = operand (record { side = side; used = used.now; part = part; separator = separator }) left trees (start_of from)
+task_of (task.Linked side used part separator left trees later from) = linked (record { side = side; used = used.now; part = part; separator = separator }) left trees later (start_of from)
 task_of (task.Settle loose) = settle (loose_of loose)
 task_of (task.Fold side used trees) = fold used.now trees
-task_of (task.Term p) = marked p
+task_of (task.Term p loose) = marked p (loose_of loose)
 task_of (task.Symbol o) = operator_symbol o.now
 task_of (task.Application builders o) = application builders.now o.now
 task_of task.Unmark = unmark
@@ -47,6 +52,14 @@ tasks_on ts (t ∷ more) = tasks_on (task_of t ∷ ts) more
 
 abbrev pub tasks_of : List Task → List OnTask
 tasks_of ts = tasks_on [] ts
+
+-- the newest operand stands last in the code
+abbrev pub waiting_on : List Looseness → List declared_loose.Looseness → List Looseness
+waiting_on ls [] = ls
+waiting_on ls (x ∷ xs) = waiting_on (loose_of x ∷ ls) xs
+
+abbrev pub waiting_of : List declared_loose.Looseness → List Looseness
+waiting_of xs = waiting_on [] xs
 
 abbrev pub state_of : Replayer → State
 state_of r = record {

@@ -1,15 +1,16 @@
 //! Chains: an operand, and then rounds of a separator and an operand, whose trees are folded from a side.
 
 ghost use Rattle.std.specs.Prelude.{◌≡◌, IfOk, OnOk};
-ghost use Rattle.pg_replay.specs.Tasks.{on, told, with_links, inside_chain, chain_turn, links_turn, operand_turn, fold_turn};
-ghost use Rattle.pg_replay.specs.View.{state_of, chain_of, loose_of};
+ghost use Rattle.pg_replay.specs.Tasks.{on, told, with_links, inside_chain, chain_turn, links_turn, operand_turn, is_idle, linked_turn, fold_turn};
+ghost use Rattle.pg_replay.specs.View.{state_of, chain_of, start_of, loose_of};
 
 use crate::fault::Mismatch;
-use crate::looseness::inside;
+use crate::looseness::{inside, is_steady};
 use crate::replayer::Replayer;
 use crate::step::{build, build_stretch};
-use crate::task::{Chain, Halt, Looseness};
+use crate::task::{Chain, Halt, Looseness, RoundStart};
 use pg_form::{BuilderUse, Side};
+use pg_tree::{ForestTape, Shape};
 use pg_value::TrailItem;
 use std::alloc::{AllocError, Global};
 
@@ -63,22 +64,51 @@ impl<'a> Replayer<'a> {
         chain: &Chain<'a>,
         left: usize,
         trees: usize,
+        from: RoundStart,
     ) -> Result<Option<Halt>, AllocError>
-        ensures { IfOk result (λ halt. told halt (state_of self.new) ≡ operand_turn (chain_of chain.now) left trees (state_of self.old)) }
+        ensures { IfOk result (λ halt. told halt (state_of self.new) ≡ operand_turn (chain_of chain.now) left trees (start_of from) (state_of self.old)) }
     {
-        self.push_after_operand(alloc, chain, left, trees)?;
+        open_later(alloc, chain.side, &mut self.forest)?;
+        self.push_linked(chain, left, trees, from)?;
         self.go_on(chain.part)
+    }
+
+    /// The folding and the other rounds, after one that began there: where it took nothing and put nothing to what the chain makes, the
+    /// others don't either.
+    pub(crate) fn linked(
+        &mut self,
+        chain: &Chain<'a>,
+        left: usize,
+        trees: usize,
+        later: usize,
+        from: RoundStart,
+    ) -> Result<Option<Halt>, AllocError>
+        ensures { IfOk result (λ halt. told halt (state_of self.new) ≡ linked_turn (chain_of chain.now) left trees later (start_of from) (state_of self.old)) }
+    {
+        if self.is_idle(&chain.used.shape, from) {
+            self.push_fold(Side::Right, chain.used, trees)?;
+        } else {
+            self.push_after_operand(chain, left, trees, later)?;
+        }
+        Ok(None)
+    }
+
+    /// Whether a round that began there took nothing, and put nothing to what is made of such a shape.
+    fn is_idle(&self, shape: &Shape, from: RoundStart) -> bool
+        ensures { result ≡ is_idle shape.now (start_of from) (state_of self.now) }
+    {
+        is_steady(shape, &self.loose) && self.is_unchanged(from.place, from.trees, from.items)
     }
 
     /// From the left the operand is folded with all before it first, and from the right with all after it, last.
     fn push_after_operand(
         &mut self,
-        alloc: Global,
         chain: &Chain<'a>,
         left: usize,
         trees: usize,
+        later: usize,
     ) -> Result<(), AllocError>
-        ensures { OnOk result (state_of self.new ≡ with_links chain.now.side (chain_of chain.now) left trees (state_of self.old)) }
+        ensures { OnOk result (state_of self.new ≡ with_links chain.now.side (chain_of chain.now) left trees later (state_of self.old)) }
     {
         match chain.side {
             Side::Left => {
@@ -86,8 +116,6 @@ impl<'a> Replayer<'a> {
                 self.push_fold(chain.side, chain.used, trees)
             }
             Side::Right => {
-                let later = self.forest.len();
-                self.forest.open(alloc)?;
                 self.push_fold(chain.side, chain.used, trees)?;
                 self.push_links(chain, left, later)
             }
@@ -109,6 +137,16 @@ impl<'a> Replayer<'a> {
             Side::Right => build(alloc, &used.shape, "", trees, &mut self.forest)?,
         }
         Ok(None)
+    }
+}
+
+/// From the right the trees of an operand and of all after it begin here.
+fn open_later(alloc: Global, side: Side, forest: &mut ForestTape) -> Result<(), AllocError>
+    ensures { forest.new ≡ forest.old }
+{
+    match side {
+        Side::Left => Ok(()),
+        Side::Right => forest.open(alloc),
     }
 }
 

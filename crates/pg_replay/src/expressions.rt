@@ -1,16 +1,16 @@
 //! Expressions: the steps of the tree that fits the table and has the item's operators.
 
-ghost use Rattle.std.specs.Prelude.{◌≡◌, ◌∷◌, IfOk, OnOk, length, map, reverse};
+ghost use Rattle.std.specs.Prelude.{◌≡◌, ◌∷◌, [], IfOk, OnOk, length, map, reverse};
 ghost use Rattle.pg_fitting.specs.Judge.{step_of};
-ghost use Rattle.pg_replay.specs.Tasks.{on, told, node, step_task, with_task, with_steps, operators_turn, expression_turn, symbol_turn, ended_turn, operator_end, builder_on, marks_after, built_after, applied_under, application_turn, with_forest, with_marks, without_newest, first_mark};
-ghost use Rattle.pg_replay.specs.View.{state_of};
+ghost use Rattle.pg_replay.specs.Tasks.{on, told, node, step_task, with_task, with_steps, operators_turn, expression_turn, symbol_turn, ended_turn, operator_end, builder_on, marks_after, built_after, applied_under, application_turn, with_forest, with_loose, with_marks, without_newest, first_mark};
+ghost use Rattle.pg_replay.specs.View.{state_of, loose_of};
 
 use crate::fault::Mismatch;
-use crate::looseness::inside_steps;
+use crate::looseness::{newest_waiting, wait_before};
 use crate::operators::{operator_end, utf8};
 use crate::replayer::Replayer;
 use crate::step::build_stretch;
-use crate::task::Halt;
+use crate::task::{Halt, Looseness};
 use pg_fitting::{Step, fitting_steps};
 use pg_form::{BuilderUse, NodeId, OperatorBuilders};
 use pg_text::Text;
@@ -58,8 +58,7 @@ impl<'a> Replayer<'a> {
                 self.take_item(rest);
                 self.push_settle(self.loose)?;
                 self.push_unmark()?;
-                self.set_loose(inside_steps(builders, steps.as_slice(), self.loose));
-                self.push_steps(builders, part, steps)?;
+                self.push_steps(alloc, builders, part, steps)?;
                 Ok(None)
             }
             None => Ok(Some(Halt::Stopped(Mismatch::ItemDiffers))),
@@ -67,44 +66,56 @@ impl<'a> Replayer<'a> {
     }
 
     /// The steps are the next tasks, the first of them first.
-    #[tactic(auto, using(crate::proofs::Steps::steps_pushed, crate::proofs::Steps::no_steps))]
+    #[tactic(auto, using(crate::proofs::Steps::no_steps))]
     fn push_steps(
         &mut self,
+        alloc: Global,
         builders: &'a OperatorBuilders,
         part: NodeId,
         steps: Vec<Step<'a>>,
     ) -> Result<(), AllocError>
-        ensures { OnOk result (state_of self.new ≡ with_steps builders.now part (map step_of steps.entry.items) (state_of self.old)) }
+        ensures { OnOk result (state_of self.new ≡ with_steps builders.now part (map step_of steps.entry.items) (loose_of self.old.loose ∷ []) (state_of self.old)) }
     {
         let mut steps = steps;
+        let mut waiting = Vec::new(alloc);
+        waiting.push(self.loose)?;
         while let Some(step) = steps.pop() {
-            self.push_step(builders, part, step)?;
+            let loose = newest_waiting(waiting.as_slice());
+            wait_before(builders, &step, &mut waiting)?;
+            self.push_step(builders, part, loose, step)?;
         }
         Ok(())
     }
 
-    /// The step is.
+    /// The step is; if it is a term, its trees are so loose.
     fn push_step(
         &mut self,
         builders: &'a OperatorBuilders,
         part: NodeId,
+        loose: Looseness<'a>,
         step: Step<'a>,
     ) -> Result<(), AllocError>
-        ensures { OnOk result (state_of self.new ≡ with_task (step_task builders.now part (step_of step.entry)) (state_of self.old)) }
+        ensures { OnOk result (state_of self.new ≡ with_task (step_task builders.now part (loose_of loose.entry) (step_of step.entry)) (state_of self.old)) }
     {
         match step {
-            Step::Term => self.push_term(part),
+            Step::Term => self.push_term(part, loose),
             Step::Symbol(operator) => self.push_symbol(operator),
             Step::Application(operator) => self.push_application(builders, operator),
         }
     }
 
-    /// A term, whose trees begin the next operand.
-    pub(crate) fn term(&mut self, alloc: Global, part: NodeId) -> Result<Option<Halt>, AllocError>
+    /// A term, whose trees are so loose and begin the next operand.
+    pub(crate) fn term(
+        &mut self,
+        alloc: Global,
+        part: NodeId,
+        loose: Looseness<'a>,
+    ) -> Result<Option<Halt>, AllocError>
         ensures { IfOk result (λ halt. told halt (state_of self.new) ≡
-            on (with_task (node part) (with_marks (length self.old.forest ∷ reverse self.old.marks.items) (state_of self.old)))) }
+            on (with_task (node part) (with_loose (loose_of loose.entry) (with_marks (length self.old.forest ∷ reverse self.old.marks.items) (state_of self.old))))) }
     {
         self.mark(alloc)?;
+        self.set_loose(loose);
         self.go_on(part)
     }
 

@@ -1,16 +1,18 @@
 //! How loose trees are in forms, chains and expressions.
 
-ghost use Rattle.std.specs.Prelude.{◌≡◌, map};
+ghost use Rattle.std.specs.Prelude.{◌≡◌, OnOk};
 ghost use Rattle.std.specs.Str.{bytes_eq};
 ghost use Rattle.pg_fitting.specs.Judge.{step_of};
-ghost use Rattle.pg_replay.specs.Tasks.{joins, as_kids, inside, inside_form, inside_applied, inside_step, inside_steps, covers, is_text, has_label, makes_node, leaves_out};
-ghost use Rattle.pg_replay.specs.View.{loose_of};
+ghost use Rattle.pg_replay.specs.Tasks.{joins, as_kids, inside, inside_form, newest_waiting, operands_waiting, waiting_before, covers, is_text, flattens, is_steady, has_label, makes_node, leaves_out};
+ghost use Rattle.pg_replay.specs.View.{loose_of, waiting_of};
 
 use crate::expressions::builder_on;
 use crate::task::Looseness;
 use pg_fitting::Step;
 use pg_form::{Around, OperatorBuilders};
 use pg_tree::{Label, Shape};
+use pg_value::Fixity;
+use std::alloc::AllocError;
 
 /// How loose the trees of the part are in the form, where what it makes is so loose.
 pub(crate) fn inside_form<'a>(around: &'a Around, loose: Looseness<'a>) -> Looseness<'a>
@@ -47,46 +49,56 @@ fn as_kids(loose: Looseness<'_>) -> Looseness<'_>
     }
 }
 
-/// As the last step tells, how loose the trees of the terms are.
-#[tactic(auto, using(crate::proofs::Steps::inside_by_last, crate::proofs::Steps::inside_by_none))]
-pub(crate) fn inside_steps<'a>(
-    builders: &'a OperatorBuilders,
-    steps: &[Step],
-    loose: Looseness<'a>,
-) -> Looseness<'a>
-    ensures { loose_of result ≡ inside_steps builders.now (map step_of steps.now) (loose_of loose.entry) }
+/// How loose the trees are of the newest operand of those that wait.
+#[tactic(auto, using(crate::proofs::Steps::newest_last, crate::proofs::Steps::newest_none))]
+pub(crate) fn newest_waiting<'a>(waiting: &[Looseness<'a>]) -> Looseness<'a>
+    ensures { loose_of result ≡ newest_waiting (waiting_of waiting.now) }
 {
-    match steps.last() {
-        Some(step) => inside_step(builders, step, loose),
-        None => loose,
+    match waiting.last() {
+        Some(loose) => *loose,
+        None => Looseness::Tight,
     }
 }
 
-/// As this step tells.
-fn inside_step<'a>(
+/// The operands that wait before a step, by those that wait after it. The only error is that memory ran out.
+#[tactic(auto, using(crate::proofs::Steps::waits_less))]
+pub(crate) fn wait_before<'a>(
     builders: &'a OperatorBuilders,
     step: &Step,
-    loose: Looseness<'a>,
-) -> Looseness<'a>
-    ensures { loose_of result ≡ inside_step builders.now (step_of step.now) (loose_of loose.entry) }
+    waiting: &mut Vec<Looseness<'a>>,
+) -> Result<(), AllocError>
+    ensures { OnOk result (waiting_of waiting.new.items ≡ waiting_before builders.now (step_of step.now) (waiting_of waiting.old.items)) }
 {
     match step {
-        Step::Application(operator) => {
-            inside_applied(&builder_on(operator.fixity, builders).shape, loose)
+        Step::Term => {
+            let _operand = waiting.pop();
+            Ok(())
         }
-        Step::Term | Step::Symbol(_) => loose,
+        Step::Symbol(_) => Ok(()),
+        Step::Application(operator) => {
+            let shape = &builder_on(operator.fixity, builders).shape;
+            let loose = inside(shape, newest_waiting(waiting.as_slice()));
+            let _operand = waiting.pop();
+            wait_for_operands(operator.fixity, loose, waiting)
+        }
     }
 }
 
-/// How loose the trees of operands are, where that of the operator is so loose.
-fn inside_applied<'a>(shape: &Shape, loose: Looseness<'a>) -> Looseness<'a>
-    ensures { loose_of result ≡ inside_applied shape.now (loose_of loose.entry) }
+/// The operands of an operator wait. The only error is that memory ran out.
+#[tactic(auto, using(crate::proofs::Steps::waits_more))]
+fn wait_for_operands<'a>(
+    fixity: Fixity,
+    loose: Looseness<'a>,
+    waiting: &mut Vec<Looseness<'a>>,
+) -> Result<(), AllocError>
+    ensures { OnOk result (waiting_of waiting.new.items ≡ operands_waiting fixity (loose_of loose.entry) (waiting_of waiting.old.items)) }
 {
-    if joins(shape) {
-        Looseness::OnlyText
-    } else {
-        as_kids(loose)
+    match fixity {
+        Fixity::Infix => waiting.push(loose)?,
+        Fixity::Prefix | Fixity::Postfix => {}
     }
+    waiting.push(loose)?;
+    Ok(())
 }
 
 /// Whether the shape joins texts to a leaf.
@@ -118,6 +130,23 @@ pub(crate) fn is_text(loose: &Looseness) -> bool
     match loose {
         Looseness::OnlyText => true,
         Looseness::Tight | Looseness::Apart(_) => false,
+    }
+}
+
+/// Whether what a chain of the shape makes stays as it is in a round that puts nothing to it.
+pub(crate) fn is_steady(shape: &Shape, loose: &Looseness) -> bool
+    ensures { result ≡ is_steady shape.now (loose_of loose.now) }
+{
+    is_text(loose) || flattens(shape)
+}
+
+/// Whether a tree of the shape stays as it is where it is made again of itself.
+fn flattens(shape: &Shape) -> bool
+    ensures { result ≡ flattens shape.now }
+{
+    match shape {
+        Shape::Flat(_) => true,
+        Shape::Node(_) | Shape::Symbol | Shape::Join => false,
     }
 }
 

@@ -1,11 +1,11 @@
 //! What was derived so far, and what is left to do.
 
 ghost use Rattle.std.specs.Prelude.{◌≡◌, ◌∷◌, [], reverse, length, map, set, Some, OnOk};
-ghost use Rattle.pg_replay.specs.Tasks.{node as one_node, parts as all_parts, rounds as some_rounds, more_rounds as some_more, links as some_links, operand as one_operand, settle, fold as one_fold, marked, operator_symbol as one_symbol, application as one_application, unmark as end_mark, close, leave, with_task, with_entered, after_item, moved_to, without_newest, with_marks, with_loose, first_mark, with_known, is_known};
-ghost use Rattle.pg_replay.specs.View.{state_of, chain_of, loose_of, if_known};
+ghost use Rattle.pg_replay.specs.Tasks.{node as one_node, parts as all_parts, rounds as some_rounds, more_rounds as some_more, links as some_links, operand as one_operand, linked, round_start, settle, fold as one_fold, marked, operator_symbol as one_symbol, application as one_application, unmark as end_mark, close, leave, with_task, with_entered, after_item, moved_to, without_newest, with_marks, with_loose, first_mark, with_known, is_known};
+ghost use Rattle.pg_replay.specs.View.{state_of, chain_of, start_of, loose_of, if_known};
 
 use crate::looseness::covers;
-use crate::task::{Chain, Looseness, Task};
+use crate::task::{Chain, Looseness, RoundStart, Task};
 use pg_form::{Around, BuilderUse, NodeId, OperatorBuilders, RuleId, Side};
 use pg_table::Table;
 use pg_tree::ForestTape;
@@ -114,7 +114,7 @@ impl<'a> Replayer<'a> {
         Ok(())
     }
 
-    /// The operand of the chain is, and then so many rounds.
+    /// The operand of the chain is, in a round that begins here, and then so many rounds.
     #[tactic(auto, using(crate::proofs::Stack::task_pushed))]
     pub(crate) fn push_operand(
         &mut self,
@@ -122,8 +122,13 @@ impl<'a> Replayer<'a> {
         left: usize,
         trees: usize,
     ) -> Result<(), AllocError>
-        ensures { OnOk result (state_of self.new ≡ with_task (one_operand (chain_of chain.now) left trees) (state_of self.old)) }
+        ensures { OnOk result (state_of self.new ≡ with_task (one_operand (chain_of chain.now) left trees (round_start (state_of self.old))) (state_of self.old)) }
     {
+        let from = RoundStart {
+            place: self.place,
+            trees: self.forest.len(),
+            items: self.rest.len(),
+        };
         self.tasks.reserve(1)?;
         self.tasks.push_reserved(Task::Operand {
             side: chain.side,
@@ -132,6 +137,33 @@ impl<'a> Replayer<'a> {
             separator: chain.separator,
             left,
             trees,
+            from,
+        });
+        Ok(())
+    }
+
+    /// What comes after an operand that begins here is.
+    #[tactic(auto, using(crate::proofs::Stack::task_pushed))]
+    pub(crate) fn push_linked(
+        &mut self,
+        chain: &Chain<'a>,
+        left: usize,
+        trees: usize,
+        from: RoundStart,
+    ) -> Result<(), AllocError>
+        ensures { OnOk result (state_of self.new ≡ with_task (linked (chain_of chain.now) left trees (length self.old.forest) (start_of from)) (state_of self.old)) }
+    {
+        let later = self.forest.len();
+        self.tasks.reserve(1)?;
+        self.tasks.push_reserved(Task::Linked {
+            side: chain.side,
+            used: chain.used,
+            part: chain.part,
+            separator: chain.separator,
+            left,
+            trees,
+            later,
+            from,
         });
         Ok(())
     }
@@ -161,13 +193,13 @@ impl<'a> Replayer<'a> {
         Ok(())
     }
 
-    /// The term of an expression is.
+    /// The term of an expression is, whose trees are so loose.
     #[tactic(auto, using(crate::proofs::Stack::task_pushed))]
-    pub(crate) fn push_term(&mut self, part: NodeId) -> Result<(), AllocError>
-        ensures { OnOk result (state_of self.new ≡ with_task (marked part) (state_of self.old)) }
+    pub(crate) fn push_term(&mut self, part: NodeId, loose: Looseness<'a>) -> Result<(), AllocError>
+        ensures { OnOk result (state_of self.new ≡ with_task (marked part (loose_of loose.entry)) (state_of self.old)) }
     {
         self.tasks.reserve(1)?;
-        self.tasks.push_reserved(Task::Term(part));
+        self.tasks.push_reserved(Task::Term(part, loose));
         Ok(())
     }
 

@@ -60,7 +60,7 @@ impl Replayer<'_> {
     }
 
     /// Whether nothing was taken since then, and no tree was given that can't be left out.
-    fn is_unchanged(&self, place: usize, trees: usize, items: usize) -> bool
+    pub(crate) fn is_unchanged(&self, place: usize, trees: usize, items: usize) -> bool
         ensures { result ≡ is_unchanged place trees items (state_of self.now) }
     {
         self.is_still(place, items) && (trees == self.forest.len() || is_text(&self.loose))

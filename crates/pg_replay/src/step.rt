@@ -75,6 +75,7 @@ impl<'a> Replayer<'a> {
                 separator,
                 left,
                 trees,
+                from,
             } => {
                 let chain = Chain {
                     side: *side,
@@ -82,14 +83,32 @@ impl<'a> Replayer<'a> {
                     part: *part,
                     separator: *separator,
                 };
-                self.operand(alloc, &chain, *left, *trees)
+                self.operand(alloc, &chain, *left, *trees, *from)
+            }
+            Task::Linked {
+                side,
+                used,
+                part,
+                separator,
+                left,
+                trees,
+                later,
+                from,
+            } => {
+                let chain = Chain {
+                    side: *side,
+                    used,
+                    part: *part,
+                    separator: *separator,
+                };
+                self.linked(&chain, *left, *trees, *later, *from)
             }
             Task::Settle(loose) => {
                 self.set_loose(*loose);
                 Ok(None)
             }
             Task::Fold { side, used, trees } => self.fold(alloc, *side, used, *trees),
-            Task::Term(part) => self.term(alloc, *part),
+            Task::Term(part, loose) => self.term(alloc, *part, *loose),
             Task::Symbol(operator) => Ok(self.symbol(grammar, text, operator)),
             Task::Application { builders, operator } => self.apply(alloc, builders, operator),
             Task::Unmark => self.end_expression(),

@@ -25,6 +25,14 @@ pub struct Chain<'a> {
     pub separator: NodeId,
 }
 
+/// Where a round of a chain began: the place, with so many trees before it and so many items left.
+#[derive(Clone, Copy)]
+pub struct RoundStart {
+    pub place: usize,
+    pub trees: usize,
+    pub items: usize,
+}
+
 /// A form around a part: its node, the place where the part began, with so many trees and operators before it and so many items
 /// left, and how loose trees are after it.
 #[derive(Drop)]
@@ -67,7 +75,7 @@ pub enum Task<'a> {
         left: usize,
         trees: usize,
     },
-    /// The operand after a separator, and then so many rounds.
+    /// The operand after a separator, with which a round began there, and then so many rounds.
     Operand {
         side: Side,
         used: &'a BuilderUse,
@@ -75,6 +83,19 @@ pub enum Task<'a> {
         separator: NodeId,
         left: usize,
         trees: usize,
+        from: RoundStart,
+    },
+    /// What comes after an operand of a round that began there: the folding and so many rounds, whose trees come from the right
+    /// after so many.
+    Linked {
+        side: Side,
+        used: &'a BuilderUse,
+        part: NodeId,
+        separator: NodeId,
+        left: usize,
+        trees: usize,
+        later: usize,
+        from: RoundStart,
     },
     /// From here on trees are so loose.
     Settle(Looseness<'a>),
@@ -84,8 +105,8 @@ pub enum Task<'a> {
         used: &'a BuilderUse,
         trees: usize,
     },
-    /// A term of an expression, whose trees begin the next operand.
-    Term(NodeId),
+    /// A term of an expression, whose trees are so loose and begin the next operand.
+    Term(NodeId, Looseness<'a>),
     /// The symbol of an operator.
     Symbol(&'a AppliedOperator),
     /// The operator is applied to the trees of its operands.

@@ -1,0 +1,136 @@
+-- How loose trees are in forms, chains and expressions, and what is left out where they are so loose.
+use Rattle.std.specs.Prelude.{◌==◌, ◌||◌, if◌then◌else◌, ℕ, List, [], ◌∷◌, Bool, true, false}
+use Rattle.std.specs.Str.{bytes_eq}
+use Rattle.pg_tree.specs.declared.shape.Shape.{Shape}
+use Rattle.pg_tree.specs.declared.shape.Shape.TheVariants as shaped
+use Rattle.pg_form.specs.declared.form.Around.{Around}
+use Rattle.pg_form.specs.declared.form.Around.TheVariants as kind
+use Rattle.pg_form.specs.declared.used.BuilderUse.{BuilderUse}
+use Rattle.pg_form.specs.declared.used.OperatorBuilders.{OperatorBuilders}
+use Rattle.pg_value.specs.declared.trail.Fixity.{Fixity}
+use Rattle.pg_value.specs.declared.trail.Fixity.TheVariants as fixity
+use Rattle.pg_fitting.specs.Steps.{Step, a_term, a_symbol, an_application}
+use Rattle.pg_replay.specs.States.{Looseness, tight, apart, only_text, Chain}
+
+-- ---- in trees of a shape, in chains and forms
+
+-- trees that are taken apart are tight in a tree whose kids they are
+abbrev pub as_kids : Looseness → Looseness
+as_kids tight = tight
+as_kids (apart label) = tight
+as_kids only_text = only_text
+
+-- or they are taken apart there
+abbrev pub as_flat : List ℕ → Looseness → Looseness
+as_flat label tight = apart label
+as_flat label (apart other) = apart label
+as_flat label only_text = only_text
+
+-- how loose the trees are of which a tree of the shape is built, where that one is so loose
+abbrev pub inside : Shape → Looseness → Looseness
+inside (shaped.Node label) l = as_kids l
+inside shaped.Symbol l = as_kids l
+inside shaped.Join l = only_text
+inside (shaped.Flat label) l = as_flat label l
+
+-- so they are in a chain that has a round
+abbrev pub inside_chain : Chain → ℕ → Looseness → Looseness
+inside_chain c n l = if n == 0 then l else inside c.used.shape l
+
+-- how loose the trees of the part are in the form, where what it makes is so loose
+abbrev pub inside_form : Around → Looseness → Looseness
+inside_form kind.Try l = l
+inside_form kind.Text l = only_text
+inside_form kind.Skip l = only_text
+inside_form (kind.Build used symbol) l = inside used.shape l
+inside_form (kind.Label message) l = l
+inside_form kind.Local l = l
+
+-- ---- in expressions
+
+abbrev pub builder_on : Fixity → OperatorBuilders → BuilderUse
+builder_on fixity.Prefix builders = builders.prefix
+builder_on fixity.Infix builders = builders.infix
+builder_on fixity.Postfix builders = builders.postfix
+
+-- the newest operand of those that wait
+abbrev pub newest_waiting : List Looseness → Looseness
+newest_waiting [] = tight
+newest_waiting (l ∷ ls) = l
+
+abbrev pub others_waiting : List Looseness → List Looseness
+others_waiting [] = []
+others_waiting (l ∷ ls) = ls
+
+-- an operator's operands wait in place of its tree
+abbrev pub operands_waiting : Fixity → Looseness → List Looseness → List Looseness
+operands_waiting fixity.Prefix l ls = l ∷ ls
+operands_waiting fixity.Infix l ls = l ∷ l ∷ ls
+operands_waiting fixity.Postfix l ls = l ∷ ls
+
+-- how loose the trees are of the operands that wait before a step, the newest first, by those that wait after it
+abbrev pub waiting_before : OperatorBuilders → Step → List Looseness → List Looseness
+waiting_before builders a_term ls = others_waiting ls
+waiting_before builders (a_symbol o) ls = ls
+waiting_before builders (an_application o) ls = operands_waiting o.fixity (inside (builder_on o.fixity builders).shape (newest_waiting ls)) (others_waiting ls)
+
+abbrev pub waiting : OperatorBuilders → List Step → List Looseness → List Looseness
+waiting builders [] ls = ls
+waiting builders (step ∷ steps) ls = waiting_before builders step (waiting builders steps ls)
+
+-- ---- what is left out
+
+-- whether trees that are left out where they are so loose can be left out where they are as loose as the other
+abbrev pub covers : Looseness → Looseness → Bool
+covers tight l = true
+covers (apart label) tight = false
+covers (apart label) (apart other) = bytes_eq label other
+covers (apart label) only_text = true
+covers only_text tight = false
+covers only_text (apart label) = false
+covers only_text only_text = true
+
+-- whether nothing but the text of trees is answered
+abbrev pub is_text : Looseness → Bool
+is_text tight = false
+is_text (apart label) = false
+is_text only_text = true
+
+-- whether the shape joins texts to a leaf
+abbrev pub joins : Shape → Bool
+joins (shaped.Node label) = false
+joins shaped.Symbol = false
+joins shaped.Join = true
+joins (shaped.Flat label) = false
+
+-- whether a tree of the shape stays as it is where it is made again of itself
+abbrev pub flattens : Shape → Bool
+flattens (shaped.Node label) = false
+flattens shaped.Symbol = false
+flattens shaped.Join = false
+flattens (shaped.Flat label) = true
+
+-- whether what a chain makes stays as it is in a round that puts nothing to it
+abbrev pub is_steady : Shape → Looseness → Bool
+is_steady shape loose = is_text loose || flattens shape
+
+-- whether the shape's tree has the label
+abbrev pub has_label : Shape → (symbol label : List ℕ) → Bool
+has_label (shaped.Node other) symbol label = bytes_eq other label
+has_label shaped.Symbol symbol label = bytes_eq symbol label
+has_label shaped.Join symbol label = false
+has_label (shaped.Flat other) symbol label = bytes_eq other label
+
+abbrev pub makes_node : Around → List ℕ → Bool
+makes_node kind.Try label = false
+makes_node kind.Text label = false
+makes_node kind.Skip label = false
+makes_node (kind.Build used symbol) label = has_label used.shape symbol label
+makes_node (kind.Label message) label = false
+makes_node kind.Local label = false
+
+-- whether a tree without kids that the form makes is left out, since its kids take its place
+abbrev pub leaves_out : Around → Looseness → Bool
+leaves_out k tight = false
+leaves_out k (apart label) = makes_node k label
+leaves_out k only_text = false
