@@ -1,9 +1,9 @@
 -- How conditions are broken, kept one after another up to so many.
-use Rattle.std.proofs.Common.{◌≡◌, ℕ, zero, suc, ◌+◌, ◌<◌, ◌≤◌, List, [], ◌∷◌, ◌++◌, take, length, append-nil, append_assoc, refl, sym, ap, ◌∙◌, arith}
+use Rattle.std.proofs.Common.{◌≡◌, ℕ, zero, suc, ◌+◌, ◌-◌, ◌^◌, ◌<◌, ◌≤◌, min, List, [], ◌∷◌, ◌++◌, take, length, append-nil, append_assoc, refl, sym, ap, ◌∙◌, arith}
 use Rattle.std.proofs.Math.Numerals.{add-one}
-use Rattle.std.proofs.lemmas.List.{map-append, take_all, take-append-le}
+use Rattle.std.proofs.lemmas.List.{map-append, length-append, length-map, take_all, take-append-le}
 use Rattle.pg_predict.specs.Judged.{all_below}
-use Rattle.pg_predict.specs.Violations.{Violation, kinds_of}
+use Rattle.pg_predict.specs.Violations.{Violation, kinds_of, counted}
 use Rattle.pg_predict.specs.declared.violation.ViolationKind.{ViolationKind}
 
 -- keeping so many of what comes after those that were kept
@@ -32,3 +32,24 @@ kept_none n old few = sym (ap (take n) (append-nil old) ∙ take_all n old few)
 -- there are enough
 pub kept_full : (n : ℕ) (old xs : List (ViolationKind ℕ)) → length old ≤ n → n ≤ length old → old ≡ take n (old ++ xs)
 kept_full n old xs few full = sym (take-append-le n old xs full ∙ take_all n old few)
+
+-- ---- how many there are
+
+-- of some and then others
+pub counted_both : {A : Type 0} (xs ys : List A) (one other both : ℕ) → one ≡ counted xs → other ≡ counted ys → both ≡ min (one + other) (2 ^ 64 - 1) → both ≡ counted (xs ++ ys)
+counted_both xs ys one other both first then sum =
+    let long : length (xs ++ ys) ≡ length xs + length ys = length-append xs ys in
+    capped (length xs) (length ys) one other both first then sum ∙ ap (λ (n : ℕ). min n (2 ^ 64 - 1)) (sym long)
+  where
+    capped : (m n one other both : ℕ) → one ≡ min m (2 ^ 64 - 1) → other ≡ min n (2 ^ 64 - 1) → both ≡ min (one + other) (2 ^ 64 - 1) → both ≡ min (m + n) (2 ^ 64 - 1)
+    capped m n one other both first then sum = omega arith
+
+-- of what is found for the next number
+pub counted_next : (f : ℕ → List (Violation ℕ)) (k one other both : ℕ) → one ≡ counted (all_below f k) → other ≡ counted (f k) → both ≡ min (one + other) (2 ^ 64 - 1)
+    → both ≡ counted (all_below f (k + 1))
+counted_next f k one other both first then sum =
+    counted_both (all_below f k) (f k) one other both first then sum ∙ ap (λ (m : ℕ). counted (all_below f m)) (sym (add-one k))
+
+-- kinds are as many as violations
+pub counted_kinds : (vs : List (Violation ℕ)) → counted (kinds_of vs) ≡ counted vs
+counted_kinds vs = ap (λ (n : ℕ). min n (2 ^ 64 - 1)) (length-map vs (λ (v : Violation ℕ). v.kind))

@@ -1,4 +1,4 @@
-//! What is wrong at a node, as values.
+//! What is wrong at a node, as values, and how much that is.
 //!
 //! The questions are asked as when lines are written (`lines.rt`), and no more is kept than is wanted: a choice can break a condition
 //! for each two of its alternatives.
@@ -7,7 +7,7 @@ ghost use Rattle.pg_predict.specs.Judged.{is_costly, noted, noted_node, noted_gr
 ghost use Rattle.pg_predict.specs.Questions.{node_series, node_questions, asked_node};
 ghost use Rattle.pg_predict.specs.Refusals.{kinds_at};
 ghost use Rattle.pg_predict.specs.Texts.{IsSource};
-ghost use Rattle.pg_predict.specs.Violations.{kinds_of};
+ghost use Rattle.pg_predict.specs.Violations.{kinds_of, counted};
 ghost use Rattle.pg_predict.specs.declared.violation.ViolationKind.TheVariants.{StepCostOver};
 
 use crate::judge::Judge;
@@ -130,4 +130,56 @@ fn keep(
         kinds.push(kind)?;
     }
     Ok(())
+}
+
+/// How many are wrong at a node.
+pub(crate) fn count_kinds(source: &Source, node: NodeId) -> usize
+    requires source { IsSource source.now }
+    requires node { node < length source.now.grammar.nodes }
+    ensures { result ≡ counted (kinds_at node (noted_grammar source.now.grammar source.now.judge)) }
+{
+    let count = count_node(source, node);
+    if source.judge.is_costly(node) {
+        count.saturating_add(1)
+    } else {
+        count
+    }
+}
+
+/// How many are wrong at the node itself.
+fn count_node(source: &Source, node: NodeId) -> usize
+    requires source { IsSource source.now }
+    requires node { node < length source.now.grammar.nodes }
+    ensures { result ≡ counted (noted_node source.now.grammar source.now.judge node) }
+{
+    let form = source.grammar.node(node);
+    let mut count: usize = 0;
+    for series in 0..series_count(form) {
+        count = count.saturating_add(count_series(source, node, form, series));
+    }
+    count
+}
+
+/// How much the questions of a series find.
+fn count_series(source: &Source, node: NodeId, form: &Node, series: usize) -> usize
+    requires source { IsSource source.now }
+    requires form { slice_get source.now.grammar.nodes node ≡ Some form.now }
+    ensures { result ≡ counted (node_series source.now.judge node form.now series) }
+{
+    let mut count: usize = 0;
+    for question in 0..node_questions(&source.judge, form, series) {
+        count = count.saturating_add(count_answer(&source.judge, node, form, series, question));
+    }
+    count
+}
+
+/// How much a question finds: one thing, or nothing.
+fn count_answer(judge: &Judge, node: NodeId, form: &Node, series: usize, question: usize) -> usize
+    requires { question < node_questions judge.now form.now series }
+    ensures { result ≡ counted (asked_node judge.now node form.now series question) }
+{
+    match ask_node(judge, node, form, series, question) {
+        Some(_) => 1,
+        None => 0,
+    }
 }

@@ -7,8 +7,9 @@ ghost use Rattle.std.specs.Io.KnownBytes.{Appends};
 ghost use Rattle.pg_tree.specs.Bytes.{AppendsPrefix};
 ghost use Rattle.pg_predict.specs.Findings.{lines_of};
 ghost use Rattle.pg_predict.specs.Refusals.{kinds_at};
+ghost use Rattle.pg_predict.specs.Violations.{counted};
 
-use crate::at_node::first_kinds;
+use crate::at_node::{count_kinds, first_kinds};
 use crate::lines::write_lines;
 use crate::source::Source;
 use crate::violation::ViolationKind;
@@ -80,6 +81,14 @@ impl Refused {
         ensures { IfOk result (λ kinds. kinds.items ≡ take most (kinds_at node self.now.violations)) }
     {
         first_kinds(alloc, &self.source, node, most)
+    }
+
+    /// How many things are wrong at a node; the greatest number that there is stands for more. It takes no memory.
+    pub fn count_at(&self, node: NodeId) -> usize
+        requires { node < length self.now.grammar.nodes }
+        ensures { result ≡ counted (kinds_at node self.now.violations) }
+    {
+        count_kinds(&self.source, node)
     }
 
     /// The grammar, as it was handed in.

@@ -1,0 +1,128 @@
+//! A finding, told in lines.
+
+use crate::emptiness::emptiness;
+use crate::headlines::{code, headline};
+use crate::known::Known;
+use crate::lines::{
+    push_alternative, push_both, push_first, push_follow, push_gap, push_line, push_operator,
+};
+use crate::mentions::{place_in, place_text};
+use crate::recursion::recursion;
+use pg_form::{NodeId, RuleId};
+use pg_predict::ViolationKind;
+use std::alloc::{AllocError, Global};
+
+/// Pushes a finding, with an empty line before it unless it is the first: where it is, what is wrong, and how that comes about. The only
+/// error is that memory ran out.
+pub(crate) fn push_finding(
+    alloc: Global,
+    page: &mut String,
+    known: &Known,
+    node: NodeId,
+    kind: &ViolationKind<usize>,
+) -> Result<(), AllocError> {
+    if !page.is_empty() {
+        page.push_str("\n")?;
+    }
+    let place = place_text(alloc, known, node)?;
+    let code = code(kind);
+    let words = headline(alloc, known, node, kind)?;
+    let line = format!(in alloc; "{place}: {code} {words}\n")?;
+    page.push_str(line.as_str())?;
+    push_lines(alloc, page, known, node, kind)
+}
+
+/// Pushes how it comes about.
+fn push_lines(
+    alloc: Global,
+    page: &mut String,
+    known: &Known,
+    node: NodeId,
+    kind: &ViolationKind<usize>,
+) -> Result<(), AllocError> {
+    match kind {
+        ViolationKind::LeftRecursion => push_recursion(alloc, page, known, node),
+        ViolationKind::EmptyRound | ViolationKind::EmptyOperand => {
+            push_emptiness(alloc, page, known, known.emptied(node))
+        }
+        ViolationKind::EmptyAlternative(k) => {
+            push_emptiness(alloc, page, known, known.alternative(node, *k))
+        }
+        ViolationKind::AlternativesMeet(j, k, one, other) => {
+            push_alternative(alloc, page, known, node, *j, *one)?;
+            push_alternative(alloc, page, known, node, *k, *other)?;
+            push_both(alloc, page, known, *one, *other)
+        }
+        ViolationKind::AlternativeMeetsFollow(k, one, other) => {
+            push_alternative(alloc, page, known, node, *k, *one)?;
+            push_follow(alloc, page, known, node, *other)?;
+            push_both(alloc, page, known, *one, *other)
+        }
+        ViolationKind::RoundMeetsFollow(one, other) => {
+            let part = known.round(node, *one);
+            push_first(alloc, page, known, "a round", part, *one)?;
+            push_follow(alloc, page, known, node, *other)?;
+            push_both(alloc, page, known, *one, *other)
+        }
+        ViolationKind::OperandMeetsOperators(start) => {
+            let term = known.round(node, *start);
+            push_first(alloc, page, known, "an operand", term, *start)?;
+            push_operator(alloc, page, known, *start)
+        }
+        ViolationKind::FollowMeetsOperators(start) => {
+            push_follow(alloc, page, known, node, *start)?;
+            push_operator(alloc, page, known, *start)
+        }
+        ViolationKind::GapMeets(start) => push_gap_met(alloc, page, known, node, *start),
+        ViolationKind::StepCostOver => push_line(
+            page,
+            "a parse could take that many steps for each character; no text loses anything",
+        ),
+    }
+}
+
+/// Pushes how a rule comes back to itself.
+fn push_recursion(
+    alloc: Global,
+    page: &mut String,
+    known: &Known,
+    node: NodeId,
+) -> Result<(), AllocError> {
+    let Some(place) = place_in(known, node) else {
+        return Ok(());
+    };
+    let way = recursion(alloc, known, RuleId::new(place.rule))?;
+    let line = format!(in alloc; "it comes back to itself before anything is taken: {way}")?;
+    push_line(page, line.as_str())
+}
+
+/// Pushes how a node can be empty.
+fn push_emptiness(
+    alloc: Global,
+    page: &mut String,
+    known: &Known,
+    node: NodeId,
+) -> Result<(), AllocError> {
+    let words = emptiness(alloc, known, node)?;
+    let line = format!(in alloc; "it takes nothing where {words}")?;
+    push_line(page, line.as_str())
+}
+
+/// Pushes what a gap meets.
+fn push_gap_met(
+    alloc: Global,
+    page: &mut String,
+    known: &Known,
+    node: NodeId,
+    start: usize,
+) -> Result<(), AllocError> {
+    if start >= known.sets.starts().len() {
+        push_line(page, "operators begin with what a gap has")?;
+    } else if known.begins_term(node, start) {
+        let term = known.round(node, start);
+        push_first(alloc, page, known, "an operand", term, start)?;
+    } else {
+        push_follow(alloc, page, known, node, start)?;
+    }
+    push_gap(alloc, page, known, start)
+}

@@ -1,0 +1,69 @@
+//! What is wrong, in a line.
+
+use crate::known::Known;
+use pg_form::NodeId;
+use pg_predict::ViolationKind;
+use std::alloc::{AllocError, Global};
+
+/// The code of what is wrong, as a check has it.
+pub(crate) fn code(kind: &ViolationKind<usize>) -> &'static str {
+    match kind {
+        ViolationKind::LeftRecursion => "C1",
+        ViolationKind::EmptyRound => "C2",
+        ViolationKind::EmptyAlternative(_) => "C3",
+        ViolationKind::AlternativesMeet(_, _, _, _) => "C4",
+        ViolationKind::AlternativeMeetsFollow(_, _, _) => "C5",
+        ViolationKind::RoundMeetsFollow(_, _) => "C6",
+        ViolationKind::EmptyOperand | ViolationKind::OperandMeetsOperators(_) => "C7",
+        ViolationKind::FollowMeetsOperators(_) => "C8",
+        ViolationKind::GapMeets(_) => "C9",
+        ViolationKind::StepCostOver => "C11",
+    }
+}
+
+/// What is wrong, in words. The only error is that memory ran out.
+pub(crate) fn headline(
+    alloc: Global,
+    known: &Known,
+    node: NodeId,
+    kind: &ViolationKind<usize>,
+) -> Result<String, AllocError> {
+    match kind {
+        ViolationKind::LeftRecursion => String::from_str(alloc, "the rule is left-recursive"),
+        ViolationKind::EmptyRound => String::from_str(alloc, "a round can be empty"),
+        ViolationKind::EmptyAlternative(k) => {
+            format!(in alloc; "alternative {k} can be empty, so those after it are never tried")
+        }
+        ViolationKind::AlternativesMeet(j, k, _, _) => {
+            format!(in alloc; "alternatives {j} and {k} meet")
+        }
+        ViolationKind::AlternativeMeetsFollow(k, _, _) => {
+            format!(in alloc; "alternative {k} meets what follows")
+        }
+        ViolationKind::RoundMeetsFollow(_, _) => {
+            String::from_str(alloc, "a round meets what follows")
+        }
+        ViolationKind::EmptyOperand => String::from_str(alloc, "an operand can be empty"),
+        ViolationKind::OperandMeetsOperators(_) => {
+            String::from_str(alloc, "an operand meets operators")
+        }
+        ViolationKind::FollowMeetsOperators(_) => {
+            String::from_str(alloc, "what follows meets operators")
+        }
+        ViolationKind::GapMeets(start) => String::from_str(alloc, gap(known, node, *start)),
+        ViolationKind::StepCostOver => {
+            String::from_str(alloc, "the step cost is over 4294967296")
+        }
+    }
+}
+
+/// What a gap meets: operators, whose start has a number after those of the sets, or what begins the term, or what follows.
+fn gap(known: &Known, node: NodeId, start: usize) -> &'static str {
+    if start >= known.sets.starts().len() {
+        "a gap meets operators"
+    } else if known.begins_term(node, start) {
+        "a gap meets an operand"
+    } else {
+        "a gap meets what follows"
+    }
+}

@@ -1,0 +1,140 @@
+//! What is asked of a grammar while its findings are told.
+
+use crate::contained::contained_sets;
+use pg_class::Class;
+use pg_form::{Form, Node, NodeId};
+use pg_graph::Numbers;
+use pg_own_starts::{ListedStart, OperatorStarts, classes_of_items, operator_starts};
+use pg_predict::Refused;
+use pg_sets::Sets;
+use pg_value::{Grammar, Rule};
+use std::alloc::{AllocError, Global};
+
+/// A grammar with what is asked of it.
+#[derive(Drop)]
+pub(crate) struct Known<'g> {
+    pub(crate) grammar: &'g Grammar,
+    pub(crate) sets: &'g Sets,
+    /// The classes of the class items.
+    pub(crate) classes: Vec<Class>,
+    /// How operators and gaps begin, if there are any.
+    pub(crate) operators: Option<OperatorStarts>,
+    /// For each first and each follow set those that it contains.
+    pub(crate) contained: Vec<Numbers>,
+}
+
+impl<'g> Known<'g> {
+    /// What is asked of a grammar that is refused. The only error is that memory ran out.
+    pub(crate) fn of(alloc: Global, refused: &'g Refused) -> Result<Known<'g>, AllocError> {
+        let grammar = refused.grammar();
+        let sets = refused.sets();
+        let classes = classes_of_items(alloc, grammar.class_items())?;
+        let operators = operator_starts(alloc, grammar)?;
+        let contained = contained_sets(alloc, grammar, sets)?;
+        Ok(Known {
+            grammar,
+            sets,
+            classes,
+            operators,
+            contained,
+        })
+    }
+
+    /// How many nodes there are.
+    pub(crate) fn count(&self) -> usize {
+        self.grammar.nodes().len()
+    }
+
+    /// What stands at a node, if it is there.
+    pub(crate) fn form(&self, node: NodeId) -> Option<&Node> {
+        self.grammar.nodes().get(node.index())
+    }
+
+    /// The rule with this number, if it is there.
+    pub(crate) fn rule(&self, number: usize) -> Option<&Rule> {
+        self.grammar.rules().get(number)
+    }
+
+    /// The start with this number: one of the sets, or that of operators.
+    pub(crate) fn start(&self, number: usize) -> Option<&ListedStart> {
+        match self.sets.starts().get(number) {
+            Some(listed) => Some(listed),
+            None => self.operator(),
+        }
+    }
+
+    /// The start of operators, if there are any.
+    pub(crate) fn operator(&self) -> Option<&ListedStart> {
+        match &self.operators {
+            Some(both) => Some(&both.operator),
+            None => None,
+        }
+    }
+
+    /// The alternative with this number, from 1; the node itself, if it has none.
+    pub(crate) fn alternative(&self, node: NodeId, number: usize) -> NodeId {
+        match self.form(node) {
+            Some(Form::Choice(parts)) => match parts.as_slice().get(number.saturating_sub(1)) {
+                Some(part) => *part,
+                None => node,
+            },
+            Some(
+                Form::Leaf(_)
+                | Form::Seq(_)
+                | Form::Many(_)
+                | Form::Chain(_, _, _, _)
+                | Form::Rule(_)
+                | Form::Expression(_, _)
+                | Form::Around(_, _),
+            )
+            | None => node,
+        }
+    }
+
+    /// The part of a repetition that begins a round with this start; the term of an expression; else the node itself.
+    pub(crate) fn round(&self, node: NodeId, start: usize) -> NodeId {
+        match self.form(node) {
+            Some(Form::Many(part) | Form::Expression(_, part)) => *part,
+            Some(Form::Chain(_, _, operand, separator)) => {
+                if self.sets.first(*separator).contains(start) {
+                    *separator
+                } else {
+                    *operand
+                }
+            }
+            Some(
+                Form::Leaf(_) | Form::Seq(_) | Form::Choice(_) | Form::Rule(_) | Form::Around(_, _),
+            )
+            | None => node,
+        }
+    }
+
+    /// Whether what stands at a node is an expression whose term begins with this start.
+    pub(crate) fn begins_term(&self, node: NodeId, start: usize) -> bool {
+        match self.form(node) {
+            Some(Form::Expression(_, term)) => self.sets.first(*term).contains(start),
+            Some(
+                Form::Leaf(_)
+                | Form::Seq(_)
+                | Form::Choice(_)
+                | Form::Many(_)
+                | Form::Chain(_, _, _, _)
+                | Form::Rule(_)
+                | Form::Around(_, _),
+            )
+            | None => false,
+        }
+    }
+
+    /// The part of a repetition, the separator of a chain, or the term of an expression; else the node itself.
+    pub(crate) fn emptied(&self, node: NodeId) -> NodeId {
+        match self.form(node) {
+            Some(Form::Many(part) | Form::Expression(_, part) | Form::Chain(_, _, _, part)) =>
+                *part,
+            Some(
+                Form::Leaf(_) | Form::Seq(_) | Form::Choice(_) | Form::Rule(_) | Form::Around(_, _),
+            )
+            | None => node,
+        }
+    }
+}

@@ -1,0 +1,25 @@
+//! What is wrong with a grammar, told for people.
+//!
+//! A finding is told with the starts that meet in words, the way of rules and nodes by which each comes to where it is met, and a character
+//! that both take. Nothing is claimed here: what is wrong comes from `pg_predict`, and a way goes along the edges of the sets, of which
+//! `pg_sets` is proved to hand starts on along them. So the code owes that it is safe and ends, and its words are held by tests.
+#![tactic(auto)]
+
+mod chains;
+mod class_words;
+mod common;
+mod contained;
+mod emptiness;
+mod findings;
+mod headlines;
+mod known;
+mod lines;
+mod mentions;
+mod page;
+mod paths;
+mod quoted;
+mod recursion;
+mod steps;
+mod words;
+
+pub use page::explanation;

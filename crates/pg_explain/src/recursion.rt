@@ -1,0 +1,69 @@
+//! How a rule comes back to itself before anything is taken.
+
+use crate::known::Known;
+use crate::mentions::rule_name;
+use crate::paths::shortest_way;
+use crate::steps::Steps;
+use pg_form::RuleId;
+use pg_graph::{Numbers, empty_lists, join};
+use std::alloc::{AllocError, Global};
+
+/// The rules of a shortest way from a rule to itself, each of which heads the one before it, in words. The only error is that memory ran out.
+pub(crate) fn recursion(alloc: Global, known: &Known, rule: RuleId) -> Result<String, AllocError> {
+    let count = known.grammar.rules().len();
+    let graph = headed(alloc, known, rule, count)?;
+    let marks = vec![in alloc; true; graph.len()]?;
+    let ends = only(alloc, count, rule.index())?;
+    let way = shortest_way(alloc, &graph, &marks, &ends, count)?;
+    told_way(alloc, known, rule, &way)
+}
+
+/// For each rule its heads, and last those of the rule that is come back to, so that a way that begins there ends at the rule.
+fn headed(
+    alloc: Global,
+    known: &Known,
+    rule: RuleId,
+    count: usize,
+) -> Result<Vec<Numbers>, AllocError> {
+    let mut graph = empty_lists(alloc, count.saturating_add(1))?;
+    for number in 0..count {
+        join_heads(known.sets.heads(RuleId::new(number)), number, &mut graph)?;
+    }
+    join_heads(known.sets.heads(rule), count, &mut graph)?;
+    Ok(graph)
+}
+
+fn join_heads(heads: &[RuleId], number: usize, graph: &mut Vec<Numbers>) -> Result<(), AllocError> {
+    for head in heads {
+        join(graph, number, head.index())?;
+    }
+    Ok(())
+}
+
+/// A mark on this number alone, of so many.
+fn only(alloc: Global, count: usize, number: usize) -> Result<Vec<bool>, AllocError> {
+    let mut marks = Vec::new(alloc);
+    for other in 0..count {
+        marks.push(other == number)?;
+    }
+    Ok(marks)
+}
+
+/// The names of the rules on a way, the one that it begins with first.
+fn told_way(
+    alloc: Global,
+    known: &Known,
+    rule: RuleId,
+    way: &[usize],
+) -> Result<String, AllocError> {
+    let mut steps = Steps::new(alloc);
+    let name = rule_name(alloc, known, rule.index())?;
+    steps.tell(name.as_str())?;
+    if let [_, after @ ..] = way {
+        for number in after {
+            let name = rule_name(alloc, known, *number)?;
+            steps.tell(name.as_str())?;
+        }
+    }
+    Ok(steps.into_text())
+}
