@@ -1,10 +1,13 @@
 -- What is answered from bytes to bytes has the exit status that says so.
-use Rattle.std.proofs.Common.{◌≡◌, ◌⊎◌, ℕ, List, Bool, true, false, Option, Result, Ok, Err, sym, subst, inl, inr}
+use Rattle.std.proofs.Common.{◌≡◌, ◌⊎◌, ℕ, List, Bool, true, false, Option, Result, Ok, Err, codes, sym, subst, inl, inr}
 use Rattle.std.specs.Prelude.{IfErr, OnOk}
 use Rattle.std.specs.String.{string_bytes}
 use Rattle.pg_pred.specs.Offer.{Offer}
 use Rattle.pg_language.specs.declared.reading.Reading.{Reading}
-use Rattle.pg_grammar_bench.specs.Checking.{IsChecked}
+use Rattle.pg_predict.specs.Findings.{lines_of}
+use Rattle.pg_grammar_bench.specs.Checking.{IsChecked, is_accepted, is_refused}
+use Rattle.pg_grammar_bench.specs.Explaining.{IsExplainedFile}
+use Rattle.pg_grammar_bench.specs.declared.explain.Explained.TheVariants as told
 use Rattle.pg_grammar_bench.specs.Faults.{IsPageRefusal, IsVerifyRefusal, IfNotVerified, IfRefused, IfParseError}
 use Rattle.pg_grammar_bench.specs.Files.{AreFindingsOf}
 use Rattle.pg_bench.specs.declared.done.Done.{Done}
@@ -35,6 +38,20 @@ check_fault_status offer file fault status h is = subst (IsCheckStatus offer fil
     own Writer h = unusable
     own Memory h = out_of_memory
     own _ h = absurd h
+
+-- ---- what is told for people
+
+pub faultless_status : (offer : Offer) (file : List ℕ) (writer held : Option (List ℕ)) → IsExplainedFile offer file writer held told.Accepted → IsCheckStatus offer file 0
+faultless_status offer file writer held h =
+    yes (false, codes "accepted\n", record { grammar = h.grammar; spelled = h.spelled; judged = is_accepted h.explained.tells.0 })
+
+pub faulty_status : (offer : Offer) (file : List ℕ) (writer held : Option (List ℕ)) → IsExplainedFile offer file writer held told.Refused → IsCheckStatus offer file 1
+faulty_status offer file writer held h =
+    let tells = h.explained.tells in
+    no (false, lines_of tells.0, record { grammar = h.grammar; spelled = h.spelled; judged = is_refused tells.1 tells.2 })
+
+pub check_unusable : (offer : Offer) (file : List ℕ) (status : ℕ) → status ≡ 2 → IsCheckStatus offer file status
+check_unusable offer file status is = subst (IsCheckStatus offer file) (sym is) unusable
 
 -- ---- a judgement of a certificate
 

@@ -10,10 +10,11 @@ ghost use Rattle.pg_registry.specs.ProgramOffer.{IsProgramOffer};
 ghost use Rattle.pg.specs.Status.{IsCheckStatus, IsParseStatus, IsProbeStatus, IsReplayStatus, IsPrintStatus, IsVerifyStatus};
 
 use crate::files::{grammar_alone, grammar_with_certificate, inputs, inputs_with_trail};
-use crate::printing::{UNUSABLE, print_report, print_verdict};
+use crate::printing::{UNUSABLE, not_there, print_report, print_verdict};
 use crate::reporting::Names;
 use pg_bench::{
-    check_bytes, parse_bytes, print_bytes, probe_bytes, replay_bytes, sets_bytes, verify_bytes,
+    Explained, check_bytes, explain_bytes, parse_bytes, print_bytes, probe_bytes, replay_bytes,
+    sets_bytes, verify_bytes,
 };
 use pg_language::Reading;
 use pg_pred::Registry;
@@ -59,6 +60,7 @@ fn answer<R: AllocGlobal + Files + Print + Eprint>(
             grammar,
             certificate,
         } => check_file(rt, grammar, registry, certificate),
+        Request::Explain { grammar, asked } => explain_file(rt, grammar, registry, asked),
         Request::Verify {
             grammar,
             certificate,
@@ -118,6 +120,38 @@ fn check_grammar<R: AllocGlobal + Files + Print + Eprint>(
     match check_bytes(rt.alloc(), bytes, registry, &mut writer, certificate) {
         Ok(true) => Ok(0),
         Ok(false) => Ok(NO),
+        Err(fault) => print_report(rt, fault, of_grammar(grammar)),
+    }
+}
+
+/// Prints what is wrong with the grammar in a file, told for people.
+fn explain_file<R: AllocGlobal + Files + Print + Eprint>(
+    rt: &R,
+    grammar: &str,
+    registry: &Registry,
+    asked: &str,
+) -> Result<u8, AllocError> {
+    match grammar_alone(rt, grammar)? {
+        Some(bytes) => explain_grammar(rt, bytes.as_slice(), grammar, registry, asked),
+        None => Ok(UNUSABLE),
+    }
+}
+
+#[tactic(auto, using(crate::proofs::Statuses::faultless_status, crate::proofs::Statuses::faulty_status, crate::proofs::Statuses::check_unusable, crate::proofs::Statuses::check_fault_status))]
+fn explain_grammar<R: AllocGlobal + Files + Print + Eprint>(
+    rt: &R,
+    bytes: &[u8],
+    grammar: &str,
+    registry: &Registry,
+    asked: &str,
+) -> Result<u8, AllocError>
+    ensures { IfOk result (IsCheckStatus (offer_of registry.now) bytes.now) }
+{
+    let mut writer = Meter::new(io::writer(rt));
+    match explain_bytes(rt.alloc(), bytes, registry, &mut writer, asked) {
+        Ok(Explained::Accepted) => Ok(0),
+        Ok(Explained::Refused) => Ok(NO),
+        Ok(Explained::NotThere) => Ok(not_there(rt, grammar, asked)),
         Err(fault) => print_report(rt, fault, of_grammar(grammar)),
     }
 }

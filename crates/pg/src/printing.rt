@@ -121,6 +121,13 @@ pub fn cannot_read<R: Eprint>(rt: &R, name: &str) -> u8
     refuse(rt, format_args!("{name}: cannot read"))
 }
 
+/// Says that a grammar has no such rule or node, and gives the status.
+pub fn not_there<R: Eprint>(rt: &R, name: &str, asked: &str) -> u8
+    ensures { result ≡ UNUSABLE }
+{
+    refuse(rt, format_args!("{name}: no rule or node {asked}"))
+}
+
 /// Says why nothing can be done, and gives the status.
 pub fn refuse<R: Eprint, M: Display + Drop>(rt: &R, message: M) -> u8
     ensures { result ≡ UNUSABLE }

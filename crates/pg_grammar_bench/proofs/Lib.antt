@@ -1,3 +1,4 @@
 pub mod Results
 pub mod Judged
 pub mod Findings
+pub mod Told

@@ -23,6 +23,11 @@ const HELP_OF_CHECK: &str =
 
 Example: pgw check examples/color.g";
 
+const HELP_OF_EXPLAIN: &str =
+    "Exit status: 0 accepted, 1 findings, 2 trouble (words or files that can't be used, a rule or node that isn't there), 3 out of memory
+
+Example: pgw explain examples/lost-alternative.g";
+
 const HELP_OF_VERIFY: &str =
     "Exit status: 0 accepted, 1 the certificate doesn't show that, 2 trouble (words or files that can't be used), 3 out of memory
 
@@ -60,6 +65,12 @@ pub enum Request<'a> {
     Check {
         grammar: &'a str,
         certificate: bool,
+    },
+    /// Tell for people what is wrong with the grammar, in all or at a rule or at one of its nodes, as `RULE` or `RULE:NODE`; all of it where
+    /// this is empty.
+    Explain {
+        grammar: &'a str,
+        asked: &'a str,
     },
     /// Say whether the certificate shows that the grammar is accepted, or why it doesn't.
     Verify {
@@ -119,6 +130,7 @@ fn with_reading_commands<'a>(
     program: Command<'a>,
 ) -> Result<Command<'a>, AllocError> {
     let program = with_command(program, check_command(alloc))?;
+    let program = with_command(program, explain_command(alloc))?;
     let program = with_command(program, verify_command(alloc))?;
     let program = with_command(program, parse_command(alloc))?;
     let program = with_command(program, probe_command(alloc))?;
@@ -148,6 +160,16 @@ fn check_command<'a>(alloc: Global) -> Result<Command<'a>, AllocError> {
         .after_help(HELP_OF_CHECK)
         .arg(certificate(alloc))?
         .arg(file(alloc, "grammar", "The grammar file"))
+}
+
+fn explain_command<'a>(alloc: Global) -> Result<Command<'a>, AllocError> {
+    Command::new(alloc, "explain")
+        .about(
+            "Tells why a grammar is refused: what meets, through which rules, and at which character",
+        )
+        .after_help(HELP_OF_EXPLAIN)
+        .arg(file(alloc, "grammar", "The grammar file"))?
+        .arg(nodes(alloc))
 }
 
 fn verify_command<'a>(alloc: Global) -> Result<Command<'a>, AllocError> {
@@ -208,6 +230,14 @@ fn certificate<'a>(alloc: Global) -> Arg<'a> {
         .help("Prints what shows that the grammar is accepted, as JSON")
 }
 
+/// The word that asks for a rule or a node.
+fn nodes<'a>(alloc: Global) -> Arg<'a> {
+    Arg::new(alloc, "nodes")
+        .value_name("RULE[:NODE]")
+        .action(ArgAction::Set)
+        .help("The rule, or the one of its nodes, that is asked for")
+}
+
 /// The word that asks for the trail.
 fn trail<'a>(alloc: Global) -> Arg<'a> {
     Arg::new(alloc, "trail")
@@ -264,6 +294,10 @@ pub fn request_of<'a>(matches: &ArgMatches<'a>) -> Option<Request<'a>> {
         "check" => Some(Request::Check {
             grammar: found.get_str("grammar")?,
             certificate: found.get_flag("certificate"),
+        }),
+        "explain" => Some(Request::Explain {
+            grammar: found.get_str("grammar")?,
+            asked: found.get_str("nodes").unwrap_or(""),
         }),
         "verify" => Some(Request::Verify {
             grammar: found.get_str("grammar")?,

@@ -49,7 +49,7 @@ OwnSetsAreClosed = (g : Grammar) (sets : Sets) (costs : List ℕ) (claims : List
 
 -- ---- with costs
 
--- the claims are those that the sets of the grammar and the costs of its nodes make
+-- the claims are those that the sets of the grammar and the costs of its nodes make, which are the greatest number where one is above
 pub record AreOwnClaims (g : Grammar) (claims : List RuleClaim) : Type 0 where
   pub sets : Sets
   pub are_sets : AreSets g sets
