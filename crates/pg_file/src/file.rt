@@ -51,11 +51,18 @@ pub fn read(alloc: Global, bytes: &[u8], registry: &Registry) -> Result<Grammar,
     Ok(grammar)
 }
 
-/// The same, with the place at which each node was written.
-fn read_placed(alloc: Global, bytes: &[u8], registry: &Registry) -> Result<PlacedGrammar, FileError>
+/// The same, with the characters of the form that was written for each node (ours).
+///
+/// A form that stands for several nodes gives each of them its own span, but for those of its parts: `many1(p)` is written
+/// for a `seq`, a `many` in it and the nodes of `p` twice, and the `seq` and the `many` have the span of the whole.
+pub fn read_placed(
+    alloc: Global,
+    bytes: &[u8],
+    registry: &Registry,
+) -> Result<PlacedGrammar, FileError>
     ensures ok { IfOk result (λ read. SpellsWithinLimits (offer_of registry.now) bytes.now read.grammar) }
     ensures fits { IfOk result (λ read. Fits (offer_of registry.now) read.grammar) }
-    ensures places { IfOk result (λ read. length read.places.items ≡ length read.grammar.nodes) }
+    ensures spans { IfOk result (λ read. length read.spans.items ≡ length read.grammar.nodes) }
     ensures only { (g : Grammar) → SpellsWithinLimits (offer_of registry.now) bytes.now g → IfOk result (λ read. read.grammar ≡ g) }
     ensures refused { (g : Grammar) → SpellsWithinLimits (offer_of registry.now) bytes.now g → IfErr result (λ e. e ≡ FileError.Memory) }
     ensures err { IfErr result (IsRefusalOf bytes.now) }
@@ -84,7 +91,7 @@ fn grammar_in(
 ) -> Result<PlacedGrammar, ReadError>
     ensures ok { IfOk result (λ read. SpelledWithinDepth (offer_of registry.now) characters.now read.grammar) }
     ensures fits { IfOk result (λ read. Fits (offer_of registry.now) read.grammar) }
-    ensures places { IfOk result (λ read. length read.places.items ≡ length read.grammar.nodes) }
+    ensures spans { IfOk result (λ read. length read.spans.items ≡ length read.grammar.nodes) }
     ensures only { IfOk result (λ read. (g : Grammar) → SpelledWithinDepth (offer_of registry.now) characters.now g → read.grammar ≡ g) }
     ensures refused { IfErr result (λ e. IsFault e → (g : Grammar) → SpelledWithinDepth (offer_of registry.now) characters.now g → ⊥) }
     ensures err { IfErr result (IsErrorAt (IsBadAt characters.now)) }

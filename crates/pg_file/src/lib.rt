@@ -14,6 +14,6 @@ mod names;
 mod printing;
 
 pub use fault::{FaultKind, FileError, FileFault};
-pub use file::read;
+pub use file::{read, read_placed};
 pub use laws::{files_spell_one_grammar, prints_are_read_again, prints_spell_the_grammar};
 pub use printing::print;

@@ -339,7 +339,7 @@ fn form_fault(
     let places = placed.names.as_slice();
     match &placed.form {
         WrittenForm::OfClass(ClassForm::Declare, _) | WrittenForm::Expression { .. }
-            if !defined.has_operators => { Ok(fault(NameFaultKind::Unknown, placed.place)) }
+            if !defined.has_operators => { Ok(fault(NameFaultKind::Unknown, placed.span.first)) }
         WrittenForm::OfClass(_, class) => {
             class_fault(alloc, registry, above, class.parts(), places)
         }
@@ -359,7 +359,7 @@ fn form_fault(
             )
         }
         WrittenForm::Rule(name) if !defined.rules.contains(name.as_slice()) => {
-            Ok(fault(NameFaultKind::Unknown, placed.place))
+            Ok(fault(NameFaultKind::Unknown, placed.span.first))
         }
         WrittenForm::Word(_)
         | WrittenForm::Rule(_)

@@ -3,6 +3,7 @@
 //! A value is one whole form in preorder. Whether a name is defined, and defined once, is for a later reader to say,
 //! which relies on the places here. A place counts the characters of the file before it.
 
+use crate::span::Span;
 use crate::written::{WrittenClass, WrittenForm};
 use pg_form::Role;
 use pg_text::Characters;
@@ -11,8 +12,8 @@ use pg_text::Characters;
 #[derive(Debug, Drop)]
 pub struct PlacedForm {
     pub form: WrittenForm,
-    /// Where its word stands, or the rule's name that it is.
-    pub place: usize,
+    /// From its word to its closing parenthesis, or the rule's name that it is.
+    pub span: Span,
     /// Where each name of a class, a builder or a word in it stands, from left to right.
     pub names: Vec<usize>,
 }

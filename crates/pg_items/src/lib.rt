@@ -8,11 +8,13 @@
 
 mod item;
 mod size;
+mod span;
 mod words;
 mod written;
 
 pub use item::{Item, PlacedClass, PlacedForm};
 pub use size::body_size;
+pub use span::Span;
 pub use words::{
     ClassForm, FormWord, OneForm, SomeForm, TwoForm, form_word, is_reserved, role_named,
 };

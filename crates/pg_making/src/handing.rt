@@ -15,7 +15,7 @@ ghost use Rattle.pg_making.specs.Making.{with_entry, MayFollow, LeadsNowhere, Is
 
 use pg_form::{BaseForm, Decl, OPERATOR_LIMIT, Role, Texts};
 use pg_grammar::{Maker, MakerFault};
-use pg_items::{PlacedForm, WrittenClass};
+use pg_items::{PlacedForm, Span, WrittenClass};
 use pg_meaning::{MakingError, PlacedBase, body_meant, class_meant, is_predicate_name};
 use pg_pred::Registry;
 use pg_text::Characters;
@@ -153,46 +153,46 @@ pub fn start_item(alloc: Global, maker: &mut Maker, name: &Characters) -> Result
     }
 }
 
-/// Hands a rule in, and notes the places of its base forms.
+/// Hands a rule in, and notes the spans of its base forms.
 pub fn rule_item(
     alloc: Global,
     registry: &Registry,
     maker: &mut Maker,
     classes: &[Characters],
-    places: &mut Vec<usize>,
+    spans: &mut Vec<Span>,
     name: &Characters,
     body: &[PlacedForm],
 ) -> Result<(), MakingError>
     requires proper { IsProperEntry (entries.rule name.now (forms_of body.now)) }
     requires names { classes.now ≡ made_classes maker.old }
-    requires forms { length places.old.items ≡ length maker.old.forms }
+    requires forms { length spans.old.items ≡ length maker.old.forms }
     ensures made { OnOk result (maker.new ≡ with_entry (offer_of registry.now) maker.old (entries.rule name.now (forms_of body.now))) }
     ensures follows { OnOk result (MayFollow (offer_of registry.now) maker.old (entries.rule name.now (forms_of body.now))) }
-    ensures forms { OnOk result (length places.new.items ≡ length maker.new.forms) }
+    ensures forms { OnOk result (length spans.new.items ≡ length maker.new.forms) }
     ensures refused { IsErrOf result MakingError.Refused → LeadsNowhere (offer_of registry.now) maker.old (entries.rule name.now (forms_of body.now)) }
 {
     let placed = body_meant(alloc, registry, classes, body)?;
-    let forms = without_places(alloc, placed, places)?;
+    let forms = without_spans(alloc, placed, spans)?;
     match maker.rule(copied(alloc, name.as_slice())?, forms) {
         Ok(()) => Ok(()),
         Err(fault) => Err(unmade(fault)),
     }
 }
 
-/// The base forms of a body; their places are added at the end of these.
-fn without_places(
+/// The base forms of a body; their spans are added at the end of these.
+fn without_spans(
     alloc: Global,
     body: Vec<PlacedBase>,
-    places: &mut Vec<usize>,
+    spans: &mut Vec<Span>,
 ) -> Result<Vec<BaseForm>, AllocError>
     ensures forms { IfOk result (λ forms. forms.items ≡ bases_of body.items) }
-    ensures places { OnOk result (length places.new.items ≡ length places.old.items + length body.items) }
+    ensures spans { OnOk result (length spans.new.items ≡ length spans.old.items + length body.items) }
 {
     let mut forms = Vec::new(alloc);
     for placed in body {
-        let PlacedBase { form, place } = placed;
+        let PlacedBase { form, span } = placed;
         forms.push(form)?;
-        places.push(place)?;
+        spans.push(span)?;
     }
     Ok(forms)
 }

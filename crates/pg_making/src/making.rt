@@ -1,6 +1,6 @@
 //! The grammar of a file's items, with what the registry has for their names.
 //!
-//! The items are handed to a maker in file order, and the places of the base forms are kept beside it. Whatever stands in
+//! The items are handed to a maker in file order, and the spans of the base forms are kept beside it. Whatever stands in
 //! the way of a grammar refuses the items as a whole; at which name it stands is found out by who reports it. The
 //! limits have been kept by then, so the maker refuses no item for its size.
 
@@ -15,7 +15,7 @@ use crate::handing::{
 };
 use crate::initials::has_initial_table;
 use pg_grammar::Maker;
-use pg_items::Item;
+use pg_items::{Item, Span};
 use pg_meaning::MakingError;
 use pg_pred::Registry;
 use pg_text::Characters;
@@ -27,7 +27,7 @@ use std::alloc::Global;
 pub struct PlacedGrammar {
     pub grammar: Grammar,
     /// For each node, how many characters of the file stand before the form that was written for it.
-    pub places: Vec<usize>,
+    pub spans: Vec<Span>,
 }
 
 /// The grammar of items as a file may have them, none of which passes a limit. Refused where they make none: a name stands
@@ -39,40 +39,40 @@ pub fn grammar_of(
 ) -> Result<PlacedGrammar, MakingError>
     requires { AreProperEntries (entries_of items.now) }
     ensures ok { IfOk result (λ made. IsGrammarOfEntries (offer_of registry.now) (entries_of items.now) made.grammar) }
-    ensures places { IfOk result (λ made. length made.places.items ≡ length made.grammar.nodes) }
+    ensures spans { IfOk result (λ made. length made.spans.items ≡ length made.grammar.nodes) }
     ensures refused { IsErrOf result MakingError.Refused → MakeNoGrammar (offer_of registry.now) (entries_of items.now) }
 {
     let mut maker = Maker::new(alloc);
     let mut classes = Vec::new(alloc);
-    let mut places = Vec::new(alloc);
+    let mut spans = Vec::new(alloc);
     for item in items {
-        hand_in(alloc, registry, &mut maker, &mut classes, &mut places, item)?;
+        hand_in(alloc, registry, &mut maker, &mut classes, &mut spans, item)?;
     }
     let grammar = match maker.finish() {
         Ok(grammar) => grammar,
         Err(unfinished) => return Err(unmade(unfinished.fault)),
     };
     has_initial_table(alloc, &grammar)?;
-    Ok(PlacedGrammar { grammar, places })
+    Ok(PlacedGrammar { grammar, spans })
 }
 
-/// Hands an item to a maker, beside which the names of its class items and the places of its base forms are kept. Refused
+/// Hands an item to a maker, beside which the names of its class items and the spans of its base forms are kept. Refused
 /// where the item can't follow what was handed in before, or no grammar can come of both.
 fn hand_in(
     alloc: Global,
     registry: &Registry,
     maker: &mut Maker,
     classes: &mut Vec<Characters>,
-    places: &mut Vec<usize>,
+    spans: &mut Vec<Span>,
     item: &Item,
 ) -> Result<(), MakingError>
     requires proper { IsProperEntry (entry_of item.now) }
     requires names { classes.old.items ≡ made_classes maker.old }
-    requires forms { length places.old.items ≡ length maker.old.forms }
+    requires forms { length spans.old.items ≡ length maker.old.forms }
     ensures made { OnOk result (maker.new ≡ with_entry (offer_of registry.now) maker.old (entry_of item.now)) }
     ensures follows { OnOk result (MayFollow (offer_of registry.now) maker.old (entry_of item.now)) }
     ensures names { OnOk result (classes.new.items ≡ made_classes maker.new) }
-    ensures forms { OnOk result (length places.new.items ≡ length maker.new.forms) }
+    ensures forms { OnOk result (length spans.new.items ≡ length maker.new.forms) }
     ensures refused { IsErrOf result MakingError.Refused → LeadsNowhere (offer_of registry.now) maker.old (entry_of item.now) }
 {
     match item {
@@ -114,7 +114,7 @@ fn hand_in(
                 registry,
                 maker,
                 classes,
-                places,
+                spans,
                 name,
                 body.as_slice(),
             )

@@ -1,6 +1,6 @@
 //! Bodies in base forms, and what short forms make of the bodies of their parts.
 //!
-//! A body is one whole form in preorder. Each base form keeps the place of the form that was written for it, so that a
+//! A body is one whole form in preorder. Each base form keeps the span of the form that was written for it, so that a
 //! finding about a node can be shown in the file. `specs/Meaning.antt` has the same functions on lists.
 
 ghost use Rattle.std.specs.Prelude.{◌≡◌, ◌∷◌, [], map, IfOk};
@@ -10,34 +10,34 @@ ghost use Rattle.pg_meaning.specs.Bodies.{bases_of, all_bases_of};
 ghost use Rattle.pg_meaning.specs.Meaning as meaning;
 
 use pg_form::{Around, BaseForm, Form, NextForm};
-use pg_items::{OneForm, SomeForm, TwoForm};
+use pg_items::{OneForm, SomeForm, Span, TwoForm};
 use std::alloc::{AllocError, Global};
 
 /// A base form and where the form stands that was written for it.
 #[derive(Drop)]
 pub struct PlacedBase {
     pub form: BaseForm,
-    /// How many characters of the file stand before that form.
-    pub place: usize,
+    /// The characters of that form.
+    pub span: Span,
 }
 
 /// The body of one base form.
-pub fn single(alloc: Global, form: BaseForm, place: usize) -> Result<Vec<PlacedBase>, AllocError>
+pub fn single(alloc: Global, form: BaseForm, span: Span) -> Result<Vec<PlacedBase>, AllocError>
     ensures { IfOk result (λ body. bases_of body.items ≡ form ∷ []) }
 {
-    Ok(vec![in alloc; PlacedBase { form, place }]?)
+    Ok(vec![in alloc; PlacedBase { form, span }]?)
 }
 
 /// A base form before a body, or of bodies one after another.
 pub fn before_all(
     form: BaseForm,
-    place: usize,
+    span: Span,
     body: Vec<PlacedBase>,
 ) -> Result<Vec<PlacedBase>, AllocError>
     ensures { IfOk result (λ whole. bases_of whole.items ≡ form ∷ bases_of body.items) }
 {
     let mut whole = body;
-    whole.insert(0, PlacedBase { form, place })?;
+    whole.insert(0, PlacedBase { form, span })?;
     Ok(whole)
 }
 
@@ -61,7 +61,7 @@ fn copied(alloc: Global, body: &[PlacedBase]) -> Result<Vec<PlacedBase>, AllocEr
     for placed in body {
         copies.push(PlacedBase {
             form: placed.form.copy(alloc)?,
-            place: placed.place,
+            span: placed.span,
         })?;
     }
     Ok(copies)
@@ -70,31 +70,31 @@ fn copied(alloc: Global, body: &[PlacedBase]) -> Result<Vec<PlacedBase>, AllocEr
 /// The bodies, one after another.
 pub fn seq_of(
     alloc: Global,
-    place: usize,
+    span: Span,
     bodies: Vec<Vec<PlacedBase>>,
 ) -> Result<Vec<PlacedBase>, AllocError>
     ensures { IfOk result (λ body. bases_of body.items ≡ meaning.seq_of (all_bases_of bodies.items)) }
 {
     let form = Form::Seq(bodies.len());
-    before_all(form, place, joined(alloc, bodies)?)
+    before_all(form, span, joined(alloc, bodies)?)
 }
 
 /// One of the bodies.
 fn choice_of(
     alloc: Global,
-    place: usize,
+    span: Span,
     bodies: Vec<Vec<PlacedBase>>,
 ) -> Result<Vec<PlacedBase>, AllocError>
     ensures { IfOk result (λ body. bases_of body.items ≡ meaning.choice_of (all_bases_of bodies.items)) }
 {
     let form = Form::Choice(bodies.len());
-    before_all(form, place, joined(alloc, bodies)?)
+    before_all(form, span, joined(alloc, bodies)?)
 }
 
 /// One body, or several one after another.
 fn whole_of(
     alloc: Global,
-    place: usize,
+    span: Span,
     bodies: Vec<Vec<PlacedBase>>,
 ) -> Result<Vec<PlacedBase>, AllocError>
     ensures { IfOk result (λ body. bases_of body.items ≡ meaning.whole_of (all_bases_of bodies.items)) }
@@ -102,7 +102,7 @@ fn whole_of(
     if bodies.len() == 1 {
         joined(alloc, bodies)
     } else {
-        seq_of(alloc, place, bodies)
+        seq_of(alloc, span, bodies)
     }
 }
 
@@ -110,86 +110,82 @@ fn whole_of(
 pub fn some_of(
     alloc: Global,
     form: SomeForm,
-    place: usize,
+    span: Span,
     bodies: Vec<Vec<PlacedBase>>,
 ) -> Result<Vec<PlacedBase>, AllocError>
     ensures { IfOk result (λ body. bases_of body.items ≡ meaning.some_of form (all_bases_of bodies.items)) }
 {
     match form {
-        SomeForm::Choice => choice_of(alloc, place, bodies),
+        SomeForm::Choice => choice_of(alloc, span, bodies),
         SomeForm::Try => {
-            let body = whole_of(alloc, place, bodies)?;
-            before_all(Form::Around(Around::Try, NextForm), place, body)
+            let body = whole_of(alloc, span, bodies)?;
+            before_all(Form::Around(Around::Try, NextForm), span, body)
         }
         SomeForm::Local => {
-            let body = whole_of(alloc, place, bodies)?;
-            before_all(Form::Around(Around::Local, NextForm), place, body)
+            let body = whole_of(alloc, span, bodies)?;
+            before_all(Form::Around(Around::Local, NextForm), span, body)
         }
     }
 }
 
 /// A body without its trees.
-fn skipped(place: usize, body: Vec<PlacedBase>) -> Result<Vec<PlacedBase>, AllocError>
+fn skipped(span: Span, body: Vec<PlacedBase>) -> Result<Vec<PlacedBase>, AllocError>
     ensures { IfOk result (λ whole. bases_of whole.items ≡ meaning.skipped (bases_of body.items)) }
 {
-    before_all(Form::Around(Around::Skip, NextForm), place, body)
+    before_all(Form::Around(Around::Skip, NextForm), span, body)
 }
 
 /// A body as often as it succeeds.
-fn repeated(place: usize, body: Vec<PlacedBase>) -> Result<Vec<PlacedBase>, AllocError>
+fn repeated(span: Span, body: Vec<PlacedBase>) -> Result<Vec<PlacedBase>, AllocError>
     ensures { IfOk result (λ whole. bases_of whole.items ≡ meaning.repeated (bases_of body.items)) }
 {
-    before_all(Form::Many(NextForm), place, body)
+    before_all(Form::Many(NextForm), span, body)
 }
 
 /// A body or nothing.
-fn optional(
-    alloc: Global,
-    place: usize,
-    body: Vec<PlacedBase>,
-) -> Result<Vec<PlacedBase>, AllocError>
+fn optional(alloc: Global, span: Span, body: Vec<PlacedBase>) -> Result<Vec<PlacedBase>, AllocError>
     ensures { IfOk result (λ whole. bases_of whole.items ≡ meaning.optional (bases_of body.items)) }
 {
-    let nothing = seq_of(alloc, place, Vec::new(alloc))?;
+    let nothing = seq_of(alloc, span, Vec::new(alloc))?;
     let bodies = vec![in alloc; body, nothing]?;
-    choice_of(alloc, place, bodies)
+    choice_of(alloc, span, bodies)
 }
 
 /// A body once or more, with a separator between any two.
 fn separated(
     alloc: Global,
-    place: usize,
+    span: Span,
     body: Vec<PlacedBase>,
     separator: Vec<PlacedBase>,
 ) -> Result<Vec<PlacedBase>, AllocError>
     ensures { IfOk result (λ whole. bases_of whole.items ≡ meaning.separated (bases_of body.items) (bases_of separator.items)) }
 {
     let again = copied(alloc, body.as_slice())?;
-    let round = vec![in alloc; skipped(place, separator)?, again]?;
-    let rounds = repeated(place, seq_of(alloc, place, round)?)?;
+    let round = vec![in alloc; skipped(span, separator)?, again]?;
+    let rounds = repeated(span, seq_of(alloc, span, round)?)?;
     let bodies = vec![in alloc; body, rounds]?;
-    seq_of(alloc, place, bodies)
+    seq_of(alloc, span, bodies)
 }
 
 /// What a form of one body stands for.
 pub fn one_of(
     alloc: Global,
     form: OneForm,
-    place: usize,
+    span: Span,
     body: Vec<PlacedBase>,
 ) -> Result<Vec<PlacedBase>, AllocError>
     ensures { IfOk result (λ whole. bases_of whole.items ≡ meaning.one_of form (bases_of body.items)) }
 {
     match form {
-        OneForm::Many => repeated(place, body),
+        OneForm::Many => repeated(span, body),
         OneForm::Many1 => {
             let again = copied(alloc, body.as_slice())?;
-            let bodies = vec![in alloc; body, repeated(place, again)?]?;
-            seq_of(alloc, place, bodies)
+            let bodies = vec![in alloc; body, repeated(span, again)?]?;
+            seq_of(alloc, span, bodies)
         }
-        OneForm::Option => optional(alloc, place, body),
-        OneForm::Text => before_all(Form::Around(Around::Text, NextForm), place, body),
-        OneForm::Skip => skipped(place, body),
+        OneForm::Option => optional(alloc, span, body),
+        OneForm::Text => before_all(Form::Around(Around::Text, NextForm), span, body),
+        OneForm::Skip => skipped(span, body),
     }
 }
 
@@ -197,7 +193,7 @@ pub fn one_of(
 pub fn two_of(
     alloc: Global,
     form: TwoForm,
-    place: usize,
+    span: Span,
     body: Vec<PlacedBase>,
     separator: Vec<PlacedBase>,
 ) -> Result<Vec<PlacedBase>, AllocError>
@@ -205,13 +201,13 @@ pub fn two_of(
 {
     match form {
         TwoForm::SepBy => {
-            let once = separated(alloc, place, body, separator)?;
-            optional(alloc, place, once)
+            let once = separated(alloc, span, body, separator)?;
+            optional(alloc, span, once)
         }
-        TwoForm::SepBy1 => separated(alloc, place, body, separator),
+        TwoForm::SepBy1 => separated(alloc, span, body, separator),
         TwoForm::EndBy => {
-            let round = vec![in alloc; body, skipped(place, separator)?]?;
-            repeated(place, seq_of(alloc, place, round)?)
+            let round = vec![in alloc; body, skipped(span, separator)?]?;
+            repeated(span, seq_of(alloc, span, round)?)
         }
     }
 }
@@ -219,13 +215,13 @@ pub fn two_of(
 /// What stands before a body, the body, and what stands after it.
 pub fn between_of(
     alloc: Global,
-    place: usize,
+    span: Span,
     before: Vec<PlacedBase>,
     after: Vec<PlacedBase>,
     inner: Vec<PlacedBase>,
 ) -> Result<Vec<PlacedBase>, AllocError>
     ensures { IfOk result (λ whole. bases_of whole.items ≡ meaning.between_of (bases_of before.items) (bases_of after.items) (bases_of inner.items)) }
 {
-    let bodies = vec![in alloc; skipped(place, before)?, inner, skipped(place, after)?]?;
-    seq_of(alloc, place, bodies)
+    let bodies = vec![in alloc; skipped(span, before)?, inner, skipped(span, after)?]?;
+    seq_of(alloc, span, bodies)
 }

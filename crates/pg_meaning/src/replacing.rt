@@ -22,7 +22,9 @@ use crate::body::{PlacedBase, before_all, between_of, one_of, seq_of, single, so
 use crate::error::MakingError;
 use crate::lookup::{builder_named, builders_named, class_meant, label};
 use pg_form::{Around, BaseForm, BuilderUse, ClassExpression, Form, Leaf, NextForm, Side};
-use pg_items::{ClassForm, OneForm, PlacedForm, SomeForm, TwoForm, WrittenClass, WrittenForm};
+use pg_items::{
+    ClassForm, OneForm, PlacedForm, SomeForm, Span, TwoForm, WrittenClass, WrittenForm,
+};
 use pg_pred::Registry;
 use pg_text::Characters;
 use pg_tokens::copied;
@@ -85,21 +87,21 @@ fn next_bodies(
 fn around(
     alloc: Global,
     form: BaseForm,
-    place: usize,
+    span: Span,
     waiting: &mut VecDeque<Vec<PlacedBase>>,
 ) -> Result<Vec<PlacedBase>, AllocError>
     ensures body { IfOk result (λ body. bases_of body.items ≡ form ∷ body_at 0 (all_bases_of waiting.old.items)) }
     ensures rest { OnOk result (waiting.new.items ≡ drop 1 waiting.old.items) }
 {
     let body = next_body(alloc, waiting);
-    before_all(form, place, body)
+    before_all(form, span, body)
 }
 
 /// A base form around the first two bodies that wait.
 fn around_two(
     alloc: Global,
     form: BaseForm,
-    place: usize,
+    span: Span,
     waiting: &mut VecDeque<Vec<PlacedBase>>,
 ) -> Result<Vec<PlacedBase>, AllocError>
     ensures body { IfOk result (λ body. bases_of body.items ≡ form ∷ (body_at 0 (all_bases_of waiting.old.items) ++ body_at 1 (all_bases_of waiting.old.items))) }
@@ -108,7 +110,7 @@ fn around_two(
     let mut first = next_body(alloc, waiting);
     let mut second = next_body(alloc, waiting);
     first.append(&mut second)?;
-    before_all(form, place, first)
+    before_all(form, span, first)
 }
 
 /// A `seq` of the first so many bodies that wait.
@@ -116,7 +118,7 @@ fn around_two(
 fn seq_body(
     alloc: Global,
     count: usize,
-    place: usize,
+    span: Span,
     waiting: &mut VecDeque<Vec<PlacedBase>>,
 ) -> Result<Vec<PlacedBase>, MakingError>
     ensures body { IfOk result (λ body. bases_of body.items ≡ meaning.seq_of (take count (all_bases_of waiting.old.items))) }
@@ -124,7 +126,7 @@ fn seq_body(
     ensures memory { IsErrOf result MakingError.Refused → ⊥ }
 {
     let bodies = next_bodies(alloc, waiting, count)?;
-    Ok(seq_of(alloc, place, bodies)?)
+    Ok(seq_of(alloc, span, bodies)?)
 }
 
 /// A form of the first so many bodies that wait.
@@ -133,7 +135,7 @@ fn some_body(
     alloc: Global,
     form: SomeForm,
     count: usize,
-    place: usize,
+    span: Span,
     waiting: &mut VecDeque<Vec<PlacedBase>>,
 ) -> Result<Vec<PlacedBase>, MakingError>
     ensures body { IfOk result (λ body. bases_of body.items ≡ meaning.some_of form (take count (all_bases_of waiting.old.items))) }
@@ -141,14 +143,14 @@ fn some_body(
     ensures memory { IsErrOf result MakingError.Refused → ⊥ }
 {
     let bodies = next_bodies(alloc, waiting, count)?;
-    Ok(some_of(alloc, form, place, bodies)?)
+    Ok(some_of(alloc, form, span, bodies)?)
 }
 
 /// A form of the first body that waits.
 fn one_body(
     alloc: Global,
     form: OneForm,
-    place: usize,
+    span: Span,
     waiting: &mut VecDeque<Vec<PlacedBase>>,
 ) -> Result<Vec<PlacedBase>, MakingError>
     ensures body { IfOk result (λ body. bases_of body.items ≡ meaning.one_of form (body_at 0 (all_bases_of waiting.old.items))) }
@@ -156,14 +158,14 @@ fn one_body(
     ensures memory { IsErrOf result MakingError.Refused → ⊥ }
 {
     let body = next_body(alloc, waiting);
-    Ok(one_of(alloc, form, place, body)?)
+    Ok(one_of(alloc, form, span, body)?)
 }
 
 /// A form of a body and a separator, the first two bodies that wait.
 fn two_body(
     alloc: Global,
     form: TwoForm,
-    place: usize,
+    span: Span,
     waiting: &mut VecDeque<Vec<PlacedBase>>,
 ) -> Result<Vec<PlacedBase>, MakingError>
     ensures body { IfOk result (λ body. bases_of body.items ≡ meaning.two_of form (body_at 0 (all_bases_of waiting.old.items)) (body_at 1 (all_bases_of waiting.old.items))) }
@@ -172,13 +174,13 @@ fn two_body(
 {
     let body = next_body(alloc, waiting);
     let separator = next_body(alloc, waiting);
-    Ok(two_of(alloc, form, place, body, separator)?)
+    Ok(two_of(alloc, form, span, body, separator)?)
 }
 
 /// What stands before a body, what stands after it, and the body: the first three bodies that wait.
 fn between_body(
     alloc: Global,
-    place: usize,
+    span: Span,
     waiting: &mut VecDeque<Vec<PlacedBase>>,
 ) -> Result<Vec<PlacedBase>, MakingError>
     ensures body { IfOk result (λ body. bases_of body.items ≡ meaning.between_of (body_at 0 (all_bases_of waiting.old.items)) (body_at 1 (all_bases_of waiting.old.items)) (body_at 2 (all_bases_of waiting.old.items))) }
@@ -188,7 +190,7 @@ fn between_body(
     let before = next_body(alloc, waiting);
     let after = next_body(alloc, waiting);
     let inner = next_body(alloc, waiting);
-    Ok(between_of(alloc, place, before, after, inner)?)
+    Ok(between_of(alloc, span, before, after, inner)?)
 }
 
 /// A form of a class expression.
@@ -209,14 +211,14 @@ fn class_body(
     classes: &[Characters],
     form: ClassForm,
     class: &WrittenClass,
-    place: usize,
+    span: Span,
 ) -> Result<Vec<PlacedBase>, MakingError>
     ensures meant { IfOk result (λ body. bases_of body.items ≡ meaning.class_of form (parts_meant (offer_of registry.now) classes.now class.now) ∷ []) }
     ensures known { OnOk result (ClassIsKnown (offer_of registry.now) classes.now class.now) }
     ensures refused { IsErrOf result MakingError.Refused → ClassIsKnown (offer_of registry.now) classes.now class.now → ⊥ }
 {
     let class = class_meant(alloc, registry, classes, class)?;
-    Ok(single(alloc, class_of(form, class), place)?)
+    Ok(single(alloc, class_of(form, class), span)?)
 }
 
 /// A chain of the first two bodies that wait. Refused where no builder has the name.
@@ -225,7 +227,7 @@ fn chain_body(
     registry: &Registry,
     side: Side,
     builder: &Characters,
-    place: usize,
+    span: Span,
     waiting: &mut VecDeque<Vec<PlacedBase>>,
 ) -> Result<Vec<PlacedBase>, MakingError>
     ensures meant { IfOk result (λ body. bases_of body.items ≡ meaning.chain_of side (builder_named (offer_of registry.now) builder.now) ∷ (body_at 0 (all_bases_of waiting.old.items) ++ body_at 1 (all_bases_of waiting.old.items))) }
@@ -235,7 +237,7 @@ fn chain_body(
 {
     let used = builder_named(alloc, registry, builder.as_slice())?;
     let chain = Form::Chain(side, used, NextForm, NextForm);
-    Ok(around_two(alloc, chain, place, waiting)?)
+    Ok(around_two(alloc, chain, span, waiting)?)
 }
 
 /// Operators around the first body that waits. Refused where one of the names is that of no builder.
@@ -245,7 +247,7 @@ fn expression_body(
     infixes: &Characters,
     prefixes: &Characters,
     postfixes: &Characters,
-    place: usize,
+    span: Span,
     waiting: &mut VecDeque<Vec<PlacedBase>>,
 ) -> Result<Vec<PlacedBase>, MakingError>
     ensures meant { IfOk result (λ body. bases_of body.items ≡ form.Expression (meaning.builders_named (offer_of registry.now) infixes.now prefixes.now postfixes.now) (record {}) ∷ body_at 0 (all_bases_of waiting.old.items)) }
@@ -259,7 +261,7 @@ fn expression_body(
         postfixes.as_slice(),
     );
     let builders = builders_named(alloc, registry, infixes, prefixes, postfixes)?;
-    Ok(around(alloc, Form::Expression(builders, NextForm), place, waiting)?)
+    Ok(around(alloc, Form::Expression(builders, NextForm), span, waiting)?)
 }
 
 /// A tree of the first body that waits. Refused where no builder has the name.
@@ -268,7 +270,7 @@ fn build_body(
     registry: &Registry,
     builder: &Characters,
     symbol: &Characters,
-    place: usize,
+    span: Span,
     waiting: &mut VecDeque<Vec<PlacedBase>>,
 ) -> Result<Vec<PlacedBase>, MakingError>
     ensures meant { IfOk result (λ body. bases_of body.items ≡ form.Around (around.Build (builder_named (offer_of registry.now) builder.now) (encode_utf8_all symbol.now)) (record {}) ∷ body_at 0 (all_bases_of waiting.old.items)) }
@@ -281,53 +283,49 @@ fn build_body(
         Around::Build(used, label(alloc, symbol.as_slice())?),
         NextForm,
     );
-    Ok(around(alloc, form, place, waiting)?)
+    Ok(around(alloc, form, span, waiting)?)
 }
 
 /// The body of characters.
-fn string_body(
-    alloc: Global,
-    text: &Characters,
-    place: usize,
-) -> Result<Vec<PlacedBase>, MakingError>
+fn string_body(alloc: Global, text: &Characters, span: Span) -> Result<Vec<PlacedBase>, MakingError>
     ensures body { IfOk result (λ body. bases_of body.items ≡ form.Leaf (leaf.String text.now) ∷ []) }
     ensures memory { IsErrOf result MakingError.Refused → ⊥ }
 {
     let form = Form::Leaf(Leaf::String(copied(alloc, text.as_slice())?));
-    Ok(single(alloc, form, place)?)
+    Ok(single(alloc, form, span)?)
 }
 
 /// The body of a word.
-fn word_body(alloc: Global, text: &Characters, place: usize) -> Result<Vec<PlacedBase>, MakingError>
+fn word_body(alloc: Global, text: &Characters, span: Span) -> Result<Vec<PlacedBase>, MakingError>
     ensures body { IfOk result (λ body. bases_of body.items ≡ form.Leaf (leaf.Word text.now) ∷ []) }
     ensures memory { IsErrOf result MakingError.Refused → ⊥ }
 {
     let form = Form::Leaf(Leaf::Word(copied(alloc, text.as_slice())?));
-    Ok(single(alloc, form, place)?)
+    Ok(single(alloc, form, span)?)
 }
 
 /// The body of a rule's name.
-fn rule_body(alloc: Global, text: &Characters, place: usize) -> Result<Vec<PlacedBase>, MakingError>
+fn rule_body(alloc: Global, text: &Characters, span: Span) -> Result<Vec<PlacedBase>, MakingError>
     ensures body { IfOk result (λ body. bases_of body.items ≡ form.Rule text.now ∷ []) }
     ensures memory { IsErrOf result MakingError.Refused → ⊥ }
 {
     let form = Form::Rule(copied(alloc, text.as_slice())?);
-    Ok(single(alloc, form, place)?)
+    Ok(single(alloc, form, span)?)
 }
 
 /// The body of the end of the text.
-fn end_body(alloc: Global, place: usize) -> Result<Vec<PlacedBase>, MakingError>
+fn end_body(alloc: Global, span: Span) -> Result<Vec<PlacedBase>, MakingError>
     ensures body { IfOk result (λ body. bases_of body.items ≡ form.Leaf leaf.EndOfText ∷ []) }
     ensures memory { IsErrOf result MakingError.Refused → ⊥ }
 {
-    Ok(single(alloc, Form::Leaf(Leaf::EndOfText), place)?)
+    Ok(single(alloc, Form::Leaf(Leaf::EndOfText), span)?)
 }
 
 /// The first body that waits, with a message.
 fn label_body(
     alloc: Global,
     message: &Characters,
-    place: usize,
+    span: Span,
     waiting: &mut VecDeque<Vec<PlacedBase>>,
 ) -> Result<Vec<PlacedBase>, MakingError>
     ensures body { IfOk result (λ body. bases_of body.items ≡ form.Around (around.Label message.now) (record {}) ∷ body_at 0 (all_bases_of waiting.old.items)) }
@@ -335,7 +333,7 @@ fn label_body(
     ensures memory { IsErrOf result MakingError.Refused → ⊥ }
 {
     let form = Form::Around(Around::Label(copied(alloc, message.as_slice())?), NextForm);
-    Ok(around(alloc, form, place, waiting)?)
+    Ok(around(alloc, form, span, waiting)?)
 }
 
 /// What a form stands for, whose parts are taken out of the bodies that wait. Refused where a name of a class or a builder
@@ -352,31 +350,31 @@ fn body_of_form(
     ensures known { OnOk result (FormIsKnown (offer_of registry.now) classes.now placed.now.form) }
     ensures refused { IsErrOf result MakingError.Refused → FormIsKnown (offer_of registry.now) classes.now placed.now.form → ⊥ }
 {
-    let place = placed.place;
+    let span = placed.span;
     match &placed.form {
         WrittenForm::OfClass(form, class) => {
-            class_body(alloc, registry, classes, *form, class, place)
+            class_body(alloc, registry, classes, *form, class, span)
         }
-        WrittenForm::String(text) => string_body(alloc, text, place),
-        WrittenForm::Seq(count) => seq_body(alloc, *count, place, waiting),
-        WrittenForm::OfSome(form, count) => some_body(alloc, *form, *count, place, waiting),
-        WrittenForm::OfOne(form) => one_body(alloc, *form, place, waiting),
-        WrittenForm::OfTwo(form) => two_body(alloc, *form, place, waiting),
-        WrittenForm::Between => between_body(alloc, place, waiting),
+        WrittenForm::String(text) => string_body(alloc, text, span),
+        WrittenForm::Seq(count) => seq_body(alloc, *count, span, waiting),
+        WrittenForm::OfSome(form, count) => some_body(alloc, *form, *count, span, waiting),
+        WrittenForm::OfOne(form) => one_body(alloc, *form, span, waiting),
+        WrittenForm::OfTwo(form) => two_body(alloc, *form, span, waiting),
+        WrittenForm::Between => between_body(alloc, span, waiting),
         WrittenForm::Chain { side, builder } => {
-            chain_body(alloc, registry, *side, builder, place, waiting)
+            chain_body(alloc, registry, *side, builder, span, waiting)
         }
         WrittenForm::Expression {
             infix,
             prefix,
             postfix,
-        } => expression_body(alloc, registry, infix, prefix, postfix, place, waiting),
+        } => expression_body(alloc, registry, infix, prefix, postfix, span, waiting),
         WrittenForm::Build { builder, symbol } => {
-            build_body(alloc, registry, builder, symbol, place, waiting)
+            build_body(alloc, registry, builder, symbol, span, waiting)
         }
-        WrittenForm::Label(message) => label_body(alloc, message, place, waiting),
-        WrittenForm::EndOfText => end_body(alloc, place),
-        WrittenForm::Word(name) => word_body(alloc, name, place),
-        WrittenForm::Rule(name) => rule_body(alloc, name, place),
+        WrittenForm::Label(message) => label_body(alloc, message, span, waiting),
+        WrittenForm::EndOfText => end_body(alloc, span),
+        WrittenForm::Word(name) => word_body(alloc, name, span),
+        WrittenForm::Rule(name) => rule_body(alloc, name, span),
     }
 }

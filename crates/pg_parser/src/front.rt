@@ -5,6 +5,7 @@
 
 ghost use Rattle.std.specs.Prelude.{◌≡◌};
 ghost use Rattle.pg_tokens.specs.View.{tokens_of};
+ghost use Rattle.pg_tokens.specs.declared.token.Mark.TheVariants.{Close};
 ghost use Rattle.pg_parser.specs.Given.{Gives, IsFault, after_of};
 ghost use Rattle.pg_parser.specs.Reading as reading;
 
@@ -38,6 +39,18 @@ pub fn expect_mark(tokens: &[Lexeme], which: Mark) -> Result<&[Lexeme], SyntaxEr
     match after_mark(tokens, which) {
         Some(rest) => Ok(rest),
         None => Err(unexpected(tokens)),
+    }
+}
+
+/// The place behind the parenthesis that closes, which must be there, and what stands after it.
+pub fn expect_close(tokens: &[Lexeme]) -> Result<(usize, &[Lexeme]), SyntaxError>
+    ensures { Gives (λ x. tokens_of x.1.now) result (reading.mark_at Close (tokens_of tokens.now)) }
+{
+    match tokens {
+        [first, rest @ ..] if first.token.is_mark(Mark::Close) => {
+            Ok((first.place.saturating_add(1), rest))
+        }
+        _ => Err(unexpected(tokens)),
     }
 }
 

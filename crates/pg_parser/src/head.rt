@@ -1,6 +1,6 @@
 //! Forms up to their parts: what stands in a form's parentheses before its values, and the forms that have none.
 //!
-//! A form is put before its parts, with its place, only where these are read. The places of the names in it are noted
+//! A form is put before its parts, with its span, only where these are read. The places of the names in it are noted
 //! from left to right, each before its name is judged.
 
 ghost use Rattle.std.specs.Prelude.{◌≡◌, [], ◌∷◌};
@@ -18,7 +18,7 @@ use pg_text::Characters;
 use pg_tokens::{Lexeme, Mark};
 use std::alloc::Global;
 
-/// A form and its parts, one after another. Its place isn't noted yet.
+/// A form and its parts, one after another. Its span isn't noted yet.
 #[derive(Debug, Drop)]
 pub struct Form {
     pub form: WrittenForm,

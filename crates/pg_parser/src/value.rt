@@ -1,4 +1,4 @@
-//! Values: the bodies of rules, read as forms in preorder, each with its place.
+//! Values: the bodies of rules, read as forms in preorder, each with its span.
 //!
 //! A form's parts are read whole before the form is put before them. How deep parentheses may still nest is
 //! handed down, so that the recursion ends at the limit.
@@ -13,12 +13,12 @@ ghost use Rattle.pg_parser.specs.Reading.{with_close, more_at, some_at, mark_at,
 ghost use Rattle.pg_parser.specs.Reading as reading;
 
 use crate::error::{SyntaxError, SyntaxFault};
-use crate::front::{after_mark, expect_mark, literal, name, unexpected};
+use crate::front::{after_mark, expect_close, expect_mark, literal, name, unexpected};
 use crate::head::{
     Form, alone, build_head, chain_head, expression_head, of_class, string, word_name,
 };
 use crate::text::{free_name, literal_text};
-use pg_items::{FormWord, PlacedForm, SomeForm, WrittenForm, form_word};
+use pg_items::{FormWord, PlacedForm, SomeForm, Span, WrittenForm, form_word};
 use pg_text::Characters;
 use pg_tokens::{Lexeme, Mark, is_word};
 use std::alloc::{AllocError, Global};
@@ -34,27 +34,27 @@ fn joined(alloc: Global, bodies: Vec<Vec<PlacedForm>>) -> Result<Vec<PlacedForm>
     Ok(parts)
 }
 
-/// The form at a place, before its parts, with the places of its names.
-fn placed(form: Form, place: usize, names: Vec<usize>) -> Result<Vec<PlacedForm>, AllocError>
+/// The form with this span, before its parts, with the places of its names.
+fn placed(form: Form, span: Span, names: Vec<usize>) -> Result<Vec<PlacedForm>, AllocError>
     ensures { IfOk result (λ body. forms_of body.items ≡ body_of form) }
 {
     let Form { form, parts } = form;
     let mut body = parts;
-    body.insert(0, PlacedForm { form, place, names })?;
+    body.insert(0, PlacedForm { form, span, names })?;
     Ok(body)
 }
 
-/// The body of the form at a place, and what stands after the parenthesis that closes.
+/// The body of the form that begins at a place, and what stands after the parenthesis that closes.
 fn closed(
     form: Form,
-    place: usize,
+    first: usize,
     names: Vec<usize>,
     tokens: &[Lexeme],
 ) -> Result<(Vec<PlacedForm>, &[Lexeme]), SyntaxError>
     ensures { Gives (λ x. (forms_of x.0.items, tokens_of x.1.now)) result (with_close (body_of form) (tokens_of tokens.now)) }
 {
-    let rest = expect_mark(tokens, Mark::Close)?;
-    Ok((placed(form, place, names)?, rest))
+    let (after, rest) = expect_close(tokens)?;
+    Ok((placed(form, Span { first, after }, names)?, rest))
 }
 
 /// These bodies, one after another. F3 at the tokens after them where there are not so many.
@@ -72,12 +72,19 @@ fn counted(
     Ok(joined(alloc, values)?)
 }
 
-/// The body of this one form, in which nothing is named but perhaps itself.
-fn single(alloc: Global, form: WrittenForm, place: usize) -> Result<Vec<PlacedForm>, AllocError>
+/// The body of this one form, which is a name at a place, so many characters long, and names nothing but perhaps itself.
+fn single(
+    alloc: Global,
+    form: WrittenForm,
+    first: usize,
+    length: usize,
+) -> Result<Vec<PlacedForm>, AllocError>
     ensures { IfOk result (λ body. forms_of body.items ≡ form ∷ []) }
 {
     let names = Vec::new(alloc);
-    Ok(vec![in alloc; PlacedForm { form, place, names }]?)
+    let after = first.saturating_add(length);
+    let span = Span { first, after };
+    Ok(vec![in alloc; PlacedForm { form, span, names }]?)
 }
 
 /// The values after another one, a comma before each; at most so many.
@@ -235,7 +242,10 @@ fn rule_named<'a>(
     ensures { Gives (λ x. (forms_of x.0.items, tokens_of x.1.now)) result (rule_named_at text.now (tokens_of rest.now)) }
 {
     let name = free_name(alloc, text, place)?;
-    Ok((single(alloc, WrittenForm::Rule(name), place)?, rest))
+    Ok((
+        single(alloc, WrittenForm::Rule(name), place, text.len())?,
+        rest,
+    ))
 }
 
 /// A value, in which parentheses may nest so deep. F8 at the first parenthesis that nests deeper.
@@ -250,7 +260,10 @@ pub fn value(
 {
     let (text, place, rest) = name(tokens)?;
     if is_word("eof", text) {
-        return Ok((single(alloc, WrittenForm::EndOfText, place)?, rest));
+        return Ok((
+            single(alloc, WrittenForm::EndOfText, place, text.len())?,
+            rest,
+        ));
     }
     let Some(word) = form_word(text) else {
         return rule_named(alloc, text, place, rest);

@@ -14,21 +14,21 @@ pub loop-item-init : goal.loop-item-init
 loop-item-init g c = record {
   handed = record { made_is = c.new-maker.ensures; ordered = tt };
   classes = rw (c.new-classes.ensures.items, c.new-maker.ensures) refl;
-  places = rw (c.new-places.ensures.items, c.new-maker.ensures) refl;
+  spans = rw (c.new-spans.ensures.items, c.new-maker.ensures) refl;
 }
 
 pub hand_in-requires : goal.hand_in-requires
 hand_in-requires g c = record {
   proper = proper_next c.args.items.now c.requires.items c.loop-item.item-index c.item-item.result c.requires.proper c.requires.meant c.loop-item-test.true c.item-item.is;
   names = c.loop-item.invariant.classes;
-  forms = c.loop-item.invariant.places;
+  forms = c.loop-item.invariant.spans;
 }
 
 pub loop-item-preserved : goal.loop-item-preserved
 loop-item-preserved g c = record {
   handed = hand_next _ c.args.items.now c.loop-item.item-index c.item-item.result c.loop-item.maker c.hand_in.new.maker c.loop-item-test.true c.item-item.is c.loop-item.invariant.handed c.in_ok-hand_in.ensures.follows c.in_ok-hand_in.ensures.made;
   classes = c.in_ok-hand_in.ensures.names;
-  places = c.in_ok-hand_in.ensures.forms;
+  spans = c.in_ok-hand_in.ensures.forms;
 }
 
 pub returns-in_err-hand_in-clause-refused : goal.returns-in_err-hand_in-clause-refused
@@ -63,6 +63,6 @@ returns g c =
         says = subst (λ m. Says m c.in-Ok.grammar) handed.made_is c.in-Ok.ensures.ok;
         admitted = c.in_ok-has_initial_table.ensures.ok;
       };
-      places = c.loop-item.invariant.places ∙ said_nodes c.loop-item.maker c.in-Ok.grammar c.in-Ok.ensures.ok;
+      spans = c.loop-item.invariant.spans ∙ said_nodes c.loop-item.maker c.in-Ok.grammar c.in-Ok.ensures.ok;
       refused = λ refused grammar is. absurd cc;
     }

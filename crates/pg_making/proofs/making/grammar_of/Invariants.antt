@@ -9,5 +9,5 @@ abbrev pub invariant-loop-item : goal.invariant-loop-item
 invariant-loop-item g l = record {
   handed : AreHanded (offer_of l.registry) (entries_of (take l.item-index l.items)) l.maker;
   classes : l.classes.items ≡ made_classes l.maker;
-  places : length l.places.items ≡ length l.maker.forms;
+  spans : length l.spans.items ≡ length l.maker.forms;
 }
