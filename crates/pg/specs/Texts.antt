@@ -33,6 +33,19 @@ front_of Memory names = []
 abbrev pub line_of : BenchFault → FileNames → List ℕ
 line_of fault names = front_of fault names ++ fault_text fault ++ codes "\n"
 
+-- what is printed of a fault at once: an error as it is printed in a text of this name, and else the fault's line
+abbrev pub text_of : BenchFault → FileNames → List ℕ
+text_of (File fault) names = line_of (File fault) names
+text_of (Refused refused) names = line_of (Refused refused) names
+text_of Reader names = line_of Reader names
+text_of NotUtf8 names = line_of NotUtf8 names
+text_of TooLong names = line_of TooLong names
+text_of NotATrail names = line_of NotATrail names
+text_of (NotVerified verdict) names = line_of (NotVerified verdict) names
+text_of (ParseError error) names = printed error names.text
+text_of Writer names = line_of Writer names
+text_of Memory names = line_of Memory names
+
 -- what is printed of a fault: a line for each finding of a refused grammar, an error as it is printed in a text of this name,
 -- and else the fault's line
 abbrev pub report_of : BenchFault → FileNames → List ℕ

@@ -7,12 +7,11 @@ ghost use Rattle.std.specs.Prelude.{◌≡◌, ◌++◌, false, IfOk, OnOk, IsEr
 ghost use Rattle.std.specs.String.{string_bytes};
 ghost use Rattle.std.specs.Io.KnownBytes.{Appends};
 ghost use Rattle.pg_tree.specs.Bytes.{AppendsPrefix};
-ghost use Rattle.pg_message.specs.Printed.{printed};
 ghost use Rattle.pg.specs.Status.{status_of};
-ghost use Rattle.pg.specs.Texts.{front_of, line_of, report_of, names_of};
+ghost use Rattle.pg.specs.Texts.{front_of, line_of, text_of, report_of, names_of};
 
 use pg_bench::BenchFault;
-use pg_message::{ParseError, render};
+use pg_message::render;
 use pg_tree::{Meter, WriteFault, write_bytes};
 use std::alloc::{AllocError, Global};
 use std::io::Write;
@@ -43,54 +42,54 @@ pub fn write_report<W: Write>(
 {
     match fault {
         BenchFault::Refused(refused) => refused.write_findings(alloc, writer),
-        BenchFault::ParseError(error) => write_error(alloc, error, names.text, writer),
         BenchFault::File(_)
         | BenchFault::Reader
         | BenchFault::NotUtf8
         | BenchFault::TooLong
         | BenchFault::NotATrail
         | BenchFault::NotVerified(_)
+        | BenchFault::ParseError(_)
         | BenchFault::Writer
-        | BenchFault::Memory => write_line(alloc, fault, names, writer),
+        | BenchFault::Memory => write_text(alloc, fault, names, writer),
     }
 }
 
-/// Writes a parse error as it is printed in a text of this name.
-fn write_error<W: Write>(
-    alloc: Global,
-    error: &ParseError,
-    text: &str,
-    writer: &mut Meter<W>,
-) -> Result<(), WriteFault>
-    requires { writer.old.failed ≡ false }
-    ensures ok { OnOk result (Appends (W.contents writer.old.inner) (W.contents writer.new.inner) (printed error.now text.now)) }
-    ensures prefix { IsErrOf result WriteFault.Writer →
-        AppendsPrefix (W.contents writer.old.inner) (W.contents writer.new.inner) (printed error.now text.now) }
-    ensures memory { IsErrOf result WriteFault.Memory → writer.new ≡ writer.old }
-{
-    let Ok(page) = render(alloc, error, text) else {
-        return Err(WriteFault::Memory);
-    };
-    write_bytes(page.as_bytes(), writer)
-}
-
-/// Writes the line of a fault.
-fn write_line<W: Write>(
+/// Writes the text of a fault.
+fn write_text<W: Write>(
     alloc: Global,
     fault: &BenchFault,
     names: Names,
     writer: &mut Meter<W>,
 ) -> Result<(), WriteFault>
     requires { writer.old.failed ≡ false }
-    ensures ok { OnOk result (Appends (W.contents writer.old.inner) (W.contents writer.new.inner) (line_of fault.now (names_of names.entry))) }
+    ensures ok { OnOk result (Appends (W.contents writer.old.inner) (W.contents writer.new.inner) (text_of fault.now (names_of names.entry))) }
     ensures prefix { IsErrOf result WriteFault.Writer →
-        AppendsPrefix (W.contents writer.old.inner) (W.contents writer.new.inner) (line_of fault.now (names_of names.entry)) }
+        AppendsPrefix (W.contents writer.old.inner) (W.contents writer.new.inner) (text_of fault.now (names_of names.entry)) }
     ensures memory { IsErrOf result WriteFault.Memory → writer.new ≡ writer.old }
 {
-    let Ok(line) = line(alloc, fault, names) else {
-        return Err(WriteFault::Memory);
-    };
-    write_bytes(line.as_bytes(), writer)
+    match text(alloc, fault, names) {
+        Ok(text) => write_bytes(text.as_bytes(), writer),
+        Err(_) => Err(WriteFault::Memory),
+    }
+}
+
+/// What is written of a fault that is told at once: a parse error as it is printed in the text of the run, and a line for each
+/// other fault.
+fn text(alloc: Global, fault: &BenchFault, names: Names) -> Result<String, AllocError>
+    ensures { IfOk result (λ text. string_bytes text ≡ text_of fault.now (names_of names.entry)) }
+{
+    match fault {
+        BenchFault::ParseError(error) => render(alloc, error, names.text),
+        BenchFault::File(_)
+        | BenchFault::Refused(_)
+        | BenchFault::Reader
+        | BenchFault::NotUtf8
+        | BenchFault::TooLong
+        | BenchFault::NotATrail
+        | BenchFault::NotVerified(_)
+        | BenchFault::Writer
+        | BenchFault::Memory => line(alloc, fault, names),
+    }
 }
 
 /// The exit status of a fault.

@@ -146,6 +146,16 @@ told_by_bounds one other own others true is are says e =
     (λ h. absurd (false≢true h), λ meets. absurd (meets (apart_by_bounds one other own others is are (says.0 refl))))
 told_by_bounds one other own others false is are says e = absurd (false≢true e)
 
+pub told_by_ends : (one other : StartKind) (own others : Option Bounds) (told : Bool) → AreStartBounds one own → AreStartBounds other others
+    → (IsTrue told ↔ ShareAnEnd own others) → told ≡ true → IsTrue told ↔ (Apart one other → ⊥)
+told_by_ends one other own others true is are says e = (λ h. meet_by_bounds one other own others is are (says.0 refl), λ meets. refl)
+told_by_ends one other own others false is are says e = absurd (false≢true e)
+
+-- where they don't
+pub told_apart : (one other : StartKind) (told : Bool) → (IsTrue told ↔ Apart one other) → IsTrue (not told) ↔ (Apart one other → ⊥)
+told_apart one other true says = (λ h. absurd (false≢true h), λ meets. absurd (meets (says.0 refl)))
+told_apart one other false says = (λ h apart. false≢true (says.1 apart), λ meets. refl)
+
 -- ---- the bounds of several starts
 
 -- those of the first so many

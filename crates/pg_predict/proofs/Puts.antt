@@ -1,8 +1,9 @@
 -- What is put into a buffer, one part after another.
 use Rattle.std.proofs.Common.{◌≡◌, ℕ, zero, suc, ◌+◌, min, List, [], ◌∷◌, ◌++◌, Option, None, Some, take, length, refl, sym, ap, subst, arith, append_assoc, append-nil, ◌∙◌, Result, Ok, Err}
-use Rattle.std.specs.Prelude.{OnErr}
+use Rattle.std.specs.Prelude.{OnErr, IsOk, is_ok, if◌then◌else◌}
 use Rattle.std.specs.Io.KnownBytes.{Appends}
 use Rattle.std.proofs.Math.Seq.{take-append-add}
+use Rattle.std.proofs.lemmas.Bool.{false≢true}
 use Rattle.pg_tree.specs.Bytes.{AppendsPrefix}
 use Rattle.pg_predict.specs.Writing.{Puts}
 
@@ -125,3 +126,8 @@ three_third a b c d held kept left one two three all e p q stopped =
 pub on_err : {T E : Type 0} (r : Result T E) (P : Type 0) → P → OnErr r P
 on_err (Ok x) P h = tt
 on_err (Err e) P h = h
+
+-- what comes of it where there is none
+pub ok_kept : {T E : Type 0} (r : Result T E) (xs ys : List ℕ) → IsOk r → (if is_ok r then xs else ys) ≡ xs
+ok_kept (Ok x) xs ys h = refl
+ok_kept (Err e) xs ys h = absurd (false≢true h)

@@ -109,10 +109,7 @@ impl Judge {
     pub(crate) fn cost(&self) -> u64
         ensures { result ≡ cost_noted self.now }
     {
-        match self.cost {
-            Some(cost) => cost,
-            None => 0,
-        }
+        self.cost.unwrap_or(0)
     }
 
     /// The sets.

@@ -6,8 +6,5 @@ ghost use Rattle.pg_graph.specs.Marks.{is_marked};
 pub(crate) fn is_marked(marks: &[bool], number: usize) -> bool
     ensures { result ≡ is_marked marks.now number }
 {
-    match marks.get(number) {
-        Some(mark) => *mark,
-        None => false,
-    }
+    number < marks.len() && marks[number]
 }

@@ -94,10 +94,7 @@ fn is_new(marks: &[bool], rule: usize) -> bool
     ensures same { result ≡ is_new marks.now rule }
     ensures rule { OnTrue result (rule < length marks.now) }
 {
-    match marks.get(rule) {
-        Some(mark) => !*mark,
-        None => false,
-    }
+    rule < marks.len() && !marks[rule]
 }
 
 /// Whether a rule is among these.

@@ -9,12 +9,12 @@ ghost use Rattle.pg_pred.specs.Offer.{offer_of, builder_shape};
 ghost use Rattle.pg_turns.specs.Tape.{tape_to_first, tape_to_separator, tape_to_operand, tape_ended, tape_linked, all_built, link_forest, link_waiting, link_left, end_tape_error, end_messages, more_links};
 ghost use Rattle.pg_lists.specs.RunTrees.{built_after};
 ghost use Rattle.pg_turns.specs.View.{chain_of, links_of, on_lists, stack_of, tape_of};
-ghost use Rattle.pg_message_tape.specs.TapeErrors.{tape_error, kept_at, merged_tape_error};
+ghost use Rattle.pg_message_tape.specs.TapeErrors.{tape_error, kept_at, merged_tape_error, merged_messages};
 
 use crate::frame::{Before, ChainFrame, Frame, LinksFrame, Marks, Mode, Reply};
 use crate::machine::Machine;
 use pg_form::{BuilderUse, Side};
-use pg_lists::{RunForest, build_stretch};
+use pg_lists::{Lists, RunForest, build_stretch};
 use pg_message_tape::{KeptError, TapeError};
 use pg_pred::Registry;
 use pg_value::TrailItem;
@@ -66,8 +66,7 @@ impl<'a> Machine<'a> {
                     marks,
                 };
                 let links = boxed(alloc, &mut self.spare_links, links)?;
-                self.push(Frame::Separator(links))?;
-                Ok(Mode::At(separator, end))
+                self.enter_part(Frame::Separator(links), separator, end)
             }
             Reply::Failed { consumed, error } => {
                 self.lists.forest.close(chain.forest)?;
@@ -98,10 +97,10 @@ impl<'a> Machine<'a> {
             } => {
                 let kept = self.lists.messages.kept(error);
                 let trees = self.lists.forest.len();
-                self.open_operand(alloc, links.chain.side)?;
+                open_operand(alloc, links.chain.side, &mut self.lists.forest)?;
                 let operand = links.chain.operand;
-                self.push(Frame::Operand(links, Before { consumed, kept }, trees))?;
-                Ok(Mode::At(operand, end))
+                let frame = Frame::Operand(links, Before { consumed, kept }, trees);
+                self.enter_part(frame, operand, end)
             }
             Reply::Failed { consumed, error } => {
                 self.end_links(alloc, registry, links, consumed, error)
@@ -149,20 +148,6 @@ impl<'a> Machine<'a> {
         }
     }
 
-    /// From the right the trees of an operand are taken with what comes before them, but only after all that comes after.
-    fn open_operand(&mut self, alloc: Global, side: Side) -> Result<(), AllocError>
-        ensures frames { OnOk result (self.new.frames ≡ self.old.frames) }
-        ensures forest { OnOk result (self.new.lists.forest ≡ self.old.lists.forest) }
-        ensures trail { OnOk result (self.new.lists.trail ≡ self.old.lists.trail) }
-        ensures messages { OnOk result (self.new.lists.messages ≡ self.old.lists.messages) }
-        ensures table { OnOk result (self.new.table ≡ self.old.table) }
-    {
-        match side {
-            Side::Left => Ok(()),
-            Side::Right => self.lists.forest.open(alloc),
-        }
-    }
-
     /// A link more, whose operand's trees begin after so many: the next separator runs.
     #[inline(never)]
     fn add_link(
@@ -186,8 +171,7 @@ impl<'a> Machine<'a> {
         let kept = self.lists.messages.kept(error);
         count_link(&mut links, kept, end, self.marks()?);
         let separator = links.chain.separator;
-        self.push(Frame::Separator(links))?;
-        Ok(Mode::At(separator, end))
+        self.enter_part(Frame::Separator(links), separator, end)
     }
 
     /// A link failed, and the chain is over; what its links lay in serves the next chain.
@@ -226,10 +210,7 @@ impl<'a> Machine<'a> {
             self.lists.forest.close(links.chain.forest)?;
             return Ok(Mode::With(Reply::Failed { consumed, error }));
         }
-        let failed = self.lists.messages.kept(error);
-        let nothing = self.lists.no_messages_at(links.start);
-        let error = self.lists.messages.merge(failed, nothing)?;
-        let error = self.lists.messages.merge(links.kept, error)?;
+        let error = end_error(&mut self.lists, links, error)?;
         self.cut(links.marks);
         let used = links.chain.used;
         build_waiting(
@@ -248,6 +229,35 @@ impl<'a> Machine<'a> {
             error,
         }))
     }
+}
+
+/// From the right the trees of an operand are taken with what comes before them, but only after all that comes after.
+fn open_operand(alloc: Global, side: Side, forest: &mut RunForest) -> Result<(), AllocError>
+    ensures { OnOk result (forest.new ≡ forest.old) }
+{
+    match side {
+        Side::Left => Ok(()),
+        Side::Right => forest.open(alloc),
+    }
+}
+
+/// The error of a chain that ends before a link that failed with this one.
+fn end_error(
+    lists: &mut Lists<'_>,
+    links: &LinksFrame<'_>,
+    error: TapeError,
+) -> Result<TapeError, AllocError>
+    ensures error { IfOk result (λ after. after ≡ merged_tape_error links.now.kept (end_tape_error (links_of links.now) error lists.old.messages)
+        (end_messages (links_of links.now) error lists.old.messages)) }
+    ensures forest { OnOk result (lists.new.forest ≡ lists.old.forest) }
+    ensures trail { OnOk result (lists.new.trail ≡ lists.old.trail) }
+    ensures messages { OnOk result (lists.new.messages ≡ merged_messages links.now.kept (end_tape_error (links_of links.now) error lists.old.messages)
+        (end_messages (links_of links.now) error lists.old.messages)) }
+{
+    let failed = lists.messages.kept(error);
+    let nothing = lists.no_messages_at(links.start);
+    let error = lists.messages.merge(failed, nothing)?;
+    lists.messages.merge(links.kept, error)
 }
 
 /// The links in a box: in what those of another chain lay in, if there is one.

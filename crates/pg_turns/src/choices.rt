@@ -5,14 +5,15 @@ ghost use Rattle.pg_table.specs.Tables.{first_operators};
 ghost use Rattle.pg_turns.specs.Tape.{tape_with, tried_failure, tried_empty_ok, tape_to_choice, tape_next_alternative, tape_settled, tape_empty_ok, tried_kept, tried_messages, tried_with_failure, tried_with_empty_ok};
 ghost use Rattle.pg_lists.specs.RunTrees.{first_trees, hidden_after, rejoined};
 ghost use Rattle.pg_turns.specs.View.{tried_of, on_lists, stack_of, tape_of};
-ghost use Rattle.pg_message_tape.specs.TapeErrors.{tape_error, merged_tape_error, merged_messages, tape_error_after, messages_after};
+ghost use Rattle.pg_message_tape.specs.TapeErrors.{tape_error, kept_at, merged_tape_error, merged_messages, tape_error_after, messages_after};
 ghost use Rattle.pg_turns.specs.declared.frame.Reply.TheVariants.{Succeeded};
 
 use crate::frame::{ChoiceFrame, EmptyOk, Frame, Marks, Mode, Reply, Tried};
 use crate::machine::{Machine, counted};
 use pg_form::NodeId;
 use pg_language::Reading;
-use pg_message_tape::{KeptError, TapeError};
+use pg_lists::Lists;
+use pg_message_tape::{KeptError, MessageTape, TapeError};
 use pg_value::TrailItem;
 use std::alloc::{AllocError, Global};
 
@@ -44,7 +45,7 @@ impl<'a> Machine<'a> {
                 match reading {
                     Reading::Library => self.settled(choice.tried, choice.marks, reply),
                     Reading::Report => {
-                        let kept = self.tried_error(&choice.tried, error)?;
+                        let kept = tried_error(&mut self.lists.messages, &choice.tried, error)?;
                         let tried = self.keep_ok(alloc, choice.tried, kept, choice.marks, end)?;
                         self.next_alternative(
                             choice.which as usize + 1,
@@ -60,7 +61,7 @@ impl<'a> Machine<'a> {
                     return self.settled(choice.tried, choice.marks, reply);
                 }
                 self.cut(choice.marks);
-                let kept = self.tried_error(&choice.tried, error)?;
+                let kept = tried_error(&mut self.lists.messages, &choice.tried, error)?;
                 let tried = keep_failure(choice.tried, kept);
                 self.next_alternative(choice.which as usize + 1, choice.rest, choice.start, tried)
             }
@@ -201,30 +202,8 @@ impl<'a> Machine<'a> {
         }))
     }
 
-    /// The error that is kept from now on, after one more alternative that consumed nothing.
-    #[inline(always)]
-    fn tried_error(&mut self, tried: &Tried, error: TapeError) -> Result<KeptError, AllocError>
-        ensures kept { IfOk result (λ kept. kept ≡ tried_kept (tried_of tried.now) error self.old.lists.messages) }
-        ensures frames { OnOk result (self.new.frames ≡ self.old.frames) }
-        ensures forest { OnOk result (self.new.lists.forest ≡ self.old.lists.forest) }
-        ensures trail { OnOk result (self.new.lists.trail ≡ self.old.lists.trail) }
-        ensures messages { OnOk result (self.new.lists.messages ≡ tried_messages (tried_of tried.now) error self.old.lists.messages) }
-        ensures table { OnOk result (self.new.table ≡ self.old.table) }
-    {
-        match tried {
-            Tried::Nothing => Ok(self.lists.messages.kept(error)),
-            Tried::Failure(kept) => {
-                let error = self.lists.messages.merge(*kept, error)?;
-                Ok(self.lists.messages.kept(error))
-            }
-            Tried::EmptyOk(ok) => {
-                let error = self.lists.messages.merge(ok.kept, error)?;
-                Ok(self.lists.messages.kept(error))
-            }
-        }
-    }
-
-    /// What is kept after one more alternative that was ok and empty, whose trees and items go from the lists.
+    /// What is kept after one more alternative that was ok and empty, whose trees and items go from the lists; operators after
+    /// the marks, which an answer that consumed nothing has none of, are dropped.
     #[cold]
     #[inline(never)]
     fn keep_ok(
@@ -245,7 +224,8 @@ impl<'a> Machine<'a> {
     {
         match tried {
             Tried::Nothing | Tried::Failure(_) => {
-                let ok = self.taken_off(alloc, marks, end, kept)?;
+                let ok = taken_off(alloc, &mut self.lists, marks, end, kept)?;
+                self.table.cut(marks.operators as usize);
                 Ok(Tried::EmptyOk(Box::new(alloc, ok)?))
             }
             Tried::EmptyOk(mut ok) => {
@@ -255,43 +235,70 @@ impl<'a> Machine<'a> {
             }
         }
     }
+}
 
-    /// The trees and items after the marks leave the lists; operators after them, which an answer that consumed nothing
-    /// has none of, are dropped.
-    #[cold]
-    #[inline(never)]
-    fn taken_off(
-        &mut self,
-        alloc: Global,
-        marks: Marks,
-        end: usize,
-        kept: KeptError,
-    ) -> Result<EmptyOk, AllocError>
-        ensures end { IfOk result (λ ok. ok.end ≡ end) }
-        ensures kept { IfOk result (λ ok. ok.kept ≡ kept) }
-        ensures tried_forest { IfOk result (λ ok. ok.forest ≡ drop marks.forest self.old.lists.forest.kept) }
-        ensures tried_hidden { IfOk result (λ ok. ok.hidden ≡ hidden_after marks.forest self.old.lists.forest) }
-        ensures tried_trail { IfOk result (λ ok. ok.trail.items ≡ drop marks.trail self.old.lists.trail.items) }
-        ensures frames { OnOk result (self.new.frames ≡ self.old.frames) }
-        ensures forest { OnOk result (self.new.lists.forest ≡ first_trees marks.forest self.old.lists.forest) }
-        ensures trail { OnOk result (self.new.lists.trail.items ≡ take marks.trail self.old.lists.trail.items) }
-        ensures messages { OnOk result (self.new.lists.messages ≡ self.old.lists.messages) }
-        ensures table { OnOk result (self.new.table ≡ first_operators marks.operators self.old.table) }
-    {
-        let count = marks.forest;
-        let hidden = self.lists.forest.hidden_after(count);
-        let forest = self.lists.forest_after(alloc, count)?;
-        let from = (marks.trail as usize).min(self.lists.trail.len());
-        let trail = self.lists.trail.split_off(from)?;
-        self.table.cut(marks.operators as usize);
-        Ok(EmptyOk {
-            end,
-            forest,
-            hidden,
-            trail,
-            kept,
-        })
+/// The trees and items after the marks leave the lists.
+#[cold]
+#[inline(never)]
+fn taken_off(
+    alloc: Global,
+    lists: &mut Lists<'_>,
+    marks: Marks,
+    end: usize,
+    kept: KeptError,
+) -> Result<EmptyOk, AllocError>
+    ensures end { IfOk result (λ ok. ok.end ≡ end) }
+    ensures kept { IfOk result (λ ok. ok.kept ≡ kept) }
+    ensures tried_forest { IfOk result (λ ok. ok.forest ≡ drop marks.forest lists.old.forest.kept) }
+    ensures tried_hidden { IfOk result (λ ok. ok.hidden ≡ hidden_after marks.forest lists.old.forest) }
+    ensures tried_trail { IfOk result (λ ok. ok.trail.items ≡ drop marks.trail lists.old.trail.items) }
+    ensures forest { OnOk result (lists.new.forest ≡ first_trees marks.forest lists.old.forest) }
+    ensures trail { OnOk result (lists.new.trail.items ≡ take marks.trail lists.old.trail.items) }
+    ensures messages { OnOk result (lists.new.messages ≡ lists.old.messages) }
+{
+    let count = marks.forest;
+    let hidden = lists.forest.hidden_after(count);
+    let forest = lists.forest.split_off(alloc, count)?;
+    let from = (marks.trail as usize).min(lists.trail.len());
+    let trail = lists.trail.split_off(from)?;
+    Ok(EmptyOk {
+        end,
+        forest,
+        hidden,
+        trail,
+        kept,
+    })
+}
+
+/// The error that is kept from now on, after one more alternative that consumed nothing.
+#[inline(always)]
+fn tried_error(
+    messages: &mut MessageTape<'_>,
+    tried: &Tried,
+    error: TapeError,
+) -> Result<KeptError, AllocError>
+    ensures kept { IfOk result (λ kept. kept ≡ tried_kept (tried_of tried.now) error messages.old) }
+    ensures messages { OnOk result (messages.new ≡ tried_messages (tried_of tried.now) error messages.old) }
+{
+    match tried {
+        Tried::Nothing => Ok(messages.kept(error)),
+        Tried::Failure(kept) => merged(messages, *kept, error),
+        Tried::EmptyOk(ok) => merged(messages, ok.kept, error),
     }
+}
+
+/// The error that is kept, merged with one more.
+#[inline(always)]
+fn merged(
+    messages: &mut MessageTape<'_>,
+    before: KeptError,
+    error: TapeError,
+) -> Result<KeptError, AllocError>
+    ensures kept { IfOk result (λ kept. kept ≡ kept_at (length (merged_messages before error messages.old)) (merged_tape_error before error messages.old)) }
+    ensures messages { OnOk result (messages.new ≡ merged_messages before error messages.old) }
+{
+    let error = messages.merge(before, error)?;
+    Ok(messages.kept(error))
 }
 
 /// What is kept after one more alternative that failed, with the error that is kept from now on.

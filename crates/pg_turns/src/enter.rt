@@ -149,7 +149,7 @@ impl<'a> Machine<'a> {
 
     /// A part runs, and the frame waits for it.
     #[inline(always)]
-    fn enter_part(
+    pub(crate) fn enter_part(
         &mut self,
         frame: Frame<'a>,
         part: NodeId,

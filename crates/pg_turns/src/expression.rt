@@ -93,8 +93,7 @@ impl<'a> Machine<'a> {
             self.old.lists.forest self.old.lists.trail.items self.old.lists.messages self.old.table) }
     {
         let term = frame.setting.term;
-        self.push(Frame::Expression(frame))?;
-        Ok(Mode::At(term, place))
+        self.enter_part(Frame::Expression(frame), term, place)
     }
 
     /// An answer of the term is handed to the levels.
@@ -104,7 +103,7 @@ impl<'a> Machine<'a> {
         alloc: Global,
         registry: &Registry,
         given: Given<'a>,
-        frame: Box<ExpressionFrame<'a>>,
+        mut frame: Box<ExpressionFrame<'a>>,
         reply: Reply,
     ) -> Result<Mode, AllocError>
         requires item { given.grammar.now.operators ≡ Some frame.value.setting.item.now }
@@ -126,7 +125,7 @@ impl<'a> Machine<'a> {
                 self.hand_stretch(alloc, registry, given, frame, stretch)
             }
             Reply::Failed { consumed, error } => {
-                self.hand_failure(frame, Failure { consumed, error })
+                self.hand_failure(&mut frame, Failure { consumed, error })
             }
             Reply::EmptyRound => Ok(Mode::With(Reply::EmptyRound)),
         }
@@ -170,11 +169,11 @@ impl<'a> Machine<'a> {
     #[tactic(auto, using(crate::proofs::ExpressionSteps::failed_tape))]
     fn hand_failure(
         &mut self,
-        mut frame: Box<ExpressionFrame<'a>>,
+        frame: &mut ExpressionFrame<'a>,
         failure: Failure,
     ) -> Result<Mode, AllocError>
         ensures { IfOk result (λ mode. tape_of mode self.new ≡
-            tape_failed (on_failed (levels_of frame.entry.value.levels.items) (failure_of failure self.old.lists))
+            tape_failed (on_failed (levels_of frame.old.levels.items) (failure_of failure self.old.lists))
             (stack_of self.old.frames.items) self.old.lists.forest self.old.lists.trail.items self.old.table) }
     {
         self.lists.forest.close(frame.setting.forest)?;

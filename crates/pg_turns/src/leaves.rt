@@ -1,6 +1,6 @@
 //! The forms that read the text themselves.
 
-ghost use Rattle.std.specs.Prelude.{◌≡◌, ◌<◌, ◌≤◌, ◌+◌, ◌^◌, ◌++◌, ◌∷◌, [], false, nat_eq, length, drop, slice_get, Some, IfOk, IfSome};
+ghost use Rattle.std.specs.Prelude.{◌≡◌, ◌<◌, ◌≤◌, ◌+◌, ◌^◌, ◌++◌, ◌∷◌, [], false, nat_eq, length, drop, slice_get, Some, IfOk, OnOk, IfSome};
 ghost use Rattle.std.specs.List.{list_any, prefix_len, common_prefix_len};
 ghost use Rattle.std.specs.Str.{bytes_eq};
 ghost use Rattle.pg_class_tables.specs.Tables.{AreTablesOf, IsClassOfNode};
@@ -17,7 +17,7 @@ use crate::frame::{Mode, Reply};
 use crate::machine::Machine;
 use pg_class_tables::ClassTables;
 use pg_form::{ClassExpression, NodeId, WordId, WordItem};
-use pg_message_tape::Message;
+use pg_message_tape::{Message, MessageTape, TapeError};
 use pg_text::Text;
 use pg_value::Grammar;
 use std::alloc::AllocError;
@@ -193,8 +193,7 @@ impl<'a> Machine<'a> {
             (stack_of self.old.frames.items) self.old.lists.forest self.old.lists.trail.items (self.old.lists.messages ++ tape_message_of message.entry ∷ [])
             self.old.table) }
     {
-        let error = self.lists.no_messages_at(place);
-        self.lists.messages.push(message)?;
+        let error = said(&mut self.lists.messages, place, message)?;
         Ok(Mode::With(Reply::Failed { consumed, error }))
     }
 
@@ -212,9 +211,7 @@ impl<'a> Machine<'a> {
             (stack_of self.old.frames.items) self.old.lists.forest self.old.lists.trail.items
             (self.old.lists.messages ++ tape_message_of message.entry ∷ tape_message_of wanted.entry ∷ []) self.old.table) }
     {
-        let error = self.lists.no_messages_at(place);
-        self.lists.messages.push(message)?;
-        self.lists.messages.push(wanted)?;
+        let error = both_said(&mut self.lists.messages, place, message, wanted)?;
         Ok(Mode::With(Reply::Failed { consumed, error }))
     }
 
@@ -226,8 +223,7 @@ impl<'a> Machine<'a> {
             (stack_of self.old.frames.items) self.old.lists.forest self.old.lists.trail.items (self.old.lists.messages ++ tape_message_of message.entry ∷ [])
             self.old.table) }
     {
-        let error = self.lists.no_messages_at(place);
-        self.lists.messages.push(message)?;
+        let error = said(&mut self.lists.messages, place, message)?;
         let (consumed, end) = (false, place);
         Ok(Mode::With(Reply::Succeeded {
             consumed,
@@ -249,9 +245,7 @@ impl<'a> Machine<'a> {
             (stack_of self.old.frames.items) self.old.lists.forest self.old.lists.trail.items
             (self.old.lists.messages ++ tape_message_of message.entry ∷ tape_message_of wanted.entry ∷ []) self.old.table) }
     {
-        let error = self.lists.no_messages_at(place);
-        self.lists.messages.push(message)?;
-        self.lists.messages.push(wanted)?;
+        let error = both_said(&mut self.lists.messages, place, message, wanted)?;
         let (consumed, end) = (false, place);
         Ok(Mode::With(Reply::Succeeded {
             consumed,
@@ -259,6 +253,37 @@ impl<'a> Machine<'a> {
             error,
         }))
     }
+}
+
+/// An error at the place, and what is said of it.
+#[inline(always)]
+fn said<'a>(
+    messages: &mut MessageTape<'a>,
+    place: usize,
+    message: Message<'a>,
+) -> Result<TapeError, AllocError>
+    ensures error { IfOk result (λ error. error ≡ tape_error place (length messages.old)) }
+    ensures messages { OnOk result (messages.new ≡ messages.old ++ tape_message_of message.entry ∷ []) }
+{
+    let from = messages.len();
+    messages.push(message)?;
+    Ok(TapeError { place, from })
+}
+
+/// The same, and what was expected.
+#[inline(always)]
+fn both_said<'a>(
+    messages: &mut MessageTape<'a>,
+    place: usize,
+    message: Message<'a>,
+    wanted: Message<'a>,
+) -> Result<TapeError, AllocError>
+    ensures error { IfOk result (λ error. error ≡ tape_error place (length messages.old)) }
+    ensures messages { OnOk result (messages.new ≡ messages.old ++ tape_message_of message.entry ∷ tape_message_of wanted.entry ∷ []) }
+{
+    let error = said(messages, place, message)?;
+    messages.push(wanted)?;
+    Ok(error)
 }
 
 /// The character at the place of the text, if there is one.

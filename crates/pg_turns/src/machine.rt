@@ -80,7 +80,7 @@ impl<'a> Machine<'a> {
         ensures messages { self.new.lists.messages ≡ self.old.lists.messages }
         ensures table { self.new.table ≡ first_operators marks.operators self.old.table }
     {
-        self.lists.cut_forest(marks.forest);
+        self.lists.forest.cut(marks.forest);
         self.lists.trail.truncate(marks.trail as usize);
         self.table.cut(marks.operators as usize);
     }
@@ -91,8 +91,8 @@ impl<'a> Machine<'a> {
 pub(crate) fn counted(number: usize) -> Result<u32, AllocError>
     ensures { IfOk result (λ count. count ≡ number) }
 {
-    match u32::try_from(number) {
-        Ok(count) => Ok(count),
-        Err(_) => Err(AllocError),
+    if number > u32::MAX as usize {
+        return Err(AllocError);
     }
+    Ok(number as u32)
 }

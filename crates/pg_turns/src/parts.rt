@@ -7,6 +7,7 @@ ghost use Rattle.pg_turns.specs.View.{on_lists, stack_of, tape_of};
 use crate::frame::{Before, Frame, Mode, PartsFrame, Reply};
 use crate::machine::Machine;
 use pg_form::NodeId;
+use pg_lists::Lists;
 use pg_message_tape::TapeError;
 use std::alloc::AllocError;
 
@@ -27,11 +28,11 @@ impl<'a> Machine<'a> {
                 end,
                 error,
             } => {
-                let error = self.joined(parts.before, consumed, error)?;
+                let error = joined(&mut self.lists, parts.before, consumed, error)?;
                 self.next_part(parts.rest, has_consumed(parts.before, consumed), end, error)
             }
             Reply::Failed { consumed, error } => {
-                let error = self.joined(parts.before, consumed, error)?;
+                let error = joined(&mut self.lists, parts.before, consumed, error)?;
                 let consumed = has_consumed(parts.before, consumed);
                 Ok(Mode::With(Reply::Failed { consumed, error }))
             }
@@ -55,8 +56,7 @@ impl<'a> Machine<'a> {
             Some((part, rest)) => {
                 let kept = self.lists.messages.kept(error);
                 let before = Some(Before { consumed, kept });
-                self.push(Frame::Parts(PartsFrame { rest, before }))?;
-                Ok(Mode::At(*part, end))
+                self.enter_part(Frame::Parts(PartsFrame { rest, before }), *part, end)
             }
             None => Ok(Mode::With(Reply::Succeeded {
                 consumed,
@@ -65,26 +65,24 @@ impl<'a> Machine<'a> {
             })),
         }
     }
+}
 
-    /// The error after that of the parts before.
-    #[inline(always)]
-    fn joined(
-        &mut self,
-        before: Option<Before>,
-        consumed: bool,
-        error: TapeError,
-    ) -> Result<TapeError, AllocError>
-        ensures error { IfOk result (λ after. after ≡ joined_tape_error before consumed error self.old.lists.messages) }
-        ensures frames { OnOk result (self.new.frames ≡ self.old.frames) }
-        ensures forest { OnOk result (self.new.lists.forest ≡ self.old.lists.forest) }
-        ensures trail { OnOk result (self.new.lists.trail ≡ self.old.lists.trail) }
-        ensures messages { OnOk result (self.new.lists.messages ≡ joined_messages before consumed error self.old.lists.messages) }
-        ensures table { OnOk result (self.new.table ≡ self.old.table) }
-    {
-        match before {
-            Some(before) => self.lists.error_after(before.kept, consumed, error),
-            None => Ok(error),
-        }
+/// The error after that of the parts before.
+#[inline(always)]
+fn joined(
+    lists: &mut Lists<'_>,
+    before: Option<Before>,
+    consumed: bool,
+    error: TapeError,
+) -> Result<TapeError, AllocError>
+    ensures error { IfOk result (λ after. after ≡ joined_tape_error before consumed error lists.old.messages) }
+    ensures forest { OnOk result (lists.new.forest ≡ lists.old.forest) }
+    ensures trail { OnOk result (lists.new.trail ≡ lists.old.trail) }
+    ensures messages { OnOk result (lists.new.messages ≡ joined_messages before consumed error lists.old.messages) }
+{
+    match before {
+        Some(before) => lists.error_after(before.kept, consumed, error),
+        None => Ok(error),
     }
 }
 

@@ -34,7 +34,7 @@ impl<'a> Machine<'a> {
                 }
                 self.lists.messages.cut(rounds.messages);
                 let marks = self.marks()?;
-                self.push(Frame::Rounds(RoundsFrame {
+                let next = RoundsFrame {
                     part: rounds.part,
                     count: rounds.count + 1,
                     consumed: true,
@@ -42,8 +42,8 @@ impl<'a> Machine<'a> {
                     slot: rounds.slot,
                     marks,
                     messages: rounds.messages,
-                }))?;
-                Ok(Mode::At(rounds.part, end))
+                };
+                self.enter_part(Frame::Rounds(next), rounds.part, end)
             }
             Reply::Failed { consumed, error } => {
                 if consumed {
