@@ -6,9 +6,9 @@ use Rattle.pg_pred.specs.Offer.{Offer}
 use Rattle.pg_language.specs.declared.reading.Reading.{Reading}
 use Rattle.pg_predict.specs.Findings.{lines_of}
 use Rattle.pg_grammar_bench.specs.Checking.{IsChecked, is_accepted, is_refused}
-use Rattle.pg_grammar_bench.specs.Explaining.{IsExplainedFile}
-use Rattle.pg_grammar_bench.specs.declared.explain.Explained.TheVariants as told
-use Rattle.pg_grammar_bench.specs.Faults.{IsPageRefusal, IsVerifyRefusal, IfNotVerified, IfRefused, IfParseError}
+use Rattle.pg_explain_bench.specs.Explaining.{IsExplainedFile}
+use Rattle.pg_explain_bench.specs.declared.explain.Explained.TheVariants as told
+use Rattle.pg_grammar_bench.specs.Faults.{IsFileRefusal, IsPageRefusal, IsVerifyRefusal, IfNotVerified, IfRefused, IfParseError}
 use Rattle.pg_grammar_bench.specs.Files.{AreFindingsOf}
 use Rattle.pg_bench.specs.declared.done.Done.{Done}
 use Rattle.pg_bench.specs.Parsed.{IsParsed, IsErrorOf}
@@ -36,6 +36,15 @@ check_fault_status offer file fault status h is = subst (IsCheckStatus offer fil
     own : (f : BenchFault) → IsPageRefusal f → IsCheckStatus offer file (status_of f)
     own (File f) h = unusable
     own Writer h = unusable
+    own Memory h = out_of_memory
+    own _ h = absurd h
+
+pub file_fault_status : (offer : Offer) (file : List ℕ) (fault : BenchFault) (status : ℕ) → IsFileRefusal fault → status ≡ status_of fault
+    → IsCheckStatus offer file status
+file_fault_status offer file fault status h is = subst (IsCheckStatus offer file) (sym is) (own fault h)
+  where
+    own : (f : BenchFault) → IsFileRefusal f → IsCheckStatus offer file (status_of f)
+    own (File f) h = unusable
     own Memory h = out_of_memory
     own _ h = absurd h
 

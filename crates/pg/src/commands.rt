@@ -4,26 +4,28 @@
 //! Functions that hold files and functions that hold what is written to are apart: that keeps their proofs short. The latter
 //! have the bytes at hand, and so their contracts say what the exit status tells of them.
 
-ghost use Rattle.std.specs.Prelude.{IfOk};
+ghost use Rattle.std.specs.Prelude.{◌≡◌, false, IfOk};
 ghost use Rattle.pg_pred.specs.Offer.{offer_of};
 ghost use Rattle.pg_registry.specs.ProgramOffer.{IsProgramOffer};
-ghost use Rattle.pg.specs.Status.{IsCheckStatus, IsParseStatus, IsProbeStatus, IsReplayStatus, IsPrintStatus, IsVerifyStatus};
+ghost use Rattle.pg.specs.Status.{status_of, IsCheckStatus, IsParseStatus, IsProbeStatus, IsReplayStatus, IsPrintStatus, IsVerifyStatus};
 
 use crate::files::{grammar_alone, grammar_with_certificate, inputs, inputs_with_trail};
-use crate::printing::{UNUSABLE, not_there, print_report, print_verdict};
+use crate::printing::{UNUSABLE, not_there, print_report, print_verdict, put, say};
 use crate::reporting::Names;
 use pg_bench::{
-    Explained, check_bytes, explain_bytes, parse_bytes, print_bytes, probe_bytes, replay_bytes,
-    sets_bytes, verify_bytes,
+    BenchFault, check_bytes, parse_bytes, print_bytes, probe_bytes, replay_bytes, sets_bytes,
+    verify_bytes,
 };
+use pg_explain_bench::{Explained, PlacingWriter, explain_bytes, places_of};
+use pg_explain_fault::{fault_page, nearest_rule};
 use pg_language::Reading;
 use pg_pred::Registry;
 use pg_registry::UsesRegistry;
 use pg_request::Request;
 use pg_tree::Meter;
-use std::alloc::AllocError;
+use std::alloc::{AllocError, Global};
 use std::io;
-use std::io::Read;
+use std::io::{Read, Write};
 use std::rt::Files;
 
 /// The exit status of a grammar that isn't accepted, of a probe whose answer isn't ok, and of a trail that doesn't lead to a forest.
@@ -59,7 +61,8 @@ fn answer<R: AllocGlobal + Files + Print + Eprint>(
         Request::Check {
             grammar,
             certificate,
-        } => check_file(rt, grammar, registry, certificate),
+            places,
+        } => check_file(rt, grammar, registry, certificate, places),
         Request::Explain { grammar, asked } => explain_file(rt, grammar, registry, asked),
         Request::Verify {
             grammar,
@@ -93,21 +96,36 @@ fn answer<R: AllocGlobal + Files + Print + Eprint>(
     }
 }
 
-/// Prints whether the grammar in a file is accepted, or its certificate where that is asked for, or what is wrong with it.
+/// Prints whether the grammar in a file is accepted, or its certificate where that is asked for, or what is wrong with it, with places where those
+/// are asked for.
 fn check_file<R: AllocGlobal + Files + Print + Eprint>(
     rt: &R,
     grammar: &str,
     registry: &Registry,
     certificate: bool,
+    places: bool,
 ) -> Result<u8, AllocError> {
     match grammar_alone(rt, grammar)? {
-        Some(bytes) => check_grammar(rt, bytes.as_slice(), grammar, registry, certificate),
+        Some(bytes) if places => {
+            check_placed(rt, bytes.as_slice(), grammar, registry, certificate)
+        }
+        Some(bytes) => {
+            let mut writer = Meter::new(io::writer(rt));
+            check_grammar(
+                rt,
+                bytes.as_slice(),
+                grammar,
+                registry,
+                certificate,
+                &mut writer,
+            )
+        }
         None => Ok(UNUSABLE),
     }
 }
 
-#[tactic(auto, using(crate::proofs::Statuses::accepted_status, crate::proofs::Statuses::refused_status, crate::proofs::Statuses::check_fault_status))]
-fn check_grammar<R: AllocGlobal + Files + Print + Eprint>(
+#[tactic(auto, using(crate::proofs::Statuses::file_fault_status))]
+fn check_placed<R: AllocGlobal + Files + Print + Eprint>(
     rt: &R,
     bytes: &[u8],
     grammar: &str,
@@ -116,8 +134,28 @@ fn check_grammar<R: AllocGlobal + Files + Print + Eprint>(
 ) -> Result<u8, AllocError>
     ensures { IfOk result (IsCheckStatus (offer_of registry.now) bytes.now) }
 {
-    let mut writer = Meter::new(io::writer(rt));
-    match check_bytes(rt.alloc(), bytes, registry, &mut writer, certificate) {
+    match places_of(rt.alloc(), grammar, bytes, registry) {
+        Ok(places) => {
+            let mut writer = Meter::new(PlacingWriter::new(rt.alloc(), io::writer(rt), &places));
+            check_grammar(rt, bytes, grammar, registry, certificate, &mut writer)
+        }
+        Err(fault) => print_report(rt, fault, of_grammar(grammar)),
+    }
+}
+
+#[tactic(auto, using(crate::proofs::Statuses::accepted_status, crate::proofs::Statuses::refused_status, crate::proofs::Statuses::check_fault_status))]
+fn check_grammar<R: AllocGlobal + Files + Print + Eprint, W: Write>(
+    rt: &R,
+    bytes: &[u8],
+    grammar: &str,
+    registry: &Registry,
+    certificate: bool,
+    writer: &mut Meter<W>,
+) -> Result<u8, AllocError>
+    requires { writer.old.failed ≡ false }
+    ensures { IfOk result (IsCheckStatus (offer_of registry.now) bytes.now) }
+{
+    match check_bytes(rt.alloc(), bytes, registry, writer, certificate) {
         Ok(true) => Ok(0),
         Ok(false) => Ok(NO),
         Err(fault) => print_report(rt, fault, of_grammar(grammar)),
@@ -148,11 +186,72 @@ fn explain_grammar<R: AllocGlobal + Files + Print + Eprint>(
     ensures { IfOk result (IsCheckStatus (offer_of registry.now) bytes.now) }
 {
     let mut writer = Meter::new(io::writer(rt));
-    match explain_bytes(rt.alloc(), bytes, registry, &mut writer, asked) {
+    match explain_bytes(rt.alloc(), grammar, bytes, registry, &mut writer, asked) {
         Ok(Explained::Accepted) => Ok(0),
         Ok(Explained::Refused) => Ok(NO),
-        Ok(Explained::NotThere) => Ok(not_there(rt, grammar, asked)),
-        Err(fault) => print_report(rt, fault, of_grammar(grammar)),
+        Ok(Explained::NotThere) => tell_nearest(rt, bytes, grammar, asked),
+        Err(fault) => explain_fault(rt, bytes, grammar, fault),
+    }
+}
+
+/// Says that a grammar has no such rule or node, and which rule is named nearly so, and gives the status.
+fn tell_nearest<R: AllocGlobal + Eprint>(
+    rt: &R,
+    bytes: &[u8],
+    grammar: &str,
+    asked: &str,
+) -> Result<u8, AllocError>
+    ensures { IfOk result (λ status. status ≡ UNUSABLE) }
+{
+    let nearest = nearest_rule(rt.alloc(), bytes, rule_asked(asked))?;
+    let status = not_there(rt, grammar, asked);
+    if let Some(name) = nearest {
+        say(rt, format_args!("did you mean {name}?"));
+    }
+    Ok(status)
+}
+
+/// The rule of `RULE` or `RULE:NODE`.
+fn rule_asked(asked: &str) -> &str {
+    match asked.split_once(':') {
+        Some((rule, _)) => rule,
+        None => asked,
+    }
+}
+
+/// Prints the report of a fault, and of a fault of the file what it means, and gives the status.
+fn explain_fault<R: AllocGlobal + Eprint>(
+    rt: &R,
+    bytes: &[u8],
+    grammar: &str,
+    fault: BenchFault,
+) -> Result<u8, AllocError>
+    ensures { IfOk result (λ status. status ≡ status_of fault) }
+{
+    let page = fault_words(rt.alloc(), bytes, grammar, &fault)?;
+    let status = print_report(rt, fault, of_grammar(grammar))?;
+    put(rt, page.as_str());
+    Ok(status)
+}
+
+/// What a fault of a grammar file means; nothing of another.
+fn fault_words(
+    alloc: Global,
+    bytes: &[u8],
+    grammar: &str,
+    fault: &BenchFault,
+) -> Result<String, AllocError> {
+    match fault {
+        BenchFault::File(fault) => fault_page(alloc, grammar, bytes, fault),
+        BenchFault::Refused(_)
+        | BenchFault::Reader
+        | BenchFault::NotUtf8
+        | BenchFault::TooLong
+        | BenchFault::NotATrail
+        | BenchFault::NotVerified(_)
+        | BenchFault::ParseError(_)
+        | BenchFault::Writer
+        | BenchFault::Memory => Ok(String::new(alloc)),
     }
 }
 

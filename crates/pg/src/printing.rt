@@ -140,3 +140,8 @@ pub fn refuse<R: Eprint, M: Display + Drop>(rt: &R, message: M) -> u8
 pub fn say<R: Eprint, M: Display + Drop>(rt: &R, message: M) {
     let _ = rt.eprintln(message);
 }
+
+/// Prints a text to standard error, as far as that takes it.
+pub fn put<R: Eprint>(rt: &R, text: &str) {
+    let _ = rt.eprint(text);
+}

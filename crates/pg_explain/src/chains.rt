@@ -1,9 +1,10 @@
 //! Through which rules and nodes a start comes to where it is met.
 
 use crate::known::Known;
-use crate::mentions::{mention, rule_name};
+use crate::mentions::{body_place, mention, rule_name};
 use crate::paths::{dead_ends, shortest_way};
 use crate::steps::Steps;
+use crate::written::{span_of, written};
 use pg_form::{Form, NodeId};
 use std::alloc::{AllocError, Global};
 
@@ -63,7 +64,7 @@ fn sets_with(alloc: Global, known: &Known, start: usize) -> Result<Vec<bool>, Al
 fn told_way(alloc: Global, known: &Known, way: &[usize]) -> Result<String, AllocError> {
     let mut steps = Steps::new(alloc);
     let [first, after @ ..] = way else {
-        return Ok(steps.into_text());
+        return steps.text(alloc);
     };
     let mut to = *first;
     for from in after {
@@ -77,7 +78,7 @@ fn told_way(alloc: Global, known: &Known, way: &[usize]) -> Result<String, Alloc
         to = *from;
     }
     tell_end(alloc, known, set_of(known, to), &mut steps)?;
-    Ok(steps.into_text())
+    steps.text(alloc)
 }
 
 /// The set with this number.
@@ -101,7 +102,7 @@ fn tell_step(
             tell_front(alloc, known, NodeId::new(node), NodeId::new(part), steps)
         }
         (SetOf::Follow(node), SetOf::First(next)) => {
-            tell_next(NodeId::new(node), NodeId::new(next), steps)
+            tell_next(alloc, NodeId::new(node), NodeId::new(next), steps)
         }
         (SetOf::Follow(node), SetOf::Follow(other)) => {
             tell_after(alloc, known, NodeId::new(node), NodeId::new(other), steps)
@@ -121,7 +122,7 @@ fn tell_front(
     match known.form(node) {
         Some(Form::Rule(rule)) => {
             let name = rule_name(alloc, known, rule.index())?;
-            steps.tell(name.as_str())
+            steps.tell_at(alloc, known, name, body_place(known, rule.index()))
         }
         Some(Form::Seq(parts)) => tell_passed(alloc, known, parts.as_slice(), part, steps),
         Some(Form::Chain(_, _, operand, separator)) => {
@@ -164,13 +165,18 @@ fn tell_empty(
 ) -> Result<(), AllocError> {
     let node = mention(alloc, known, node)?;
     let words = format!(in alloc; "{node} can be empty and then")?;
-    steps.lead(words.as_str())
+    steps.lead(words)
 }
 
 /// Tells that the next round follows, where a node follows itself.
-fn tell_next(node: NodeId, next: NodeId, steps: &mut Steps) -> Result<(), AllocError> {
+fn tell_next(
+    alloc: Global,
+    node: NodeId,
+    next: NodeId,
+    steps: &mut Steps,
+) -> Result<(), AllocError> {
     if node == next {
-        steps.tell("the next round")
+        steps.tell(String::from_str(alloc, "the next round")?)
     } else {
         Ok(())
     }
@@ -188,7 +194,7 @@ fn tell_after(
     if is_body(known, node) {
         let other = mention(alloc, known, other)?;
         let words = format!(in alloc; "what follows {other}")?;
-        return steps.tell(words.as_str());
+        return steps.tell(words);
     }
     if other.index() > node.index() {
         return tell_empty(alloc, known, other, steps);
@@ -205,8 +211,9 @@ fn is_body(known: &Known, node: NodeId) -> bool {
 fn tell_end(alloc: Global, known: &Known, set: SetOf, steps: &mut Steps) -> Result<(), AllocError> {
     match set {
         SetOf::First(node) => {
-            let words = mention(alloc, known, NodeId::new(node))?;
-            steps.tell(words.as_str())
+            let node = NodeId::new(node);
+            let words = written(alloc, known, node)?;
+            steps.tell_at(alloc, known, words, span_of(known, node).first)
         }
         SetOf::Follow(node) => tell_last(alloc, known, NodeId::new(node), steps),
     }
@@ -222,9 +229,9 @@ fn tell_last(
     if is_body(known, node) {
         let start = rule_name(alloc, known, known.grammar.start_rule().index())?;
         let words = format!(in alloc; "the start rule {start} ends")?;
-        return steps.tell(words.as_str());
+        return steps.tell(words);
     }
     let term = mention(alloc, known, node)?;
     let words = format!(in alloc; "operators follow {term}")?;
-    steps.tell(words.as_str())
+    steps.tell(words)
 }

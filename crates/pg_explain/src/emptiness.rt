@@ -2,7 +2,7 @@
 
 use crate::contained::nullable_marks;
 use crate::known::Known;
-use crate::mentions::{mention, rule_name};
+use crate::mentions::{body_place, mention, rule_name};
 use crate::paths::{dead_ends, shortest_way};
 use crate::steps::Steps;
 use pg_form::{Form, Node, NodeId};
@@ -63,14 +63,14 @@ fn join_each(number: usize, parts: &[NodeId], graph: &mut Vec<Numbers>) -> Resul
 fn told_way(alloc: Global, known: &Known, way: &[usize]) -> Result<String, AllocError> {
     let mut steps = Steps::new(alloc);
     let Some((last, before)) = way.split_last() else {
-        return Ok(steps.into_text());
+        return steps.text(alloc);
     };
     for number in before {
         tell_rule(alloc, known, NodeId::new(*number), &mut steps)?;
     }
     let words = nothing_words(alloc, known, NodeId::new(*last))?;
-    steps.tell(words.as_str())?;
-    Ok(steps.into_text())
+    steps.tell(words)?;
+    steps.text(alloc)
 }
 
 /// Tells the rule that is used at a node, if one is.
@@ -83,7 +83,7 @@ fn tell_rule(
     match known.form(node) {
         Some(Form::Rule(rule)) => {
             let name = rule_name(alloc, known, rule.index())?;
-            steps.tell(name.as_str())
+            steps.tell_at(alloc, known, name, body_place(known, rule.index()))
         }
         Some(
             Form::Leaf(_)

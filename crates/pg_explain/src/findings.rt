@@ -1,35 +1,58 @@
 //! A finding, told in lines.
 
+use crate::causes::Cause;
 use crate::emptiness::emptiness;
 use crate::headlines::{code, headline};
 use crate::known::Known;
 use crate::lines::{
-    push_alternative, push_both, push_first, push_follow, push_gap, push_line, push_operator,
+    push_also, push_alternative, push_alternatives, push_both, push_first, push_follow, push_gap,
+    push_line, push_operator,
 };
+use crate::marked::marks_of;
 use crate::mentions::{place_in, place_text};
 use crate::recursion::recursion;
+use crate::written::span_of;
+use pg_excerpt::push_excerpt;
 use pg_form::{NodeId, RuleId};
 use pg_predict::ViolationKind;
 use std::alloc::{AllocError, Global};
 
-/// Pushes a finding, with an empty line before it unless it is the first: where it is, what is wrong, and how that comes about. The only
-/// error is that memory ran out.
-pub(crate) fn push_finding(
+/// Where something is wrong, and its code. The only error is that memory ran out.
+pub(crate) fn head(
     alloc: Global,
-    page: &mut String,
     known: &Known,
     node: NodeId,
     kind: &ViolationKind<usize>,
-) -> Result<(), AllocError> {
-    if !page.is_empty() {
-        page.push_str("\n")?;
-    }
+) -> Result<String, AllocError> {
     let place = place_text(alloc, known, node)?;
     let code = code(kind);
+    format!(in alloc; "{place}: {code}")
+}
+
+/// A cause of findings at a node, in lines: where it is, what is wrong, and how that comes about. The only error is that memory ran out.
+pub(crate) fn told(
+    alloc: Global,
+    known: &Known,
+    node: NodeId,
+    cause: &Cause,
+    head: &str,
+) -> Result<String, AllocError> {
+    let kind = &cause.kind;
     let words = headline(alloc, known, node, kind)?;
-    let line = format!(in alloc; "{place}: {code} {words}\n")?;
-    page.push_str(line.as_str())?;
-    push_lines(alloc, page, known, node, kind)
+    let mut page = format!(in alloc; "{head} {words}\n")?;
+    let marks = marks_of(alloc, known, node, kind)?;
+    let first = span_of(known, node).first;
+    push_excerpt(
+        alloc,
+        &mut page,
+        known.file.name,
+        known.file.text,
+        first,
+        &marks,
+    )?;
+    push_lines(alloc, &mut page, known, node, kind)?;
+    push_also(alloc, &mut page, known, &cause.also)?;
+    Ok(page)
 }
 
 /// Pushes how it comes about.
@@ -48,9 +71,8 @@ fn push_lines(
         ViolationKind::EmptyAlternative(k) => {
             push_emptiness(alloc, page, known, known.alternative(node, *k))
         }
-        ViolationKind::AlternativesMeet(j, k, one, other) => {
-            push_alternative(alloc, page, known, node, *j, *one)?;
-            push_alternative(alloc, page, known, node, *k, *other)?;
+        ViolationKind::AlternativesMeet(_, _, one, other) => {
+            push_alternatives(alloc, page, known, node, *one, *other)?;
             push_both(alloc, page, known, *one, *other)
         }
         ViolationKind::AlternativeMeetsFollow(k, one, other) => {

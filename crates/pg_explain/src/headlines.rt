@@ -1,5 +1,6 @@
 //! What is wrong, in a line.
 
+use crate::alternatives::{beginning_with, numbers_words};
 use crate::known::Known;
 use pg_form::NodeId;
 use pg_predict::ViolationKind;
@@ -34,8 +35,8 @@ pub(crate) fn headline(
         ViolationKind::EmptyAlternative(k) => {
             format!(in alloc; "alternative {k} can be empty, so those after it are never tried")
         }
-        ViolationKind::AlternativesMeet(j, k, _, _) => {
-            format!(in alloc; "alternatives {j} and {k} meet")
+        ViolationKind::AlternativesMeet(_, _, one, other) => {
+            alternatives_meet(alloc, known, node, *one, *other)
         }
         ViolationKind::AlternativeMeetsFollow(k, _, _) => {
             format!(in alloc; "alternative {k} meets what follows")
@@ -57,8 +58,31 @@ pub(crate) fn headline(
     }
 }
 
+/// Which alternatives meet: all that begin with one start, or those with one and those with another.
+fn alternatives_meet(
+    alloc: Global,
+    known: &Known,
+    node: NodeId,
+    one: usize,
+    other: usize,
+) -> Result<String, AllocError> {
+    let with_one = beginning_with(alloc, known, node, one)?;
+    if one == other {
+        let words = numbers_words(alloc, &with_one)?;
+        return format!(in alloc; "alternatives {words} meet");
+    }
+    let with_other = beginning_with(alloc, known, node, other)?;
+    if let ([j], [k]) = (with_one.as_slice(), with_other.as_slice()) {
+        let words = numbers_words(alloc, &[(*j).min(*k), (*j).max(*k)])?;
+        return format!(in alloc; "alternatives {words} meet");
+    }
+    let these = numbers_words(alloc, &with_one)?;
+    let those = numbers_words(alloc, &with_other)?;
+    format!(in alloc; "alternatives {these} meet {those}")
+}
+
 /// What a gap meets: operators, whose start has a number after those of the sets, or what begins the term, or what follows.
-fn gap(known: &Known, node: NodeId, start: usize) -> &'static str {
+pub(crate) fn gap(known: &Known, node: NodeId, start: usize) -> &'static str {
     if start >= known.sets.starts().len() {
         "a gap meets operators"
     } else if known.begins_term(node, start) {

@@ -1,18 +1,24 @@
 //! What is asked of a grammar while its findings are told.
 
 use crate::contained::contained_sets;
+use crate::grammar_file::GrammarFile;
 use pg_class::Class;
+use pg_excerpt::positions;
 use pg_form::{Form, Node, NodeId};
 use pg_graph::Numbers;
 use pg_own_starts::{ListedStart, OperatorStarts, classes_of_items, operator_starts};
 use pg_predict::Refused;
 use pg_sets::Sets;
+use pg_text::Pos;
 use pg_value::{Grammar, Rule};
 use std::alloc::{AllocError, Global};
 
 /// A grammar with what is asked of it.
 #[derive(Drop)]
 pub(crate) struct Known<'g> {
+    pub(crate) file: &'g GrammarFile<'g>,
+    /// The line and the column of each place of the file, and of its end.
+    pub(crate) positions: Vec<Pos>,
     pub(crate) grammar: &'g Grammar,
     pub(crate) sets: &'g Sets,
     /// The classes of the class items.
@@ -25,13 +31,20 @@ pub(crate) struct Known<'g> {
 
 impl<'g> Known<'g> {
     /// What is asked of a grammar that is refused. The only error is that memory ran out.
-    pub(crate) fn of(alloc: Global, refused: &'g Refused) -> Result<Known<'g>, AllocError> {
+    pub(crate) fn of(
+        alloc: Global,
+        refused: &'g Refused,
+        file: &'g GrammarFile<'g>,
+    ) -> Result<Known<'g>, AllocError> {
         let grammar = refused.grammar();
         let sets = refused.sets();
         let classes = classes_of_items(alloc, grammar.class_items())?;
         let operators = operator_starts(alloc, grammar)?;
         let contained = contained_sets(alloc, grammar, sets)?;
+        let positions = positions(alloc, file.text)?;
         Ok(Known {
+            file,
+            positions,
             grammar,
             sets,
             classes,

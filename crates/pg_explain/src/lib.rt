@@ -5,15 +5,20 @@
 //! `pg_sets` is proved to hand starts on along them. So the code owes that it is safe and ends, and its words are held by tests.
 #![tactic(auto)]
 
+mod alternatives;
+mod causes;
 mod chains;
 mod class_words;
 mod common;
 mod contained;
 mod emptiness;
 mod findings;
+mod fronts;
+mod grammar_file;
 mod headlines;
 mod known;
 mod lines;
+mod marked;
 mod mentions;
 mod page;
 mod paths;
@@ -21,5 +26,8 @@ mod quoted;
 mod recursion;
 mod steps;
 mod words;
+mod written;
 
-pub use page::explanation;
+pub use grammar_file::GrammarFile;
+pub use page::{Explanation, Section, explain_findings};
+pub use quoted::push_quoted;

@@ -1,5 +1,7 @@
 //! The lines below a headline.
 
+use crate::alternatives::{MOST, beginning_with};
+use crate::causes::Meeting;
 use crate::chains::{first_chain, follow_chain};
 use crate::class_words::quoted;
 use crate::common::common_character;
@@ -9,6 +11,9 @@ use pg_form::NodeId;
 use pg_own_starts::ListedStart;
 use pg_start::Start;
 use std::alloc::{AllocError, Global};
+
+/// How many other starts are told of at most.
+const MOST_STARTS: usize = 6;
 
 /// Pushes a line. The only error is that memory ran out.
 pub(crate) fn push_line(page: &mut String, words: &str) -> Result<(), AllocError> {
@@ -44,6 +49,30 @@ pub(crate) fn push_alternative(
     let who = format!(in alloc; "{number}")?;
     let part = known.alternative(node, number);
     push_first(alloc, page, known, who.as_str(), part, start)
+}
+
+/// Pushes with what alternatives that meet at two starts can begin, the first few with each of them, and how. The only error is that memory
+/// ran out.
+pub(crate) fn push_alternatives(
+    alloc: Global,
+    page: &mut String,
+    known: &Known,
+    node: NodeId,
+    one: usize,
+    other: usize,
+) -> Result<(), AllocError> {
+    let with_one = beginning_with(alloc, known, node, one)?;
+    for number in with_one.iter().take(MOST) {
+        push_alternative(alloc, page, known, node, *number, one)?;
+    }
+    if one == other {
+        return Ok(());
+    }
+    let with_other = beginning_with(alloc, known, node, other)?;
+    for number in with_other.iter().take(MOST) {
+        push_alternative(alloc, page, known, node, *number, other)?;
+    }
+    Ok(())
 }
 
 /// Pushes what can follow a node, and how. The only error is that memory ran out.
@@ -100,6 +129,50 @@ pub(crate) fn push_gap(
         (Some(listed), Some(both)) => push_common(alloc, page, &listed.start, &both.gap),
         (None, _) | (_, None) => Ok(()),
     }
+}
+
+/// Pushes at which other starts what was told of meets too, if there are any. The only error is that memory ran out.
+pub(crate) fn push_also(
+    alloc: Global,
+    page: &mut String,
+    known: &Known,
+    also: &[Meeting],
+) -> Result<(), AllocError> {
+    if also.is_empty() {
+        return Ok(());
+    }
+    let mut words = String::from_str(alloc, "they meet at ")?;
+    for (before, met) in also.iter().enumerate() {
+        if before > 0 {
+            words.push_str("; ")?;
+        }
+        if before >= MOST_STARTS {
+            let more = also.len().saturating_sub(before);
+            let word = format!(in alloc; "{more} more")?;
+            words.push_str(word.as_str())?;
+            break;
+        }
+        push_meeting(alloc, &mut words, known, met)?;
+    }
+    words.push_str(" too")?;
+    push_line(page, words.as_str())
+}
+
+/// Pushes the starts at which something meets.
+fn push_meeting(
+    alloc: Global,
+    words: &mut String,
+    known: &Known,
+    met: &Meeting,
+) -> Result<(), AllocError> {
+    let one = start_words(alloc, known, met.one)?;
+    words.push_str(one.as_str())?;
+    if met.one != met.other {
+        let other = start_words(alloc, known, met.other)?;
+        words.push_str(" and ")?;
+        words.push_str(other.as_str())?;
+    }
+    Ok(())
 }
 
 fn push_common(

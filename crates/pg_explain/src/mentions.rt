@@ -1,9 +1,9 @@
-//! How nodes are named: by their words and where they stand.
+//! How nodes are named: as they were written and where they stand.
 
 use crate::known::Known;
-use pg_form::{Form, NodeId};
+use crate::written::{push_position, span_of, written};
+use pg_form::NodeId;
 use pg_predict::{Place, place_of};
-use pg_sets_page::form_word;
 use pg_text::Characters;
 use std::alloc::{AllocError, Global};
 
@@ -36,27 +36,18 @@ fn named(alloc: Global, name: &Characters, number: usize) -> Result<String, Allo
     format!(in alloc; "{name}:{number}")
 }
 
-/// A node by its form's word, or as the use of a rule by that rule's name, and where it stands. The only error is that memory ran out.
+/// A node as it was written, and where it stands. The only error is that memory ran out.
 pub(crate) fn mention(alloc: Global, known: &Known, node: NodeId) -> Result<String, AllocError> {
-    let word = word_of(alloc, known, node)?;
-    let place = place_text(alloc, known, node)?;
-    format!(in alloc; "{word} ({place})")
+    let mut words = written(alloc, known, node)?;
+    push_position(alloc, &mut words, known, span_of(known, node).first)?;
+    Ok(words)
 }
 
-/// The word of a form, or the name of the rule that is used.
-fn word_of(alloc: Global, known: &Known, node: NodeId) -> Result<String, AllocError> {
-    match known.form(node) {
-        Some(Form::Rule(rule)) => rule_name(alloc, known, rule.index()),
-        Some(
-            form @ (Form::Leaf(_)
-            | Form::Seq(_)
-            | Form::Choice(_)
-            | Form::Many(_)
-            | Form::Chain(_, _, _, _)
-            | Form::Expression(_, _)
-            | Form::Around(_, _)),
-        ) => String::from_str(alloc, form_word(form)),
-        None => Ok(String::new(alloc)),
+/// Where the body of the rule with this number stands; the end of the file, if it isn't there.
+pub(crate) fn body_place(known: &Known, rule: usize) -> usize {
+    match known.rule(rule) {
+        Some(rule) => span_of(known, rule.body).first,
+        None => known.file.text.len(),
     }
 }
 

@@ -1,38 +1,58 @@
-//! The page on what is wrong with a grammar.
+//! What is wrong with a grammar, in sections.
 
-use crate::findings::push_finding;
+use crate::causes::{Cause, causes_of};
+use crate::findings::{head, told};
+use crate::grammar_file::GrammarFile;
 use crate::known::Known;
 use pg_form::NodeId;
-use pg_predict::Refused;
+use pg_predict::{Refused, ViolationKind};
 use std::alloc::{AllocError, Global};
 
-/// What is wrong with a grammar at the nodes from one on up to another, told for people: the first so many findings in their order, and how
-/// many more there are, or that there is none (ours). Beside the time of a check it takes a time that is linear in the grammar for each finding that is told. The only
-/// error is that memory ran out.
-pub fn explanation(
+/// How many findings at a node are looked at.
+const MOST_AT_NODE: usize = 128;
+
+/// What is told of some findings at a node, which share their cause.
+#[derive(Drop)]
+pub struct Section {
+    pub node: NodeId,
+    /// The first of them.
+    pub kind: ViolationKind<usize>,
+    /// Where it is, and its code: `RULE:NODE: C4`.
+    pub head: String,
+    /// It in words, in lines.
+    pub text: String,
+}
+
+/// What is wrong with a grammar.
+#[derive(Drop)]
+pub struct Explanation {
+    pub sections: Vec<Section>,
+    /// How many findings are not told.
+    pub untold: usize,
+}
+
+/// What is wrong with a grammar at the nodes from one on up to another, told for people: findings of one cause together, the first so many causes in
+/// the order of the findings, and how many findings more there are (ours). Beside the time of a check it takes a time that is linear in the grammar for each cause
+/// that is told. The only error is that memory ran out.
+pub fn explain_findings(
     alloc: Global,
     refused: &Refused,
+    file: &GrammarFile,
     from: usize,
     to: usize,
     most: usize,
-) -> Result<String, AllocError> {
-    let known = Known::of(alloc, refused)?;
-    let mut page = String::new(alloc);
-    let mut left = most;
+) -> Result<Explanation, AllocError> {
+    let known = Known::of(alloc, refused, file)?;
+    let mut sections = Vec::new(alloc);
     let mut untold: usize = 0;
     for number in from..to {
         let found = count_at(refused, number);
         if found > 0 {
-            let told = push_node(alloc, &mut page, &known, refused, number, left)?;
-            left = left.saturating_sub(told);
+            let told = push_node(alloc, &mut sections, &known, refused, number, most)?;
             untold = untold.saturating_add(found.saturating_sub(told));
         }
     }
-    push_untold(alloc, &mut page, untold)?;
-    if page.is_empty() {
-        page.push_str("nothing is wrong there\n")?;
-    }
-    Ok(page)
+    Ok(Explanation { sections, untold })
 }
 
 /// How many findings there are at a node; none where there is no such node.
@@ -44,36 +64,45 @@ fn count_at(refused: &Refused, number: usize) -> usize {
     }
 }
 
-/// Pushes what is wrong at a node, so many findings at most. The answer is how many were told.
+/// Pushes what is wrong at a node, while there are fewer than so many sections. The answer is how many findings were told.
 fn push_node(
     alloc: Global,
-    page: &mut String,
+    sections: &mut Vec<Section>,
     known: &Known,
     refused: &Refused,
     number: usize,
     most: usize,
 ) -> Result<usize, AllocError> {
-    if number >= refused.grammar().nodes().len() {
+    if number >= refused.grammar().nodes().len() || sections.len() >= most {
         return Ok(0);
     }
     let node = NodeId::new(number);
-    let kinds = refused.kinds_at(alloc, node, most)?;
-    for kind in &kinds {
-        push_finding(alloc, page, known, node, kind)?;
-    }
-    Ok(kinds.len())
-}
-
-/// Pushes how many findings weren't told, if there are any.
-fn push_untold(alloc: Global, page: &mut String, untold: usize) -> Result<(), AllocError> {
-    match untold {
-        0 => Ok(()),
-        1 => page.push_str("\nThere is 1 more finding; `pgw check` lists all.\n"),
-        _ => {
-            let line = format!(in alloc;
-                "\nThere are {untold} more findings; `pgw check` lists all.\n"
-            )?;
-            page.push_str(line.as_str())
+    let kinds = refused.kinds_at(alloc, node, MOST_AT_NODE)?;
+    let causes = causes_of(alloc, known, node, kinds)?;
+    let mut count: usize = 0;
+    for cause in causes {
+        if sections.len() < most {
+            count = count.saturating_add(cause.count);
+            sections.push(section_of(alloc, known, node, cause)?)?;
         }
     }
+    Ok(count)
+}
+
+/// What is told of a cause.
+fn section_of(
+    alloc: Global,
+    known: &Known,
+    node: NodeId,
+    cause: Cause,
+) -> Result<Section, AllocError> {
+    let head = head(alloc, known, node, &cause.kind)?;
+    let text = told(alloc, known, node, &cause, head.as_str())?;
+    let Cause { kind, .. } = cause;
+    Ok(Section {
+        node,
+        kind,
+        head,
+        text,
+    })
 }

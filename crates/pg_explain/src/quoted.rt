@@ -3,7 +3,7 @@
 use std::alloc::{AllocError, Global};
 
 /// Pushes the characters in quotes. The only error is that memory ran out.
-pub(crate) fn push_quoted(
+pub fn push_quoted(
     alloc: Global,
     page: &mut String,
     characters: &[char],

@@ -1,7 +1,7 @@
 //! How a rule comes back to itself before anything is taken.
 
 use crate::known::Known;
-use crate::mentions::rule_name;
+use crate::mentions::{body_place, rule_name};
 use crate::paths::shortest_way;
 use crate::steps::Steps;
 use pg_form::RuleId;
@@ -10,12 +10,30 @@ use std::alloc::{AllocError, Global};
 
 /// The rules of a shortest way from a rule to itself, each of which heads the one before it, in words. The only error is that memory ran out.
 pub(crate) fn recursion(alloc: Global, known: &Known, rule: RuleId) -> Result<String, AllocError> {
+    let way = way_back(alloc, known, rule)?;
+    told_way(alloc, known, rule, &way)
+}
+
+/// The rule at the front of this one by which it comes back to itself, if it does. The only error is that memory ran out.
+pub(crate) fn next_head(
+    alloc: Global,
+    known: &Known,
+    rule: usize,
+) -> Result<Option<RuleId>, AllocError> {
+    let way = way_back(alloc, known, RuleId::new(rule))?;
+    match way.get(1) {
+        Some(head) => Ok(Some(RuleId::new(*head))),
+        None => Ok(None),
+    }
+}
+
+/// A shortest way from a rule to itself through heads: the number of rules stands for where it begins.
+fn way_back(alloc: Global, known: &Known, rule: RuleId) -> Result<Vec<usize>, AllocError> {
     let count = known.grammar.rules().len();
     let graph = headed(alloc, known, rule, count)?;
     let marks = vec![in alloc; true; graph.len()]?;
     let ends = only(alloc, count, rule.index())?;
-    let way = shortest_way(alloc, &graph, &marks, &ends, count)?;
-    told_way(alloc, known, rule, &way)
+    shortest_way(alloc, &graph, &marks, &ends, count)
 }
 
 /// For each rule its heads, and last those of the rule that is come back to, so that a way that begins there ends at the rule.
@@ -49,7 +67,7 @@ fn only(alloc: Global, count: usize, number: usize) -> Result<Vec<bool>, AllocEr
     Ok(marks)
 }
 
-/// The names of the rules on a way, the one that it begins with first.
+/// The names of the rules on a way, the one that it begins with first, and where their bodies stand.
 fn told_way(
     alloc: Global,
     known: &Known,
@@ -57,13 +75,21 @@ fn told_way(
     way: &[usize],
 ) -> Result<String, AllocError> {
     let mut steps = Steps::new(alloc);
-    let name = rule_name(alloc, known, rule.index())?;
-    steps.tell(name.as_str())?;
+    tell_rule(alloc, known, rule.index(), &mut steps)?;
     if let [_, after @ ..] = way {
         for number in after {
-            let name = rule_name(alloc, known, *number)?;
-            steps.tell(name.as_str())?;
+            tell_rule(alloc, known, *number, &mut steps)?;
         }
     }
-    Ok(steps.into_text())
+    steps.text(alloc)
+}
+
+fn tell_rule(
+    alloc: Global,
+    known: &Known,
+    rule: usize,
+    steps: &mut Steps,
+) -> Result<(), AllocError> {
+    let name = rule_name(alloc, known, rule)?;
+    steps.tell_at(alloc, known, name, body_place(known, rule))
 }

@@ -1,4 +1,3 @@
 pub mod Results
 pub mod Judged
 pub mod Findings
-pub mod Told

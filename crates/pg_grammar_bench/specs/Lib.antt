@@ -3,7 +3,6 @@ pub mod Faults
 pub mod Printing
 pub mod Texts
 pub mod Checking
-pub mod Explaining
 pub mod Verifying
 pub mod Showing
 pub mod Laws

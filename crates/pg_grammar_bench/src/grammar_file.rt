@@ -1,6 +1,6 @@
 //! The grammar that a file spells, or why a run has none.
 
-ghost use Rattle.std.specs.Prelude.{◌≡◌, IfOk, IfErr};
+ghost use Rattle.std.specs.Prelude.{◌≡◌, length, IfOk, IfErr};
 ghost use Rattle.pg_pred.specs.Offer.{offer_of};
 ghost use Rattle.pg_value.specs.Fits.{Fits};
 ghost use Rattle.pg_making.specs.Spells.{SpellsWithinLimits};
@@ -10,6 +10,7 @@ ghost use Rattle.pg_grammar_bench.specs.Faults.{IfFile, IsFileRefusal, IsFinding
 
 use crate::fault::BenchFault;
 use pg_file::FileError;
+use pg_making::PlacedGrammar;
 use pg_pred::Registry;
 use pg_predict::{CheckFault, Checked, check};
 use pg_value::Grammar;
@@ -22,14 +23,30 @@ pub fn grammar_of(alloc: Global, bytes: &[u8], registry: &Registry) -> Result<Gr
     ensures err { IfErr result IsFileRefusal }
     ensures file { IfErr result (IfFile (IsFaultOfFile (offer_of registry.now) bytes.now)) }
 {
-    match pg_file::read(alloc, bytes, registry) {
-        Ok(grammar) => Ok(grammar),
+    let PlacedGrammar { grammar, .. } = placed_of(alloc, bytes, registry)?;
+    Ok(grammar)
+}
+
+/// The same, with the characters that were written for each node.
+pub fn placed_of(
+    alloc: Global,
+    bytes: &[u8],
+    registry: &Registry,
+) -> Result<PlacedGrammar, BenchFault>
+    ensures ok { IfOk result (λ placed. SpellsWithinLimits (offer_of registry.now) bytes.now placed.grammar) }
+    ensures fits { IfOk result (λ placed. Fits (offer_of registry.now) placed.grammar) }
+    ensures spans { IfOk result (λ placed. length placed.spans.items ≡ length placed.grammar.nodes) }
+    ensures err { IfErr result IsFileRefusal }
+    ensures file { IfErr result (IfFile (IsFaultOfFile (offer_of registry.now) bytes.now)) }
+{
+    match pg_file::read_placed(alloc, bytes, registry) {
+        Ok(placed) => Ok(placed),
         Err(FileError::Fault(fault)) => Err(BenchFault::File(fault)),
         Err(FileError::Memory) => Err(BenchFault::Memory),
     }
 }
 
-/// The same of a grammar that is accepted: `Refused` with its findings where it isn't.
+/// The grammar that the bytes of a file spell, which is accepted: `Refused` with its findings where it isn't.
 #[tactic(auto, using(crate::proofs::Findings::refused_file, crate::proofs::Findings::refused_later))]
 pub fn checked_of(alloc: Global, bytes: &[u8], registry: &Registry) -> Result<Checked, BenchFault>
     ensures ok { IfOk result (λ checked. SpellsWithinLimits (offer_of registry.now) bytes.now checked.grammar) }

@@ -1,13 +1,11 @@
 //! From the bytes of a grammar file to what is said of its grammar, with no text.
 //!
-//! `check_bytes` writes whether a grammar is accepted, or all that is wrong with it, `explain_bytes` tells that for people, `verify_bytes`
-//! judges a certificate of it, `print_bytes` writes it in canonical form, and `sets_bytes` its sets. Their contracts speak of the bytes of the file and of those that were written. Runs over
-//! texts, in the crate above, take their grammar from here, and end with the same faults (`BenchFault`).
+//! `check_bytes` writes whether a grammar is accepted, or all that is wrong with it, `verify_bytes` judges a certificate of it, `print_bytes`
+//! writes it in canonical form, and `sets_bytes` its sets. Their contracts speak of the bytes of the file and of those that were written. What explains
+//! findings, and runs over texts, in the crates above, take their grammar from here, and end with the same faults (`BenchFault`).
 #![tactic(auto)]
 
-mod asked;
 mod check;
-mod explain;
 mod fault;
 mod grammar_file;
 mod laws;
@@ -17,9 +15,8 @@ mod sets;
 mod verify;
 
 pub use check::check_bytes;
-pub use explain::{Explained, explain_bytes};
 pub use fault::BenchFault;
-pub use grammar_file::{checked_of, grammar_of};
+pub use grammar_file::{checked_of, grammar_of, placed_of};
 pub use laws::{printed_certificates_are_verified, verified_files_are_accepted};
 pub use output::write_page;
 pub use print::print_bytes;

@@ -61,10 +61,11 @@ Example: pgw sets examples/color.g";
 /// What is asked. The names of files are relative to the caller's folder.
 #[derive(Clone, Copy, Debug, PartialEq, Eq)]
 pub enum Request<'a> {
-    /// Say whether the grammar is accepted, with its certificate if that is asked for, or what is wrong with it.
+    /// Say whether the grammar is accepted, with its certificate if that is asked for, or what is wrong with it, with places if those are.
     Check {
         grammar: &'a str,
         certificate: bool,
+        places: bool,
     },
     /// Tell for people what is wrong with the grammar, in all or at a rule or at one of its nodes, as `RULE` or `RULE:NODE`; all of it where
     /// this is empty.
@@ -159,6 +160,7 @@ fn check_command<'a>(alloc: Global) -> Result<Command<'a>, AllocError> {
         .about("Says whether a grammar is accepted, or what is wrong with it, a line each")
         .after_help(HELP_OF_CHECK)
         .arg(certificate(alloc))?
+        .arg(places(alloc))?
         .arg(file(alloc, "grammar", "The grammar file"))
 }
 
@@ -220,6 +222,14 @@ fn with_grammar_and_text<'a>(
     command
         .arg(file(alloc, "grammar", "The grammar file"))?
         .arg(file(alloc, "text", "The file with the text, in UTF-8"))
+}
+
+/// The word that asks for the places of findings.
+fn places<'a>(alloc: Global) -> Arg<'a> {
+    Arg::new(alloc, "places")
+        .long("places")
+        .action(ArgAction::SetTrue)
+        .help("Puts FILE:LINE:COLUMN: in front of each finding, for editors")
 }
 
 /// The word that asks for the certificate.
@@ -294,6 +304,7 @@ pub fn request_of<'a>(matches: &ArgMatches<'a>) -> Option<Request<'a>> {
         "check" => Some(Request::Check {
             grammar: found.get_str("grammar")?,
             certificate: found.get_flag("certificate"),
+            places: found.get_flag("places"),
         }),
         "explain" => Some(Request::Explain {
             grammar: found.get_str("grammar")?,

@@ -1,0 +1,172 @@
+//! The cure of a finding: the first change of the list that takes it away.
+
+use crate::finding::{Found, Gone, code_of};
+use crate::items::changed_items;
+use crate::judging::{Judged, judge};
+use crate::source::{Bound, Source};
+use pg_changes::{Change, Changed, Draft, Forms, drafts};
+use pg_form::NodeId;
+use pg_items::Item;
+use pg_parser::{SyntaxError, read_items};
+use pg_predict::ViolationKind;
+use pg_tokens::{Lexeme, lex, utf8};
+use std::alloc::{AllocError, Global};
+
+/// The most characters of a file for which a cure is looked for.
+const TEXT_LIMIT: usize = 20_000;
+
+/// The most forms with findings of a file for which a cure is looked for.
+const FINDING_LIMIT: usize = 500;
+
+/// A change of a grammar file that takes a finding away.
+#[derive(Drop)]
+pub struct Cure {
+    /// What is changed.
+    pub change: Change,
+    /// Whether it may add, drop or regroup trees of texts that are read as before.
+    pub tree_changes: bool,
+    /// The items of the changed file that are new or read otherwise, from the first token of each to its semicolon.
+    pub items: Vec<String>,
+    /// The rules that are taken out of the file, since nothing uses them after the change.
+    pub taken_out: Vec<String>,
+    /// Whether nothing is wrong with the changed grammar.
+    pub accepted: bool,
+    /// The findings that the changed grammar doesn't have any more.
+    pub gone: Vec<Gone>,
+}
+
+impl Cure {
+    /// Whether the changed grammar doesn't have what was wrong at a node any more.
+    pub fn takes_away(&self, node: NodeId, kind: &ViolationKind<usize>) -> bool {
+        let gone = Gone {
+            node,
+            code: code_of(kind),
+        };
+        self.gone.iter().any(|one| *one == gone)
+    }
+}
+
+/// A cure of what is wrong at a node, if one of the list is one: the changed file spells a grammar in which the condition isn't broken at this
+/// form, and none is that wasn't broken at the same form before (ours). None is looked for in a file of over 20,000 characters, or once
+/// the bound is used up. The only error is that memory ran out.
+pub fn find_cure(
+    alloc: Global,
+    source: &Source,
+    node: NodeId,
+    kind: &ViolationKind<usize>,
+    bound: &mut Bound,
+) -> Result<Option<Cure>, AllocError> {
+    let Some(span) = source.spans.get(node.index()).copied() else {
+        return Ok(None);
+    };
+    if source.text.len() > TEXT_LIMIT {
+        return Ok(None);
+    }
+    if source.found.len() > FINDING_LIMIT || bound.is_used_up(source.text.len()) {
+        return Ok(None);
+    }
+    let code = code_of(kind);
+    let cured = Found { node, span, code };
+    cure_in(alloc, source, &cured, kind, bound)
+}
+
+/// Reads the file's items, and looks for a cure.
+fn cure_in(
+    alloc: Global,
+    source: &Source,
+    cured: &Found,
+    kind: &ViolationKind<usize>,
+    bound: &mut Bound,
+) -> Result<Option<Cure>, AllocError> {
+    let lexemes = lex(alloc, source.text)?;
+    match read_items(alloc, lexemes.as_slice()) {
+        Ok(items) => {
+            let read = Read {
+                lexemes: lexemes.as_slice(),
+                items: items.as_slice(),
+            };
+            cure_by(alloc, source, read, cured, kind, bound)
+        }
+        Err(SyntaxError::Memory) => Err(AllocError),
+        Err(SyntaxError::Fault(_, _)) => Ok(None),
+    }
+}
+
+/// The tokens and the items of a file.
+#[derive(Clone, Copy)]
+struct Read<'r> {
+    lexemes: &'r [Lexeme],
+    items: &'r [Item],
+}
+
+/// Looks for a cure by the file's items.
+fn cure_by(
+    alloc: Global,
+    source: &Source,
+    read: Read,
+    cured: &Found,
+    kind: &ViolationKind<usize>,
+    bound: &mut Bound,
+) -> Result<Option<Cure>, AllocError> {
+    let sets = source.refused.sets();
+    let forms = Forms::of(
+        alloc,
+        source.text,
+        read.lexemes,
+        read.items,
+        sets,
+        source.spans,
+    )?;
+    let Some(form) = forms.at(cured.span) else {
+        return Ok(None);
+    };
+    let drafts = drafts(alloc, &forms, form, kind)?;
+    first_cure(alloc, source, &forms, cured, &drafts, bound)
+}
+
+/// The first of these drafts that is a cure.
+fn first_cure(
+    alloc: Global,
+    source: &Source,
+    forms: &Forms,
+    cured: &Found,
+    drafts: &[Draft],
+    bound: &mut Bound,
+) -> Result<Option<Cure>, AllocError> {
+    for draft in drafts {
+        let changed = draft.applied(alloc, source.text)?;
+        if !bound.spend(changed.text.len()) {
+            return Ok(None);
+        }
+        if let Some(judged) = judge(alloc, source.registry, source.found, cured, &changed)? {
+            return Ok(Some(cure_of(alloc, forms, draft, &changed, judged)?));
+        }
+    }
+    Ok(None)
+}
+
+/// A change that was tried, as it is handed out.
+fn cure_of(
+    alloc: Global,
+    forms: &Forms,
+    draft: &Draft,
+    changed: &Changed,
+    judged: Judged,
+) -> Result<Cure, AllocError> {
+    let items = changed_items(alloc, changed)?;
+    let mut taken_out = Vec::new(alloc);
+    for body in &draft.taken_out {
+        if let Some(rule) = forms.rule_with(*body) {
+            taken_out.push(utf8(alloc, rule.name.as_slice())?)?;
+        }
+    }
+    let Judged { accepted, gone } = judged;
+    Ok(Cure {
+        change: draft.change,
+        tree_changes: draft.tree_changes,
+        items,
+        taken_out,
+        accepted,
+        gone,
+    })
+}

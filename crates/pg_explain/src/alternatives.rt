@@ -1,0 +1,109 @@
+//! The alternatives of a choice that meet.
+
+use crate::known::Known;
+use pg_form::{Form, NodeId};
+use std::alloc::{AllocError, Global};
+
+/// How many alternatives are told of at most.
+pub(crate) const MOST: usize = 8;
+
+/// The alternatives of a choice; none of another form.
+pub(crate) fn alternatives<'k>(known: &'k Known, node: NodeId) -> &'k [NodeId] {
+    match known.form(node) {
+        Some(Form::Choice(parts)) => parts.as_slice(),
+        Some(
+            Form::Leaf(_)
+            | Form::Seq(_)
+            | Form::Many(_)
+            | Form::Chain(_, _, _, _)
+            | Form::Rule(_)
+            | Form::Expression(_, _)
+            | Form::Around(_, _),
+        )
+        | None => &[],
+    }
+}
+
+/// The numbers, from 1, of the alternatives that can begin with a start. The only error is that memory ran out.
+pub(crate) fn beginning_with(
+    alloc: Global,
+    known: &Known,
+    node: NodeId,
+    start: usize,
+) -> Result<Vec<usize>, AllocError> {
+    let mut numbers = Vec::new(alloc);
+    for (before, part) in alternatives(known, node).iter().enumerate() {
+        if known.sets.first(*part).contains(start) {
+            numbers.push(before.saturating_add(1))?;
+        }
+    }
+    Ok(numbers)
+}
+
+/// Whether the alternatives that begin with the first two starts are those that begin with the other two, each or the other way round.
+pub(crate) fn begin_alike(
+    known: &Known,
+    node: NodeId,
+    these: (usize, usize),
+    those: (usize, usize),
+) -> bool {
+    let parts = alternatives(known, node);
+    let (one, other) = those;
+    both_alike(known, parts, these, (one, other)) || both_alike(known, parts, these, (other, one))
+}
+
+fn both_alike(
+    known: &Known,
+    parts: &[NodeId],
+    these: (usize, usize),
+    those: (usize, usize),
+) -> bool {
+    parts.iter().all(|part| {
+        let first = known.sets.first(*part);
+        first.contains(these.0) == first.contains(those.0)
+            && first.contains(these.1) == first.contains(those.1)
+    })
+}
+
+/// How many pairs of two alternatives meet of which one begins with the one start and the other with the other one.
+pub(crate) fn pairs(known: &Known, node: NodeId, one: usize, other: usize) -> usize {
+    let mut with_one: usize = 0;
+    let mut with_other: usize = 0;
+    let mut with_both: usize = 0;
+    for part in alternatives(known, node) {
+        let first = known.sets.first(*part);
+        with_one = with_one.saturating_add(usize::from(first.contains(one)));
+        with_other = with_other.saturating_add(usize::from(first.contains(other)));
+        with_both = with_both.saturating_add(usize::from(
+            first.contains(one) && first.contains(other),
+        ));
+    }
+    let pairs = with_one
+        .saturating_mul(with_other)
+        .saturating_sub(with_both);
+    if one == other { pairs / 2 } else { pairs }
+}
+
+/// Numbers in words: `1`, `1 and 2`, `1, 2 and 3`, or the first of them and how many more there are. The only error is that memory ran out.
+pub(crate) fn numbers_words(alloc: Global, numbers: &[usize]) -> Result<String, AllocError> {
+    let mut words = String::new(alloc);
+    let more = numbers.len().saturating_sub(MOST);
+    for (at, number) in numbers.iter().enumerate() {
+        if at >= MOST {
+            break;
+        }
+        let is_last = more == 0 && at.saturating_add(1) == numbers.len();
+        let joint = match (at, is_last) {
+            (0, _) => "",
+            (_, true) => " and ",
+            (_, false) => ", ",
+        };
+        let word = format!(in alloc; "{joint}{number}")?;
+        words.push_str(word.as_str())?;
+    }
+    if more > 0 {
+        let word = format!(in alloc; " and {more} more")?;
+        words.push_str(word.as_str())?;
+    }
+    Ok(words)
+}

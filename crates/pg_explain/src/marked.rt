@@ -1,0 +1,113 @@
+//! What is marked in the file for a finding.
+
+use crate::alternatives::{MOST, beginning_with};
+use crate::fronts::front_use;
+use crate::known::Known;
+use crate::mentions::place_in;
+use crate::recursion::next_head;
+use crate::written::span_of;
+use pg_excerpt::Mark;
+use pg_form::NodeId;
+use pg_predict::ViolationKind;
+use std::alloc::{AllocError, Global};
+
+/// The marks for a finding, in their order in the file: the alternatives by their numbers, or what it is about. The only error is that
+/// memory ran out.
+pub(crate) fn marks_of(
+    alloc: Global,
+    known: &Known,
+    node: NodeId,
+    kind: &ViolationKind<usize>,
+) -> Result<Vec<Mark>, AllocError> {
+    let mut marks = Vec::new(alloc);
+    match kind {
+        ViolationKind::LeftRecursion => {
+            let back = coming_back(alloc, known, node)?;
+            marks.push(plain(known, back))?;
+        }
+        ViolationKind::EmptyRound | ViolationKind::EmptyOperand => {
+            marks.push(plain(known, known.emptied(node)))?;
+        }
+        ViolationKind::EmptyAlternative(k) | ViolationKind::AlternativeMeetsFollow(k, _, _) => {
+            push_alternatives(known, node, &[*k], &mut marks)?;
+        }
+        ViolationKind::AlternativesMeet(_, _, one, other) => {
+            let with_one = beginning_with(alloc, known, node, *one)?;
+            push_alternatives(known, node, &with_one, &mut marks)?;
+            if one != other {
+                let with_other = beginning_with(alloc, known, node, *other)?;
+                push_alternatives(known, node, &with_other, &mut marks)?;
+            }
+        }
+        ViolationKind::OperandMeetsOperators(start) => {
+            marks.push(plain(known, known.round(node, *start)))?;
+        }
+        ViolationKind::RoundMeetsFollow(_, _)
+        | ViolationKind::FollowMeetsOperators(_)
+        | ViolationKind::GapMeets(_)
+        | ViolationKind::StepCostOver => {}
+    }
+    if marks.is_empty() {
+        marks.push(plain(known, node))?;
+    }
+    in_order(alloc, &marks)
+}
+
+/// The use of a rule at the front of this one by which that comes back to itself; the rule's body, if it isn't found.
+fn coming_back(alloc: Global, known: &Known, node: NodeId) -> Result<NodeId, AllocError> {
+    let Some(place) = place_in(known, node) else {
+        return Ok(node);
+    };
+    let Some(head) = next_head(alloc, known, place.rule)? else {
+        return Ok(node);
+    };
+    match front_use(alloc, known, node, head)? {
+        Some(back) => Ok(back),
+        None => Ok(node),
+    }
+}
+
+/// A plain mark of a node.
+fn plain(known: &Known, node: NodeId) -> Mark {
+    let span = span_of(known, node);
+    Mark {
+        first: span.first,
+        after: span.after,
+        number: None,
+    }
+}
+
+/// Pushes marks of the first alternatives with these numbers that were written and aren't marked.
+fn push_alternatives(
+    known: &Known,
+    node: NodeId,
+    numbers: &[usize],
+    marks: &mut Vec<Mark>,
+) -> Result<(), AllocError> {
+    let whole = span_of(known, node);
+    for (before, number) in numbers.iter().enumerate() {
+        let span = span_of(known, known.alternative(node, *number));
+        if before < MOST && span != whole && !is_marked(marks, *number) {
+            marks.push(Mark {
+                first: span.first,
+                after: span.after,
+                number: Some(*number),
+            })?;
+        }
+    }
+    Ok(())
+}
+
+fn is_marked(marks: &[Mark], number: usize) -> bool {
+    marks.iter().any(|mark| mark.number == Some(number))
+}
+
+/// The marks in the order of their first characters.
+fn in_order(alloc: Global, marks: &[Mark]) -> Result<Vec<Mark>, AllocError> {
+    let mut sorted = Vec::new(alloc);
+    for mark in marks {
+        sorted.push(*mark)?;
+    }
+    sorted.sort_by_key(|mark: &Mark| mark.first)?;
+    Ok(sorted)
+}

@@ -1,0 +1,174 @@
+//! From the bytes of a grammar file to what is wrong with its grammar, told for people.
+
+ghost use Rattle.std.specs.String.{string_bytes};
+ghost use Rattle.std.specs.Prelude.{◌≡◌, false, true, IfOk, IfErr, OnErr, OnOk, IsErrOf};
+ghost use Rattle.pg_pred.specs.Offer.{offer_of};
+ghost use Rattle.pg_value.specs.Fits.{Fits};
+ghost use Rattle.pg_explain_bench.specs.Explaining.{IsAcceptedPage, IsExplained, IsPartlyExplained, IsExplainedFile, IsPartlyExplainedFile, WritesPage, WritesPartOfPage};
+ghost use Rattle.pg_grammar_bench.specs.Files.{IsFaultOfFile};
+ghost use Rattle.pg_grammar_bench.specs.Faults.{IfFile, IsBeforeWriting, IsPageRefusal, IsWriteRefusal};
+
+use crate::asked::{Nodes, nodes_asked};
+use crate::notes::notes;
+use crate::page::page_of;
+use pg_explain::GrammarFile;
+use pg_grammar_bench::{BenchFault, placed_of, write_page};
+use pg_making::PlacedGrammar;
+use pg_pred::Registry;
+use pg_predict::{CheckFault, Checked, Refused, check};
+use pg_tokens::characters_of;
+use pg_tree::Meter;
+use pg_value::Grammar;
+use std::alloc::{AllocError, Global};
+use std::io::Write;
+
+/// What was told of a grammar.
+#[derive(Clone, Copy, Debug, PartialEq, Eq)]
+pub enum Explained {
+    /// That it is accepted.
+    Accepted,
+    /// What is wrong with it.
+    Refused,
+    /// Nothing, for what was asked for isn't there.
+    NotThere,
+}
+
+/// Writes what is wrong with the grammar that a file of this name spells, told for people: the first 20 causes of findings in the order of
+/// `check_bytes`, at the nodes that are asked for, as `RULE` or `RULE:NODE`, or at all of them where nothing is asked; or `accepted`
+/// and notes where nothing is wrong anywhere (ours). Nothing is written where there is no such rule or node. The registry has the predicates and
+/// builders that the file may name.
+///
+/// The meter has to be fresh of failures. A fault of the file and want of memory come before anything is written; then only
+/// the writer can fail.
+pub fn explain_bytes<W: Write>(
+    alloc: Global,
+    name: &str,
+    grammar: &[u8],
+    registry: &Registry,
+    writer: &mut Meter<W>,
+    asked: &str,
+) -> Result<Explained, BenchFault>
+    requires { writer.old.failed ≡ false }
+
+    // What is told of the grammar was written.
+    ensures ok { IfOk result (IsExplainedFile (offer_of registry.now) grammar.now (W.contents writer.old.inner) (W.contents writer.new.inner)) }
+    ensures stays { OnOk result (writer.new.failed ≡ false) }
+
+    // The file spells no grammar; or the writer failed after a prefix of what it was to be given; or memory ran out.
+    ensures err { IfErr result IsPageRefusal }
+    ensures file { IfErr result (IfFile (IsFaultOfFile (offer_of registry.now) grammar.now)) }
+    ensures unwritten { IfErr result (λ fault. IsBeforeWriting fault → writer.new ≡ writer.old) }
+    ensures writer { IsErrOf result BenchFault.Writer → writer.new.failed ≡ true }
+    ensures prefix { IsErrOf result BenchFault.Writer →
+        IsPartlyExplainedFile (offer_of registry.now) grammar.now (W.contents writer.old.inner) (W.contents writer.new.inner) }
+{
+    let PlacedGrammar {
+        grammar: read,
+        spans,
+    } = placed_of(alloc, grammar, registry)?;
+    let Some(nodes) = nodes_asked(&read, asked) else {
+        return Ok(Explained::NotThere);
+    };
+    let Ok(text) = characters(alloc, grammar) else {
+        return Err(BenchFault::Memory);
+    };
+    let file = GrammarFile {
+        name,
+        text: text.as_slice(),
+        spans: spans.as_slice(),
+    };
+    explain(alloc, read, &file, nodes, registry, writer)
+}
+
+/// The characters of a file, if its bytes are some. The only error is that memory ran out.
+pub(crate) fn characters(alloc: Global, bytes: &[u8]) -> Result<Vec<char>, AllocError> {
+    match std::str::from_utf8(bytes) {
+        Ok(text) => characters_of(alloc, text),
+        Err(_) => Ok(Vec::new(alloc)),
+    }
+}
+
+/// Writes what is told of a grammar.
+fn explain<W: Write>(
+    alloc: Global,
+    grammar: Grammar,
+    file: &GrammarFile,
+    nodes: Nodes,
+    registry: &Registry,
+    writer: &mut Meter<W>,
+) -> Result<Explained, BenchFault>
+    requires fresh { writer.old.failed ≡ false }
+    requires fits { Fits (offer_of registry.now) grammar }
+    ensures ok { IfOk result (IsExplained grammar (W.contents writer.old.inner) (W.contents writer.new.inner)) }
+    ensures stays { OnOk result (writer.new.failed ≡ false) }
+    ensures err { IfErr result IsWriteRefusal }
+    ensures unwritten { IsErrOf result BenchFault.Memory → writer.new ≡ writer.old }
+    ensures writer { IsErrOf result BenchFault.Writer → writer.new.failed ≡ true }
+    ensures prefix { IsErrOf result BenchFault.Writer → IsPartlyExplained grammar (W.contents writer.old.inner) (W.contents writer.new.inner) }
+{
+    match check(alloc, grammar) {
+        Ok(checked) => tell_accepted(alloc, &checked, file, writer),
+        Err(CheckFault::Refused(refused)) => tell_refused(
+            alloc, &refused, file, nodes, registry, writer,
+        ),
+        Err(CheckFault::Memory(_)) => Err(BenchFault::Memory),
+    }
+}
+
+/// Writes that a grammar is accepted.
+fn tell_accepted<W: Write>(
+    alloc: Global,
+    checked: &Checked,
+    file: &GrammarFile,
+    writer: &mut Meter<W>,
+) -> Result<Explained, BenchFault>
+    requires { writer.old.failed ≡ false }
+    ensures ok { IfOk result (IsExplained checked.now.grammar (W.contents writer.old.inner) (W.contents writer.new.inner)) }
+    ensures stays { OnOk result (writer.new.failed ≡ false) }
+    ensures err { IfErr result IsWriteRefusal }
+    ensures unwritten { IsErrOf result BenchFault.Memory → writer.new ≡ writer.old }
+    ensures failed { IsErrOf result BenchFault.Writer → writer.new.failed ≡ true }
+    ensures prefix { IsErrOf result BenchFault.Writer → IsPartlyExplained checked.now.grammar (W.contents writer.old.inner) (W.contents writer.new.inner) }
+{
+    let Ok(page) = accepted_page(alloc, checked.grammar(), file) else {
+        return Err(BenchFault::Memory);
+    };
+    write_page(page.as_bytes(), writer)?;
+    Ok(Explained::Accepted)
+}
+
+/// That a grammar is accepted, and what is noted of it. The only error is that memory ran out.
+fn accepted_page(alloc: Global, grammar: &Grammar, file: &GrammarFile) -> Result<String, AllocError>
+    ensures { IfOk result (λ page. IsAcceptedPage (string_bytes page)) }
+{
+    let mut page = String::from_str(alloc, "accepted\n")?;
+    let notes = notes(alloc, grammar, file)?;
+    page.push_str(notes.as_str())?;
+    Ok(page)
+}
+
+/// Writes what is wrong with a grammar at some of its nodes.
+fn tell_refused<W: Write>(
+    alloc: Global,
+    refused: &Refused,
+    file: &GrammarFile,
+    nodes: Nodes,
+    registry: &Registry,
+    writer: &mut Meter<W>,
+) -> Result<Explained, BenchFault>
+    requires fresh { writer.old.failed ≡ false }
+    requires fits { Fits (offer_of registry.now) refused.now.grammar }
+    ensures told { IfOk result (λ told. told ≡ Explained.Refused) }
+    ensures ok { OnOk result (WritesPage (W.contents writer.old.inner) (W.contents writer.new.inner)) }
+    ensures stays { OnOk result (writer.new.failed ≡ false) }
+    ensures err { IfErr result IsWriteRefusal }
+    ensures unwritten { IsErrOf result BenchFault.Memory → writer.new ≡ writer.old }
+    ensures failed { IsErrOf result BenchFault.Writer → writer.new.failed ≡ true }
+    ensures prefix { IsErrOf result BenchFault.Writer → WritesPartOfPage (W.contents writer.old.inner) (W.contents writer.new.inner) }
+{
+    let Ok(page) = page_of(alloc, refused, file, nodes, registry) else {
+        return Err(BenchFault::Memory);
+    };
+    write_page(page.as_bytes(), writer)?;
+    Ok(Explained::Refused)
+}

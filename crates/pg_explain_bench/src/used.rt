@@ -1,0 +1,118 @@
+//! What of a grammar is used.
+
+use pg_form::{ClassExpression, ClassPart, Form, Leaf, Node, OperatorsItem};
+use pg_value::Grammar;
+use std::alloc::{AllocError, Global};
+
+/// Marks on the rules that the start rule comes to, and on the classes and the word items that something uses.
+#[derive(Drop)]
+pub(crate) struct Used {
+    pub(crate) rules: Vec<bool>,
+    pub(crate) classes: Vec<bool>,
+    pub(crate) words: Vec<bool>,
+}
+
+/// What of a grammar is used. The only error is that memory ran out.
+pub(crate) fn used_by(alloc: Global, grammar: &Grammar) -> Result<Used, AllocError> {
+    let rules = rules_come_to(alloc, grammar)?;
+    let mut classes = vec![in alloc; false; grammar.class_items().len()]?;
+    let mut words = vec![in alloc; false; grammar.word_items().len()]?;
+    for node in grammar.nodes() {
+        mark_leaf(node, &mut classes, &mut words);
+    }
+    for item in grammar.class_items() {
+        mark_classes(&item.class, &mut classes);
+    }
+    for item in grammar.word_items() {
+        mark_classes(&item.head, &mut classes);
+        mark_classes(&item.rest, &mut classes);
+    }
+    if let Some(item) = grammar.operators_item() {
+        mark_operators(item, &mut classes);
+    }
+    Ok(Used {
+        rules,
+        classes,
+        words,
+    })
+}
+
+/// Marks on the rules that the start rule comes to.
+fn rules_come_to(alloc: Global, grammar: &Grammar) -> Result<Vec<bool>, AllocError> {
+    let count = grammar.rules().len();
+    let mut marks = vec![in alloc; false; count]?;
+    let mut open = Vec::new(alloc);
+    come_to(grammar.start_rule().index(), &mut marks, &mut open)?;
+    for _ in 0..count {
+        let Some(rule) = open.pop() else {
+            break;
+        };
+        for node in body_from(grammar, rule)..body_from(grammar, rule.saturating_add(1)) {
+            if let Some(Form::Rule(used)) = grammar.nodes().get(node) {
+                come_to(used.index(), &mut marks, &mut open)?;
+            }
+        }
+    }
+    Ok(marks)
+}
+
+/// Comes to a rule, unless that was come to.
+fn come_to(rule: usize, marks: &mut Vec<bool>, open: &mut Vec<usize>) -> Result<(), AllocError> {
+    if rule < marks.len() && !marks[rule] {
+        marks[rule] = true;
+        open.push(rule)?;
+    }
+    Ok(())
+}
+
+/// The number of the first node of a rule; how many nodes there are, behind the last.
+fn body_from(grammar: &Grammar, rule: usize) -> usize {
+    match grammar.rules().get(rule) {
+        Some(rule) => rule.body.index(),
+        None => grammar.nodes().len(),
+    }
+}
+
+/// Marks the classes and the word item of a leaf.
+fn mark_leaf(node: &Node, classes: &mut [bool], words: &mut [bool]) {
+    match node {
+        Form::Leaf(Leaf::Satisfy(class) | Leaf::NotFollowedBy(class) | Leaf::Declare(class)) => {
+            mark_classes(class, classes);
+        }
+        Form::Leaf(Leaf::Word(word)) => mark(words, word.index()),
+        Form::Leaf(Leaf::String(_) | Leaf::EndOfText)
+        | Form::Seq(_)
+        | Form::Choice(_)
+        | Form::Many(_)
+        | Form::Chain(_, _, _, _)
+        | Form::Rule(_)
+        | Form::Expression(_, _)
+        | Form::Around(_, _) => {}
+    }
+}
+
+/// Marks the classes of the operators and of gaps.
+fn mark_operators(item: &OperatorsItem, classes: &mut [bool]) {
+    mark_classes(&item.class, classes);
+    mark_classes(&item.gap, classes);
+}
+
+/// Marks the classes that an expression names.
+fn mark_classes(class: &ClassExpression, classes: &mut [bool]) {
+    for part in class.parts() {
+        match part {
+            ClassPart::Class(number) => mark(classes, number.index()),
+            ClassPart::Predicate(_)
+            | ClassPart::Literal(_)
+            | ClassPart::Range(_, _)
+            | ClassPart::Union(_)
+            | ClassPart::Complement => {}
+        }
+    }
+}
+
+fn mark(marks: &mut [bool], number: usize) {
+    if number < marks.len() {
+        marks[number] = true;
+    }
+}

@@ -1,0 +1,90 @@
+//! What could stand at a place of a file, asked of the parser: a token can if the parser doesn't refuse it there.
+
+use pg_parser::{SyntaxError, read_items};
+use pg_tokens::{Lexeme, lex};
+use std::alloc::{AllocError, Global};
+
+/// The tokens that are tried, each with how it is told of, and with the words for others that stand for it where they are told.
+const CANDIDATES: [(&str, &str, &str); 20] = [
+    ("seq", "a value", ""),
+    ("not", "a class", ""),
+    ("x", "a name", "a value a class"),
+    ("\"x\"", "a literal", "a class"),
+    ("6", "a number", ""),
+    ("(", "`(`", "a class"),
+    (")", "`)`", ""),
+    (",", "`,`", ""),
+    (";", "`;`", ""),
+    ("=", "`=`", ""),
+    ("|", "`|`", ""),
+    ("..", "`..`", ""),
+    ("head", "`head`", "a name a class a value"),
+    ("rest", "`rest`", "a name a class a value"),
+    ("gap", "`gap`", "a name a class a value"),
+    ("reserved", "`reserved`", "a name a class a value"),
+    ("max", "`max`", "a name a class a value"),
+    ("infixl", "a role, as `infixl`", "a name a class a value"),
+    ("table", "an item", "a name a class a value"),
+    ("start", "an item", "a name a class a value an item"),
+];
+
+/// What could stand at a place, in words: `a value or ")"`; nothing, if nothing that is tried could. The only error is that memory ran out.
+pub(crate) fn expected(alloc: Global, text: &[char], place: usize) -> Result<String, AllocError> {
+    let mut told: Vec<&'static str> = Vec::new(alloc);
+    for candidate in &CANDIDATES {
+        if !is_told(&told, candidate.2) && can_stand(alloc, text, place, candidate.0)? {
+            told.push(candidate.1)?;
+        }
+    }
+    in_words(alloc, &told)
+}
+
+/// Whether one of these words was told.
+fn is_told(told: &[&'static str], words: &str) -> bool {
+    told.iter().any(|one| words.contains(*one))
+}
+
+/// Whether the parser takes a token at a place, with a blank before it.
+fn can_stand(
+    alloc: Global,
+    text: &[char],
+    place: usize,
+    written: &str,
+) -> Result<bool, AllocError> {
+    let mut tried = Vec::new(alloc);
+    for c in text.iter().take(place) {
+        tried.push(*c)?;
+    }
+    tried.push(' ')?;
+    for c in written.chars() {
+        tried.push(c)?;
+    }
+    let lexemes = lex(alloc, &tried)?;
+    takes(alloc, &lexemes, place.saturating_add(1))
+}
+
+/// Whether these tokens aren't refused at a place.
+fn takes(alloc: Global, lexemes: &[Lexeme], place: usize) -> Result<bool, AllocError> {
+    match read_items(alloc, lexemes) {
+        Ok(_) => Ok(true),
+        Err(SyntaxError::Fault(_, at)) => Ok(at != Some(place)),
+        Err(SyntaxError::Memory) => Err(AllocError),
+    }
+}
+
+/// These words, with commas and an `or`.
+fn in_words(alloc: Global, told: &[&'static str]) -> Result<String, AllocError> {
+    let mut words = String::new(alloc);
+    for (number, one) in told.iter().enumerate() {
+        let joint = if number == 0 {
+            ""
+        } else if number.saturating_add(1) == told.len() {
+            " or "
+        } else {
+            ", "
+        };
+        words.push_str(joint)?;
+        words.push_str(one)?;
+    }
+    Ok(words)
+}

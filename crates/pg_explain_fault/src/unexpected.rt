@@ -1,0 +1,132 @@
+//! Tokens that can't stand where they do.
+
+use crate::context::{Wanted, wanted_at};
+use crate::expected::expected;
+use crate::parsec::in_place_of;
+use crate::shown::{push_line, quoted, shown};
+use crate::tokens::Tokens;
+use pg_tokens::{Mark, Token};
+use std::alloc::{AllocError, Global};
+
+/// Pushes what can't stand at a token, what could, and what is mostly meant. The only error is that memory ran out.
+pub(crate) fn push_unexpected(
+    alloc: Global,
+    page: &mut String,
+    tokens: &Tokens,
+    number: usize,
+) -> Result<(), AllocError> {
+    let place = tokens.place(number);
+    let here = shown(alloc, tokens, place)?;
+    let could = if wanted_at(tokens, number) == Wanted::Builder {
+        String::from_str(alloc, "the name of a builder")?
+    } else {
+        expected(alloc, tokens.text, place)?
+    };
+    let words = if could.is_empty() {
+        format!(in alloc; "{here} can't stand here")?
+    } else if place >= tokens.text.len() {
+        format!(in alloc; "the file ends here, and there could be {could}")?
+    } else {
+        format!(in alloc; "{here} can't stand here; there could be {could}")?
+    };
+    push_line(page, words.as_str())?;
+    if could.starts_with("a name") {
+        return push_taken(alloc, page, tokens, number);
+    }
+    push_advice(alloc, page, tokens, number)
+}
+
+/// Pushes that a name is one that grammar files use themselves, if one stands there.
+fn push_taken(
+    alloc: Global,
+    page: &mut String,
+    tokens: &Tokens,
+    number: usize,
+) -> Result<(), AllocError> {
+    let Some(name) = tokens.name(number) else {
+        return Ok(());
+    };
+    let name = quoted(alloc, name)?;
+    let words = format!(in alloc;
+        "grammar files use {name} themselves: no class, word or rule can have this name"
+    )?;
+    push_line(page, words.as_str())
+}
+
+/// Pushes what is mostly meant.
+fn push_advice(
+    alloc: Global,
+    page: &mut String,
+    tokens: &Tokens,
+    number: usize,
+) -> Result<(), AllocError> {
+    if let Some(name) = called(tokens, number) {
+        return push_no_form(alloc, page, name);
+    }
+    match advice(tokens, number) {
+        Some(words) => push_line(page, words),
+        None => Ok(()),
+    }
+}
+
+/// The name before a parenthesis that can't stand there.
+fn called<'f>(tokens: &Tokens<'f>, number: usize) -> Option<&'f [char]> {
+    if tokens.is_mark(number, Mark::Open) && number > 0 {
+        tokens.name(number.saturating_sub(1))
+    } else {
+        None
+    }
+}
+
+/// Pushes that a name is no form, and what to do in its place.
+fn push_no_form(alloc: Global, page: &mut String, name: &[char]) -> Result<(), AllocError> {
+    let shown = quoted(alloc, name)?;
+    let words = match in_place_of(name) {
+        Some(instead) => format!(in alloc; "grammar files have no {shown}; {instead}")?,
+        None => format!(in alloc; "{shown} has no parentheses: it is no form that takes any")?,
+    };
+    push_line(page, words.as_str())
+}
+
+/// What is mostly meant by a token that can't stand there.
+fn advice(tokens: &Tokens, number: usize) -> Option<&'static str> {
+    if begins_line(tokens, number) && !tokens.is_mark(number, Mark::Semicolon) && number > 0 {
+        return Some("if an item begins here, the `;` of the one above is missing");
+    }
+    let wanted = wanted_at(tokens, number);
+    match tokens.token(number) {
+        Some(Token::Literal(_)) if wanted == Wanted::Value => Some(
+            "a literal is a value as string(\"x\"), or as satisfy(\"xyz\") for one of its characters",
+        ),
+        Some(Token::Literal(_)) if wanted == Wanted::Builder => Some(
+            "a builder comes first, and in `build` its symbol after it: build(node, \"x\", v)",
+        ),
+        Some(Token::Mark(Mark::Bar)) => Some(
+            "alternatives of values are choice(v, w); `|` is for classes",
+        ),
+        Some(Token::Mark(Mark::Semicolon)) => Some(
+            "a parenthesis isn't closed, or something is missing before the `;`",
+        ),
+        Some(Token::Name(_)) if wanted == Wanted::Value => Some("a comma may be missing before it"),
+        Some(Token::Name(_)) if wanted == Wanted::Class => Some(
+            "a class has to be here, as digit, \"xyz\" or \"a\"..\"z\", and no value",
+        ),
+        Some(Token::Number(_)) => Some(
+            "the precedence of an operator is 0 to 9, and `max` is 1 to 64",
+        ),
+        Some(Token::Name(_) | Token::Literal(_) | Token::Mark(_) | Token::WrongLiteral | Token::Bad)
+        | None => None,
+    }
+}
+
+/// Whether only blanks stand before a token on its line.
+fn begins_line(tokens: &Tokens, number: usize) -> bool {
+    for back in (0..tokens.place(number)).rev() {
+        match tokens.text.get(back) {
+            Some('\n') => return true,
+            Some(' ' | '\t' | '\r') => {}
+            Some(_) | None => return false,
+        }
+    }
+    true
+}
