@@ -332,7 +332,7 @@ class Walk:
         if tree.operator is None:
             return self.node(term)
         role, _, symbol = tree.operator
-        prefix, infix, postfix = builders
+        infix, prefix, postfix = builders
         if role == "prefix":
             self.operator(symbol)
             return [built(prefix, symbol, self.expression(tree.operands[0], term, builders))]

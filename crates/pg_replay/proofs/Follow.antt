@@ -24,7 +24,7 @@ use Rattle.pg_replay.specs.Refusals as refusal
 use Rattle.pg_replay.specs.Refusals.{still_entered, if_no_item, IsEntered, ChoosesNone}
 use Rattle.pg_replay.specs.Tasks.{Looseness, tight, apart, only_text, Known, OnTask, node, parts, rounds, more_rounds, links, operand, linked, settle, fold, marked, operator_symbol, application, unmark, close, leave, Setting, under_marks, loosened, State, Turn, on, stops, ended, part_turn, numbered_turn, choice_turn, many_turn, is_place, is_known_at, is_known, covers, inside_form, is_text, given_by, is_still, is_entered, rule_turn, around_turn, form_turn, node_turn, parts_turn, rounds_turn, is_unchanged, more_turn, closed_table, closed_forest, without_newest, turn}
 use Rattle.pg_replay.proofs.Alike.{text_in, IsAlike, Alike, is_same, alike_same, alike_both, alike_given}
-use Rattle.pg_replay.proofs.Known.{AreKnown, AreBlank, IsSo}
+use Rattle.pg_replay.proofs.KnownBodies.{AreKnown, AreBlank, IsSo}
 use Rattle.pg_replay.proofs.NoText.{no_text}
 use Rattle.pg_replay.proofs.Items.{positive, no_count_at_end, no_count_for_choice, no_count_for_operators}
 use Rattle.pg_replay.proofs.LeavesFollow.{leaf_follows}

@@ -8,7 +8,7 @@ pub mod Alike
 pub mod Leads
 pub mod LeftOut
 pub mod Items
-pub mod Known
+pub mod KnownBodies
 pub mod KnownRules
 pub mod LeavesFollow
 pub mod ChainsFollow

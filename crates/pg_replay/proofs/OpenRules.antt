@@ -15,7 +15,7 @@ use Rattle.pg_replay.specs.Tasks.{Looseness, only_text, OnTask, close, leave, St
 use Rattle.pg_replay.proofs.Alike.{text_in, Alike}
 use Rattle.pg_replay.proofs.AnyTable.{any_table}
 use Rattle.pg_replay.proofs.Follow.{task_follows}
-use Rattle.pg_replay.proofs.Known.{TakesNothing, AreKnown, IsBlank, AreBlank, IsSo, one_more_known, one_more_blank}
+use Rattle.pg_replay.proofs.KnownBodies.{TakesNothing, AreKnown, IsBlank, AreBlank, IsSo, one_more_known, one_more_blank}
 use Rattle.pg_replay.proofs.Leads.{arrived, Leads, no_task, spot_of, Follows}
 use Rattle.pg_replay.proofs.LeftOut.{no_tree_more, no_item_more}
 use Rattle.pg_replay.proofs.NoText.{no_text, empty_made}

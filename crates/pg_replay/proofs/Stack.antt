@@ -7,10 +7,10 @@ use Rattle.pg_value.specs.Grammar.{Grammar}
 use Rattle.pg_replay.specs.Tasks.{OnTask, State, turn, turn_by, with_tasks, without_newest, first_mark, is_entered}
 use Rattle.pg_replay.specs.View.{task_of, tasks_on, tasks_of}
 
-pub task_pushed : (ts : List Task) (t : Task) → tasks_of (ts ++ t ∷ []) ≡ task_of t ∷ tasks_of ts
-task_pushed ts t = go ts []
+pub tasks_pushed : (ts more : List Task) → tasks_of (ts ++ more) ≡ tasks_on (tasks_of ts) more
+tasks_pushed ts more = go ts []
   where
-    go : (ts : List Task) (below : List OnTask) → tasks_on below (ts ++ t ∷ []) ≡ task_of t ∷ tasks_on below ts
+    go : (ts : List Task) (below : List OnTask) → tasks_on below (ts ++ more) ≡ tasks_on (tasks_on below ts) more
     go [] below = refl
     go (x ∷ ts) below = go ts (task_of x ∷ below)
 
@@ -42,7 +42,7 @@ entered_reversed r (x ∷ xs) = ap (is_entered r) (reverse-append (x ∷ []) xs)
 -- where the last of the code's tasks is taken off, the next one is done
 pub turned : (g : Grammar) (text : List ℕ) (all ts : List Task) (t : Task) (s : State) → all ≡ ts ++ t ∷ [] →
     turn g text (task_of t) (with_tasks (tasks_of ts) s) ≡ turn_by g text (tasks_of all) s
-turned g text all ts t s e = ap (λ xs. turn_by g text xs s) (sym (ap tasks_of e ∙ task_pushed ts t))
+turned g text all ts t s e = ap (λ xs. turn_by g text xs s) (sym (ap tasks_of e ∙ tasks_pushed ts (t ∷ [])))
 
 -- ---- the newest
 

@@ -51,15 +51,15 @@ step_pushed builders p all steps step ls ms l s z e f h k =
 
 -- ---- operands that wait
 
-pub waits_more : (xs : List declared_loose.Looseness) (x : declared_loose.Looseness) → waiting_of (xs ++ x ∷ []) ≡ loose_of x ∷ waiting_of xs
-waits_more xs x = go xs []
+pub waits_pushed : (xs more : List declared_loose.Looseness) → waiting_of (xs ++ more) ≡ waiting_on (waiting_of xs) more
+waits_pushed xs more = go xs []
   where
-    go : (xs : List declared_loose.Looseness) (ls : List Looseness) → waiting_on ls (xs ++ x ∷ []) ≡ loose_of x ∷ waiting_on ls xs
+    go : (xs : List declared_loose.Looseness) (ls : List Looseness) → waiting_on ls (xs ++ more) ≡ waiting_on (waiting_on ls xs) more
     go [] ls = refl
     go (y ∷ xs) ls = go xs (loose_of y ∷ ls)
 
 pub waits_less : (xs : List declared_loose.Looseness) (x : declared_loose.Looseness) → others_waiting (waiting_of (xs ++ x ∷ [])) ≡ waiting_of xs
-waits_less xs x = ap others_waiting (waits_more xs x)
+waits_less xs x = ap others_waiting (waits_pushed xs (x ∷ []))
 
 -- ---- the newest
 

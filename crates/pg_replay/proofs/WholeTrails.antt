@@ -19,7 +19,7 @@ use Rattle.pg_replay.proofs.Alike.{IsAlike}
 use Rattle.pg_replay.proofs.Leads.{End, arrived, halted, Leads, no_task, does, refuses, does_node, refuses_node, spot_of, StateLeads, Follows}
 use Rattle.pg_replay.proofs.ProperTables.{IsProper, ProperTurn, next_proper}
 use Rattle.pg_replay.proofs.Follow.{task_follows}
-use Rattle.pg_replay.proofs.Known.{IsSo, none_known}
+use Rattle.pg_replay.proofs.KnownBodies.{IsSo, none_known}
 use Rattle.pg_replay.proofs.OpenRules.{TellsTruth, tells_on}
 use Rattle.pg_replay.proofs.OneForest.{only_forest, none_where_stopped}
 

@@ -4,6 +4,7 @@ use Rattle.pg_replay.specs.declared.task.Task.{Task}
 use Rattle.pg_replay.specs.declared.task.Task.TheVariants as task
 use Rattle.pg_replay.specs.declared.task.Chain as declared
 use Rattle.pg_replay.specs.declared.task.RoundStart as declared_start
+use Rattle.pg_replay.specs.declared.task.Closing as declared_closing
 use Rattle.pg_replay.specs.declared.replayer.Replayer.{Replayer}
 use Rattle.pg_replay.specs.declared.replayer.Known as declared_known
 use Rattle.pg_replay.specs.declared.task.Looseness as declared_loose
@@ -28,21 +29,24 @@ abbrev pub if_known : Option declared_known.Known → Option Known
 if_known None = None
 if_known (Some known) = Some (known_of known)
 
+abbrev pub closing_of : declared_closing.Closing → OnTask
+closing_of c = close c.around.now c.node c.place c.trees c.operators c.items (loose_of c.loose)
+
 abbrev pub task_of : Task → OnTask
 task_of (task.Node p) = node p
 task_of (task.Parts ps) = parts ps.now
 task_of (task.Rounds part left) = rounds part left
 task_of (task.MoreRounds part left place trees items) = more_rounds part left place trees items
-task_of (task.Links side used part separator left trees) = links (record { side = side; used = used.now; part = part; separator = separator }) left trees
-task_of (task.Operand side used part separator left trees from) = operand (record { side = side; used = used.now; part = part; separator = separator }) left trees (start_of from)
-task_of (task.Linked side used part separator left trees later from) = linked (record { side = side; used = used.now; part = part; separator = separator }) left trees later (start_of from)
+task_of (task.Links chain left trees) = links (chain_of chain) left trees
+task_of (task.Operand chain left trees from) = operand (chain_of chain) left trees (start_of from)
+task_of (task.Linked chain left trees later from) = linked (chain_of chain) left trees later (start_of from)
 task_of (task.Settle loose) = settle (loose_of loose)
 task_of (task.Fold side used trees) = fold used.now trees
 task_of (task.Term p loose) = marked p (loose_of loose)
 task_of (task.Symbol o) = operator_symbol o.now
 task_of (task.Application builders o) = application builders.now o.now
 task_of task.Unmark = unmark
-task_of (task.Close around p place trees operators items loose) = close around.now p place trees operators items (loose_of loose)
+task_of (task.Close c) = closing_of c
 task_of (task.Leave rule place trees items) = leave rule place trees items
 
 -- the next task stands last in the code

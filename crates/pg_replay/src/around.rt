@@ -2,13 +2,13 @@
 
 ghost use Rattle.std.specs.Prelude.{◌≡◌, ◌∷◌, ◌++◌, [], length, take, drop, set, slice_get, Some, IfOk, OnOk};
 ghost use Rattle.pg_language.specs.Derives.{span, made_by};
-ghost use Rattle.pg_replay.specs.Tasks.{told, with_blank, is_place, around_turn, given_by, makes_empty_leaf, blank_after, closed_table, closed_forest, close_turn};
-ghost use Rattle.pg_replay.specs.View.{state_of, loose_of};
+ghost use Rattle.pg_replay.specs.Tasks.{close, told, with_blank, is_place, around_turn, given_by, makes_empty_leaf, blank_after, closed_table, closed_forest, close_turn};
+ghost use Rattle.pg_replay.specs.View.{state_of, loose_of, closing_of};
 
 use crate::looseness::{inside_form, joins, leaves_out};
 use crate::replayer::Replayer;
 use crate::step::build;
-use crate::task::{Closing, Halt, Looseness};
+use crate::task::{Closing, Halt, Looseness, Task};
 use pg_form::{Around, NodeId};
 use pg_table::Table;
 use pg_text::Text;
@@ -31,11 +31,25 @@ impl<'a> Replayer<'a> {
             self.forest.push_leaf(&[])?;
             return Ok(None);
         }
-        let operators = self.table.operators().len();
         open_forest(alloc, around, &mut self.forest)?;
-        self.push_close(node, around, operators)?;
+        let closing = self.closing(node, around);
         self.set_loose(inside_form(around, self.loose));
-        self.go_on(part)
+        self.go_on(&[Task::Close(closing), Task::Node(part)])
+    }
+
+    /// The form at the node, whose part begins here.
+    fn closing(&self, node: NodeId, around: &'a Around) -> Closing<'a>
+        ensures { closing_of result ≡ close around.now node self.now.place (length self.now.forest) (length self.now.table.operators) (length self.now.rest.now) (loose_of self.now.loose) }
+    {
+        Closing {
+            around,
+            node,
+            place: self.place,
+            trees: self.forest.len(),
+            operators: self.table.operators().len(),
+            items: self.rest.len(),
+            loose: self.loose,
+        }
     }
 
     /// What the form makes of its part.

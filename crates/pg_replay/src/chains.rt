@@ -1,14 +1,14 @@
 //! Chains: an operand, and then rounds of a separator and an operand, whose trees are folded from a side.
 
 ghost use Rattle.std.specs.Prelude.{◌≡◌, IfOk, OnOk};
-ghost use Rattle.pg_replay.specs.Tasks.{on, told, with_links, inside_chain, chain_turn, links_turn, operand_turn, is_idle, linked_turn, fold_turn};
+ghost use Rattle.pg_replay.specs.Tasks.{on, told, with_links, inside_chain, chain_turn, links_turn, operand_turn, round_start, is_idle, linked_turn, fold_turn};
 ghost use Rattle.pg_replay.specs.View.{state_of, chain_of, start_of, loose_of};
 
 use crate::fault::Mismatch;
 use crate::looseness::{inside, is_steady};
 use crate::replayer::Replayer;
 use crate::step::{build, build_stretch};
-use crate::task::{Chain, Halt, Looseness, RoundStart};
+use crate::task::{Chain, Halt, Looseness, RoundStart, Task};
 use pg_form::{BuilderUse, Side};
 use pg_tree::{ForestTape, Shape};
 use pg_value::TrailItem;
@@ -28,10 +28,14 @@ impl<'a> Replayer<'a> {
                 let (left, trees) = (*left, self.forest.len());
                 self.take_item(rest);
                 self.forest.open(alloc)?;
-                self.push_settle(self.loose)?;
-                self.push_links(chain, left, trees)?;
-                self.set_loose(inside_chain(chain, left, self.loose));
-                self.go_on(chain.part)
+                let loose = self.loose;
+                self.set_loose(inside_chain(chain, left, loose));
+                let links = Task::Links {
+                    chain: chain.copy(),
+                    left,
+                    trees,
+                };
+                self.go_on(&[Task::Settle(loose), links, Task::Node(chain.part)])
             }
             Some((TrailItem::Alt(_) | TrailItem::Ops(_), _)) | None => Ok(Some(Halt::Stopped(
                 Mismatch::ItemDiffers,
@@ -52,9 +56,13 @@ impl<'a> Replayer<'a> {
             self.forest.close(trees)?;
             return Ok(None);
         }
-        let left = left - 1;
-        self.push_operand(chain, left, trees)?;
-        self.go_on(chain.separator)
+        let operand = Task::Operand {
+            chain: chain.copy(),
+            left: left - 1,
+            trees,
+            from: self.round_start(),
+        };
+        self.go_on(&[operand, Task::Node(chain.separator)])
     }
 
     /// The operand, and then the folding and the other rounds.
@@ -69,8 +77,25 @@ impl<'a> Replayer<'a> {
         ensures { IfOk result (λ halt. told halt (state_of self.new) ≡ operand_turn (chain_of chain.now) left trees (start_of from) (state_of self.old)) }
     {
         open_later(alloc, chain.side, &mut self.forest)?;
-        self.push_linked(chain, left, trees, from)?;
-        self.go_on(chain.part)
+        let linked = Task::Linked {
+            chain: chain.copy(),
+            left,
+            trees,
+            later: self.forest.len(),
+            from,
+        };
+        self.go_on(&[linked, Task::Node(chain.part)])
+    }
+
+    /// A round that begins here.
+    fn round_start(&self) -> RoundStart
+        ensures { start_of result ≡ round_start (state_of self.now) }
+    {
+        RoundStart {
+            place: self.place,
+            trees: self.forest.len(),
+            items: self.rest.len(),
+        }
     }
 
     /// The folding and the other rounds, after one that began there: where it took nothing and put nothing to what the chain makes, the
@@ -86,11 +111,13 @@ impl<'a> Replayer<'a> {
         ensures { IfOk result (λ halt. told halt (state_of self.new) ≡ linked_turn (chain_of chain.now) left trees later (start_of from) (state_of self.old)) }
     {
         if self.is_idle(&chain.used.shape, from) {
-            self.push_fold(Side::Right, chain.used, trees)?;
-        } else {
-            self.push_after_operand(chain, left, trees, later)?;
+            return self.go_on(&[Task::Fold {
+                side: Side::Right,
+                used: chain.used,
+                trees,
+            }]);
         }
-        Ok(None)
+        self.fold_and_link(chain, left, trees, later)
     }
 
     /// Whether a round that began there took nothing, and put nothing to what is made of such a shape.
@@ -101,23 +128,36 @@ impl<'a> Replayer<'a> {
     }
 
     /// From the left the operand is folded with all before it first, and from the right with all after it, last.
-    fn push_after_operand(
+    fn fold_and_link(
         &mut self,
         chain: &Chain<'a>,
         left: usize,
         trees: usize,
         later: usize,
-    ) -> Result<(), AllocError>
-        ensures { OnOk result (state_of self.new ≡ with_links chain.now.side (chain_of chain.now) left trees later (state_of self.old)) }
+    ) -> Result<Option<Halt>, AllocError>
+        ensures { IfOk result (λ halt. told halt (state_of self.new) ≡ on (with_links chain.now.side (chain_of chain.now) left trees later (state_of self.old))) }
     {
+        let fold = Task::Fold {
+            side: chain.side,
+            used: chain.used,
+            trees,
+        };
         match chain.side {
             Side::Left => {
-                self.push_links(chain, left, trees)?;
-                self.push_fold(chain.side, chain.used, trees)
+                let links = Task::Links {
+                    chain: chain.copy(),
+                    left,
+                    trees,
+                };
+                self.go_on(&[links, fold])
             }
             Side::Right => {
-                self.push_fold(chain.side, chain.used, trees)?;
-                self.push_links(chain, left, later)
+                let links = Task::Links {
+                    chain: chain.copy(),
+                    left,
+                    trees: later,
+                };
+                self.go_on(&[fold, links])
             }
         }
     }

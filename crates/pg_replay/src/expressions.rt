@@ -2,15 +2,15 @@
 
 ghost use Rattle.std.specs.Prelude.{◌≡◌, ◌∷◌, [], IfOk, OnOk, length, map, reverse};
 ghost use Rattle.pg_fitting.specs.Judge.{step_of};
-ghost use Rattle.pg_replay.specs.Tasks.{on, told, node, step_task, with_task, with_steps, operators_turn, expression_turn, symbol_turn, ended_turn, operator_end, builder_on, marks_after, built_after, applied_under, application_turn, with_forest, with_loose, with_marks, without_newest, first_mark};
-ghost use Rattle.pg_replay.specs.View.{state_of, loose_of};
+ghost use Rattle.pg_replay.specs.Tasks.{on, told, node, newest_waiting, waiting_before, step_task, with_task, with_steps, operators_turn, expression_turn, symbol_turn, ended_turn, operator_end, builder_on, marks_after, built_after, applied_under, application_turn, with_forest, with_loose, with_marks, without_newest, first_mark};
+ghost use Rattle.pg_replay.specs.View.{state_of, loose_of, waiting_of, task_of};
 
 use crate::fault::Mismatch;
 use crate::looseness::{newest_waiting, wait_before};
 use crate::operators::{operator_end, utf8};
 use crate::replayer::Replayer;
 use crate::step::build_stretch;
-use crate::task::{Halt, Looseness};
+use crate::task::{Halt, Looseness, Task};
 use pg_fitting::{Step, fitting_steps};
 use pg_form::{BuilderUse, NodeId, OperatorBuilders};
 use pg_text::Text;
@@ -56,8 +56,7 @@ impl<'a> Replayer<'a> {
         match fitting_steps(alloc, &self.table, read)? {
             Some(steps) => {
                 self.take_item(rest);
-                self.push_settle(self.loose)?;
-                self.push_unmark()?;
+                self.push_tasks(&[Task::Settle(self.loose), Task::Unmark])?;
                 self.push_steps(alloc, builders, part, steps)?;
                 Ok(None)
             }
@@ -80,28 +79,26 @@ impl<'a> Replayer<'a> {
         let mut waiting = Vec::new(alloc);
         waiting.push(self.loose)?;
         while let Some(step) = steps.pop() {
-            let loose = newest_waiting(waiting.as_slice());
-            wait_before(builders, &step, &mut waiting)?;
-            self.push_step(builders, part, loose, step)?;
+            self.push_step(builders, part, step, &mut waiting)?;
         }
         Ok(())
     }
 
-    /// The step is; if it is a term, its trees are so loose.
+    /// The step is the next task, and operands wait that did before it.
     fn push_step(
         &mut self,
         builders: &'a OperatorBuilders,
         part: NodeId,
-        loose: Looseness<'a>,
         step: Step<'a>,
+        waiting: &mut Vec<Looseness<'a>>,
     ) -> Result<(), AllocError>
-        ensures { OnOk result (state_of self.new ≡ with_task (step_task builders.now part (loose_of loose.entry) (step_of step.entry)) (state_of self.old)) }
+        ensures tasks { OnOk result (state_of self.new ≡
+            with_task (step_task builders.now part (newest_waiting (waiting_of waiting.old.items)) (step_of step.entry)) (state_of self.old)) }
+        ensures waiting { OnOk result (waiting_of waiting.new.items ≡ waiting_before builders.now (step_of step.entry) (waiting_of waiting.old.items)) }
     {
-        match step {
-            Step::Term => self.push_term(part, loose),
-            Step::Symbol(operator) => self.push_symbol(operator),
-            Step::Application(operator) => self.push_application(builders, operator),
-        }
+        let loose = newest_waiting(waiting.as_slice());
+        wait_before(builders, &step, waiting)?;
+        self.push_tasks(&[step_task(builders, part, loose, step)])
     }
 
     /// A term, whose trees are so loose and begin the next operand.
@@ -116,7 +113,7 @@ impl<'a> Replayer<'a> {
     {
         self.mark(alloc)?;
         self.set_loose(loose);
-        self.go_on(part)
+        self.go_on(&[Task::Node(part)])
     }
 
     /// The last operand ends the expression.
@@ -204,6 +201,22 @@ impl<'a> Replayer<'a> {
         let trees = self.newest_mark();
         let symbol = utf8(alloc, symbol)?;
         build_stretch(alloc, &used.shape, symbol.as_str(), trees, &mut self.forest)
+    }
+}
+
+/// The task of a step; if it is a term, its trees are so loose.
+fn step_task<'a>(
+    builders: &'a OperatorBuilders,
+    part: NodeId,
+    loose: Looseness<'a>,
+    step: Step<'a>,
+) -> Task<'a>
+    ensures { task_of result ≡ step_task builders.now part (loose_of loose.entry) (step_of step.entry) }
+{
+    match step {
+        Step::Term => Task::Term(part, loose),
+        Step::Symbol(operator) => Task::Symbol(operator),
+        Step::Application(operator) => Task::Application { builders, operator },
     }
 }
 

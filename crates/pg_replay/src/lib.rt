@@ -17,4 +17,6 @@ mod trails;
 
 pub use fault::{Mismatch, ReplayFault, Stop};
 pub use laws::trails_tell_derivations;
+pub use replayer::{Known, Replayer};
+pub use task::{Chain, Closing, Halt, Looseness, RoundStart, Task};
 pub use trails::replay;

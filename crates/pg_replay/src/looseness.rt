@@ -85,7 +85,7 @@ pub(crate) fn wait_before<'a>(
 }
 
 /// The operands of an operator wait. The only error is that memory ran out.
-#[tactic(auto, using(crate::proofs::Steps::waits_more))]
+#[tactic(auto, using(crate::proofs::Steps::waits_pushed))]
 fn wait_for_operands<'a>(
     fixity: Fixity,
     loose: Looseness<'a>,
@@ -94,11 +94,9 @@ fn wait_for_operands<'a>(
     ensures { OnOk result (waiting_of waiting.new.items ≡ operands_waiting fixity (loose_of loose.entry) (waiting_of waiting.old.items)) }
 {
     match fixity {
-        Fixity::Infix => waiting.push(loose)?,
-        Fixity::Prefix | Fixity::Postfix => {}
+        Fixity::Infix => waiting.extend_from_slice(&[loose, loose]),
+        Fixity::Prefix | Fixity::Postfix => waiting.extend_from_slice(&[loose]),
     }
-    waiting.push(loose)?;
-    Ok(())
 }
 
 /// Whether the shape joins texts to a leaf.

@@ -7,7 +7,7 @@ ghost use Rattle.pg_replay.specs.View.{state_of};
 use crate::fault::Mismatch;
 use crate::looseness::is_text;
 use crate::replayer::Replayer;
-use crate::task::Halt;
+use crate::task::{Halt, Task};
 use pg_form::NodeId;
 use pg_value::TrailItem;
 use std::alloc::AllocError;
@@ -21,8 +21,7 @@ impl Replayer<'_> {
             Some((TrailItem::Rounds(left), rest)) => {
                 let left = *left;
                 self.take_item(rest);
-                self.push_rounds(part, left)?;
-                Ok(None)
+                self.go_on(&[Task::Rounds { part, left }])
             }
             Some((TrailItem::Alt(_) | TrailItem::Ops(_), _)) | None => Ok(Some(Halt::Stopped(
                 Mismatch::ItemDiffers,
@@ -38,8 +37,15 @@ impl Replayer<'_> {
             return Ok(None);
         }
         let left = left - 1;
-        self.push_more_rounds(part, left)?;
-        self.go_on(part)
+        let (place, trees, items) = (self.place, self.forest.len(), self.rest.len());
+        let more = Task::MoreRounds {
+            part,
+            left,
+            place,
+            trees,
+            items,
+        };
+        self.go_on(&[more, Task::Node(part)])
     }
 
     /// The other rounds, after one that began at the place: where it took and gave nothing, all of them are done.

@@ -2,12 +2,12 @@
 
 ghost use Rattle.std.specs.Prelude.{◌≡◌, ◌==◌, ◌∷◌, ◌++◌, [], slice_get, length, take, drop, reverse, Some, IfOk, OnOk, option_copied};
 ghost use Rattle.pg_tree.specs.Built.{built};
-ghost use Rattle.pg_replay.specs.Tasks.{on, told, node as one_node, with_task, node_turn, form_turn, choice_turn, numbered_turn, rule_turn, leave_turn, is_entered, parts_turn, turn, next_turn};
+ghost use Rattle.pg_replay.specs.Tasks.{on, told, node_turn, form_turn, choice_turn, numbered_turn, rule_turn, leave_turn, is_entered, parts_turn, turn, next_turn};
 ghost use Rattle.pg_replay.specs.View.{state_of, task_of};
 
 use crate::fault::Mismatch;
 use crate::replayer::Replayer;
-use crate::task::{Chain, Closing, Halt, Looseness, Task};
+use crate::task::{Chain, Halt, Looseness, Task};
 use pg_form::{Form, Node, NodeId, RuleId};
 use pg_text::Text;
 use pg_tree::{Forest, ForestTape, Shape, built};
@@ -15,9 +15,8 @@ use pg_value::{Grammar, TrailItem};
 use std::alloc::{AllocError, Global};
 
 impl<'a> Replayer<'a> {
-    /// Does the next task. The only error is that memory ran out.
-    #[tactic(auto, using(crate::proofs::Stack::task_pushed, crate::proofs::Stack::turned))]
-    pub(crate) fn step(
+    /// Does the next task. The answer is why it isn't done, if it isn't. The only error is that memory ran out.
+    pub fn step(
         &mut self,
         alloc: Global,
         grammar: &'a Grammar,
@@ -52,57 +51,20 @@ impl<'a> Replayer<'a> {
                 trees,
                 items,
             } => self.more_rounds(*part, *left, *place, *trees, *items),
-            Task::Links {
-                side,
-                used,
-                part,
-                separator,
-                left,
-                trees,
-            } => {
-                let chain = Chain {
-                    side: *side,
-                    used,
-                    part: *part,
-                    separator: *separator,
-                };
-                self.links(&chain, *left, *trees)
-            }
+            Task::Links { chain, left, trees } => self.links(chain, *left, *trees),
             Task::Operand {
-                side,
-                used,
-                part,
-                separator,
+                chain,
                 left,
                 trees,
                 from,
-            } => {
-                let chain = Chain {
-                    side: *side,
-                    used,
-                    part: *part,
-                    separator: *separator,
-                };
-                self.operand(alloc, &chain, *left, *trees, *from)
-            }
+            } => self.operand(alloc, chain, *left, *trees, *from),
             Task::Linked {
-                side,
-                used,
-                part,
-                separator,
+                chain,
                 left,
                 trees,
                 later,
                 from,
-            } => {
-                let chain = Chain {
-                    side: *side,
-                    used,
-                    part: *part,
-                    separator: *separator,
-                };
-                self.linked(&chain, *left, *trees, *later, *from)
-            }
+            } => self.linked(chain, *left, *trees, *later, *from),
             Task::Settle(loose) => {
                 self.set_loose(*loose);
                 Ok(None)
@@ -112,26 +74,7 @@ impl<'a> Replayer<'a> {
             Task::Symbol(operator) => Ok(self.symbol(grammar, text, operator)),
             Task::Application { builders, operator } => self.apply(alloc, builders, operator),
             Task::Unmark => self.end_expression(),
-            Task::Close {
-                around,
-                node,
-                place,
-                trees,
-                operators,
-                items,
-                loose,
-            } => {
-                let closing = Closing {
-                    around,
-                    node: *node,
-                    place: *place,
-                    trees: *trees,
-                    operators: *operators,
-                    items: *items,
-                    loose: *loose,
-                };
-                self.close(alloc, text, &closing)
-            }
+            Task::Close(closing) => self.close(alloc, text, closing),
             Task::Leave {
                 rule,
                 place,
@@ -175,10 +118,7 @@ impl<'a> Replayer<'a> {
     {
         match form {
             Form::Leaf(leaf) => self.leaf(alloc, grammar, text, node, leaf),
-            Form::Seq(parts) => {
-                self.push_parts(parts.as_slice())?;
-                Ok(None)
-            }
+            Form::Seq(parts) => self.go_on(&[Task::Parts(parts.as_slice())]),
             Form::Choice(parts) => self.choose(parts.as_slice()),
             Form::Many(part) => self.begin_rounds(*part),
             Form::Rule(rule) => self.enter_rule(grammar, *rule),
@@ -196,14 +136,6 @@ impl<'a> Replayer<'a> {
                 alloc, grammar, builders, *part,
             ),
         }
-    }
-
-    /// The node is the next task.
-    pub(crate) fn go_on(&mut self, node: NodeId) -> Result<Option<Halt>, AllocError>
-        ensures { IfOk result (λ halt. told halt (state_of self.new) ≡ on (with_task (one_node node) (state_of self.old))) }
-    {
-        self.push_node(node)?;
-        Ok(None)
     }
 
     /// The next item chooses an alternative.
@@ -234,7 +166,7 @@ impl<'a> Replayer<'a> {
         match parts.get(number - 1) {
             Some(part) => {
                 self.take_item(rest);
-                self.go_on(*part)
+                self.go_on(&[Task::Node(*part)])
             }
             None => Ok(Some(Halt::Stopped(Mismatch::ItemDiffers))),
         }
@@ -254,8 +186,14 @@ impl<'a> Replayer<'a> {
                     return Ok(Some(Halt::Stopped(Mismatch::ItemDiffers)));
                 }
                 self.enter_body(rule)?;
-                self.push_leave(rule)?;
-                self.go_on(named.body)
+                let (place, trees, items) = (self.place, self.forest.len(), self.rest.len());
+                let leave = Task::Leave {
+                    rule,
+                    place,
+                    trees,
+                    items,
+                };
+                self.go_on(&[leave, Task::Node(named.body)])
             }
             None => Ok(Some(Halt::Stopped(Mismatch::ItemDiffers))),
         }
@@ -290,10 +228,7 @@ impl<'a> Replayer<'a> {
         ensures { IfOk result (λ halt. told halt (state_of self.new) ≡ parts_turn parts.now (state_of self.old)) }
     {
         match parts.split_first() {
-            Some((part, rest)) => {
-                self.push_parts(rest)?;
-                self.go_on(*part)
-            }
+            Some((part, rest)) => self.go_on(&[Task::Parts(rest), Task::Node(*part)]),
             None => Ok(None),
         }
     }

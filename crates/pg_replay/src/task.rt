@@ -1,5 +1,8 @@
 //! What is left to do while a trail is gone along.
 
+ghost use Rattle.std.specs.Prelude.{◌≡◌};
+ghost use Rattle.pg_replay.specs.View.{chain_of};
+
 use crate::fault::Mismatch;
 use pg_form::{Around, BuilderUse, NodeId, OperatorBuilders, RuleId, Side};
 use pg_tree::Label;
@@ -17,12 +20,26 @@ pub enum Looseness<'a> {
 }
 
 /// A chain: from which side it is folded by which builder, its operand and its separator.
-#[derive(Drop)]
+#[derive(Clone, Copy)]
 pub struct Chain<'a> {
     pub side: Side,
     pub used: &'a BuilderUse,
     pub part: NodeId,
     pub separator: NodeId,
+}
+
+impl<'a> Chain<'a> {
+    /// The same chain.
+    pub(crate) fn copy(&self) -> Chain<'a>
+        ensures { chain_of result ≡ chain_of self.now }
+    {
+        Chain {
+            side: self.side,
+            used: self.used,
+            part: self.part,
+            separator: self.separator,
+        }
+    }
 }
 
 /// Where a round of a chain began: the place, with so many trees before it and so many items left.
@@ -35,7 +52,7 @@ pub struct RoundStart {
 
 /// A form around a part: its node, the place where the part began, with so many trees and operators before it and so many items
 /// left, and how loose trees are after it.
-#[derive(Drop)]
+#[derive(Clone, Copy)]
 pub struct Closing<'a> {
     pub around: &'a Around,
     pub node: NodeId,
@@ -47,7 +64,7 @@ pub struct Closing<'a> {
 }
 
 /// What is left to do: a node, or the rest of one that was entered.
-#[derive(Drop)]
+#[derive(Clone, Copy)]
 pub enum Task<'a> {
     /// A node.
     Node(NodeId),
@@ -68,19 +85,13 @@ pub enum Task<'a> {
     },
     /// So many rounds of a chain, where the trees to be folded come after so many.
     Links {
-        side: Side,
-        used: &'a BuilderUse,
-        part: NodeId,
-        separator: NodeId,
+        chain: Chain<'a>,
         left: usize,
         trees: usize,
     },
     /// The operand after a separator, with which a round began there, and then so many rounds.
     Operand {
-        side: Side,
-        used: &'a BuilderUse,
-        part: NodeId,
-        separator: NodeId,
+        chain: Chain<'a>,
         left: usize,
         trees: usize,
         from: RoundStart,
@@ -88,10 +99,7 @@ pub enum Task<'a> {
     /// What comes after an operand of a round that began there: the folding and so many rounds, whose trees come from the right
     /// after so many.
     Linked {
-        side: Side,
-        used: &'a BuilderUse,
-        part: NodeId,
-        separator: NodeId,
+        chain: Chain<'a>,
         left: usize,
         trees: usize,
         later: usize,
@@ -116,17 +124,8 @@ pub enum Task<'a> {
     },
     /// The last operand ends the expression.
     Unmark,
-    /// What the form at a node makes of its part, which began at the place, with so many trees and operators before it and so
-    /// many items left; and how loose trees are after it.
-    Close {
-        around: &'a Around,
-        node: NodeId,
-        place: usize,
-        trees: usize,
-        operators: usize,
-        items: usize,
-        loose: Looseness<'a>,
-    },
+    /// What a form makes of its part.
+    Close(Closing<'a>),
     /// The body of a rule ends, which began at the place, with so many trees before it and so many items left.
     Leave {
         rule: RuleId,

@@ -1,17 +1,17 @@
 //! Trails are gone along over whole texts.
 
-ghost use Rattle.std.specs.Prelude.{◌≡◌, ◌∷◌, [], Some, slice_get, option_map, IfOk, IfErr};
+ghost use Rattle.std.specs.Prelude.{◌≡◌, ◌∷◌, [], Some, None, slice_get, option_map, IfOk, IfErr, IfSome};
 ghost use Rattle.pg_value.specs.Grammar.{rule_body};
 ghost use Rattle.pg_table.specs.Tables.{ComesFrom};
 ghost use Rattle.pg_replay.specs.Ends.{IsTheForest, IsFault};
-ghost use Rattle.pg_replay.specs.Halts.{first_state, IsEnd, IsHalt};
-ghost use Rattle.pg_replay.specs.Tasks.{told};
-ghost use Rattle.pg_replay.specs.Turns.{Halts, Halts-prop};
+ghost use Rattle.pg_replay.specs.Halts.{first_state, IsEnd, IsHalt, IsStopOf};
+ghost use Rattle.pg_replay.specs.Tasks.{on, told};
+ghost use Rattle.pg_replay.specs.Turns.{begun, Halts, Halts-prop};
 ghost use Rattle.pg_replay.specs.View.{state_of};
 
 use crate::fault::{Mismatch, ReplayFault, Stop};
 use crate::replayer::Replayer;
-use crate::task::{Halt, Looseness};
+use crate::task::{Halt, Looseness, Task};
 use pg_form::NodeId;
 use pg_table::Table;
 use pg_text::Text;
@@ -77,6 +77,23 @@ impl Journey<'_> {
     }
 }
 
+impl<'a> Replayer<'a> {
+    /// The start rule is entered, at the start of the text and of the trail. The only error is that memory ran out.
+    #[tactic(auto, using(crate::proofs::KnownRules::begun_by))]
+    pub fn begin(
+        alloc: Global,
+        grammar: &'a Grammar,
+        table: &Table,
+        trail: &'a Trail,
+    ) -> Result<Replayer<'a>, AllocError>
+        ensures { IfOk result (λ replayer. begun grammar.now table.now trail.now (slice_get grammar.now.rules grammar.now.start) ≡ on (state_of replayer)) }
+    {
+        let body = start_of(grammar);
+        let replayer = begin(alloc, grammar, body, table, trail)?;
+        Ok(replayer)
+    }
+}
+
 /// The body of the start rule.
 fn start_of(grammar: &Grammar) -> NodeId
     ensures { option_map rule_body (slice_get grammar.now.rules grammar.now.start) ≡ Some result }
@@ -109,7 +126,7 @@ fn begin<'a>(
         blank: vec![in alloc; None; grammar.nodes().len()]?,
     };
     replayer.enter_body(grammar.start_rule())?;
-    replayer.push_node(body)?;
+    replayer.push_tasks(&[Task::Node(body)])?;
     Ok(replayer)
 }
 
@@ -118,16 +135,37 @@ fn halted(replayer: Replayer<'_>, text: &Text, halt: Halt) -> Result<Forest, Rep
     ensures ok { IfOk result (IsEnd text.now (told (Some halt) (state_of replayer.entry))) }
     ensures err { IfErr result (IsHalt text.now (told (Some halt) (state_of replayer.entry))) }
 {
-    let (place, left) = (replayer.place, replayer.rest.len());
-    match halt {
-        Halt::Stopped(why) => Err(ReplayFault::Stopped(Stop { why, place, left })),
-        Halt::Ended => {
-            if place == text.len() && left == 0 {
-                let forest = replayer.forest.into_forest()?;
-                return Ok(forest);
-            }
-            let why = Mismatch::LeftOver;
-            Err(ReplayFault::Stopped(Stop { why, place, left }))
+    match stop_of(&replayer, text, halt) {
+        Some(stop) => Err(ReplayFault::Stopped(stop)),
+        None => {
+            let forest = forest_of(replayer)?;
+            Ok(forest)
         }
     }
+}
+
+/// Where and why it stops, unless that is at the end of text and trail.
+fn stop_of(replayer: &Replayer<'_>, text: &Text, halt: Halt) -> Option<Stop>
+    ensures stop { IfSome result (IsStopOf text.now (told (Some halt) (state_of replayer.now))) }
+    ensures end { result ≡ None → IsEnd text.now (told (Some halt) (state_of replayer.now)) replayer.now.forest }
+{
+    let (place, left) = (replayer.place, replayer.rest.len());
+    match halt {
+        Halt::Stopped(why) => Some(Stop { why, place, left }),
+        Halt::Ended => {
+            if place == text.len() && left == 0 {
+                return None;
+            }
+            let why = Mismatch::LeftOver;
+            Some(Stop { why, place, left })
+        }
+    }
+}
+
+/// The trees that were derived.
+fn forest_of(replayer: Replayer<'_>) -> Result<Forest, AllocError>
+    ensures { IfOk result (λ forest. forest ≡ replayer.entry.forest) }
+{
+    let Replayer { forest, .. } = replayer;
+    forest.into_forest()
 }
