@@ -1,0 +1,42 @@
+//! The pieces of a line: texts in double quotes and numbers, each behind what stands before it.
+
+ghost use Rattle.std.specs.Prelude.{◌≡◌, ◌++◌, decimal, string_bytes, IfOk, OnOk};
+ghost use Rattle.pg_tree.specs.Json.{quoted};
+
+use serde_json::Value;
+use std::alloc::{AllocError, Global};
+
+/// The text in double quotes, with the escapes of JSON. The only error is that memory ran out.
+pub(crate) fn quoted(alloc: Global, text: &str) -> Result<String, AllocError>
+    ensures { IfOk result (λ json. string_bytes json ≡ quoted text.now) }
+{
+    let text = String::from_str(alloc, text)?;
+    Value::String(text).to_string(alloc)
+}
+
+/// Pushes what stands before a text, and that in double quotes. The only error is that memory ran out.
+pub(crate) fn push_text(
+    alloc: Global,
+    page: &mut String,
+    before: &str,
+    text: &str,
+) -> Result<(), AllocError>
+    ensures { OnOk result (string_bytes page.new ≡ string_bytes page.old ++ (before.now ++ quoted text.now)) }
+{
+    page.push_str(before)?;
+    let text = quoted(alloc, text)?;
+    page.push_str(text.as_str())
+}
+
+/// Pushes what stands before a number, and that. The only error is that memory ran out.
+pub(crate) fn push_number(
+    alloc: Global,
+    page: &mut String,
+    before: &str,
+    number: usize,
+) -> Result<(), AllocError>
+    ensures { OnOk result (string_bytes page.new ≡ string_bytes page.old ++ (before.now ++ decimal number)) }
+{
+    let digits = format!(in alloc; "{before}{number}")?;
+    page.push_str(digits.as_str())
+}

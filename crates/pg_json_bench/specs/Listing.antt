@@ -1,0 +1,45 @@
+-- What is listed of a grammar file's findings, with a registry that offers predicates and builders.
+use Rattle.std.specs.Prelude.{◌≡◌, ◌<◌, ℕ, List, [], Bool, true, false, Option, length}
+use Rattle.std.specs.Io.KnownBytes.{Appends}
+use Rattle.pg_tree.specs.Bytes.{AppendsPrefix}
+use Rattle.pg_pred.specs.Offer.{Offer}
+use Rattle.pg_value.specs.Grammar.{Grammar}
+use Rattle.pg_making.specs.Spells.{SpellsWithinLimits}
+use Rattle.pg_predict.specs.Conditions.{IsFaultless}
+use Rattle.pg_predict.specs.Findings.{Finding, AreFindings}
+
+-- nothing is listed of a grammar with which nothing is wrong; or something is wrong, and no more is said of the page here
+abbrev pub Lists : Grammar → Bool → List ℕ → Type 0
+Lists g true page = IsFaultless g × (page ≡ [])
+Lists g false page = (findings : List Finding) × AreFindings g findings × (0 < length findings)
+
+-- it was written, and this is whether the grammar is accepted
+pub record IsListed (g : Grammar) (writer held : Option (List ℕ)) (accepted : Bool) : Type 0 where
+  pub page : List ℕ
+  pub lists : Lists g accepted page
+  pub written : Appends writer held page
+
+-- or a prefix of it
+pub record IsPartlyListed (g : Grammar) (writer held : Option (List ℕ)) : Type 0 where
+  pub accepted : Bool
+  pub page : List ℕ
+  pub lists : Lists g accepted page
+  pub written : AppendsPrefix writer held page
+
+-- the same of the grammar that a file spells
+pub record IsListedFile (offer : Offer) (file : List ℕ) (writer held : Option (List ℕ)) (accepted : Bool) : Type 0 where
+  pub grammar : Grammar
+  pub spelled : SpellsWithinLimits offer file grammar
+  pub listed : IsListed grammar writer held accepted
+
+pub record IsPartlyListedFile (offer : Offer) (file : List ℕ) (writer held : Option (List ℕ)) : Type 0 where
+  pub grammar : Grammar
+  pub spelled : SpellsWithinLimits offer file grammar
+  pub listed : IsPartlyListed grammar writer held
+
+-- some page was written, or a prefix of one
+abbrev pub WritesPage : Option (List ℕ) → Option (List ℕ) → Type 0
+WritesPage writer held = (page : List ℕ) × Appends writer held page
+
+abbrev pub WritesPartOfPage : Option (List ℕ) → Option (List ℕ) → Type 0
+WritesPartOfPage writer held = (page : List ℕ) × AppendsPrefix writer held page

@@ -1,0 +1,240 @@
+//! A trail is gone along over a text, and where the nodes begin that are made is noted.
+
+use crate::beginnings::{Beginnings, Name};
+use crate::declared::parts_of_declaration;
+use pg_form::{Around, BuilderUse, Form, Leaf, NodeId, OperatorBuilders};
+use pg_replay::{Closing, Replayer, Task};
+use pg_table::Table;
+use pg_text::Text;
+use pg_value::{AppliedOperator, Fixity, Grammar, Trail};
+use std::alloc::{AllocError, Global};
+
+/// The place at which each node and leaf begins of the forest to which the trail leads, each behind its kids. The only error is that memory ran out.
+///
+/// A leaf begins where it was read, and a node of a builder where its part was entered. What is made of a chain, or of an operator between or after its operands,
+/// begins with its left operand, and what is made of an operator before its operand with the symbol.
+pub(crate) fn places_along(
+    alloc: Global,
+    grammar: &Grammar,
+    text: &Text,
+    table: &Table,
+    trail: &Trail,
+) -> Result<Vec<usize>, AllocError> {
+    let mut replayer = Replayer::begin(alloc, grammar, table, trail)?;
+    let mut walk = Walk {
+        made: Beginnings::new(alloc),
+        begun: Vec::new(alloc),
+    };
+    walk.go_along(alloc, grammar, text, &mut replayer)?;
+    let Walk { made, .. } = walk;
+    Ok(made.places())
+}
+
+/// Where the nodes begin that are made, and where that began which isn't made yet: chains, operands and prefix operators, the newest last.
+#[derive(Drop)]
+struct Walk<'a> {
+    made: Beginnings<'a>,
+    begun: Vec<usize>,
+}
+
+impl<'a> Walk<'a> {
+    /// Goes along all of the trail.
+    fn go_along(
+        &mut self,
+        alloc: Global,
+        grammar: &'a Grammar,
+        text: &Text,
+        replayer: &mut Replayer<'a>,
+    ) -> Result<(), AllocError> {
+        for _ in 0..u64::MAX {
+            if !self.go_on(alloc, grammar, text, replayer)? {
+                break;
+            }
+        }
+        Ok(())
+    }
+
+    /// The next task is done. The answer is whether there was one.
+    fn go_on(
+        &mut self,
+        alloc: Global,
+        grammar: &'a Grammar,
+        text: &Text,
+        replayer: &mut Replayer<'a>,
+    ) -> Result<bool, AllocError> {
+        let place = replayer.place;
+        let next = replayer.tasks.last().copied();
+        if replayer.step(alloc, grammar, text)?.is_some() {
+            return Ok(false);
+        }
+        match next {
+            Some(task) => {
+                self.follow(grammar, text, &task, place, replayer.forest.len())?;
+                Ok(true)
+            }
+            None => Ok(false),
+        }
+    }
+
+    /// The task was done at the place, and there are so many trees after it.
+    fn follow(
+        &mut self,
+        grammar: &Grammar,
+        text: &Text,
+        task: &Task<'a>,
+        place: usize,
+        trees: usize,
+    ) -> Result<(), AllocError> {
+        match task {
+            Task::Node(node) => self.enter(grammar, text, *node, place, trees),
+            Task::Operand { .. } | Task::Term(_, _) => self.begin(place),
+            Task::Symbol(operator) => self.read(operator, place),
+            Task::Fold { used, .. } => self.fold(used, trees),
+            Task::Application { builders, operator } => self.apply(builders, operator, trees),
+            Task::Unmark | Task::Settle(_) => {
+                self.end();
+                Ok(())
+            }
+            Task::Close(closing) => self.close(closing, trees),
+            Task::Parts(_)
+            | Task::Rounds { .. }
+            | Task::MoreRounds { .. }
+            | Task::Links { .. }
+            | Task::Linked { .. }
+            | Task::Leave { .. } => Ok(()),
+        }
+    }
+
+    /// A node was entered: there chains and expressions begin, and leaves were read.
+    fn enter(
+        &mut self,
+        grammar: &Grammar,
+        text: &Text,
+        node: NodeId,
+        place: usize,
+        trees: usize,
+    ) -> Result<(), AllocError> {
+        match grammar.nodes().get(node.index()) {
+            Some(Form::Chain(_, _, _, _) | Form::Expression(_, _)) => self.begin(place),
+            Some(Form::Leaf(Leaf::Declare(_))) => self.declare(grammar, text, place),
+            Some(
+                Form::Leaf(
+                    Leaf::Satisfy(_)
+                    | Leaf::String(_)
+                    | Leaf::Word(_)
+                    | Leaf::NotFollowedBy(_)
+                    | Leaf::EndOfText,
+                )
+                | Form::Seq(_)
+                | Form::Choice(_)
+                | Form::Many(_)
+                | Form::Rule(_)
+                | Form::Around(_, _),
+            ) => self.leaf_if_made(place, trees),
+            None => Ok(()),
+        }
+    }
+
+    /// A leaf is made, if there is one tree more.
+    fn leaf_if_made(&mut self, place: usize, trees: usize) -> Result<(), AllocError> {
+        if trees > self.made.len() {
+            self.made.push_leaf(place)
+        } else {
+            Ok(())
+        }
+    }
+
+    /// A declaration was read.
+    fn declare(&mut self, grammar: &Grammar, text: &Text, place: usize) -> Result<(), AllocError> {
+        let (digit, symbol) = parts_of_declaration(grammar, text, place);
+        let before = self.made.len();
+        self.made.push_leaf(place)?;
+        self.made.push_leaf(digit)?;
+        self.made.push_leaf(symbol)?;
+        self.made.close(before, Name::of_text("declare"), place)
+    }
+
+    /// Something begins of which a node may be made.
+    fn begin(&mut self, place: usize) -> Result<(), AllocError> {
+        self.begun.push(place)?;
+        Ok(())
+    }
+
+    /// What began last ends.
+    fn end(&mut self) {
+        let _place = self.begun.pop();
+    }
+
+    /// Where that began which isn't at its end.
+    fn begun(&self) -> usize {
+        self.begun.last().copied().unwrap_or(0)
+    }
+
+    /// The symbol of an operator was read.
+    fn read(&mut self, operator: &AppliedOperator, place: usize) -> Result<(), AllocError> {
+        match operator.fixity {
+            Fixity::Prefix => self.begin(place),
+            Fixity::Infix | Fixity::Postfix => Ok(()),
+        }
+    }
+
+    /// The last operand of a chain ends, and one tree is made of it and of the operand before it.
+    fn fold(&mut self, used: &'a BuilderUse, trees: usize) -> Result<(), AllocError> {
+        self.end();
+        let place = self.begun();
+        self.made.build(
+            &used.shape,
+            Name::of_text(""),
+            trees.saturating_sub(1),
+            place,
+        )
+    }
+
+    /// An operator was applied. The operand after it, if there is one, ends.
+    fn apply(
+        &mut self,
+        builders: &'a OperatorBuilders,
+        operator: &'a AppliedOperator,
+        trees: usize,
+    ) -> Result<(), AllocError> {
+        match operator.fixity {
+            Fixity::Prefix | Fixity::Infix => self.end(),
+            Fixity::Postfix => {}
+        }
+        let used = builder_on(operator.fixity, builders);
+        let symbol = Name::of_symbol(operator.symbol.as_slice());
+        let place = self.begun();
+        self.made
+            .build(&used.shape, symbol, trees.saturating_sub(1), place)
+    }
+
+    /// A form made what it makes of its part.
+    fn close(&mut self, closing: &Closing<'a>, trees: usize) -> Result<(), AllocError> {
+        let is_made = trees > closing.trees;
+        match closing.around {
+            Around::Text if is_made => {
+                self.made.cut(closing.trees);
+                self.made.push_leaf(closing.place)
+            }
+            Around::Build(used, symbol) if is_made => {
+                let symbol = Name::of_text(symbol.as_str());
+                self.made
+                    .build(&used.shape, symbol, closing.trees, closing.place)
+            }
+            Around::Skip | Around::Text | Around::Build(_, _) => {
+                self.made.cut(closing.trees);
+                Ok(())
+            }
+            Around::Try | Around::Label(_) | Around::Local => Ok(()),
+        }
+    }
+}
+
+/// The builder of operators on this side of their operands.
+fn builder_on(fixity: Fixity, builders: &OperatorBuilders) -> &BuilderUse {
+    match fixity {
+        Fixity::Prefix => &builders.prefix,
+        Fixity::Infix => &builders.infix,
+        Fixity::Postfix => &builders.postfix,
+    }
+}

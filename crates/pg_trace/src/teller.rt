@@ -1,0 +1,412 @@
+//! What is told of a run between its turns.
+
+use crate::choices::number_of;
+use crate::lines::{push_answer, push_characters, push_error, push_front, push_lost, push_stop};
+use crate::quoted::push_taken;
+use crate::stretch::{between, failing};
+use pg_excerpt::positions;
+use pg_form::{Around, Form, Node, NodeId, RuleId};
+use pg_message_tape::MessageTape;
+use pg_text::{Pos, Text};
+use pg_turns::{Frame, Machine, Mode, Reply};
+use pg_value::Grammar;
+use std::alloc::{AllocError, Global};
+
+/// A rule that was entered and not left, and the place where it was.
+#[derive(Clone, Copy)]
+struct OpenRule {
+    rule: RuleId,
+    place: usize,
+}
+
+/// The open rules of a run, how far it has read, and the lines that are told of it.
+#[derive(Drop)]
+pub(crate) struct Teller<'a> {
+    alloc: Global,
+    grammar: &'a Grammar,
+    text: &'a [char],
+    /// The position of each place of the text, and of its end.
+    positions: Vec<Pos>,
+    /// The rule of which alone is told, if there is one.
+    only: Option<RuleId>,
+    /// The rules that are open, the innermost last.
+    open: Vec<OpenRule>,
+    /// The place up to which the text was read by what was entered last.
+    reached: usize,
+    /// The number of the node that the last turn entered, if it entered one.
+    entered: Option<usize>,
+    /// Whether the error of the answer at hand was told: it is told where it comes up, and not again in each rule that it goes through.
+    told: bool,
+    /// The lines that aren't written yet.
+    pub(crate) page: String,
+    /// Whether the writer took all so far.
+    pub(crate) writes: bool,
+}
+
+impl<'a> Teller<'a> {
+    /// A teller that has told nothing.
+    fn new(
+        alloc: Global,
+        grammar: &'a Grammar,
+        text: &'a Text,
+        only: Option<RuleId>,
+    ) -> Result<Teller<'a>, AllocError> {
+        let text = text.characters();
+        Ok(Teller {
+            alloc,
+            grammar,
+            text,
+            positions: positions(alloc, text)?,
+            only,
+            open: Vec::new(alloc),
+            reached: 0,
+            entered: None,
+            told: false,
+            page: String::new(alloc),
+            writes: true,
+        })
+    }
+
+    /// A teller that has told that the start rule is entered. The only error is that memory ran out.
+    pub(crate) fn begun(
+        alloc: Global,
+        grammar: &'a Grammar,
+        text: &'a Text,
+        only: Option<RuleId>,
+    ) -> Result<Teller<'a>, AllocError> {
+        let mut teller = Teller::new(alloc, grammar, text, only)?;
+        teller.enter(grammar.start_rule(), 0)?;
+        Ok(teller)
+    }
+
+    /// Tells what the next turn does. The only error is that memory ran out.
+    pub(crate) fn tell(&mut self, machine: &Machine<'_>, mode: &Mode) -> Result<(), AllocError> {
+        match mode {
+            Mode::At(node, place) => self.tell_node(node.index(), *place),
+            Mode::With(reply) => self.tell_reply(machine, *reply),
+            Mode::Endless => Ok(()),
+        }
+    }
+
+    /// Notes how far the turn came that was told.
+    pub(crate) fn follow(&mut self, after: &Mode) {
+        match after {
+            Mode::At(_, place) => self.go_on(*place),
+            Mode::With(Reply::Succeeded { end, .. }) => self.go_on(*end),
+            Mode::With(Reply::Failed { consumed, error }) => self.fail_at(*consumed, error.place),
+            Mode::With(Reply::EmptyRound) | Mode::Endless => {}
+        }
+    }
+
+    /// The run goes on from the place, without an error at hand.
+    fn go_on(&mut self, place: usize) {
+        self.reached = place;
+        self.told = false;
+    }
+
+    /// A leaf that consumed and failed came further than to where it was entered.
+    fn fail_at(&mut self, consumed: bool, error: usize) {
+        match self.entered {
+            Some(node) if consumed => {
+                self.reached = failing(
+                    self.grammar.nodes().get(node),
+                    self.text,
+                    self.reached,
+                    error,
+                );
+            }
+            Some(_) | None => {}
+        }
+    }
+
+    /// Tells that a node is entered, if it names a rule.
+    fn tell_node(&mut self, node: usize, place: usize) -> Result<(), AllocError> {
+        self.entered = Some(node);
+        match rule_used(self.grammar.nodes().get(node)) {
+            Some(rule) => self.enter(rule, place),
+            None => Ok(()),
+        }
+    }
+
+    /// Tells that a rule is entered.
+    fn enter(&mut self, rule: RuleId, place: usize) -> Result<(), AllocError> {
+        if self.is_told_of(rule) {
+            let depth = self.open.len();
+            self.begin_line(place, depth, rule)?;
+            self.page.push_str("\n")?;
+        }
+        self.open.push(OpenRule { rule, place })?;
+        Ok(())
+    }
+
+    /// Tells what the topmost frame makes of an answer. What stops at a round that took nothing leaves nothing.
+    fn tell_reply(&mut self, machine: &Machine<'_>, reply: Reply) -> Result<(), AllocError> {
+        self.entered = None;
+        if matches!(reply, Reply::EmptyRound) {
+            return Ok(());
+        }
+        match machine.frames.last() {
+            Some(frame) => self.tell_frame(&machine.lists.messages, frame, reply),
+            None => Ok(()),
+        }
+    }
+
+    fn tell_frame(
+        &mut self,
+        messages: &MessageTape<'_>,
+        frame: &Frame<'_>,
+        reply: Reply,
+    ) -> Result<(), AllocError> {
+        match frame {
+            Frame::Rule => self.leave(messages, reply),
+            Frame::Choice(choice) => self.tell_choice(
+                messages,
+                choice.which as usize,
+                choice.start,
+                choice.rest,
+                reply,
+            ),
+            Frame::Around { around, start, .. } => {
+                self.give_back(around, *start, reply);
+                Ok(())
+            }
+            Frame::Parts(_)
+            | Frame::Rounds(_)
+            | Frame::First(_)
+            | Frame::Separator(_)
+            | Frame::Operand(_, _, _)
+            | Frame::Expression(_) => Ok(()),
+        }
+    }
+
+    /// What `try` gives back of what was read.
+    fn give_back(&mut self, around: &Around, start: usize, reply: Reply) {
+        match reply {
+            Reply::Failed { .. } if gives_back(around) => self.reached = start,
+            Reply::Failed { .. } | Reply::Succeeded { .. } | Reply::EmptyRound => {}
+        }
+    }
+
+    /// Tells that the innermost rule is left with an answer.
+    fn leave(&mut self, messages: &MessageTape<'_>, reply: Reply) -> Result<(), AllocError> {
+        match self.open.pop() {
+            Some(open) if self.is_told_of(open.rule) => {
+                self.tell_left(messages, open.rule, open.place, reply)
+            }
+            Some(_) | None => Ok(()),
+        }
+    }
+
+    fn tell_left(
+        &mut self,
+        messages: &MessageTape<'_>,
+        rule: RuleId,
+        start: usize,
+        reply: Reply,
+    ) -> Result<(), AllocError> {
+        let depth = self.open.len();
+        self.begin_line_here(depth, rule)?;
+        push_answer(&mut self.page, reply)?;
+        if has_taken(reply) {
+            self.push_taken_from(start)?;
+        }
+        self.tell_error(messages, reply)?;
+        self.page.push_str("\n")
+    }
+
+    /// Tells which alternatives a choice loses, if it does.
+    fn tell_choice(
+        &mut self,
+        messages: &MessageTape<'_>,
+        which: usize,
+        start: usize,
+        rest: &[NodeId],
+        reply: Reply,
+    ) -> Result<(), AllocError> {
+        match rest.first() {
+            Some(next) if loses(reply) => {
+                self.lose(messages, which, *next, rest.len(), start, reply)
+            }
+            Some(_) | None => Ok(()),
+        }
+    }
+
+    /// Tells that so many alternatives of a choice, of which the next is this one, aren't tried.
+    fn lose(
+        &mut self,
+        messages: &MessageTape<'_>,
+        which: usize,
+        next: NodeId,
+        lost: usize,
+        start: usize,
+        reply: Reply,
+    ) -> Result<(), AllocError> {
+        match self.innermost() {
+            Some(rule) if self.is_told_of(rule) => {
+                self.tell_lost(rule, which, next, lost, start)?;
+                self.tell_error(messages, reply)?;
+                self.page.push_str("\n")
+            }
+            Some(_) | None => Ok(()),
+        }
+    }
+
+    /// The innermost of the rules that are open.
+    fn innermost(&self) -> Option<RuleId> {
+        match self.open.last() {
+            Some(open) => Some(open.rule),
+            None => None,
+        }
+    }
+
+    /// Pushes that so many alternatives of a choice in a rule, of which the next is this one, aren't tried.
+    fn tell_lost(
+        &mut self,
+        rule: RuleId,
+        which: usize,
+        next: NodeId,
+        lost: usize,
+        start: usize,
+    ) -> Result<(), AllocError> {
+        let depth = self.open.len().saturating_sub(1);
+        self.begin_line_here(depth, rule)?;
+        let number = number_of(self.grammar, rule, which, next);
+        push_lost(self.alloc, &mut self.page, number, which, lost)?;
+        self.push_taken_from(start)?;
+        self.page.push_str(" and failed")
+    }
+
+    /// Pushes the text that was read from the place on.
+    fn push_taken_from(&mut self, start: usize) -> Result<(), AllocError> {
+        let taken = between(self.text, start, self.reached);
+        push_taken(self.alloc, &mut self.page, taken)
+    }
+
+    /// Tells the error of an answer, unless it was told.
+    fn tell_error(&mut self, messages: &MessageTape<'_>, reply: Reply) -> Result<(), AllocError> {
+        match reply {
+            Reply::Failed { error, .. } if !self.told => {
+                self.told = true;
+                let position = self.position(error.place);
+                let beyond = self.reached < error.place;
+                push_error(
+                    self.alloc,
+                    &mut self.page,
+                    messages,
+                    error,
+                    position,
+                    beyond,
+                )
+            }
+            Reply::Failed { .. } | Reply::Succeeded { .. } | Reply::EmptyRound => Ok(()),
+        }
+    }
+
+    /// Tells how the run ended after so many turns: the start rule is left, or why no rule is. The only error is that memory ran out.
+    pub(crate) fn finish(
+        &mut self,
+        machine: &Machine<'_>,
+        mode: &Mode,
+        steps: u64,
+    ) -> Result<(), AllocError> {
+        match mode {
+            Mode::With(Reply::EmptyRound) => {
+                self.stop("a round of a repetition was ok and took nothing")
+            }
+            Mode::Endless => self.stop("a chain would go on without an end"),
+            Mode::With(reply) if machine.frames.is_empty() => {
+                self.leave(&machine.lists.messages, *reply)
+            }
+            Mode::With(_) | Mode::At(_, _) => self.stop_after(steps),
+        }
+    }
+
+    fn stop_after(&mut self, steps: u64) -> Result<(), AllocError> {
+        let why = format!(in self.alloc; "{steps} steps were used up")?;
+        self.stop(why.as_str())
+    }
+
+    /// Tells why the run stopped, and how many rules are open.
+    fn stop(&mut self, why: &str) -> Result<(), AllocError> {
+        let place = self.reached;
+        let position = self.position(place);
+        let open = self.open.len();
+        push_front(self.alloc, &mut self.page, position, 0)?;
+        push_stop(self.alloc, &mut self.page, why, open)
+    }
+
+    /// Begins a line about a rule, inside so many others, at the place that was reached.
+    fn begin_line_here(&mut self, depth: usize, rule: RuleId) -> Result<(), AllocError> {
+        let place = self.reached;
+        self.begin_line(place, depth, rule)
+    }
+
+    /// The same at a place.
+    fn begin_line(&mut self, place: usize, depth: usize, rule: RuleId) -> Result<(), AllocError> {
+        let position = self.position(place);
+        push_front(self.alloc, &mut self.page, position, depth)?;
+        match self.grammar.rules().get(rule.index()) {
+            Some(named) => push_characters(&mut self.page, named.name.as_slice()),
+            None => Ok(()),
+        }
+    }
+
+    /// Whether lines about the rule are written.
+    fn is_told_of(&self, rule: RuleId) -> bool {
+        match self.only {
+            Some(only) => only == rule,
+            None => true,
+        }
+    }
+
+    /// The position of a place of the text.
+    fn position(&self, place: usize) -> Pos {
+        match self.positions.get(place) {
+            Some(position) => *position,
+            None => Pos { line: 1, column: 1 },
+        }
+    }
+}
+
+/// Whether what an answer says depends on the text that was taken.
+fn has_taken(reply: Reply) -> bool {
+    match reply {
+        Reply::Succeeded { consumed, .. } | Reply::Failed { consumed, .. } => consumed,
+        Reply::EmptyRound => false,
+    }
+}
+
+/// Whether a form gives back what its part took, where that failed.
+fn gives_back(around: &Around) -> bool {
+    match around {
+        Around::Try => true,
+        Around::Text | Around::Skip | Around::Build(_, _) | Around::Label(_) | Around::Local => {
+            false
+        }
+    }
+}
+
+/// Whether a choice tries no alternative after one with this answer, which failed.
+fn loses(reply: Reply) -> bool {
+    match reply {
+        Reply::Failed { consumed, .. } => consumed,
+        Reply::Succeeded { .. } | Reply::EmptyRound => false,
+    }
+}
+
+/// The rule that a node names, if it does.
+fn rule_used(form: Option<&Node>) -> Option<RuleId> {
+    match form {
+        Some(Form::Rule(rule)) => Some(*rule),
+        Some(
+            Form::Leaf(_)
+            | Form::Seq(_)
+            | Form::Choice(_)
+            | Form::Many(_)
+            | Form::Chain(_, _, _, _)
+            | Form::Expression(_, _)
+            | Form::Around(_, _),
+        )
+        | None => None,
+    }
+}
