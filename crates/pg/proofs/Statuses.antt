@@ -7,6 +7,7 @@ use Rattle.pg_language.specs.declared.reading.Reading.{Reading}
 use Rattle.pg_predict.specs.Findings.{lines_of}
 use Rattle.pg_grammar_bench.specs.Checking.{IsChecked, is_accepted, is_refused}
 use Rattle.pg_explain_bench.specs.Explaining.{IsExplainedFile}
+use Rattle.pg_json_bench.specs.Listing.{IsListedFile}
 use Rattle.pg_explain_bench.specs.declared.explain.Explained.TheVariants as told
 use Rattle.pg_grammar_bench.specs.Faults.{IsFileRefusal, IsPageRefusal, IsVerifyRefusal, IfNotVerified, IfRefused, IfParseError}
 use Rattle.pg_grammar_bench.specs.Files.{AreFindingsOf}
@@ -61,6 +62,17 @@ faulty_status offer file writer held h =
 
 pub check_unusable : (offer : Offer) (file : List ℕ) (status : ℕ) → status ≡ 2 → IsCheckStatus offer file status
 check_unusable offer file status is = subst (IsCheckStatus offer file) (sym is) unusable
+
+-- ---- findings as JSON
+
+pub listed_none_status : (offer : Offer) (file : List ℕ) (writer held : Option (List ℕ)) → IsListedFile offer file writer held true → IsCheckStatus offer file 0
+listed_none_status offer file writer held h =
+    yes (false, codes "accepted\n", record { grammar = h.grammar; spelled = h.spelled; judged = is_accepted h.listed.lists.0 })
+
+pub listed_some_status : (offer : Offer) (file : List ℕ) (writer held : Option (List ℕ)) → IsListedFile offer file writer held false → IsCheckStatus offer file 1
+listed_some_status offer file writer held h =
+    let lists = h.listed.lists in
+    no (false, lines_of lists.0, record { grammar = h.grammar; spelled = h.spelled; judged = is_refused lists.1 lists.2 })
 
 -- ---- a judgement of a certificate
 
@@ -142,6 +154,10 @@ shown_fault_status Yes No fault status findings error judged is = subst (IsStatu
     own TooLong h k v = unusable
     own NotATrail h k v = unusable
     own Writer h k v = unusable
+
+-- something can't be used
+pub unusable_status : (Yes No : Type 0) (status : ℕ) → status ≡ 2 → IsStatus Yes No status
+unusable_status Yes No status is = subst (IsStatus Yes No) (sym is) unusable
 
 -- ---- what prints a grammar or its sets
 

@@ -1,22 +1,44 @@
 //! The files that a command reads.
 //!
-//! All of them are opened before any is read, and a file that can't be is told at once.
+//! All of them are opened before any is read, and a file that can't be is told at once. The name `-` stands for standard input.
 
 ghost use Rattle.std.specs.Prelude.{IfOk, IfSome};
 ghost use Rattle.pg.specs.Files.{IsAllOf};
 
-use crate::printing::cannot_read;
+use crate::handle::Handle;
+use crate::printing::{cannot_read, print_report};
+use crate::reporting::Names;
+use pg_bench::BenchFault;
 use pg_tree::{Meter, ReadFault, read_bytes};
-use std::alloc::AllocError;
-use std::fs;
-use std::io::Read;
+use std::alloc::{AllocError, Global};
+use std::io::{Input, Read};
 use std::rt::Files;
+use std::{fs, io};
 
 /// The most bytes of a grammar file, of a trail or of a certificate that are read.
 const READ_LIMIT: usize = 67_108_864;
 
 /// The device that is empty when it is read.
 const NULL_DEVICE: &str = "/dev/null";
+
+/// The name that stands for standard input.
+pub const STANDARD_INPUT: &str = "-";
+
+/// What a name stands for, open.
+#[derive(Drop)]
+pub enum Source<F, I> {
+    File(F),
+    Input(I),
+}
+
+impl<F: Read, I: Read> Read for Source<F, I> {
+    fn read(&mut self, buf: &mut [u8]) -> io::Result<usize> {
+        match self {
+            Source::File(file) => file.read(buf),
+            Source::Input(input) => input.read(buf),
+        }
+    }
+}
 
 /// A file on the null device, if it can be opened. Three of them are to be opened before all other files, and held to the end.
 ///
@@ -28,11 +50,11 @@ pub fn null_file<R: Files>(rt: &R) -> Option<R::File> {
 
 /// The bytes of the grammar in a file, and the open text. Both are opened before either is read; none if one can't be, which
 /// is printed.
-pub fn inputs<R: AllocGlobal + Files + Eprint>(
-    rt: &R,
+pub fn inputs<R: AllocGlobal + Files + Input + Eprint>(
+    rt: &Handle<R>,
     grammar: &str,
     text: &str,
-) -> Result<Option<(Vec<u8>, R::File)>, AllocError> {
+) -> Result<Option<(Vec<u8>, Source<R::File, R::Reader>)>, AllocError> {
     let Some(grammar_file) = opened(rt, grammar) else {
         return Ok(None);
     };
@@ -46,12 +68,12 @@ pub fn inputs<R: AllocGlobal + Files + Eprint>(
 }
 
 /// The same with the bytes of the trail in a third file, which is read after the grammar's.
-pub fn inputs_with_trail<R: AllocGlobal + Files + Eprint>(
-    rt: &R,
+pub fn inputs_with_trail<R: AllocGlobal + Files + Input + Eprint>(
+    rt: &Handle<R>,
     grammar: &str,
     text: &str,
     trail: &str,
-) -> Result<Option<(Vec<u8>, R::File, Vec<u8>)>, AllocError> {
+) -> Result<Option<(Vec<u8>, Source<R::File, R::Reader>, Vec<u8>)>, AllocError> {
     let Some(grammar_file) = opened(rt, grammar) else {
         return Ok(None);
     };
@@ -72,8 +94,8 @@ pub fn inputs_with_trail<R: AllocGlobal + Files + Eprint>(
 
 /// The bytes of the grammar in a file and of a certificate of it in another, which is read after the grammar's. Both are opened before
 /// either is read; none if one can't be, which is printed.
-pub fn grammar_with_certificate<R: AllocGlobal + Files + Eprint>(
-    rt: &R,
+pub fn grammar_with_certificate<R: AllocGlobal + Files + Input + Eprint>(
+    rt: &Handle<R>,
     grammar: &str,
     certificate: &str,
 ) -> Result<Option<(Vec<u8>, Vec<u8>)>, AllocError> {
@@ -93,8 +115,8 @@ pub fn grammar_with_certificate<R: AllocGlobal + Files + Eprint>(
 }
 
 /// The bytes of the grammar in a file; none if it can't be opened or read, which is printed.
-pub fn grammar_alone<R: AllocGlobal + Files + Eprint>(
-    rt: &R,
+pub fn grammar_alone<R: AllocGlobal + Files + Input + Eprint>(
+    rt: &Handle<R>,
     grammar: &str,
 ) -> Result<Option<Vec<u8>>, AllocError> {
     match opened(rt, grammar) {
@@ -103,15 +125,34 @@ pub fn grammar_alone<R: AllocGlobal + Files + Eprint>(
     }
 }
 
-/// The file of this name, open; none if it can't be, which is printed.
-fn opened<R: Files + Eprint>(rt: &R, name: &str) -> Option<R::File> {
-    match fs::open(rt, name) {
-        Ok(file) => Some(file),
+/// The file of this name, or standard input, open; none if it can't be, which is printed.
+pub fn opened<R: Files + Input + Eprint>(
+    rt: &Handle<R>,
+    name: &str,
+) -> Option<Source<R::File, R::Reader>> {
+    if name == STANDARD_INPUT {
+        return Some(Source::Input(rt.rt.reader()));
+    }
+    match fs::open(rt.rt, name) {
+        Ok(file) => Some(Source::File(file)),
         Err(_) => {
             cannot_read(rt, name);
             None
         }
     }
+}
+
+/// The bytes of an open text; none if it can't be read, which is printed as a parse would.
+pub fn text_alone<R: AllocGlobal + Eprint, F: Read + Drop>(
+    rt: &R,
+    file: F,
+    names: Names,
+) -> Result<Option<Vec<u8>>, AllocError> {
+    let bytes = all_of(rt.alloc(), file)?;
+    if bytes.is_none() {
+        print_report(rt, BenchFault::Reader, names)?;
+    }
+    Ok(bytes)
 }
 
 /// The bytes of an open file of this name; none if it can't be read, or has more than are read, which is printed.
@@ -122,13 +163,21 @@ fn contents<R: AllocGlobal + Eprint, F: Read + Drop>(
 ) -> Result<Option<Vec<u8>>, AllocError>
     ensures { IfOk result (λ found. IfSome found (λ bytes. IsAllOf (F.remaining file) bytes.items)) }
 {
+    let bytes = all_of(rt.alloc(), file)?;
+    if bytes.is_none() {
+        cannot_read(rt, name);
+    }
+    Ok(bytes)
+}
+
+/// All bytes of an open file; none if it can't be read, or has more than are read.
+fn all_of<F: Read + Drop>(alloc: Global, file: F) -> Result<Option<Vec<u8>>, AllocError>
+    ensures { IfOk result (λ found. IfSome found (λ bytes. IsAllOf (F.remaining file) bytes.items)) }
+{
     let mut reader = Meter::new(file);
-    match read_bytes(rt.alloc(), &mut reader, READ_LIMIT) {
+    match read_bytes(alloc, &mut reader, READ_LIMIT) {
         Ok(bytes) => Ok(Some(bytes)),
-        Err(ReadFault::Reader | ReadFault::TooLong) => {
-            cannot_read(rt, name);
-            Ok(None)
-        }
+        Err(ReadFault::Reader | ReadFault::TooLong) => Ok(None),
         Err(ReadFault::Memory) => Err(AllocError),
     }
 }

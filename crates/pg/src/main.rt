@@ -9,18 +9,22 @@
 
 mod commands;
 mod files;
+mod handle;
 mod printing;
 mod reporting;
 
 use clap::ArgMatches;
 use clap::error::ErrorKind;
 use commands::Asked;
-use files::null_file;
+use files::{STANDARD_INPUT, null_file};
+use handle::Handle;
 use pg_bench::BenchFault;
+use pg_code_pages::page;
 use pg_registry::with_registry;
-use pg_request::{command, request_of};
-use printing::{UNUSABLE, refuse, say};
+use pg_request::{command, is_quiet, request_of};
+use printing::{UNUSABLE, print_page, refuse, say};
 use std::alloc::AllocError;
+use std::io::Input;
 use std::process::ExitCode;
 use std::rt::{Env, Files};
 use std::{env, io};
@@ -33,7 +37,7 @@ fn main(rt: HostRuntime) -> ExitCode {
 }
 
 /// The exit status of the run.
-fn status<R: AllocGlobal + Env + Files + Print + Eprint>(rt: &R) -> u8 {
+fn status<R: AllocGlobal + Env + Files + Input + Print + Eprint>(rt: &R) -> u8 {
     let _first = null_file(rt);
     let _second = null_file(rt);
     let _third = null_file(rt);
@@ -47,7 +51,7 @@ fn status<R: AllocGlobal + Env + Files + Print + Eprint>(rt: &R) -> u8 {
 }
 
 /// Reads the words and does what they ask.
-fn run<R: AllocGlobal + Env + Files + Print + Eprint>(rt: &R) -> Result<u8, AllocError> {
+fn run<R: AllocGlobal + Env + Files + Input + Print + Eprint>(rt: &R) -> Result<u8, AllocError> {
     let words = match env::args(rt) {
         Ok(words) => words.collect::<Vec<String>>(rt.alloc())?,
         Err(error) if error.kind() == io::ErrorKind::OutOfMemory => return Err(AllocError),
@@ -56,24 +60,50 @@ fn run<R: AllocGlobal + Env + Files + Print + Eprint>(rt: &R) -> Result<u8, Allo
     obey(rt, words.as_slice())
 }
 
-/// Does what the words ask.
-fn obey<R: AllocGlobal + Files + Print + Eprint>(
+/// Does what the words ask. The page of a code is printed by itself, since to the command line a code is no command.
+fn obey<R: AllocGlobal + Files + Input + Print + Eprint>(
     rt: &R,
     words: &[String],
 ) -> Result<u8, AllocError> {
+    if let Some(page) = page_asked(words) {
+        return print_page(rt, page);
+    }
+    if words
+        .iter()
+        .filter(|word| word.as_str() == STANDARD_INPUT)
+        .count()
+        > 1
+    {
+        return Ok(refuse(rt, "pgw: standard input can be given once"));
+    }
     match command(rt.alloc())?.try_get_matches_from(words) {
         Ok(matches) => match_request(rt, &matches),
         Err(error) => tell(rt, &error),
     }
 }
 
+/// The page of a code, where the words ask for it as `help CODE`.
+fn page_asked(words: &[String]) -> Option<&'static str> {
+    match words {
+        [_, help, code] if help.as_str() == "help" => page(code.as_str()),
+        _ => None,
+    }
+}
+
 /// Does what is asked by words that the command line takes.
-fn match_request<R: AllocGlobal + Files + Print + Eprint>(
+fn match_request<R: AllocGlobal + Files + Input + Print + Eprint>(
     rt: &R,
     matches: &ArgMatches,
 ) -> Result<u8, AllocError> {
+    let handle = Handle::new(rt, is_quiet(matches));
     match request_of(matches) {
-        Some(request) => with_registry(rt.alloc(), &Asked { rt, request }),
+        Some(request) => with_registry(
+            rt.alloc(),
+            &Asked {
+                handle: &handle,
+                request,
+            },
+        ),
         None => Ok(refuse(rt, "pgw: no such command")),
     }
 }

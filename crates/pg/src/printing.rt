@@ -49,7 +49,7 @@ pub fn print_verdict<R: AllocGlobal + Print + Eprint>(
 {
     match verdict {
         Ok(()) => print_accepted(rt, names),
-        Err(fault) => print_refuted(rt, fault, names),
+        Err(fault) => print_refuted(rt, &fault, names),
     }
 }
 
@@ -68,20 +68,13 @@ fn print_accepted<R: AllocGlobal + Print + Eprint>(rt: &R, names: Names) -> Resu
 /// Prints why a certificate shows nothing.
 fn print_refuted<R: AllocGlobal + Print + Eprint>(
     rt: &R,
-    fault: BenchFault,
+    fault: &BenchFault,
     names: Names,
 ) -> Result<u8, AllocError>
-    ensures { IfOk result (λ status. (status ≡ UNUSABLE) ⊎ (status ≡ status_of fault)) }
+    ensures { IfOk result (λ status. (status ≡ UNUSABLE) ⊎ (status ≡ status_of fault.now)) }
 {
     match fault {
-        BenchFault::NotVerified(_) => {
-            let mut writer = Meter::new(io::writer(rt));
-            match write_report(rt.alloc(), &fault, names, &mut writer) {
-                Ok(()) => Ok(status(&fault)),
-                Err(WriteFault::Writer) => print_report(rt, BenchFault::Writer, names),
-                Err(WriteFault::Memory) => Err(AllocError),
-            }
-        }
+        BenchFault::NotVerified(_) => print_not_verified(rt, fault, names),
         BenchFault::File(_)
         | BenchFault::Refused(_)
         | BenchFault::Reader
@@ -90,14 +83,30 @@ fn print_refuted<R: AllocGlobal + Print + Eprint>(
         | BenchFault::NotATrail
         | BenchFault::ParseError(_)
         | BenchFault::Writer
-        | BenchFault::Memory => print_report(rt, fault, names),
+        | BenchFault::Memory => print_fault(rt, fault, names),
+    }
+}
+
+/// Prints the report of a fault to standard output.
+fn print_not_verified<R: AllocGlobal + Print + Eprint>(
+    rt: &R,
+    fault: &BenchFault,
+    names: Names,
+) -> Result<u8, AllocError>
+    ensures { IfOk result (λ status. (status ≡ UNUSABLE) ⊎ (status ≡ status_of fault.now)) }
+{
+    let mut writer = Meter::new(io::writer(rt));
+    match write_report(rt.alloc(), fault, names, &mut writer) {
+        Ok(()) => Ok(status(fault)),
+        Err(WriteFault::Writer) => print_fault(rt, &BenchFault::Writer, names),
+        Err(WriteFault::Memory) => Err(AllocError),
     }
 }
 
 /// Standard error as a writer of text. It takes all that it is given, or fails.
 #[derive(Drop)]
-struct ErrorWriter<'a, R> {
-    rt: &'a R,
+pub struct ErrorWriter<'a, R> {
+    pub rt: &'a R,
 }
 
 impl<R: Eprint> Write for ErrorWriter<'_, R> {
@@ -126,6 +135,16 @@ pub fn not_there<R: Eprint>(rt: &R, name: &str, asked: &str) -> u8
     ensures { result ≡ UNUSABLE }
 {
     refuse(rt, format_args!("{name}: no rule or node {asked}"))
+}
+
+/// Prints a page to standard output, and gives the status.
+pub fn print_page<R: AllocGlobal + Print + Eprint>(rt: &R, page: &str) -> Result<u8, AllocError> {
+    let mut writer = Meter::new(io::writer(rt));
+    match write_bytes(page.as_bytes(), &mut writer) {
+        Ok(()) => Ok(0),
+        Err(WriteFault::Writer) => Ok(refuse(rt, BenchFault::Writer)),
+        Err(WriteFault::Memory) => Err(AllocError),
+    }
 }
 
 /// Says why nothing can be done, and gives the status.

@@ -1,7 +1,7 @@
-//! Findings with their places in the file, for editors.
+//! Findings with their places in the file, or with the file's name, for editors and for several files.
 //!
 //! The lines of findings are written as ever, and a writer around the one that they go to puts in front of each where the node stands that it
-//! begins with. So no line is made in two ways.
+//! begins with, or the file's name. So no line is made in two ways.
 
 ghost use Rattle.std.specs.Prelude.{IfErr};
 ghost use Rattle.pg_pred.specs.Offer.{offer_of};
@@ -23,6 +23,8 @@ pub struct Places {
     rules: Vec<PlacedRule>,
     /// For each node what is put in front of its findings: `FILE:LINE:COLUMN: `.
     fronts: Vec<String>,
+    /// What is put in front of every other line: `FILE: `, or nothing.
+    otherwise: String,
 }
 
 /// A rule's name, and the number of its body among all nodes.
@@ -32,18 +34,20 @@ struct PlacedRule {
     body: usize,
 }
 
-/// Where the nodes of the grammar stand that a file of this name spells (ours). The errors are that it spells none, and that memory ran out.
+/// Where the nodes of the grammar stand that a file of this name spells, and, if `names`, the file's name for what isn't said of a node (ours).
+/// The errors are that it spells none, and that memory ran out.
 pub fn places_of(
     alloc: Global,
     name: &str,
     bytes: &[u8],
     registry: &Registry,
+    names: bool,
 ) -> Result<Places, BenchFault>
     ensures err { IfErr result IsFileRefusal }
     ensures file { IfErr result (IfFile (IsFaultOfFile (offer_of registry.now) bytes.now)) }
 {
     let placed = placed_of(alloc, bytes, registry)?;
-    match make_places(alloc, name, bytes, &placed) {
+    match make_places(alloc, name, bytes, &placed, names) {
         Ok(places) => Ok(places),
         Err(_) => Err(BenchFault::Memory),
     }
@@ -54,10 +58,15 @@ fn make_places(
     name: &str,
     bytes: &[u8],
     placed: &PlacedGrammar,
+    names: bool,
 ) -> Result<Places, AllocError> {
+    let mut places = if names {
+        Places::of_name(alloc, name)?
+    } else {
+        Places::of_name(alloc, "")?
+    };
     let text = characters(alloc, bytes)?;
     let positions = positions(alloc, &text)?;
-    let mut fronts = Vec::new(alloc);
     for span in &placed.spans {
         let front = match positions.get(span.first) {
             Some(position) => {
@@ -67,10 +76,10 @@ fn make_places(
             }
             None => String::new(alloc),
         };
-        fronts.push(front)?;
+        places.fronts.push(front)?;
     }
-    let rules = placed_rules(alloc, placed)?;
-    Ok(Places { rules, fronts })
+    places.rules = placed_rules(alloc, placed)?;
+    Ok(places)
 }
 
 fn placed_rules(alloc: Global, placed: &PlacedGrammar) -> Result<Vec<PlacedRule>, AllocError> {
@@ -85,10 +94,25 @@ fn placed_rules(alloc: Global, placed: &PlacedGrammar) -> Result<Vec<PlacedRule>
 }
 
 impl Places {
-    /// What is put in front of a line that begins `RULE:NODE:`; nothing in front of another. The rule with this number is asked first.
+    /// Places of no node, so that a name that isn't empty stands in front of every line. The only error is that memory ran out.
+    pub fn of_name(alloc: Global, name: &str) -> Result<Places, AllocError> {
+        let otherwise = if name.is_empty() {
+            String::new(alloc)
+        } else {
+            format!(in alloc; "{name}: ")?
+        };
+        Ok(Places {
+            rules: Vec::new(alloc),
+            fronts: Vec::new(alloc),
+            otherwise,
+        })
+    }
+
+    /// What is put in front of a line: the place of its node where it begins `RULE:NODE:`. The rule with this number is asked first.
     fn front<'p>(&'p self, line: &[u8], first: usize) -> (usize, &'p str) {
+        let otherwise = self.otherwise.as_str();
         let Some((name, number)) = head_of(line) else {
-            return (first, "");
+            return (first, otherwise);
         };
         let rule = self.rule(name, first);
         match self.rules.get(rule) {
@@ -96,10 +120,10 @@ impl Places {
                 let node = placed.body.saturating_add(number.saturating_sub(1));
                 match self.fronts.get(node) {
                     Some(front) => (rule, front.as_str()),
-                    None => (rule, ""),
+                    None => (rule, otherwise),
                 }
             }
-            None => (first, ""),
+            None => (first, otherwise),
         }
     }
 

@@ -10,11 +10,24 @@ use std::alloc::{AllocError, Global};
 /// The most steps that a probe may be given (ours).
 const MOST_STEPS: i64 = 1_000_000_000;
 
+/// The steps of a probe that is given none (ours).
+const USUAL_STEPS: u64 = 1_000_000;
+
+/// The version, and the toolchain that proved it.
+const VERSION: &str = "0.2.0 (proved by rattle-kit-13f)";
+
+/// What is said of a word that names a file.
+const GRAMMAR: &str = "The grammar file, or - for standard input";
+
+const TEXT: &str = "The file with the text, in UTF-8, or - for standard input";
+
 // What the help of each command ends with: its statuses, and an example that can be run at the top of the repository.
 
 const HELP_OF_PROGRAM: &str =
     "Exit status: 0 yes (accepted, parsed, an ok answer), 1 no (findings, no tree, any other answer),
 2 trouble (words or files that can't be used), 3 out of memory
+
+The codes that lines begin with, such as C4, have pages: pgw help C4
 
 Example: pgw parse examples/digit.g examples/digit.txt";
 
@@ -58,14 +71,36 @@ const HELP_OF_SETS: &str =
 
 Example: pgw sets examples/color.g";
 
-/// What is asked. The names of files are relative to the caller's folder.
-#[derive(Clone, Copy, Debug, PartialEq, Eq)]
-pub enum Request<'a> {
-    /// Say whether the grammar is accepted, with its certificate if that is asked for, or what is wrong with it, with places if those are.
+/// How findings are told.
+#[derive(Clone, Copy)]
+pub enum Findings {
+    /// A line each.
+    Lines,
+    /// A line each, with its place in the file in front.
+    Places,
+    /// A line of JSON each.
+    Json,
+}
+
+/// How a parse is told.
+#[derive(Clone, Copy)]
+pub enum Parsed {
+    /// The forest as a line of JSON.
+    Forest,
+    /// The same, and the trail of the derivation as another.
+    ForestAndTrail,
+    /// The forest as an outline to read.
+    Outline,
+}
+
+/// What is asked. The names of files are relative to the caller's folder; `-` is standard input.
+#[derive(Clone, Copy)]
+pub enum Request<'m, 'a> {
+    /// Say of each grammar whether it is accepted, with its certificate if that is asked for, or what is wrong with it.
     Check {
-        grammar: &'a str,
+        grammars: &'m [&'a str],
         certificate: bool,
-        places: bool,
+        findings: Findings,
     },
     /// Tell for people what is wrong with the grammar, in all or at a rule or at one of its nodes, as `RULE` or `RULE:NODE`; all of it where
     /// this is empty.
@@ -78,19 +113,21 @@ pub enum Request<'a> {
         grammar: &'a str,
         certificate: &'a str,
     },
-    /// Parse the text by the grammar, and print the forest, and the trail of its derivation too.
+    /// Parse each text by the grammar.
     Parse {
         grammar: &'a str,
-        text: &'a str,
-        trail: bool,
+        texts: &'m [&'a str],
+        parsed: Parsed,
     },
     /// Run the start rule on the text in so many steps at most, in the report's reading of choice or in the library's, and
-    /// print what it answers.
+    /// print what it answers; before that tell the run rule by rule, if that is asked for, of one rule alone if one is named.
     Probe {
         grammar: &'a str,
         text: &'a str,
         max_steps: u64,
         report: bool,
+        trace: bool,
+        only: &'a str,
     },
     /// Go along the trail over the text, with no search, and print the forest.
     Replay {
@@ -117,7 +154,7 @@ pub fn command<'a>(alloc: Global) -> Result<Command<'a>, AllocError> {
 fn program<'a>(alloc: Global) -> Result<Command<'a>, AllocError> {
     let command = Command::new(alloc, "pgw")
         .bin_name("pgw")?
-        .version("0.1.0")
+        .version(VERSION)
         .about("Runs grammars of parser combinators on texts")
         .subcommand_required(true)
         .arg_required_else_help(true)
@@ -157,11 +194,13 @@ fn with_command<'a>(
 
 fn check_command<'a>(alloc: Global) -> Result<Command<'a>, AllocError> {
     Command::new(alloc, "check")
-        .about("Says whether a grammar is accepted, or what is wrong with it, a line each")
+        .about("Says whether grammars are accepted, or what is wrong with them, a line each")
         .after_help(HELP_OF_CHECK)
         .arg(certificate(alloc))?
         .arg(places(alloc))?
-        .arg(file(alloc, "grammar", "The grammar file"))
+        .arg(json(alloc)?)?
+        .arg(quiet(alloc))?
+        .arg(files(alloc, "grammar", GRAMMAR))
 }
 
 fn explain_command<'a>(alloc: Global) -> Result<Command<'a>, AllocError> {
@@ -170,7 +209,7 @@ fn explain_command<'a>(alloc: Global) -> Result<Command<'a>, AllocError> {
             "Tells why a grammar is refused: what meets, through which rules, and at which character",
         )
         .after_help(HELP_OF_EXPLAIN)
-        .arg(file(alloc, "grammar", "The grammar file"))?
+        .arg(file(alloc, "grammar", GRAMMAR))?
         .arg(nodes(alloc))
 }
 
@@ -178,20 +217,24 @@ fn verify_command<'a>(alloc: Global) -> Result<Command<'a>, AllocError> {
     Command::new(alloc, "verify")
         .about("Says whether a certificate shows that a grammar is accepted, whoever made it")
         .after_help(HELP_OF_VERIFY)
-        .arg(file(alloc, "grammar", "The grammar file"))?
+        .arg(quiet(alloc))?
+        .arg(file(alloc, "grammar", GRAMMAR))?
         .arg(file(
             alloc,
             "certificate",
-            "The file with the certificate, as JSON",
+            "The file with the certificate, as JSON, or - for standard input",
         ))
 }
 
 fn parse_command<'a>(alloc: Global) -> Result<Command<'a>, AllocError> {
-    let command = Command::new(alloc, "parse")
-        .about("Parses a text by a grammar and prints the trees as JSON")
+    Command::new(alloc, "parse")
+        .about("Parses texts by a grammar and prints the trees as JSON, a line each")
         .after_help(HELP_OF_PARSE)
-        .arg(trail(alloc))?;
-    with_grammar_and_text(alloc, command)
+        .arg(trail(alloc))?
+        .arg(tree(alloc)?)?
+        .arg(quiet(alloc))?
+        .arg(file(alloc, "grammar", GRAMMAR))?
+        .arg(files(alloc, "text", TEXT))
 }
 
 fn probe_command<'a>(alloc: Global) -> Result<Command<'a>, AllocError> {
@@ -199,18 +242,22 @@ fn probe_command<'a>(alloc: Global) -> Result<Command<'a>, AllocError> {
         .about("Runs a grammar's start rule on a text as Parsec would, and prints its answer")
         .after_help(HELP_OF_PROBE)
         .arg(steps(alloc))?
-        .arg(report(alloc))?;
+        .arg(report(alloc))?
+        .arg(trace(alloc))?
+        .arg(only(alloc)?)?
+        .arg(quiet(alloc))?;
     with_grammar_and_text(alloc, command)
 }
 
 fn replay_command<'a>(alloc: Global) -> Result<Command<'a>, AllocError> {
     let command = Command::new(alloc, "replay")
         .about("Goes along a trail that parse printed, with no search, and prints the trees")
-        .after_help(HELP_OF_REPLAY);
+        .after_help(HELP_OF_REPLAY)
+        .arg(quiet(alloc))?;
     with_grammar_and_text(alloc, command)?.arg(file(
         alloc,
         "trail",
-        "The file with the trail, as JSON",
+        "The file with the trail, as JSON, or - for standard input",
     ))
 }
 
@@ -220,8 +267,8 @@ fn with_grammar_and_text<'a>(
     command: Command<'a>,
 ) -> Result<Command<'a>, AllocError> {
     command
-        .arg(file(alloc, "grammar", "The grammar file"))?
-        .arg(file(alloc, "text", "The file with the text, in UTF-8"))
+        .arg(file(alloc, "grammar", GRAMMAR))?
+        .arg(file(alloc, "text", TEXT))
 }
 
 /// The word that asks for the places of findings.
@@ -230,6 +277,25 @@ fn places<'a>(alloc: Global) -> Arg<'a> {
         .long("places")
         .action(ArgAction::SetTrue)
         .help("Puts FILE:LINE:COLUMN: in front of each finding, for editors")
+}
+
+/// The word that asks for findings as JSON.
+fn json<'a>(alloc: Global) -> Result<Arg<'a>, AllocError> {
+    Arg::new(alloc, "json")
+        .long("json")
+        .action(ArgAction::SetTrue)
+        .help("Prints findings and faults as JSON, a line each, for editors and scripts")
+        .conflicts_with("places")?
+        .conflicts_with("certificate")
+}
+
+/// The word that asks for silence.
+fn quiet<'a>(alloc: Global) -> Arg<'a> {
+    Arg::new(alloc, "quiet")
+        .short('q')
+        .long("quiet")
+        .action(ArgAction::SetTrue)
+        .help("Prints nothing: the exit status says it")
 }
 
 /// The word that asks for the certificate.
@@ -256,15 +322,23 @@ fn trail<'a>(alloc: Global) -> Arg<'a> {
         .help("Prints on a second line what the derivation chose, for replay")
 }
 
+/// The word that asks for the outline.
+fn tree<'a>(alloc: Global) -> Result<Arg<'a>, AllocError> {
+    Arg::new(alloc, "tree")
+        .long("tree")
+        .action(ArgAction::SetTrue)
+        .help("Prints the trees to read, a line for each node, with its line and column")
+        .conflicts_with("trail")
+}
+
 /// The word that bounds the steps.
 fn steps<'a>(alloc: Global) -> Arg<'a> {
     Arg::new(alloc, "steps")
         .long("steps")
         .value_name("N")
         .value_parser(value_parser!(u64).range(1..=MOST_STEPS))
-        .required(true)
         .action(ArgAction::Set)
-        .help("The most steps, from 1 to 1000000000")
+        .help("The most steps, from 1 to 1000000000; without it 1000000")
 }
 
 /// The word that picks the report's reading.
@@ -275,18 +349,36 @@ fn report<'a>(alloc: Global) -> Arg<'a> {
         .help("Reads choice as the report of 2001 does, not as the library")
 }
 
+/// The word that asks for the trace.
+fn trace<'a>(alloc: Global) -> Arg<'a> {
+    Arg::new(alloc, "trace")
+        .long("trace")
+        .action(ArgAction::SetTrue)
+        .help("Tells on standard error which rules are entered and left, and what is lost")
+}
+
+/// The word that names the rule that is traced.
+fn only<'a>(alloc: Global) -> Result<Arg<'a>, AllocError> {
+    Arg::new(alloc, "only")
+        .long("only")
+        .value_name("RULE")
+        .action(ArgAction::Set)
+        .help("Tells of this rule alone")
+        .requires_arg("trace")
+}
+
 fn print_command<'a>(alloc: Global) -> Result<Command<'a>, AllocError> {
     Command::new(alloc, "print")
         .about("Prints a grammar file in canonical form")
         .after_help(HELP_OF_PRINT)
-        .arg(file(alloc, "grammar", "The grammar file"))
+        .arg(file(alloc, "grammar", GRAMMAR))
 }
 
 fn sets_command<'a>(alloc: Global) -> Result<Command<'a>, AllocError> {
     Command::new(alloc, "sets")
         .about("Prints what can begin and what can follow each form of a grammar")
         .after_help(HELP_OF_SETS)
-        .arg(file(alloc, "grammar", "The grammar file"))
+        .arg(file(alloc, "grammar", GRAMMAR))
 }
 
 /// A word that names a file, and that can't be left out.
@@ -297,15 +389,24 @@ fn file<'a>(alloc: Global, id: &'a str, help: &'a str) -> Arg<'a> {
         .help(help)
 }
 
+/// Words that name files, of which one can't be left out.
+fn files<'a>(alloc: Global, id: &'a str, help: &'a str) -> Arg<'a> {
+    file(alloc, id, help).num_args(1..)
+}
+
+/// Whether nothing is to be printed.
+pub fn is_quiet(matches: &ArgMatches) -> bool {
+    match matches.subcommand() {
+        Some((_, found)) => found.get_flag("quiet"),
+        None => false,
+    }
+}
+
 /// What a command line asks that `command` has taken.
-pub fn request_of<'a>(matches: &ArgMatches<'a>) -> Option<Request<'a>> {
+pub fn request_of<'m, 'a>(matches: &'m ArgMatches<'a>) -> Option<Request<'m, 'a>> {
     let (name, found) = matches.subcommand()?;
     match name {
-        "check" => Some(Request::Check {
-            grammar: found.get_str("grammar")?,
-            certificate: found.get_flag("certificate"),
-            places: found.get_flag("places"),
-        }),
+        "check" => check_request(found),
         "explain" => Some(Request::Explain {
             grammar: found.get_str("grammar")?,
             asked: found.get_str("nodes").unwrap_or(""),
@@ -327,24 +428,48 @@ pub fn request_of<'a>(matches: &ArgMatches<'a>) -> Option<Request<'a>> {
     }
 }
 
-fn parse_request<'a>(found: &ArgMatches<'a>) -> Option<Request<'a>> {
-    Some(Request::Parse {
-        grammar: found.get_str("grammar")?,
-        text: found.get_str("text")?,
-        trail: found.get_flag("trail"),
+fn check_request<'m, 'a>(found: &'m ArgMatches<'a>) -> Option<Request<'m, 'a>> {
+    let findings = if found.get_flag("json") {
+        Findings::Json
+    } else if found.get_flag("places") {
+        Findings::Places
+    } else {
+        Findings::Lines
+    };
+    Some(Request::Check {
+        grammars: found.get_strs("grammar")?,
+        certificate: found.get_flag("certificate"),
+        findings,
     })
 }
 
-fn probe_request<'a>(found: &ArgMatches<'a>) -> Option<Request<'a>> {
+fn parse_request<'m, 'a>(found: &'m ArgMatches<'a>) -> Option<Request<'m, 'a>> {
+    let parsed = if found.get_flag("tree") {
+        Parsed::Outline
+    } else if found.get_flag("trail") {
+        Parsed::ForestAndTrail
+    } else {
+        Parsed::Forest
+    };
+    Some(Request::Parse {
+        grammar: found.get_str("grammar")?,
+        texts: found.get_strs("text")?,
+        parsed,
+    })
+}
+
+fn probe_request<'m, 'a>(found: &'m ArgMatches<'a>) -> Option<Request<'m, 'a>> {
     Some(Request::Probe {
         grammar: found.get_str("grammar")?,
         text: found.get_str("text")?,
-        max_steps: found.get_one("steps")?,
+        max_steps: found.get_one("steps").unwrap_or(USUAL_STEPS),
         report: found.get_flag("report"),
+        trace: found.get_flag("trace"),
+        only: found.get_str("only").unwrap_or(""),
     })
 }
 
-fn replay_request<'a>(found: &ArgMatches<'a>) -> Option<Request<'a>> {
+fn replay_request<'m, 'a>(found: &'m ArgMatches<'a>) -> Option<Request<'m, 'a>> {
     Some(Request::Replay {
         grammar: found.get_str("grammar")?,
         text: found.get_str("text")?,

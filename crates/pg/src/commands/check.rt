@@ -1,0 +1,194 @@
+//! Whether grammars are accepted.
+
+ghost use Rattle.std.specs.Prelude.{◌≡◌, false, IfOk};
+ghost use Rattle.pg_pred.specs.Offer.{offer_of};
+ghost use Rattle.pg.specs.Status.{status_of, IsCheckStatus};
+
+use crate::commands::{NO, of_grammar};
+use crate::files::grammar_alone;
+use crate::handle::Handle;
+use crate::printing::{UNUSABLE, print_page, print_report};
+use crate::reporting::status;
+use pg_bench::{BenchFault, check_bytes};
+use pg_explain_bench::{Places, PlacingWriter, places_of};
+use pg_file::FileFault;
+use pg_finding_json::fault_line;
+use pg_json_bench::json_bytes;
+use pg_pred::Registry;
+use pg_request::Findings;
+use pg_tree::Meter;
+use std::alloc::{AllocError, Global};
+use std::io::{Input, Write};
+use std::rt::Files;
+use std::{cmp, io};
+
+/// Says of each grammar whether it is accepted, or what is wrong with it; where there are several, with the file's name in front of each line.
+/// The status is the greatest of all.
+pub(crate) fn check_files<R: AllocGlobal + Files + Input + Print + Eprint>(
+    rt: &Handle<R>,
+    grammars: &[&str],
+    registry: &Registry,
+    certificate: bool,
+    findings: Findings,
+) -> Result<u8, AllocError> {
+    let names = grammars.len() > 1;
+    let mut greatest = 0;
+    for grammar in grammars {
+        let status = check_file(rt, grammar, registry, certificate, findings, names)?;
+        greatest = cmp::max(greatest, status);
+        if rt.has_failed() {
+            break;
+        }
+    }
+    Ok(greatest)
+}
+
+/// Says whether the grammar in a file is accepted, or what is wrong with it, on lines with the file's name in front if `names`.
+fn check_file<R: AllocGlobal + Files + Input + Print + Eprint>(
+    rt: &Handle<R>,
+    grammar: &str,
+    registry: &Registry,
+    certificate: bool,
+    findings: Findings,
+    names: bool,
+) -> Result<u8, AllocError> {
+    match grammar_alone(rt, grammar)? {
+        Some(bytes) => check_read(
+            rt,
+            bytes.as_slice(),
+            grammar,
+            registry,
+            certificate,
+            findings,
+            names,
+        ),
+        None => Ok(UNUSABLE),
+    }
+}
+
+/// The same of the bytes of a file of this name.
+fn check_read<R: AllocGlobal + Print + Eprint>(
+    rt: &R,
+    bytes: &[u8],
+    grammar: &str,
+    registry: &Registry,
+    certificate: bool,
+    findings: Findings,
+    names: bool,
+) -> Result<u8, AllocError>
+    ensures { IfOk result (IsCheckStatus (offer_of registry.now) bytes.now) }
+{
+    match findings {
+        Findings::Json => check_as_json(rt, bytes, grammar, registry),
+        Findings::Places => check_placed(rt, bytes, grammar, registry, certificate, names),
+        Findings::Lines if names => check_named(rt, bytes, grammar, registry, certificate),
+        Findings::Lines => {
+            let mut writer = Meter::new(io::writer(rt));
+            check_grammar(rt, bytes, grammar, registry, certificate, &mut writer)
+        }
+    }
+}
+
+/// Writes findings, or the fault of the file, as JSON.
+#[tactic(auto, using(crate::proofs::Statuses::listed_none_status, crate::proofs::Statuses::listed_some_status, crate::proofs::Statuses::check_fault_status))]
+fn check_as_json<R: AllocGlobal + Print + Eprint>(
+    rt: &R,
+    bytes: &[u8],
+    grammar: &str,
+    registry: &Registry,
+) -> Result<u8, AllocError>
+    ensures { IfOk result (IsCheckStatus (offer_of registry.now) bytes.now) }
+{
+    let mut writer = Meter::new(io::writer(rt));
+    match json_bytes(rt.alloc(), grammar, bytes, registry, &mut writer) {
+        Ok(true) => Ok(0),
+        Ok(false) => Ok(NO),
+        Err(fault) => json_fault(rt, grammar, fault),
+    }
+}
+
+/// Writes a fault of the file as JSON, and prints the report of another; gives the status.
+fn json_fault<R: AllocGlobal + Print + Eprint>(
+    rt: &R,
+    grammar: &str,
+    fault: BenchFault,
+) -> Result<u8, AllocError>
+    ensures { IfOk result (λ status. status ≡ status_of fault) }
+{
+    let line = match &fault {
+        BenchFault::File(fault) => file_fault_line(rt.alloc(), grammar, fault)?,
+        BenchFault::Refused(_)
+        | BenchFault::Reader
+        | BenchFault::NotUtf8
+        | BenchFault::TooLong
+        | BenchFault::NotATrail
+        | BenchFault::NotVerified(_)
+        | BenchFault::ParseError(_)
+        | BenchFault::Writer
+        | BenchFault::Memory => return print_report(rt, fault, of_grammar(grammar)),
+    };
+    print_page(rt, line.as_str())?;
+    Ok(status(&fault))
+}
+
+/// The fault of a file as JSON. The only error is that memory ran out.
+fn file_fault_line(alloc: Global, grammar: &str, fault: &FileFault) -> Result<String, AllocError> {
+    let kind = &fault.kind;
+    let message = format!(in alloc; "{kind}")?;
+    fault_line(alloc, grammar, fault.position, message.as_str())
+}
+
+/// Each line with the file's name in front.
+fn check_named<R: AllocGlobal + Print + Eprint>(
+    rt: &R,
+    bytes: &[u8],
+    grammar: &str,
+    registry: &Registry,
+    certificate: bool,
+) -> Result<u8, AllocError>
+    ensures { IfOk result (IsCheckStatus (offer_of registry.now) bytes.now) }
+{
+    let names = Places::of_name(rt.alloc(), grammar)?;
+    let mut writer = Meter::new(PlacingWriter::new(rt.alloc(), io::writer(rt), &names));
+    check_grammar(rt, bytes, grammar, registry, certificate, &mut writer)
+}
+
+/// Each finding with its place in front, and other lines with the file's name if `names`.
+#[tactic(auto, using(crate::proofs::Statuses::file_fault_status))]
+fn check_placed<R: AllocGlobal + Print + Eprint>(
+    rt: &R,
+    bytes: &[u8],
+    grammar: &str,
+    registry: &Registry,
+    certificate: bool,
+    names: bool,
+) -> Result<u8, AllocError>
+    ensures { IfOk result (IsCheckStatus (offer_of registry.now) bytes.now) }
+{
+    match places_of(rt.alloc(), grammar, bytes, registry, names) {
+        Ok(places) => {
+            let mut writer = Meter::new(PlacingWriter::new(rt.alloc(), io::writer(rt), &places));
+            check_grammar(rt, bytes, grammar, registry, certificate, &mut writer)
+        }
+        Err(fault) => print_report(rt, fault, of_grammar(grammar)),
+    }
+}
+
+#[tactic(auto, using(crate::proofs::Statuses::accepted_status, crate::proofs::Statuses::refused_status, crate::proofs::Statuses::check_fault_status))]
+fn check_grammar<R: AllocGlobal + Print + Eprint, W: Write>(
+    rt: &R,
+    bytes: &[u8],
+    grammar: &str,
+    registry: &Registry,
+    certificate: bool,
+    writer: &mut Meter<W>,
+) -> Result<u8, AllocError>
+    requires { writer.old.failed ≡ false }
+    ensures { IfOk result (IsCheckStatus (offer_of registry.now) bytes.now) }
+{
+    match check_bytes(rt.alloc(), bytes, registry, writer, certificate) {
+        Ok(true) => Ok(0),
+        Ok(false) => Ok(NO),
+        Err(fault) => print_report(rt, fault, of_grammar(grammar)),
+    }
+}

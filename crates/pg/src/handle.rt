@@ -1,0 +1,97 @@
+//! The handle that commands are given: the program's own, and whether it prints.
+
+ghost use Rattle.std.specs.Prelude.{◌≡◌};
+
+use std::alloc::Global;
+use std::cell::Cell;
+use std::fmt::Display;
+use std::io;
+
+/// A handle by which files are opened, and which prints by it, or, where it is quiet, drops what it is to print.
+#[derive(Drop)]
+pub struct Handle<'a, R> {
+    pub rt: &'a R,
+    pub is_quiet: bool,
+    /// Whether standard output took something not.
+    has_failed: Cell<bool>,
+}
+
+impl<'a, R> Handle<'a, R> {
+    /// A handle that prints by this one, unless it is to be quiet.
+    pub fn new(rt: &'a R, is_quiet: bool) -> Handle<'a, R> {
+        Handle {
+            rt,
+            is_quiet,
+            has_failed: Cell::new(false),
+        }
+    }
+
+    /// Whether standard output took something not, so that it is of no use to go on.
+    pub fn has_failed(&self) -> bool {
+        self.has_failed.get()
+    }
+
+    /// What a write came to, kept in mind if it failed.
+    fn noted<T>(&self, written: io::Result<T>) -> io::Result<T>
+        ensures { result ≡ written }
+    {
+        if written.is_err() {
+            self.has_failed.set(true);
+        }
+        written
+    }
+}
+
+impl<R: AllocGlobal> Alloc for Handle<'_, R> {
+    type A = Global;
+
+    fn alloc(&self) -> Global {
+        self.rt.alloc()
+    }
+}
+
+impl<R: Print> Print for Handle<'_, R> {
+    fn print<D: Display + Drop>(&self, value: D) -> io::Result<()> {
+        if self.is_quiet {
+            return Ok(());
+        }
+        self.noted(self.rt.print(value))
+    }
+
+    fn println<D: Display + Drop>(&self, value: D) -> io::Result<()> {
+        if self.is_quiet {
+            return Ok(());
+        }
+        self.noted(self.rt.println(value))
+    }
+
+    fn write_all(&self, bytes: &[u8]) -> io::Result<()> {
+        if self.is_quiet {
+            return Ok(());
+        }
+        self.noted(Print::write_all(self.rt, bytes))
+    }
+
+    fn write_some(&self, bytes: &[u8]) -> io::Result<usize> {
+        if self.is_quiet {
+            return Ok(bytes.len());
+        }
+        self.noted(self.rt.write_some(bytes))
+    }
+}
+
+impl<R: Eprint> Eprint for Handle<'_, R> {
+    fn eprint<D: Display + Drop>(&self, value: D) -> io::Result<()> {
+        if self.is_quiet {
+            return Ok(());
+        }
+        self.rt.eprint(value)
+    }
+
+    fn eprintln<D: Display + Drop>(&self, value: D) -> io::Result<()> {
+        if self.is_quiet {
+            return Ok(());
+        }
+        self.rt.eprintln(value)
+    }
+}

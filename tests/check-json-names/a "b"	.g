@@ -1,0 +1,2 @@
+start a;
+a = choice(string("\""), string("\""));

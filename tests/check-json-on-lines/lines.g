@@ -1,0 +1,5 @@
+start a;
+a = choice(
+  string("ab"),
+  seq(string("ac"),
+      string("é")));

@@ -1,0 +1,2 @@
+start a;
+a = seq(a, string("x"));
