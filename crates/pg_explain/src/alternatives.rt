@@ -1,7 +1,7 @@
 //! The alternatives of a choice that meet.
 
-use crate::known::Known;
 use pg_form::{Form, NodeId};
+use pg_known::Known;
 use std::alloc::{AllocError, Global};
 
 /// How many alternatives are told of at most.

@@ -5,8 +5,8 @@
 
 use crate::alternatives::{begin_alike, pairs};
 use crate::headlines::gap;
-use crate::known::Known;
 use pg_form::NodeId;
+use pg_known::Known;
 use pg_predict::ViolationKind;
 use std::alloc::{AllocError, Global};
 

@@ -1,11 +1,10 @@
 //! Through which rules and nodes a start comes to where it is met.
 
-use crate::known::Known;
-use crate::mentions::{body_place, mention, rule_name};
-use crate::paths::{dead_ends, shortest_way};
 use crate::steps::Steps;
-use crate::written::{span_of, written};
 use pg_form::{Form, NodeId};
+use pg_known::{
+    Known, body_place, dead_ends, mention, rule_name, shortest_way, span_of, written_at,
+};
 use std::alloc::{AllocError, Global};
 
 /// A first or a follow set, by the number of its node.
@@ -212,7 +211,7 @@ fn tell_end(alloc: Global, known: &Known, set: SetOf, steps: &mut Steps) -> Resu
     match set {
         SetOf::First(node) => {
             let node = NodeId::new(node);
-            let words = written(alloc, known, node)?;
+            let words = written_at(alloc, known, node)?;
             steps.tell_at(alloc, known, words, span_of(known, node).first)
         }
         SetOf::Follow(node) => tell_last(alloc, known, NodeId::new(node), steps),

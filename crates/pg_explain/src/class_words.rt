@@ -1,10 +1,9 @@
 //! Classes of characters in words: by the name that the grammar has for one, else by their ranges.
 
-use crate::known::Known;
-use crate::mentions::text_of;
 use crate::quoted::push_quoted;
 use pg_class::Class;
 use pg_form::{ClassExpression, ClassPart, Form, Leaf, Node, NodeId};
+use pg_known::{Known, text_of};
 use pg_tree::Label;
 use std::alloc::{AllocError, Global};
 

@@ -1,12 +1,9 @@
 //! How a node can be empty.
 
-use crate::contained::nullable_marks;
-use crate::known::Known;
-use crate::mentions::{body_place, mention, rule_name};
-use crate::paths::{dead_ends, shortest_way};
 use crate::steps::Steps;
 use pg_form::{Form, Node, NodeId};
 use pg_graph::{Numbers, empty_lists, join};
+use pg_known::{Known, body_place, dead_ends, mention, nullable_marks, rule_name, shortest_way};
 use pg_value::Grammar;
 use std::alloc::{AllocError, Global};
 

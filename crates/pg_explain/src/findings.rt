@@ -3,17 +3,15 @@
 use crate::causes::Cause;
 use crate::emptiness::emptiness;
 use crate::headlines::{code, headline};
-use crate::known::Known;
 use crate::lines::{
     push_also, push_alternative, push_alternatives, push_both, push_first, push_follow, push_gap,
     push_line, push_operator,
 };
 use crate::marked::marks_of;
-use crate::mentions::{place_in, place_text};
 use crate::recursion::recursion;
-use crate::written::span_of;
 use pg_excerpt::push_excerpt;
 use pg_form::{NodeId, RuleId};
+use pg_known::{Known, place_in, place_text, span_of};
 use pg_predict::ViolationKind;
 use std::alloc::{AllocError, Global};
 

@@ -1,8 +1,8 @@
 //! What is wrong, in a line.
 
 use crate::alternatives::{beginning_with, numbers_words};
-use crate::known::Known;
 use pg_form::NodeId;
+use pg_known::Known;
 use pg_predict::ViolationKind;
 use std::alloc::{AllocError, Global};
 

@@ -1,13 +1,10 @@
 //! What is marked in the file for a finding.
 
 use crate::alternatives::{MOST, beginning_with};
-use crate::fronts::front_use;
-use crate::known::Known;
-use crate::mentions::place_in;
 use crate::recursion::next_head;
-use crate::written::span_of;
 use pg_excerpt::Mark;
 use pg_form::NodeId;
+use pg_known::{Known, front_use, place_in, span_of};
 use pg_predict::ViolationKind;
 use std::alloc::{AllocError, Global};
 

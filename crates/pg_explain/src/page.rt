@@ -2,9 +2,8 @@
 
 use crate::causes::{Cause, causes_of};
 use crate::findings::{head, told};
-use crate::grammar_file::GrammarFile;
-use crate::known::Known;
 use pg_form::NodeId;
+use pg_known::{GrammarFile, Known};
 use pg_predict::{Refused, ViolationKind};
 use std::alloc::{AllocError, Global};
 

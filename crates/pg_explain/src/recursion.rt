@@ -1,11 +1,9 @@
 //! How a rule comes back to itself before anything is taken.
 
-use crate::known::Known;
-use crate::mentions::{body_place, rule_name};
-use crate::paths::shortest_way;
 use crate::steps::Steps;
 use pg_form::RuleId;
 use pg_graph::{Numbers, empty_lists, join};
+use pg_known::{Known, body_place, rule_name, shortest_way};
 use std::alloc::{AllocError, Global};
 
 /// The rules of a shortest way from a rule to itself, each of which heads the one before it, in words. The only error is that memory ran out.

@@ -2,8 +2,7 @@
 //!
 //! Of a long way the first steps and the last are told, and how many are between.
 
-use crate::known::Known;
-use crate::written::push_position;
+use pg_known::{Known, push_position};
 use std::alloc::{AllocError, Global};
 
 /// How many steps are told at the front of a long way.

@@ -1,10 +1,9 @@
 //! Starts in words.
 
 use crate::class_words::class_words;
-use crate::known::Known;
-use crate::mentions::text_of;
 use crate::quoted::push_quoted;
 use pg_form::WordItem;
+use pg_known::{Known, text_of};
 use pg_own_starts::ListedStart;
 use pg_start::StartKind;
 use std::alloc::{AllocError, Global};

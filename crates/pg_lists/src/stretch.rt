@@ -103,7 +103,7 @@ fn one_read(alloc: Global, operator: AppliedOperator) -> Result<TrailItem, Alloc
 {
     let mut operators = Vec::new(alloc);
     operators.push(operator)?;
-    Ok(TrailItem::Ops(AppliedOperators::new(operators)))
+    Ok(TrailItem::Ops(AppliedOperators::new(alloc, operators)?))
 }
 
 /// Makes the trees after the first into one, if trees are kept, by the builder with the symbol.

@@ -1,5 +1,5 @@
 -- A run of an accepted grammar takes few steps.
-use Rattle.std.proofs.Common.{◌≡◌, ◌≤◌, ◌+◌, ◌*◌, ℕ, length, arith}
+use Rattle.std.proofs.Common.{◌≤◌, ◌+◌, ◌*◌, ℕ, length, arith}
 use Rattle.pg_sets.specs.Sets.{Sets}
 use Rattle.pg_table.specs.Tables.{Table, ComesFrom}
 use Rattle.pg_language.specs.Answers.{Given}

@@ -1,6 +1,6 @@
 pub mod Unanswered
 pub mod Running
-pub mod HaltingRuns
+pub mod Enough
 pub mod Whole
 pub mod FewSteps
 pub mod Probed

@@ -1,5 +1,5 @@
 -- An accepted grammar's probe that may take enough steps ends with an answer.
-use Rattle.std.proofs.Common.{◌≡◌, ◌<◌, ◌≤◌, ◌+◌, ◌*◌, ℕ, Some, slice_get, length, refl, sym, subst, ◌∙◌, arith}
+use Rattle.std.proofs.Common.{◌≡◌, ◌≤◌, ◌*◌, ℕ, refl, subst, arith}
 use Rattle.pg_bound.specs.Bound.{AcceptedStartsComeToAnswers, IsAnswer}
 use Rattle.pg_language.specs.Answers.{Given, Answers, AnswersStart}
 use Rattle.pg_language.specs.Outcomes as outcome

@@ -1,6 +1,6 @@
 -- What an answer to a whole text says of its derivations.
 use Rattle.pg_turns.specs.Spots.{spot_at}
-use Rattle.std.proofs.Common.{◌≡◌, ◌<◌, ◌-◌, ◌*◌, ◌^◌, ◌∙◌, ℕ, min, arith, Bool, sym, subst}
+use Rattle.std.proofs.Common.{◌≡◌, ◌<◌, ◌≤◌, ◌+◌, ◌-◌, ◌*◌, ◌^◌, ◌∙◌, ℕ, min, arith, Bool, sym, subst}
 use Rattle.std.specs.Prelude.{Option, Some, None, IfSome, IfNone, Result, Ok, Err, IfOk}
 use Rattle.pg_text.specs.Position.{position_of}
 use Rattle.pg_table.specs.Tables.{Table, ComesFrom}
@@ -11,28 +11,29 @@ use Rattle.pg_language.specs.Outcomes.{Outcome, ok, failed, empty_round}
 use Rattle.pg_language.specs.WholeTexts.{AnswersText, from_start, at_end, nodes_to_end}
 use Rattle.pg_derive.proofs.AcceptedTexts.{refuses_rightly, derives_once}
 use Rattle.pg_derive.proofs.WholeTexts.{answered_derived}
-use Rattle.pg_machine.specs.CheckedRuns.{HasAcceptedGrammar, IsTextAnswer, IsStartAnswer, steps_to_end, IsOnlyDerivation, IsUnderivable}
-use Rattle.pg_machine.specs.Outcomes.{outcome_of, outcome_with}
+use Rattle.pg_machine.specs.CheckedRuns.{HasAcceptedGrammar, IsTextAnswer, steps_to_end, IsOnlyDerivation, IsUnderivable}
+use Rattle.pg_machine.specs.Outcomes.{outcome_of, outcome_with, IsOutcome}
 use Rattle.pg_machine.specs.declared.answer.Answer.{Answer}
+use Rattle.pg_machine.specs.declared.answer.Outcome.TheVariants.{Answered}
 use Rattle.pg_machine.specs.declared.answer.Success.{Success}
 
 some_node : {G : Given} {p m : ℕ} {a : Spot} {o : Outcome} → Answers G p a o m → 0 < m
 some_node (entered there d) = omega arith
 
 -- the end of the text is one node more, and two turns, where it is asked for
-counted : (o : Outcome) (m k : ℕ) → 0 < m → k ≡ min (2 * m - 1) (2 ^ 64 - 1) → steps_to_end o k ≡ min (2 * nodes_to_end o m - 1) (2 ^ 64 - 1)
-counted (ok c b v t e) m k l h = omega arith
-counted (failed c e) m k l h = h
-counted empty_round m k l h = h
+counted : (o : Outcome) (m k : ℕ) → 0 < m → k + 1 ≡ 2 * m → k ≤ 2 ^ 64 - 1 → steps_to_end o k ≡ min (2 * nodes_to_end o m - 1) (2 ^ 64 - 1)
+counted (ok c b v t e) m k l h f = omega arith
+counted (failed c e) m k l h f = omega arith
+counted empty_round m k l h f = omega arith
 
 -- the end of the text after the start rule
-pub whole : (G : Given) (T : Table) (a b : Answer) → IsStartAnswer G T a → outcome_of b ≡ at_end G.text (outcome_of a) → b.error.position ≡ position_of G.text b.error.place →
+pub whole : (G : Given) (T : Table) (a b : Answer) → IsOutcome G T (2 ^ 64 - 1) (Answered a) → outcome_of b ≡ at_end G.text (outcome_of a) → b.error.position ≡ position_of G.text b.error.place →
     b.steps ≡ steps_to_end (outcome_of a) a.steps → IsTextAnswer G T b
-whole G T a b h e p s = record {
-  nodes = nodes_to_end (outcome_of a) h.nodes;
-  answers = subst (λ (o : Outcome). AnswersText G T o (nodes_to_end (outcome_of a) h.nodes)) (sym e) (from_start h.answers.is_start h.answers.body);
+whole G T a b (h, few) e p s = record {
+  nodes = nodes_to_end (outcome_of a) h.entered;
+  answers = subst (λ (o : Outcome). AnswersText G T o (nodes_to_end (outcome_of a) h.entered)) (sym e) (from_start h.answers.is_start h.answers.body);
   position = p;
-  steps = s ∙ counted (outcome_of a) h.nodes a.steps (some_node h.answers.body) h.steps;
+  steps = s ∙ counted (outcome_of a) h.entered a.steps (some_node h.answers.body) h.steps few;
 }
 
 ok_only : (G : Given) → HasAcceptedGrammar G → (T : Table) → ComesFrom G.grammar T → (c : Bool) (e : Error) (n : ℕ) (s : Option Success) → AnswersText G T (outcome_with c e s) n → IfSome s (IsOnlyDerivation G.grammar G.text T)
@@ -52,7 +53,7 @@ pub refused : (G : Given) → HasAcceptedGrammar G → (T : Table) → ComesFrom
 refused G h T from a x = failed_none G h T from a.consumed (without_position a.error) x.nodes a.success x.answers
 
 -- the same where memory may have run out
-pub whole_if_ok : {E : Type 0} (G : Given) (T : Table) (a : Answer) (r : Result Answer E) → IsStartAnswer G T a → IfOk r (λ b. outcome_of b ≡ at_end G.text (outcome_of a)) →
+pub whole_if_ok : {E : Type 0} (G : Given) (T : Table) (a : Answer) (r : Result Answer E) → IsOutcome G T (2 ^ 64 - 1) (Answered a) → IfOk r (λ b. outcome_of b ≡ at_end G.text (outcome_of a)) →
     IfOk r (λ b. b.error.position ≡ position_of G.text b.error.place) → IfOk r (λ b. b.steps ≡ steps_to_end (outcome_of a) a.steps) → IfOk r (IsTextAnswer G T)
 whole_if_ok G T a (Ok b) h e p s = whole G T a b h e p s
 whole_if_ok G T a (Err x) h e p s = tt

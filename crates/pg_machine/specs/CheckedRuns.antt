@@ -8,7 +8,7 @@ use Rattle.pg_sets.specs.Sets.{Sets}
 use Rattle.pg_language.specs.Derives.{DerivesText}
 use Rattle.pg_table.specs.Tables.{Table}
 use Rattle.pg_derive.specs.Accepted.{Accepts}
-use Rattle.pg_language.specs.Answers.{Given, AnswersStart}
+use Rattle.pg_language.specs.Answers.{Given}
 use Rattle.pg_language.specs.Outcomes.{Outcome, ok, failed, empty_round}
 use Rattle.pg_language.specs.WholeTexts.{AnswersText}
 use Rattle.pg_machine.specs.Outcomes.{outcome_of}
@@ -46,10 +46,3 @@ abbrev pub steps_to_end : Outcome → ℕ → ℕ
 steps_to_end (ok c b v t e) k = min (k + 2) (2 ^ 64 - 1)
 steps_to_end (failed c e) k = k
 steps_to_end empty_round k = k
-
--- the answer of the start rule alone
-pub record IsStartAnswer (G : Given) (table : Table) (a : Answer) : Type 0 where
-  pub nodes : ℕ
-  pub answers : AnswersStart G table (outcome_of a) nodes
-  pub position : a.error.position ≡ position_of G.text a.error.place
-  pub steps : a.steps ≡ min (2 * nodes - 1) (2 ^ 64 - 1)

@@ -1,4 +1,3 @@
 pub mod Outcomes
-pub mod Halting
 pub mod CheckedRuns
 pub mod Laws

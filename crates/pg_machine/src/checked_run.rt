@@ -1,7 +1,7 @@
 //! Runs of a checked grammar over whole texts.
 //!
-//! At the nodes of a checked grammar nothing is wrong, so that the start rule has an answer to each text and the machine
-//! comes to it: the run goes on until it is there, however many turns that takes. After an ok answer the text has to end.
+//! A run is a probe that may take as many steps as can be counted: by the law of `laws.rt` it ends with an answer, since the step
+//! cost of a checked grammar is within a limit, and so is the length of a text. After an ok answer the text has to end.
 
 ghost use Rattle.std.specs.Prelude.{◌≡◌, ◌≤◌, ◌+◌, ◌*◌, length, IfOk, OnOk, IfSome, IfNone};
 ghost use Rattle.pg_value.specs.Fits.{Fits};
@@ -9,6 +9,7 @@ ghost use Rattle.pg_pred.specs.Offer.{offer_of};
 ghost use Rattle.pg_table.specs.Tables.{ComesFrom};
 ghost use Rattle.pg_text.specs.Position.{position_of};
 ghost use Rattle.pg_costs.specs.StepCost.{IsStepCost};
+ghost use Rattle.pg_predict.specs.Conditions.{cost_limit};
 ghost use Rattle.pg_derive.specs.Accepted.{Accepts};
 ghost use Rattle.pg_derive.specs.LeastSets.{node_sets};
 ghost use Rattle.pg_derive.specs.PredictiveLaws.{LosesNoAlternative, EachRoundConsumes, EachLinkConsumes};
@@ -17,20 +18,19 @@ ghost use Rattle.pg_language.specs.Errors.{merge, without_position};
 ghost use Rattle.pg_language.specs.WholeTexts.{at_end};
 ghost use Rattle.pg_language.specs.declared.reading.Reading.TheVariants.{Library};
 ghost use Rattle.pg_message_tape.specs.Messages.{end_error};
-ghost use Rattle.pg_machine.specs.CheckedRuns.{HasAcceptedGrammar, IsTextAnswer, IsStartAnswer, IsOnlyDerivation, IsUnderivable, steps_to_end};
-ghost use Rattle.pg_machine.specs.Halting.{Halts, Halts-prop};
+ghost use Rattle.pg_machine.specs.CheckedRuns.{IsTextAnswer, IsOnlyDerivation, IsUnderivable, steps_to_end};
 ghost use Rattle.pg_machine.specs.Outcomes.{outcome_of};
 
 use crate::answer::{Answer, Outcome};
-use crate::probing::{ended, start_of};
-use pg_class_tables::ClassTables;
+use crate::laws::accepted_probes_answer;
+use crate::probing::probe;
 use pg_language::Reading;
 use pg_message::ParseError;
 use pg_pred::Registry;
 use pg_predict::Checked;
 use pg_table::Table;
 use pg_text::Text;
-use pg_turns::{Machine, Mode, error_at_end};
+use pg_turns::error_at_end;
 use pg_value::Grammar;
 use std::alloc::{AllocError, Global};
 
@@ -57,13 +57,19 @@ pub fn run(
     ensures links { EachLinkConsumes (given Library checked.now.grammar text.now) }
 {
     let grammar = accepted(checked, text);
-    let run = HaltingRun {
+    accepted_probes_answer();
+    match probe(
+        alloc,
         grammar,
         text,
         table,
-    };
-    let answer = run.answer(alloc, registry)?;
-    whole_answer(alloc, text, answer)
+        registry,
+        u64::MAX,
+        Reading::Library,
+    )? {
+        Outcome::Answered(answer) => whole_answer(alloc, text, answer),
+        Outcome::StepsUsed | Outcome::EmptyRound => unreachable!(),
+    }
 }
 
 /// The grammar, with all that is known of it and of the text.
@@ -71,6 +77,7 @@ fn accepted<'a>(checked: &'a Checked, text: &Text) -> &'a Grammar
     ensures grammar { result.now ≡ checked.now.grammar }
     ensures accepts { Accepts (given Library checked.now.grammar text.now) checked.now.sets }
     ensures cost { IsStepCost checked.now.grammar checked.now.sets.nullable checked.now.cost }
+    ensures within { checked.now.cost ≤ cost_limit }
     ensures short { length text.now ≤ 1048576 }
 {
     let grammar = checked.grammar();
@@ -78,49 +85,6 @@ fn accepted<'a>(checked: &'a Checked, text: &Text) -> &'a Grammar
     let _nodes = grammar.nodes();
     let _characters = text.characters();
     grammar
-}
-
-/// A run of the start rule that comes to an end.
-#[derive(Drop)]
-struct HaltingRun<'a> {
-    grammar: &'a Grammar,
-    text: &'a Text,
-    table: &'a Table,
-    ghost halts: { Halts (given Library grammar.now text.now) table.now } by { Halts-prop (given Library grammar.now text.now) table.now },
-}
-
-impl HaltingRun<'_> {
-    /// The answer of the start rule.
-    fn answer(&self, alloc: Global, registry: &Registry) -> Result<Answer, AllocError>
-        requires fits { Fits (offer_of registry.now) self.now.grammar.now }
-        requires short { length self.now.text.now ≤ 1048576 }
-        requires accepted { HasAcceptedGrammar (given Library self.now.grammar.now self.now.text.now) }
-        requires table { ComesFrom self.now.grammar.now self.now.table.now }
-        ensures { IfOk result (IsStartAnswer (given Library self.now.grammar.now self.now.text.now) self.now.table.now) }
-    {
-        let text = self.text;
-        let own = self.table.copy(alloc)?;
-        let tables = ClassTables::of(alloc, self.grammar)?;
-        let mut machine = Machine::new(alloc, own);
-        let mut mode = Mode::At(start_of(self.grammar), 0);
-        let mut steps: u64 = 0;
-        'turns: while !machine.is_over(&mode) {
-            mode = machine.step(
-                alloc,
-                self.grammar,
-                &tables,
-                registry,
-                text,
-                Reading::Library,
-                mode,
-            )?;
-            steps = steps.saturating_add(1);
-        }
-        match ended(alloc, text, machine, mode, steps)? {
-            Outcome::Answered(answer) => Ok(answer),
-            Outcome::StepsUsed | Outcome::EmptyRound => unreachable!(),
-        }
-    }
 }
 
 /// The answer to a text that has to end after what was read.

@@ -125,7 +125,7 @@ fn read_operators(alloc: Global, value: &Value) -> Result<AppliedOperators, Trai
 fn read_each_operator(alloc: Global, list: &[Value]) -> Result<AppliedOperators, TrailFault>
     ensures { Gives (map operator_value) (map view list.now) result }
 {
-    let mut operators = AppliedOperators::new(Vec::new(alloc));
+    let mut operators = AppliedOperators::new(alloc, Vec::new(alloc))?;
     for value in list {
         operators.push(read_operator(alloc, value)?)?;
     }

@@ -73,7 +73,10 @@ impl Forest {
             self.bytes.truncate(before);
             return Err(AllocError);
         }
-        let entry = Entry::Leaf(self.bytes.len() - before);
+        let Ok(entry) = Entry::leaf(self.bytes.len() - before) else {
+            self.bytes.truncate(before);
+            return Err(AllocError);
+        };
         if self.entries.push_back(entry).is_err() {
             self.bytes.truncate(before);
             return Err(AllocError);
@@ -232,6 +235,7 @@ impl Forest {
         match self.entries[end.entries - 1] {
             Entry::Leaf(_) => false,
             Entry::Node { label: count, .. } => {
+                let count = count as usize;
                 count == label.len() && has_bytes(&self.bytes, end.bytes - count, label.as_bytes())
             }
         }

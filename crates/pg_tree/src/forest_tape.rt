@@ -50,7 +50,7 @@ impl ForestTape {
                 top: Forest::new(alloc),
                 reopened: 0,
                 reopened_below: Vec::new(alloc),
-                spare: Forest::new(alloc),
+                spares: Vec::new(alloc),
             },
         }
     }
@@ -148,9 +148,12 @@ pub(crate) struct Stretches {
     reopened: usize,
     /// The same of those below it.
     reopened_below: Vec<usize>,
-    /// What the last stretch that ended lay in.
-    spare: Forest,
+    /// What the last stretches that ended lay in.
+    spares: Vec<Forest>,
 }
+
+/// How many of them are kept at most: trees are seldom built deeper in one another before one ends.
+const SPARES: usize = 8;
 
 impl Stretches {
     fn len(&self) -> usize
@@ -170,7 +173,8 @@ impl Stretches {
             return Err(AllocError);
         }
         let Tree { forest } = tree;
-        self.spare = self.top.append_all(forest)?;
+        let emptied = self.top.append_all(forest)?;
+        self.keep(emptied);
         Ok(())
     }
 
@@ -209,7 +213,7 @@ impl Stretches {
             return Ok(());
         }
         self.reopened_below.push(self.reopened)?;
-        let empty = emptied(alloc, &mut self.spare);
+        let empty = emptied(alloc, &mut self.spares);
         let top = mem::replace(&mut self.top, empty);
         let count = top.len();
         match self.below.push(top) {
@@ -222,6 +226,19 @@ impl Stretches {
                 self.top = failed.value;
                 Err(AllocError)
             }
+        }
+    }
+
+    /// Keeps what a stretch lay in for the next one, unless enough of it is kept.
+    fn keep(&mut self, emptied: Forest)
+        ensures trees { trees_in self.new ≡ trees_in self.old }
+        ensures below { self.new.below ≡ self.old.below }
+        ensures count { self.new.count ≡ self.old.count }
+        ensures top { self.new.top ≡ self.old.top }
+    {
+        if self.spares.len() < SPARES {
+            // Without memory for the list there is one spare less.
+            let _ = self.spares.push(emptied);
         }
     }
 
@@ -250,7 +267,8 @@ impl Stretches {
             self.count -= lower.len();
             self.reopened = self.reopened_below.pop().unwrap_or(0);
             mem::swap(&mut self.top, &mut lower);
-            self.spare = self.top.append_all(lower)?;
+            let emptied = self.top.append_all(lower)?;
+            self.keep(emptied);
         }
         Ok(())
     }
@@ -314,7 +332,7 @@ impl Stretches {
     {
         if self.reopened > 0 {
             self.reopened -= 1;
-            let empty = emptied(alloc, &mut self.spare);
+            let empty = emptied(alloc, &mut self.spares);
             return mem::replace(&mut self.top, empty);
         }
         let lower = match self.below.pop() {
@@ -327,11 +345,15 @@ impl Stretches {
     }
 }
 
-/// A forest without trees in the memory of another one, which has none then.
-fn emptied(alloc: Global, spare: &mut Forest) -> Forest
+/// A forest without trees, in the memory of a spare one where there is one.
+fn emptied(alloc: Global, spares: &mut Vec<Forest>) -> Forest
     ensures { result ≡ [] }
 {
-    let mut empty = mem::replace(spare, Forest::new(alloc));
-    empty.cut(0);
-    empty
+    match spares.pop() {
+        Some(mut spare) => {
+            spare.cut(0);
+            spare
+        }
+        None => Forest::new(alloc),
+    }
 }

@@ -38,8 +38,8 @@ fn leaf_texts(alloc: Global, kids: Forest) -> Result<VecDeque<u8>, AllocError>
     let mut text = VecDeque::new(alloc);
     while let Some(entry) = entries.pop_front() {
         match entry {
-            Entry::Leaf(count) => move_bytes(count, &mut bytes, &mut text)?,
-            Entry::Node { label, .. } => skip_bytes(label, &mut bytes),
+            Entry::Leaf(count) => move_bytes(count as usize, &mut bytes, &mut text)?,
+            Entry::Node { label, .. } => skip_bytes(label as usize, &mut bytes),
         }
     }
     Ok(text)

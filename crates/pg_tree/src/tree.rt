@@ -51,7 +51,7 @@ impl Tree {
         ensures { IfOk result (λ t. t ≡ leaf text.items) }
     {
         let mut entries = VecDeque::new(alloc);
-        entries.push_back(Entry::Leaf(text.len()))?;
+        entries.push_back(Entry::leaf(text.len())?)?;
         let forest = Forest {
             entries,
             bytes: text,
@@ -71,12 +71,8 @@ impl Tree {
             roots,
         } = kids;
         push_bytes(&mut bytes, label.as_bytes())?;
-        entries.push_back(Entry::Node {
-            label: label.len(),
-            kids: roots,
-            entries: entries.len() + 1,
-            bytes: bytes.len(),
-        })?;
+        let entry = Entry::node(label.len(), roots, entries.len() + 1, bytes.len())?;
+        entries.push_back(entry)?;
         let forest = Forest {
             entries,
             bytes,

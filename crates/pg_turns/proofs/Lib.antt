@@ -21,7 +21,4 @@ pub mod LevelsShown
 pub mod LevelsFailed
 pub mod Turned
 pub mod Ready
-pub mod Goes
-pub mod LevelsPlaced
-pub mod Places
 pub mod Hiding

@@ -186,8 +186,14 @@ fn give_up(around: &Around, count: usize, forest: &mut RunForest) -> Result<(), 
 {
     match around {
         Around::Try => Ok(()),
-        Around::Text => show_first(count, forest),
-        Around::Skip => show_first(count, forest),
+        Around::Text => {
+            show_first(count, forest);
+            Ok(())
+        }
+        Around::Skip => {
+            show_first(count, forest);
+            Ok(())
+        }
         Around::Build(_, _) => forest.close(count),
         Around::Label(_) | Around::Local => Ok(()),
     }
@@ -195,12 +201,11 @@ fn give_up(around: &Around, count: usize, forest: &mut RunForest) -> Result<(), 
 
 /// Only the first trees stay, and trees are kept again as before the form.
 #[inline(always)]
-fn show_first(count: usize, forest: &mut RunForest) -> Result<(), AllocError>
-    ensures ok { OnOk result (forest.new ≡ without_hiding (first_trees count forest.old)) }
+fn show_first(count: usize, forest: &mut RunForest)
+    ensures { forest.new ≡ without_hiding (first_trees count forest.old) }
 {
     forest.cut(count);
     forest.show();
-    Ok(())
 }
 
 /// The same of a part that took the text from the one place to the other.
@@ -221,7 +226,10 @@ fn remake(
     match around {
         Around::Try => Ok(()),
         Around::Text => as_text(text, start, end, count, forest),
-        Around::Skip => show_first(count, forest),
+        Around::Skip => {
+            show_first(count, forest);
+            Ok(())
+        }
         Around::Build(used, symbol) => {
             build_after(alloc, registry, used, symbol.as_str(), count, forest)
         }
@@ -261,7 +269,7 @@ fn as_text(
 ) -> Result<(), AllocError>
     ensures { OnOk result (forest.new ≡ with_trees (leaf_of (span text.now start end) ∷ []) (without_hiding (first_trees count forest.old))) }
 {
-    show_first(count, forest)?;
+    show_first(count, forest);
     forest.push_leaf(between(text.characters(), start, end))
 }
 

@@ -60,7 +60,7 @@ impl<'a> Machine<'a> {
     {
         let in_force = in_force(alloc, &mut self.in_force, &self.table)?;
         let slot = self.lists.trail.len();
-        let none = AppliedOperators::new(Vec::new(alloc));
+        let none = AppliedOperators::new(alloc, Vec::new(alloc))?;
         self.lists.trail.push(TrailItem::Ops(none))?;
         let rows = in_force.rows();
         let forest = self.lists.forest.len();

@@ -1,6 +1,6 @@
 //! Trails: what a derivation chose, from left to right, so that it can be followed again without a search.
 
-ghost use Rattle.std.specs.Prelude.{◌≡◌, [], ◌∷◌, ◌++◌, OnErr, OnOk};
+ghost use Rattle.std.specs.Prelude.{◌≡◌, [], ◌∷◌, ◌++◌, IfOk, OnErr, OnOk};
 
 use pg_text::Characters;
 use std::alloc::{AllocError, Global};
@@ -26,10 +26,10 @@ pub struct AppliedOperator {
     pub symbol: Characters,
 }
 
-/// The operators of an expression in reading order, seen as their list.
+/// The operators of an expression in reading order, seen as their list. They lie apart, since few of a trail's items have any.
 #[derive(Drop)]
 pub struct AppliedOperators {
-    operators: Vec<AppliedOperator>,
+    operators: Box<Vec<AppliedOperator>>,
 }
 
 impl Model for AppliedOperators {
@@ -38,15 +38,19 @@ impl Model for AppliedOperators {
 
     ghost Value = { List AppliedOperator };
 
-    ghost view = { λ o. o.operators.items };
+    ghost view = { λ o. o.operators.value.items };
 }
 
 impl AppliedOperators {
-    /// These operators. It takes no memory.
-    pub fn new(operators: Vec<AppliedOperator>) -> AppliedOperators
-        ensures { result ≡ operators.items }
+    /// These operators. The only error is that memory ran out.
+    pub fn new(
+        alloc: Global,
+        operators: Vec<AppliedOperator>,
+    ) -> Result<AppliedOperators, AllocError>
+        ensures { IfOk result (λ applied. applied ≡ operators.items) }
     {
-        AppliedOperators { operators }
+        let operators = Box::new(alloc, operators)?;
+        Ok(AppliedOperators { operators })
     }
 
     /// The operators, in reading order.

@@ -35,7 +35,7 @@ fn operators_of(
     table: &Table,
     number: Option<usize>,
 ) -> Result<AppliedOperators, AllocError> {
-    let mut operators = AppliedOperators::new(Vec::new(alloc));
+    let mut operators = AppliedOperators::new(alloc, Vec::new(alloc))?;
     if let Some(number) = number {
         if let Some(declared) = table.operators().get(number) {
             operators.push(applied(alloc, declared)?)?;

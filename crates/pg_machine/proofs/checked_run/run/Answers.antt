@@ -1,30 +1,37 @@
-use Rattle.std.proofs.Common.{sym, subst}
+use Rattle.std.proofs.Common.{◌-◌, ◌^◌, inl, inr, subst}
 use Rattle.std.proofs.lemmas.Result.{IfOk-weaker}
 use Rattle.pg_value.specs.Grammar.{Grammar}
 use Rattle.pg_language.specs.Answers.{given}
 use Rattle.pg_language.specs.declared.reading.Reading.TheVariants.{Library}
 use Rattle.pg_derive.proofs.AcceptedTexts.{loses_none, accepted_rounds, accepted_links}
-use Rattle.pg_machine.specs.CheckedRuns.{IsStartAnswer}
-use Rattle.pg_machine.specs.Halting.{Halts}
-use Rattle.pg_machine.proofs.HaltingRuns.{halts}
+use Rattle.pg_machine.specs.Outcomes.{IsOutcome}
+use Rattle.pg_machine.proofs.Enough.{comes_to_answer}
 use Rattle.pg_machine.proofs.FewSteps.{few_steps}
 use Rattle.pg_machine.proofs.Whole.{whole_if_ok, derived, refused}
 use Rattle.pg_machine.proofs.checked_run.run.Goals as goal
 
-pub invariant_of-run : goal.invariant_of-run
-invariant_of-run g c =
-    let is = sym c.accepted-grammar.ensures.grammar in
+pub unreachable-requires : goal.unreachable-requires
+unreachable-requires g c =
     let text = c.args.text.now in
     let table = c.args.table.now in
-    record { halts = subst (λ (g : Grammar). Halts (given Library g text) table) is (halts (given Library c.args.checked.now.grammar text) (c.args.checked.now.sets, c.accepted-grammar.ensures.accepts) table c.requires.table) }
+    let checked = c.args.checked.now in
+    let outcome : IsOutcome (given Library checked.grammar text) table (2 ^ 64 - 1) c.in_ok-answer.field-0 =
+    subst (λ (g : Grammar). IsOutcome (given Library g text) table (2 ^ 64 - 1) c.in_ok-answer.field-0) c.accepted-grammar.ensures.grammar c.in_ok-answer.ensures in
+    let answer =
+    comes_to_answer c.accepted_probes_answer.ensures (given Library checked.grammar text) checked.sets c.accepted-grammar.ensures.accepts checked.cost c.accepted-grammar.ensures.cost
+    c.accepted-grammar.ensures.within c.accepted-grammar.ensures.short table c.requires.table c.in_ok-answer.field-0 outcome in
+    let is = answer.1 in
+    elim c.in-StepsUsed.is [ inl e ↦ cc | inr e ↦ cc ]
 
 pub returns-clause-answer : goal.returns-clause-answer
 returns-clause-answer g c =
     let text = c.args.text.now in
     let table = c.args.table.now in
-    let started : IsStartAnswer (given Library c.args.checked.now.grammar text) table c.in_ok-answer.answer =
-    subst (λ (g : Grammar). IsStartAnswer (given Library g text) table c.in_ok-answer.answer) c.accepted-grammar.ensures.grammar c.in_ok-answer.ensures in
-    whole_if_ok (given Library c.args.checked.now.grammar text) table c.in_ok-answer.answer c.whole_answer.result started c.whole_answer.ensures.outcome c.whole_answer.ensures.position c.whole_answer.ensures.steps
+    let grammar = c.args.checked.now.grammar in
+    let outcome : IsOutcome (given Library grammar text) table (2 ^ 64 - 1) c.in_ok-answer.field-0 =
+    subst (λ (g : Grammar). IsOutcome (given Library g text) table (2 ^ 64 - 1) c.in_ok-answer.field-0) c.accepted-grammar.ensures.grammar c.in_ok-answer.ensures in
+    whole_if_ok (given Library grammar text) table c.in-Answered.answer c.whole_answer.result (subst (IsOutcome (given Library grammar text) table (2 ^ 64 - 1)) c.in-Answered.is outcome)
+    c.whole_answer.ensures.outcome c.whole_answer.ensures.position c.whole_answer.ensures.steps
 
 pub returns-clause-steps : goal.returns-clause-steps
 returns-clause-steps g c =

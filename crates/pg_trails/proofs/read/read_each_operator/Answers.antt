@@ -7,11 +7,11 @@ use Rattle.pg_trails.proofs.Found.{one_more, all_found, one_refused}
 use Rattle.pg_trails.proofs.read.read_each_operator.Goals as goal
 
 pub loop-value-init : goal.loop-value-init
-loop-value-init c = subst (λ found. GivesEach operator_value [] found) (sym (c.new-operators.ensures ∙ c.new.ensures.items)) tt
+loop-value-init c = subst (λ found. GivesEach operator_value [] found) (sym (c.in_ok-operators.ensures ∙ c.new.ensures.items)) tt
 
 pub returns-in_err-read_operator : goal.returns-in_err-read_operator
 returns-in_err-read_operator c =
-    let p = err_from_is_err_and c.from_residual.result c.from_residual.ensures.1 in
+    let p = err_from_is_err_and c.from_residual-in_err-read_operator.result c.from_residual-in_err-read_operator.ensures.1 in
     rw (p.1, p.2) (one_refused view operator_value c.args.list.now c.loop-value.value-index c.value-item.result _ c.loop-value-test.true c.value-item.is c.in_err-read_operator.ensures)
 
 pub loop-value-preserved : goal.loop-value-preserved

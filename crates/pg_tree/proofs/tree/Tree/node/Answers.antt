@@ -8,7 +8,7 @@ the_node : (c : goal.In_ok-push_back) → IsStored c.push_back.new.self.items c.
 the_node c =
     let bytes = c.in_ok-push_bytes.ensures.ok ∙ ap (λ label. c.kids.inside.bytes.items ++ label) c.as_bytes.ensures.value in
     stored-push_node _ _ _ _ _ _ _ _ _ _ (stored_as _ _ _ _ c.kids.invariant c.kids.view_is) bytes refl
-    (ap (λ n. n + 1) (c.len.ensures ∙ c.kids.inside.entries.ok.0)) (c.len-2.ensures ∙ c.push_bytes.new.queue.ok.0) c.in_ok-push_back.ensures.items
+    (ap (λ n. n + 1) (c.len.ensures ∙ c.kids.inside.entries.ok.0)) (c.len-2.ensures ∙ c.push_bytes.new.queue.ok.0) (c.in_ok-push_back.ensures.items ∙ ap (λ e. c.kids.inside.entries.items ++ e ∷ []) c.in_ok-entry.ensures)
 
 pub invariant_of-forest : goal.invariant_of-forest
 invariant_of-forest c = stored-shown _ _ _ _ (the_node c)

@@ -20,7 +20,7 @@ enum Front<'s> {
 
 /// A character that two starts both take, if they aren't apart: the first of a key, or the least printable one of two classes. None where
 /// both are the end of the text.
-pub(crate) fn common_character(one: &Start, other: &Start) -> Option<char> {
+pub fn common_character(one: &Start, other: &Start) -> Option<char> {
     match (front_of(one), front_of(other)) {
         (Front::One(c), _) | (_, Front::One(c)) => Some(c),
         (Front::Class(one), Front::Class(other)) => least_printable(one, other),

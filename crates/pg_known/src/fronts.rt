@@ -5,7 +5,7 @@ use pg_form::{Form, NodeId, RuleId};
 use std::alloc::{AllocError, Global};
 
 /// The first use of a rule with which a node can begin, before anything is taken, if there is one. The only error is that memory ran out.
-pub(crate) fn front_use(
+pub fn front_use(
     alloc: Global,
     known: &Known,
     node: NodeId,

@@ -1,7 +1,7 @@
 use Rattle.std.proofs.Common.{◌≡◌, ℕ, true, Option, inl, inr, sym, subst}
 use Rattle.std.specs.Prelude.{IfSome}
 use Rattle.pg_class.specs.Ranges.{has}
-use Rattle.pg_explain.proofs.common.least_between.Goals as goal
+use Rattle.pg_known.proofs.common.least_between.Goals as goal
 
 pub returns-clause-one : goal.returns-clause-one
 returns-clause-one c =

@@ -15,23 +15,23 @@ use std::alloc::{AllocError, Global};
 
 /// A grammar with what is asked of it.
 #[derive(Drop)]
-pub(crate) struct Known<'g> {
-    pub(crate) file: &'g GrammarFile<'g>,
+pub struct Known<'g> {
+    pub file: &'g GrammarFile<'g>,
     /// The line and the column of each place of the file, and of its end.
-    pub(crate) positions: Vec<Pos>,
-    pub(crate) grammar: &'g Grammar,
-    pub(crate) sets: &'g Sets,
+    pub positions: Vec<Pos>,
+    pub grammar: &'g Grammar,
+    pub sets: &'g Sets,
     /// The classes of the class items.
-    pub(crate) classes: Vec<Class>,
+    pub classes: Vec<Class>,
     /// How operators and gaps begin, if there are any.
-    pub(crate) operators: Option<OperatorStarts>,
+    pub operators: Option<OperatorStarts>,
     /// For each first and each follow set those that it contains.
-    pub(crate) contained: Vec<Numbers>,
+    pub contained: Vec<Numbers>,
 }
 
 impl<'g> Known<'g> {
     /// What is asked of a grammar that is refused. The only error is that memory ran out.
-    pub(crate) fn of(
+    pub fn of(
         alloc: Global,
         refused: &'g Refused,
         file: &'g GrammarFile<'g>,
@@ -54,22 +54,22 @@ impl<'g> Known<'g> {
     }
 
     /// How many nodes there are.
-    pub(crate) fn count(&self) -> usize {
+    pub fn count(&self) -> usize {
         self.grammar.nodes().len()
     }
 
     /// What stands at a node, if it is there.
-    pub(crate) fn form(&self, node: NodeId) -> Option<&Node> {
+    pub fn form(&self, node: NodeId) -> Option<&Node> {
         self.grammar.nodes().get(node.index())
     }
 
     /// The rule with this number, if it is there.
-    pub(crate) fn rule(&self, number: usize) -> Option<&Rule> {
+    pub fn rule(&self, number: usize) -> Option<&Rule> {
         self.grammar.rules().get(number)
     }
 
     /// The start with this number: one of the sets, or that of operators.
-    pub(crate) fn start(&self, number: usize) -> Option<&ListedStart> {
+    pub fn start(&self, number: usize) -> Option<&ListedStart> {
         match self.sets.starts().get(number) {
             Some(listed) => Some(listed),
             None => self.operator(),
@@ -77,7 +77,7 @@ impl<'g> Known<'g> {
     }
 
     /// The start of operators, if there are any.
-    pub(crate) fn operator(&self) -> Option<&ListedStart> {
+    pub fn operator(&self) -> Option<&ListedStart> {
         match &self.operators {
             Some(both) => Some(&both.operator),
             None => None,
@@ -85,7 +85,7 @@ impl<'g> Known<'g> {
     }
 
     /// The alternative with this number, from 1; the node itself, if it has none.
-    pub(crate) fn alternative(&self, node: NodeId, number: usize) -> NodeId {
+    pub fn alternative(&self, node: NodeId, number: usize) -> NodeId {
         match self.form(node) {
             Some(Form::Choice(parts)) => match parts.as_slice().get(number.saturating_sub(1)) {
                 Some(part) => *part,
@@ -105,7 +105,7 @@ impl<'g> Known<'g> {
     }
 
     /// The part of a repetition that begins a round with this start; the term of an expression; else the node itself.
-    pub(crate) fn round(&self, node: NodeId, start: usize) -> NodeId {
+    pub fn round(&self, node: NodeId, start: usize) -> NodeId {
         match self.form(node) {
             Some(Form::Many(part) | Form::Expression(_, part)) => *part,
             Some(Form::Chain(_, _, operand, separator)) => {
@@ -123,7 +123,7 @@ impl<'g> Known<'g> {
     }
 
     /// Whether what stands at a node is an expression whose term begins with this start.
-    pub(crate) fn begins_term(&self, node: NodeId, start: usize) -> bool {
+    pub fn begins_term(&self, node: NodeId, start: usize) -> bool {
         match self.form(node) {
             Some(Form::Expression(_, term)) => self.sets.first(*term).contains(start),
             Some(
@@ -140,7 +140,7 @@ impl<'g> Known<'g> {
     }
 
     /// The part of a repetition, the separator of a chain, or the term of an expression; else the node itself.
-    pub(crate) fn emptied(&self, node: NodeId) -> NodeId {
+    pub fn emptied(&self, node: NodeId) -> NodeId {
         match self.form(node) {
             Some(Form::Many(part) | Form::Expression(_, part) | Form::Chain(_, _, _, part)) =>
                 *part,

@@ -1,14 +1,14 @@
 //! How nodes are named: as they were written and where they stand.
 
 use crate::known::Known;
-use crate::written::{push_position, span_of, written};
+use crate::written::{push_position, span_of, written_at};
 use pg_form::NodeId;
 use pg_predict::{Place, place_of};
 use pg_text::Characters;
 use std::alloc::{AllocError, Global};
 
 /// Where a node stands: its rule's name and its number there, as findings have them. The only error is that memory ran out.
-pub(crate) fn place_text(alloc: Global, known: &Known, node: NodeId) -> Result<String, AllocError> {
+pub fn place_text(alloc: Global, known: &Known, node: NodeId) -> Result<String, AllocError> {
     match place_in(known, node) {
         Some(place) => placed(alloc, known, place.rule, place.number),
         None => Ok(String::new(alloc)),
@@ -16,7 +16,7 @@ pub(crate) fn place_text(alloc: Global, known: &Known, node: NodeId) -> Result<S
 }
 
 /// Where a node stands, if it is there.
-pub(crate) fn place_in(known: &Known, node: NodeId) -> Option<Place> {
+pub fn place_in(known: &Known, node: NodeId) -> Option<Place> {
     let nodes = known.grammar.nodes();
     if node.index() >= nodes.len() {
         return None;
@@ -37,14 +37,14 @@ fn named(alloc: Global, name: &Characters, number: usize) -> Result<String, Allo
 }
 
 /// A node as it was written, and where it stands. The only error is that memory ran out.
-pub(crate) fn mention(alloc: Global, known: &Known, node: NodeId) -> Result<String, AllocError> {
-    let mut words = written(alloc, known, node)?;
+pub fn mention(alloc: Global, known: &Known, node: NodeId) -> Result<String, AllocError> {
+    let mut words = written_at(alloc, known, node)?;
     push_position(alloc, &mut words, known, span_of(known, node).first)?;
     Ok(words)
 }
 
 /// Where the body of the rule with this number stands; the end of the file, if it isn't there.
-pub(crate) fn body_place(known: &Known, rule: usize) -> usize {
+pub fn body_place(known: &Known, rule: usize) -> usize {
     match known.rule(rule) {
         Some(rule) => span_of(known, rule.body).first,
         None => known.file.text.len(),
@@ -52,7 +52,7 @@ pub(crate) fn body_place(known: &Known, rule: usize) -> usize {
 }
 
 /// The name of the rule with this number. The only error is that memory ran out.
-pub(crate) fn rule_name(alloc: Global, known: &Known, rule: usize) -> Result<String, AllocError> {
+pub fn rule_name(alloc: Global, known: &Known, rule: usize) -> Result<String, AllocError> {
     match known.rule(rule) {
         Some(rule) => text_of(alloc, &rule.name),
         None => Ok(String::new(alloc)),
@@ -60,6 +60,6 @@ pub(crate) fn rule_name(alloc: Global, known: &Known, rule: usize) -> Result<Str
 }
 
 /// The characters as a text. The only error is that memory ran out.
-pub(crate) fn text_of(alloc: Global, characters: &Characters) -> Result<String, AllocError> {
+pub fn text_of(alloc: Global, characters: &Characters) -> Result<String, AllocError> {
     format!(in alloc; "{characters}")
 }

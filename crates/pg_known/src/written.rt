@@ -10,7 +10,7 @@ use std::alloc::{AllocError, Global};
 const MOST: usize = 40;
 
 /// The characters that were written for a node; none, at the end of the file, for one that isn't there.
-pub(crate) fn span_of(known: &Known, node: NodeId) -> Span {
+pub fn span_of(known: &Known, node: NodeId) -> Span {
     let end = known.file.text.len();
     match known.file.spans.get(node.index()) {
         Some(span) => *span,
@@ -22,7 +22,7 @@ pub(crate) fn span_of(known: &Known, node: NodeId) -> Span {
 }
 
 /// Pushes the line and the column at which a place stands. The only error is that memory ran out.
-pub(crate) fn push_position(
+pub fn push_position(
     alloc: Global,
     words: &mut String,
     known: &Known,
@@ -40,7 +40,7 @@ pub(crate) fn push_position(
 }
 
 /// A form as it was written; a long one, or one of several lines, by its word. The only error is that memory ran out.
-pub(crate) fn written(alloc: Global, known: &Known, node: NodeId) -> Result<String, AllocError> {
+pub fn written_at(alloc: Global, known: &Known, node: NodeId) -> Result<String, AllocError> {
     let span = span_of(known, node);
     let mut words = String::new(alloc);
     if is_short(known.file.text, span) {

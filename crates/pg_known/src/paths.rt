@@ -7,7 +7,7 @@ use std::alloc::{AllocError, Global};
 
 /// A shortest way from a vertex on, through those that are marked, to one of the ends; that vertex alone, if there is none. The only error
 /// is that memory ran out.
-pub(crate) fn shortest_way(
+pub fn shortest_way(
     alloc: Global,
     graph: &[Numbers],
     marks: &[bool],
@@ -89,7 +89,7 @@ fn met_from(before: &[Option<usize>], vertex: usize) -> Option<usize> {
 }
 
 /// Marks on the vertices that are marked and lead to none that is. The only error is that memory ran out.
-pub(crate) fn dead_ends(
+pub fn dead_ends(
     alloc: Global,
     graph: &[Numbers],
     marks: &[bool],

@@ -37,11 +37,7 @@ pub(crate) fn contained_sets(
 }
 
 /// Marks on the nullable nodes. The only error is that memory ran out.
-pub(crate) fn nullable_marks(
-    alloc: Global,
-    sets: &Sets,
-    count: usize,
-) -> Result<Vec<bool>, AllocError> {
+pub fn nullable_marks(alloc: Global, sets: &Sets, count: usize) -> Result<Vec<bool>, AllocError> {
     let mut marks = Vec::new(alloc);
     for node in 0..count {
         marks.push(sets.nullable(NodeId::new(node)))?;
