@@ -1,23 +1,44 @@
 //! What is asked of drafts for a finding, gathered in a list.
 
-use crate::drafting::{Field, Plan, make_draft};
-use crate::met::{key_of, longer_key};
-use crate::target::{Shows, Target, Task, Want};
+use crate::met::{key_at, next_of_word};
 use pg_form::NodeId;
-use std::alloc::{AllocError, Global};
+use pg_samples::{Basis, Target, Want};
+use pg_table::Table;
 
-/// The most characters of a guide.
-const LONGEST_GUIDE: usize = 6;
 /// The most operators and alternatives that are tried.
 const MOST_TRIED: usize = 4;
 
+/// What shows a finding.
+#[derive(Clone, Copy)]
+pub(crate) enum Shows {
+    /// That the parser loses a derivation.
+    Loss,
+    /// That the parser has no answer.
+    NoAnswer,
+    /// That the parser comes to a round that took nothing.
+    EmptyRound,
+}
+
+/// What a text had better begin with.
+#[derive(Clone, Copy)]
+pub(crate) enum Guide {
+    /// This character, if there is one.
+    Character(Option<char>),
+    /// The key that the start with this number is, and one more character, if there is one.
+    Key(usize, Option<char>),
+    /// The symbol of the operator with this number in the table.
+    Symbol(usize),
+    /// What a text of the node begins with that begins with the character.
+    Part(NodeId, char),
+}
+
 /// What is asked of some drafts.
-#[derive(Drop)]
+#[derive(Clone, Copy)]
 pub(crate) struct Ask {
     /// What is done at the node.
     pub(crate) target: Target,
     /// What the node's text, or what follows, had better begin with.
-    pub(crate) guide: Vec<char>,
+    pub(crate) guide: Guide,
     /// Whether the guide is of what follows.
     pub(crate) follow: bool,
     /// What shows the finding.
@@ -27,43 +48,44 @@ pub(crate) struct Ask {
 /// What is asked, and what it is asked with.
 #[derive(Drop)]
 pub(crate) struct Asks<'g> {
-    pub(crate) alloc: Global,
-    pub(crate) field: Field<'g>,
+    pub(crate) basis: &'g Basis<'g>,
+    pub(crate) table: &'g Table,
     /// The first character of guides, if there is one.
     pub(crate) character: Option<char>,
     pub(crate) asks: Vec<Ask>,
+    /// Whether memory ran out.
+    pub(crate) starved: bool,
 }
 
-impl Asks<'_> {
+impl<'g> Asks<'g> {
     /// A text is run as it is, also where the grammar doesn't derive it.
-    pub(crate) fn run(&mut self, target: Target, shows: Shows) -> Result<(), AllocError> {
-        self.asks.push(Ask {
-            target,
-            guide: Vec::new(self.alloc),
-            follow: false,
-            shows,
-        })?;
-        Ok(())
+    pub(crate) fn run(&mut self, target: Target, shows: Shows) {
+        self.add(target, Guide::Character(None), false, shows);
     }
 
     /// A text is derived, with this guide.
-    fn derive(&mut self, target: Target, guide: Vec<char>, follow: bool) -> Result<(), AllocError> {
-        self.asks.push(Ask {
+    fn derive(&mut self, target: Target, guide: Guide, follow: bool) {
+        self.add(target, guide, follow, Shows::Loss);
+    }
+
+    fn add(&mut self, target: Target, guide: Guide, follow: bool, shows: Shows) {
+        let ask = Ask {
             target,
             guide,
             follow,
-            shows: Shows::Loss,
-        })?;
-        Ok(())
+            shows,
+        };
+        if self.asks.push(ask).is_err() {
+            self.starved = true;
+        }
     }
 
     /// Texts of the first alternatives after so many, up to a number.
-    pub(crate) fn alternatives(&mut self, from: usize, count: usize) -> Result<(), AllocError> {
+    pub(crate) fn alternatives(&mut self, from: usize, count: usize) {
         for number in from..count.min(from.saturating_add(MOST_TRIED)) {
-            let guide = Vec::new(self.alloc);
-            self.derive(Target::Alternative(number, Want::Some), guide, false)?;
+            let target = Target::Alternative(number, Want::Some);
+            self.derive(target, Guide::Character(None), false);
         }
-        Ok(())
     }
 
     /// Texts that begin with the character, as a text of the part does, or as a key of the one start, which a word of the other may go on with.
@@ -74,121 +96,54 @@ impl Asks<'_> {
         part: Option<NodeId>,
         one: usize,
         other: usize,
-    ) -> Result<(), AllocError> {
+    ) {
         let Some(c) = self.character else {
-            return Ok(());
+            return;
         };
-        let guide = Vec::from_slice(self.alloc, &[c])?;
-        self.derive(target, guide, follow)?;
-        self.as_part(target, follow, part, c)?;
-        self.as_key(target, follow, one)?;
-        if let Some(guide) = longer_key(self.alloc, self.field, one, other)? {
-            self.derive(target, guide, follow)?;
+        self.derive(target, Guide::Character(Some(c)), follow);
+        if let Some(part) = part {
+            self.derive(target, Guide::Part(part, c), follow);
         }
-        Ok(())
-    }
-
-    /// Texts that begin as a text of the part does.
-    fn as_part(
-        &mut self,
-        target: Target,
-        follow: bool,
-        part: Option<NodeId>,
-        c: char,
-    ) -> Result<(), AllocError> {
-        match part {
-            Some(part) => {
-                let guide = guide_of(self.alloc, self.field, part, c)?;
-                self.derive(target, guide, follow)
+        if let Some((_, excluded)) = key_at(self.basis, one) {
+            self.derive(target, Guide::Key(one, None), follow);
+            if let Some(next) = next_of_word(self.basis, other, excluded) {
+                self.derive(target, Guide::Key(one, Some(next)), follow);
             }
-            None => Ok(()),
-        }
-    }
-
-    /// Texts that begin with a key.
-    fn as_key(&mut self, target: Target, follow: bool, start: usize) -> Result<(), AllocError> {
-        match key_of(self.field, start) {
-            Some(key) => {
-                let guide = Vec::from_slice(self.alloc, key)?;
-                self.derive(target, guide, follow)
-            }
-            None => Ok(()),
         }
     }
 
     /// Texts with the character, if there is one.
-    pub(crate) fn begun(&mut self, target: Target, follow: bool) -> Result<(), AllocError> {
-        match self.character {
-            Some(c) => {
-                let guide = Vec::from_slice(self.alloc, &[c])?;
-                self.derive(target, guide, follow)
-            }
-            None => Ok(()),
+    pub(crate) fn begun(&mut self, target: Target, follow: bool) {
+        if let Some(c) = self.character {
+            self.derive(target, Guide::Character(Some(c)), follow);
         }
     }
 
     /// Texts in which operators of the table have operands of no characters.
-    pub(crate) fn bare_operators(&mut self) -> Result<(), AllocError> {
+    pub(crate) fn bare_operators(&mut self) {
         for number in 0..self.operators() {
-            let guide = Vec::new(self.alloc);
             let target = Target::Applied(number, Want::Nothing, Want::Nothing);
-            self.derive(target, guide, false)?;
+            self.derive(target, Guide::Character(None), false);
         }
-        Ok(())
     }
 
     /// Texts in which operators of the table stand, with the character in an operand after them, or behind.
-    pub(crate) fn operators_with(&mut self, want: Want, follow: bool) -> Result<(), AllocError> {
+    pub(crate) fn operators_with(&mut self, want: Want, follow: bool) {
         for number in 0..self.operators() {
-            self.begun(Target::Applied(number, Want::Any, want), follow)?;
+            self.begun(Target::Applied(number, Want::Any, want), follow);
         }
-        Ok(())
     }
 
     /// Texts that begin as an operator of the table does, or with the character.
-    pub(crate) fn symbols(&mut self, target: Target, follow: bool) -> Result<(), AllocError> {
+    pub(crate) fn symbols(&mut self, target: Target, follow: bool) {
         for number in 0..self.operators() {
-            self.as_symbol(target, follow, number)?;
+            self.derive(target, Guide::Symbol(number), follow);
         }
-        self.begun(target, follow)
-    }
-
-    fn as_symbol(&mut self, target: Target, follow: bool, number: usize) -> Result<(), AllocError> {
-        match self.field.table.operators().get(number) {
-            Some(operator) => {
-                let guide = Vec::from_slice(self.alloc, operator.symbol())?;
-                self.derive(target, guide, follow)
-            }
-            None => Ok(()),
-        }
+        self.begun(target, follow);
     }
 
     /// How many operators of the table are tried.
     fn operators(&self) -> usize {
-        self.field.table.operators().len().min(MOST_TRIED)
+        self.table.operators().len().min(MOST_TRIED)
     }
-}
-
-/// What a text of the part begins with that begins with the character. The only error is that memory ran out.
-fn guide_of(
-    alloc: Global,
-    field: Field<'_>,
-    part: NodeId,
-    c: char,
-) -> Result<Vec<char>, AllocError> {
-    let guide = [c];
-    let plan = Plan {
-        way: &[],
-        target: Target::Stop,
-        guide: &guide,
-        spaced: false,
-        seed: 0,
-    };
-    let node = Task::Node(part, Want::Guide);
-    let mut text = make_draft(alloc, field, plan, Task::Start, node)?.text;
-    text.truncate(LONGEST_GUIDE);
-    if text.is_empty() {
-        text.push(c)?;
-    }
-    Ok(text)
 }

@@ -1,7 +1,7 @@
 //! How much is tried.
 
 /// How much may still be tried.
-#[derive(Clone, Copy, Debug, PartialEq, Eq)]
+#[derive(Clone, Copy)]
 pub struct Bound {
     /// So many texts may be run.
     pub candidates: usize,

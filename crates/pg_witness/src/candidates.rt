@@ -1,110 +1,126 @@
 //! Which candidates may show a finding.
 
-use crate::asks::{Ask, Asks};
-use crate::drafting::Field;
-use crate::forms::{alternatives, is_chain, round_of};
-use crate::target::{Shows, Target, Want};
-use pg_form::NodeId;
+use crate::asks::{Ask, Asks, Shows};
+use pg_form::{Form, NodeId};
 use pg_predict::ViolationKind;
+use pg_samples::{Basis, Target, Want, alternatives, form_at};
+use pg_table::Table;
+use pg_value::Grammar;
 use std::alloc::{AllocError, Global};
 
 /// What is asked for a finding at a node, which may have this character for its guides. The only error is that memory ran out.
-pub(crate) fn asks_of(
+pub(crate) fn asks_of<'g>(
     alloc: Global,
-    field: Field<'_>,
+    basis: &'g Basis<'g>,
+    table: &'g Table,
     node: NodeId,
     kind: &ViolationKind<usize>,
     character: Option<char>,
 ) -> Result<Vec<Ask>, AllocError> {
     let mut asks = Asks {
-        alloc,
-        field,
+        basis,
+        table,
         character,
         asks: Vec::new(alloc),
+        starved: false,
     };
-    asks.ask(node, kind)?;
-    let Asks { asks, .. } = asks;
-    Ok(asks)
+    asks.ask(node, kind);
+    let Asks { asks, starved, .. } = asks;
+    if starved { Err(AllocError) } else { Ok(asks) }
 }
 
 impl Asks<'_> {
     /// What is asked for a finding at a node.
-    fn ask(&mut self, node: NodeId, kind: &ViolationKind<usize>) -> Result<(), AllocError> {
+    fn ask(&mut self, node: NodeId, kind: &ViolationKind<usize>) {
         match kind {
-            ViolationKind::LeftRecursion => self.recursion(),
-            ViolationKind::EmptyRound => self.empty_round(node),
-            ViolationKind::EmptyAlternative(k) => {
-                let count = alternatives(self.field.grammar, node).len();
-                self.alternatives(*k, count)
+            ViolationKind::LeftRecursion => {
+                self.run(Target::Stop, Shows::NoAnswer);
+                self.run(Target::Whole(Want::Any), Shows::NoAnswer);
             }
+            ViolationKind::EmptyRound => self.empty_round(node),
+            ViolationKind::EmptyAlternative(k) => self.alternatives(*k, self.count(node)),
             ViolationKind::AlternativesMeet(j, k, one, other) => {
                 let target = Target::Alternative(k.saturating_sub(1), Want::Guide);
                 let first = self.alternative(node, *j);
-                self.meeting(target, false, first, *one, *other)
+                self.meeting(target, false, first, *one, *other);
             }
             ViolationKind::AlternativeMeetsFollow(k, one, other) => {
-                let last = alternatives(self.field.grammar, node)
-                    .len()
-                    .saturating_sub(1);
+                let last = self.count(node).saturating_sub(1);
                 let target = Target::Alternative(last, Want::Nothing);
                 let first = self.alternative(node, *k);
-                self.meeting(target, true, first, *one, *other)
+                self.meeting(target, true, first, *one, *other);
             }
             ViolationKind::RoundMeetsFollow(one, other) => {
-                self.rounds(node, 0, *one, *other)?;
-                self.rounds(node, 1, *one, *other)
+                for count in 0..2 {
+                    let round = round_of(self.basis.grammar, node);
+                    self.meeting(Target::Rounds(count), true, round, *one, *other);
+                }
             }
             ViolationKind::EmptyOperand => self.bare_operators(),
             ViolationKind::OperandMeetsOperators(_) => {
-                self.symbols(Target::Whole(Want::Guide), false)?;
-                self.operators_with(Want::Guide, false)
+                self.symbols(Target::Whole(Want::Guide), false);
+                self.operators_with(Want::Guide, false);
             }
-            ViolationKind::FollowMeetsOperators(_) => {
-                self.symbols(Target::Whole(Want::Any), true)
-            }
+            ViolationKind::FollowMeetsOperators(_) => self.symbols(Target::Whole(Want::Any), true),
             ViolationKind::GapMeets(_) => {
-                self.operators_with(Want::Guide, false)?;
-                self.begun(Target::Whole(Want::Any), true)?;
-                self.operators_with(Want::Any, true)
+                self.operators_with(Want::Guide, false);
+                self.begun(Target::Whole(Want::Any), true);
+                self.operators_with(Want::Any, true);
             }
-            ViolationKind::StepCostOver => Ok(()),
+            ViolationKind::StepCostOver => {}
         }
     }
 
-    /// A rule is come to, with nothing there or with a text of it.
-    fn recursion(&mut self) -> Result<(), AllocError> {
-        self.run(Target::Stop, Shows::NoAnswer)?;
-        self.run(Target::Whole(Want::Any), Shows::NoAnswer)
-    }
-
     /// A repetition is come to, with nothing there, or with a round or none. A chain goes on for ever, and a `many` stops.
-    fn empty_round(&mut self, node: NodeId) -> Result<(), AllocError> {
-        let shows = if is_chain(self.field.grammar, node) {
-            Shows::NoAnswer
-        } else {
-            Shows::EmptyRound
-        };
-        self.run(Target::Stop, shows)?;
-        self.run(Target::Rounds(0), shows)?;
-        self.run(Target::Rounds(1), shows)
+    fn empty_round(&mut self, node: NodeId) {
+        let shows = shown_by_empty_round(self.basis.grammar, node);
+        self.run(Target::Stop, shows);
+        self.run(Target::Rounds(0), shows);
+        self.run(Target::Rounds(1), shows);
     }
 
-    /// So many rounds, and what follows begins as one does.
-    fn rounds(
-        &mut self,
-        node: NodeId,
-        count: usize,
-        one: usize,
-        other: usize,
-    ) -> Result<(), AllocError> {
-        let round = round_of(self.field.grammar, node);
-        self.meeting(Target::Rounds(count), true, round, one, other)
+    /// How many alternatives there are.
+    fn count(&self, node: NodeId) -> usize {
+        alternatives(self.basis.grammar, node).len()
     }
 
     /// The alternative with this number, from 1.
     fn alternative(&self, node: NodeId, number: usize) -> Option<NodeId> {
-        alternatives(self.field.grammar, node)
+        alternatives(self.basis.grammar, node)
             .get(number.saturating_sub(1))
             .copied()
+    }
+}
+
+/// The part that begins a round of a repetition after the first operand: that of a `many`, or the separator of a chain.
+fn round_of(grammar: &Grammar, node: NodeId) -> Option<NodeId> {
+    match form_at(grammar, node) {
+        Some(Form::Many(part) | Form::Chain(_, _, _, part)) => Some(*part),
+        Some(
+            Form::Leaf(_)
+            | Form::Seq(_)
+            | Form::Choice(_)
+            | Form::Rule(_)
+            | Form::Expression(_, _)
+            | Form::Around(_, _),
+        )
+        | None => None,
+    }
+}
+
+/// What shows that a round of the node took nothing.
+fn shown_by_empty_round(grammar: &Grammar, node: NodeId) -> Shows {
+    match form_at(grammar, node) {
+        Some(Form::Chain(_, _, _, _)) => Shows::NoAnswer,
+        Some(
+            Form::Leaf(_)
+            | Form::Seq(_)
+            | Form::Choice(_)
+            | Form::Many(_)
+            | Form::Rule(_)
+            | Form::Expression(_, _)
+            | Form::Around(_, _),
+        )
+        | None => Shows::EmptyRound,
     }
 }

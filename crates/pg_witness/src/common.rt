@@ -1,6 +1,5 @@
 //! A character that two starts both take.
 
-use crate::characters::character_of;
 use pg_class::Class;
 use pg_start::{Start, StartKind};
 

@@ -8,7 +8,7 @@ ghost use Rattle.pg_language.specs.declared.reading.Reading.TheVariants.{Library
 ghost use Rattle.pg_witness.specs.Shown.{IsShown};
 ghost use Rattle.pg_witness.specs.Witnesses.{IsWitness, IsWitnessIn};
 
-use crate::judging::{Shown, Weight, weight_of};
+use crate::judging::{Shown, rounds_beside};
 use pg_text::Text;
 use std::alloc::{AllocError, Global};
 
@@ -47,29 +47,11 @@ impl Found {
         best
     }
 
-    /// How much the best shows.
-    fn weight(&self) -> Option<Weight> {
+    /// For how many rounds something that shows more is looked for.
+    pub(crate) fn rounds(&self) -> u64 {
         match &self.best {
-            Some(witness) => Some(weight_of(&witness.shown)),
-            None => None,
-        }
-    }
-
-    /// Whether it shows harm.
-    pub(crate) fn is_strong(&self) -> bool {
-        match self.weight() {
-            Some(Weight::Strong) => true,
-            Some(Weight::Middle | Weight::Weak) | None => false,
-        }
-    }
-
-    /// Whether no more is looked for after so many rounds.
-    pub(crate) fn is_enough(&self, rounds: u64) -> bool {
-        match self.weight() {
-            Some(Weight::Strong) => true,
-            Some(Weight::Middle) => rounds >= 2,
-            Some(Weight::Weak) => rounds >= 4,
-            None => false,
+            Some(witness) => rounds_beside(&witness.shown),
+            None => u64::MAX,
         }
     }
 
@@ -83,30 +65,29 @@ impl Found {
         false
     }
 
-    /// The text was run. The only error is that memory ran out.
-    pub(crate) fn see(&mut self, alloc: Global, text: &[char]) -> Result<(), AllocError>
-        ensures { OnOk result (self.new.best ≡ self.old.best) }
+    /// The text was run, and shows this, if anything. The only error is that memory ran out.
+    pub(crate) fn note(
+        &mut self,
+        alloc: Global,
+        characters: &[char],
+        text: Text,
+        shown: Option<Shown>,
+    ) -> Result<(), AllocError>
+        ensures { OnOk result ((g : Grammar) (t : Operators) → IsWitnessIn g t self.old → IfSome shown (IsShown (given Library g text) t) → IsWitnessIn g t self.new) }
     {
-        self.seen.push(Vec::from_slice(alloc, text)?)?;
+        self.seen.push(Vec::from_slice(alloc, characters)?)?;
+        if let Some(shown) = shown {
+            self.keep(text, shown);
+        }
         Ok(())
     }
 
     /// What a text shows is kept, unless there is something that shows as much.
-    pub(crate) fn keep(&mut self, text: Text, shown: Shown)
+    fn keep(&mut self, text: Text, shown: Shown)
         ensures { (g : Grammar) (t : Operators) → IsWitnessIn g t self.old → IsShown (given Library g text) t shown → IsWitnessIn g t self.new }
     {
-        if self.is_outdone(weight_of(&shown)) {
+        if rounds_beside(&shown) < self.rounds() {
             self.best = Some(Witness { text, shown });
-        }
-    }
-
-    /// Whether the best shows less.
-    fn is_outdone(&self, weight: Weight) -> bool {
-        match self.weight() {
-            Some(Weight::Strong) => false,
-            Some(Weight::Middle) => weight == Weight::Strong,
-            Some(Weight::Weak) => weight != Weight::Weak,
-            None => true,
         }
     }
 }

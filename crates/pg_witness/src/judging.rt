@@ -8,7 +8,7 @@ ghost use Rattle.pg_replay.specs.Ends.{IsDerived};
 ghost use Rattle.pg_witness.specs.Shown.{IsReadSo, IsSaid};
 ghost use Rattle.pg_witness.specs.Witnesses.{IsSound};
 
-use crate::target::Shows;
+use crate::asks::Shows;
 use crate::trails::are_same;
 use pg_language::Reading;
 use pg_machine::{Answer, Outcome, Success, probe};
@@ -44,17 +44,6 @@ pub enum Shown {
     NoAnswer(u64),
 }
 
-/// How much a text shows.
-#[derive(Clone, Copy, PartialEq, Eq)]
-pub(crate) enum Weight {
-    /// That it is read in two ways, with the same trees.
-    Weak,
-    /// That it is read in two ways, with different trees.
-    Middle,
-    /// That a parser does harm.
-    Strong,
-}
-
 /// What was found of a candidate.
 #[derive(Drop)]
 pub(crate) struct Verdict {
@@ -71,13 +60,11 @@ pub(crate) struct Derivation {
     pub(crate) forest: Forest,
 }
 
-/// How much it shows.
-pub(crate) fn weight_of(shown: &Shown) -> Weight {
+/// For how many rounds something that shows more is looked for: for none where a parser does harm, and longest where the trees are the same.
+pub(crate) fn rounds_beside(shown: &Shown) -> u64 {
     match shown {
-        Shown::TwoReadings { apart } => { if *apart { Weight::Middle } else { Weight::Weak } }
-        Shown::Lost { .. } | Shown::LeftOver(_) | Shown::EmptyRound | Shown::NoAnswer(_) => {
-            Weight::Strong
-        }
+        Shown::Lost { .. } | Shown::LeftOver(_) | Shown::EmptyRound | Shown::NoAnswer(_) => 0,
+        Shown::TwoReadings { apart } => { if *apart { 2 } else { 4 } }
     }
 }
 
@@ -204,22 +191,15 @@ pub(crate) fn stop(
     requires { Fits (offer_of registry.now) grammar.now }
     ensures { IfOk result (IsSound grammar.now table.now text.now) }
 {
-    let outcome = probe(
-        alloc,
-        grammar,
-        text,
-        table,
-        registry,
-        most,
-        Reading::Library,
-    )?;
+    let reading = Reading::Library;
+    let outcome = probe(alloc, grammar, text, table, registry, most, reading)?;
     Ok(match outcome {
         Outcome::Answered(answer) => Verdict {
             shown: None,
             steps: answer.steps,
         },
         Outcome::StepsUsed => Verdict {
-            shown: if shows == Shows::NoAnswer {
+            shown: if matches!(shows, Shows::NoAnswer) {
                 Some(Shown::NoAnswer(most))
             } else {
                 None
@@ -227,7 +207,7 @@ pub(crate) fn stop(
             steps: most,
         },
         Outcome::EmptyRound => Verdict {
-            shown: if shows == Shows::EmptyRound {
+            shown: if matches!(shows, Shows::EmptyRound) {
                 Some(Shown::EmptyRound)
             } else {
                 None

@@ -6,24 +6,15 @@ ghost use Rattle.pg_value.specs.Fits.{Fits};
 ghost use Rattle.std.specs.Prelude.{◌≡◌, IfOk, IfSome, OnOk};
 ghost use Rattle.pg_witness.specs.Witnesses.{IsSound, IsWitness, IsWitnessIn};
 
-use crate::above::nodes_above;
-use crate::asks::Ask;
+use crate::asks::Shows;
 use crate::bound::Bound;
-use crate::candidates::asks_of;
-use crate::drafting::{Draft, Field, Plan, make_draft};
 use crate::found::{Found, Witness};
-use crate::guide::Fronts;
 use crate::judging::{Verdict, derivation_along, loss, stop};
-use crate::met::character_of_kind;
-use crate::shortest::{Costs, Front, Ground, Plain, leading_costs, plain_costs};
-use crate::target::{Shows, Task};
-use crate::trails::trail_of;
-use crate::ways::{Search, Step, way_to};
+use crate::trials::{Trial, drafted, trials_of};
 use pg_form::NodeId;
-use pg_graph::Numbers;
-use pg_own_starts::{OperatorStarts, operator_starts};
 use pg_pred::Registry;
 use pg_predict::ViolationKind;
+use pg_samples::{Basis, Draft, Field, Fronts, trail_of};
 use pg_sets::Sets;
 use pg_table::Table;
 use pg_text::{Text, TextFault};
@@ -39,19 +30,7 @@ const LEAST_STEPS: u64 = 2_000;
 #[derive(Drop)]
 pub struct Seeker<'g> {
     pub grammar: &'g Grammar,
-    pub sets: &'g Sets,
-    operators: Option<OperatorStarts>,
-    above: Vec<Numbers>,
-    any: Costs,
-    nothing: Costs,
-    some: Costs,
-}
-
-/// Drafts of one kind.
-#[derive(Drop)]
-struct Trial {
-    ask: Ask,
-    way: Vec<Step>,
+    basis: Basis<'g>,
 }
 
 impl<'g> Seeker<'g> {
@@ -59,56 +38,8 @@ impl<'g> Seeker<'g> {
     pub fn of(alloc: Global, grammar: &'g Grammar, sets: &'g Sets) -> Result<Seeker<'g>, AllocError>
         ensures { IfOk result (λ seeker. seeker.grammar.now ≡ grammar.now) }
     {
-        let operators = operator_starts(alloc, grammar)?;
-        let above = nodes_above(alloc, grammar)?;
-        let ground = Ground {
-            grammar,
-            sets,
-            above: &above,
-        };
-        let any = plain_costs(alloc, ground, Front::Any)?;
-        let nothing = plain_costs(alloc, ground, Front::Nothing)?;
-        let plain = Plain {
-            any: &any,
-            nothing: &nothing,
-        };
-        let some = leading_costs(alloc, ground, plain, Front::Some)?;
-        Ok(Seeker {
-            grammar,
-            sets,
-            operators,
-            above,
-            any,
-            nothing,
-            some,
-        })
-    }
-
-    fn plain(&self) -> Plain<'_> {
-        Plain {
-            any: &self.any,
-            nothing: &self.nothing,
-        }
-    }
-
-    fn ground(&self) -> Ground<'_> {
-        Ground {
-            grammar: self.grammar,
-            sets: self.sets,
-            above: &self.above,
-        }
-    }
-
-    fn field<'a>(&'a self, fronts: &'a Fronts, table: &'a Table) -> Field<'a> {
-        Field {
-            grammar: self.grammar,
-            sets: self.sets,
-            plain: self.plain(),
-            some: &self.some,
-            fronts,
-            operators: self.operators.as_ref(),
-            table,
-        }
+        let basis = Basis::of(alloc, grammar, sets)?;
+        Ok(Seeker { grammar, basis })
     }
 
     /// A text that shows what is wrong at a node, if one is found before the bound is used up, by shortest texts and the initial table (ours). The caller owes that the registry
@@ -131,111 +62,17 @@ impl<'g> Seeker<'g> {
             return Ok(None);
         }
         let mut fronts = Fronts::new(alloc);
-        let asks = (&*self).asks(alloc, &*table, node, kind, &mut fronts)?;
-        let trials = (&*self).trials(alloc, &fronts, asks, node)?;
-        (&*self).seek(alloc, &*table, registry, &fronts, &trials, bound)
-    }
-
-    /// What is asked for a finding, and the costs that drafts want for that.
-    fn asks(
-        &self,
-        alloc: Global,
-        table: &Table,
-        node: NodeId,
-        kind: &ViolationKind<usize>,
-        fronts: &mut Fronts,
-    ) -> Result<Vec<Ask>, AllocError> {
-        self.learn(alloc, &[' '], fronts)?;
-        let character = (&*self).character(&*table, kind, &*fronts);
-        if let Some(c) = character {
-            self.learn(alloc, &[c], fronts)?;
-        }
-        let asks = (&*self).asked(alloc, &*table, node, kind, character, &*fronts)?;
-        for ask in &asks {
-            self.learn(alloc, &ask.guide, fronts)?;
-        }
-        Ok(asks)
-    }
-
-    /// The costs of texts that begin with these characters are worked out.
-    fn learn(
-        &self,
-        alloc: Global,
-        characters: &[char],
-        fronts: &mut Fronts,
-    ) -> Result<(), AllocError> {
-        fronts.ask(alloc, self.ground(), self.plain(), characters)
-    }
-
-    /// The character with which guides begin.
-    fn character<'a>(
-        &'a self,
-        table: &'a Table,
-        kind: &ViolationKind<usize>,
-        fronts: &'a Fronts,
-    ) -> Option<char> {
-        character_of_kind(self.field(fronts, table), kind)
-    }
-
-    /// What is asked.
-    fn asked<'a>(
-        &'a self,
-        alloc: Global,
-        table: &'a Table,
-        node: NodeId,
-        kind: &ViolationKind<usize>,
-        character: Option<char>,
-        fronts: &'a Fronts,
-    ) -> Result<Vec<Ask>, AllocError> {
-        asks_of(alloc, self.field(fronts, table), node, kind, character)
-    }
-
-    /// Each with a way to the node, where there is one.
-    fn trials<'a>(
-        &'a self,
-        alloc: Global,
-        fronts: &'a Fronts,
-        asks: Vec<Ask>,
-        node: NodeId,
-    ) -> Result<Vec<Trial>, AllocError> {
-        let mut trials = Vec::new(alloc);
-        for ask in asks {
-            if let Some(way) = self.way(alloc, fronts, &ask, node)? {
-                trials.push(Trial { ask, way })?;
-            }
-        }
-        Ok(trials)
-    }
-
-    /// A way to the node by which what follows it can begin as is asked.
-    fn way<'a>(
-        &'a self,
-        alloc: Global,
-        fronts: &'a Fronts,
-        ask: &Ask,
-        node: NodeId,
-    ) -> Result<Option<Vec<Step>>, AllocError> {
-        let follow = followed(fronts, ask);
-        if ask.follow && follow.is_none() {
-            return Ok(None);
-        }
-        let search = Search {
-            grammar: self.grammar,
-            above: &self.above,
-            plain: self.plain(),
-            follow,
-            cut: ask.shows != Shows::Loss,
-        };
-        way_to(alloc, search, node)
+        let trials = trials_of(alloc, &self.basis, table, node, kind, &mut fronts)?;
+        self.seek(alloc, table, registry, &fronts, &trials, bound)
     }
 
     /// The drafts are made and judged, the plainest of each kind first. What shows little is given where nothing else shows more.
-    fn seek<'a>(
-        &'a self,
+    fn seek(
+        &self,
         alloc: Global,
-        table: &'a Table,
+        table: &Table,
         registry: &Registry,
-        fronts: &'a Fronts,
+        fronts: &Fronts,
         trials: &[Trial],
         bound: &mut Bound,
     ) -> Result<Option<Witness>, AllocError>
@@ -243,30 +80,44 @@ impl<'g> Seeker<'g> {
         requires table { ComesFrom self.now.grammar.now table.now }
         ensures { IfOk result (λ found. IfSome found (IsWitness self.now.grammar.now table.now)) }
     {
-        let field = self.field(fronts, table);
         let mut found = Found::nothing(alloc);
         for round in 0..ROUNDS {
-            if found.is_enough(round) {
+            if round >= found.rounds() {
                 break;
             }
-            for trial in trials {
-                if bound.is_used_up() || found.is_strong() {
-                    break;
-                }
-                let drafted = drafted(alloc, field, trial, round)?;
-                bound.take(drafted.done as u64);
-                self.judge(
-                    alloc,
-                    table,
-                    registry,
-                    &drafted,
-                    trial.ask.shows,
-                    &mut found,
-                    bound,
-                )?;
-            }
+            self.seek_so(
+                alloc, table, registry, fronts, trials, round, &mut found, bound,
+            )?;
         }
         Ok(found.into_best())
+    }
+
+    /// A draft of each kind is made and judged, unless enough was found.
+    fn seek_so(
+        &self,
+        alloc: Global,
+        table: &Table,
+        registry: &Registry,
+        fronts: &Fronts,
+        trials: &[Trial],
+        round: u64,
+        found: &mut Found,
+        bound: &mut Bound,
+    ) -> Result<(), AllocError>
+        requires fits { Fits (offer_of registry.now) self.now.grammar.now }
+        requires table { ComesFrom self.now.grammar.now table.now }
+        requires found { IsWitnessIn self.now.grammar.now table.now found.old }
+        ensures { OnOk result (IsWitnessIn self.now.grammar.now table.now found.new) }
+    {
+        for trial in trials {
+            if bound.is_used_up() || found.rounds() == 0 {
+                break;
+            }
+            let field = Field::of(&self.basis, fronts, table);
+            let drafted = drafted(alloc, field, trial, round)?;
+            self.judge(alloc, table, registry, &drafted, trial.shows, found, bound)?;
+        }
+        Ok(())
     }
 
     /// What a draft shows is kept, if it shows more than what there is.
@@ -285,6 +136,7 @@ impl<'g> Seeker<'g> {
         requires found { IsWitnessIn self.now.grammar.now table.now found.old }
         ensures { OnOk result (IsWitnessIn self.now.grammar.now table.now found.new) }
     {
+        bound.take(drafted.done as u64);
         if found.has_seen(&drafted.text) {
             return Ok(());
         }
@@ -292,26 +144,37 @@ impl<'g> Seeker<'g> {
             return Ok(());
         };
         let most = most_steps(drafted.done).min(bound.steps);
-        let verdict = if shows == Shows::Loss {
-            self.lost(alloc, table, registry, drafted, &text, most)?
-        } else {
-            Some(stop(alloc, self.grammar, &text, table, registry, shows, most)?)
-        };
-        let Some(verdict) = verdict else {
-            return Ok(());
-        };
-        let Verdict { shown, steps } = verdict;
-        bound.run(steps.saturating_add(self.setting_up()));
-        found.see(alloc, &drafted.text)?;
-        if let Some(shown) = shown {
-            found.keep(text, shown);
+        match self.verdict(alloc, table, registry, drafted, shows, &text, most)? {
+            Some(verdict) => {
+                bound.run(verdict.steps.saturating_add(setting_up(self.grammar)));
+                found.note(alloc, &drafted.text, text, verdict.shown)
+            }
+            None => Ok(()),
         }
-        Ok(())
     }
 
-    /// How many steps what a run begins with counts for: what each leaf asks of ASCII is worked out.
-    fn setting_up(&self) -> u64 {
-        (self.grammar.nodes().len() as u64).saturating_mul(4)
+    /// What the text of a draft shows, in so many steps at most; none where it is asked for a derivation and isn't one.
+    fn verdict(
+        &self,
+        alloc: Global,
+        table: &Table,
+        registry: &Registry,
+        drafted: &Draft<'_>,
+        shows: Shows,
+        text: &Text,
+        most: u64,
+    ) -> Result<Option<Verdict>, AllocError>
+        requires fits { Fits (offer_of registry.now) self.now.grammar.now }
+        requires table { ComesFrom self.now.grammar.now table.now }
+        ensures { IfOk result (λ v. IfSome v (IsSound self.now.grammar.now table.now text.now)) }
+    {
+        match shows {
+            Shows::Loss => self.lost(alloc, table, registry, drafted, text, most),
+            Shows::NoAnswer | Shows::EmptyRound => {
+                let verdict = stop(alloc, self.grammar, text, table, registry, shows, most)?;
+                Ok(Some(verdict))
+            }
+        }
     }
 
     /// What the parser does with the text of a draft that the grammar derives so; none where it doesn't.
@@ -342,36 +205,9 @@ impl<'g> Seeker<'g> {
     }
 }
 
-/// What texts cost that begin as what has to follow does.
-fn followed<'a>(fronts: &'a Fronts, ask: &Ask) -> Option<&'a Costs> {
-    if ask.follow {
-        fronts.of(*ask.guide.first()?)
-    } else {
-        None
-    }
-}
-
-/// A draft of a trial: as it is, with spaces, or varied.
-fn drafted<'g>(
-    alloc: Global,
-    field: Field<'g>,
-    trial: &Trial,
-    round: u64,
-) -> Result<Draft<'g>, AllocError> {
-    let plan = Plan {
-        way: &trial.way,
-        target: trial.ask.target,
-        guide: &trial.ask.guide,
-        spaced: round % 2 == 1,
-        seed: if round < 2 { 0 } else { round },
-    };
-    make_draft(
-        alloc,
-        field,
-        plan,
-        Task::Step(0),
-        Task::Step(trial.way.len()),
-    )
+/// How many steps what a run begins with counts for: what each leaf asks of ASCII is worked out.
+fn setting_up(grammar: &Grammar) -> u64 {
+    (grammar.nodes().len() as u64).saturating_mul(4)
 }
 
 /// The most steps for a draft of so many tasks.

@@ -3,6 +3,3 @@ use Rattle.pg_witness.proofs.witness.Seeker.seek.Given as goal
 
 abbrev pub invariant-loop-round : goal.invariant-loop-round
 invariant-loop-round g l = IsWitnessIn l.self.grammar.now l.table l.found
-
-abbrev pub invariant-loop-trial : goal.invariant-loop-trial
-invariant-loop-trial g l = IsWitnessIn l.self.grammar.now l.table l.found

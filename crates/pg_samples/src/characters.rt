@@ -7,9 +7,9 @@ use pg_class::Class;
 /// How many printable characters of ASCII there are, but for the space.
 const PRINTABLE: usize = 94;
 
-/// A character of the class that isn't in the other, if there is one among the printable ones or those that begin ranges. So many printable
-/// ones are passed at first.
-pub(crate) fn character_of(class: &Class, other: Option<&Class>, passed: usize) -> Option<char> {
+/// A character of the class that isn't in the other, if there is one among the printable ones, the space or those that begin ranges. So many
+/// printable ones are passed at first.
+pub fn character_of(class: &Class, other: Option<&Class>, passed: usize) -> Option<char> {
     for number in 0..PRINTABLE {
         let c = printable(number.saturating_add(passed) % PRINTABLE);
         if takes(class, other, c) {
@@ -38,13 +38,9 @@ fn printable(number: usize) -> char {
 
 /// Whether the class has the character, and the other, if there is one, doesn't.
 fn takes(class: &Class, other: Option<&Class>, c: char) -> bool {
-    class.has(c) && !excludes(other, c)
-}
-
-/// Whether the class that may not come next has the character.
-pub(crate) fn excludes(class: Option<&Class>, c: char) -> bool {
-    match class {
-        Some(class) => class.has(c),
+    let excluded = match other {
+        Some(other) => other.has(c),
         None => false,
-    }
+    };
+    class.has(c) && !excluded
 }

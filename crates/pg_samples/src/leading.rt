@@ -1,46 +1,46 @@
-//! What a form costs by the costs of its parts.
+//! What a node costs by the costs of its parts.
 
-use crate::shortest::{Costs, NONE, Plain, sum};
-use pg_form::{Form, Node, NodeId, RuleId};
-use pg_value::Grammar;
+use crate::forms::{body_of, form_at};
+use crate::leaves::leaf_cost;
+use crate::shortest::{Costs, Equations, NONE, Plain, sum};
+use pg_form::{Form, NodeId};
 
-/// What the node costs where its text is whatever there is, or nothing: no more than its parts.
-pub(crate) fn plain_cost(grammar: &Grammar, costs: &Costs, node: &Node) -> u32 {
-    match node {
-        Form::Seq(parts) => sum(1, sum_of(costs, parts.as_slice())),
+/// What the node costs by the costs of the others.
+pub(crate) fn cost_at(
+    equations: Equations<'_>,
+    plain: Option<&Plain>,
+    costs: &Costs,
+    node: NodeId,
+) -> u32 {
+    let Some(form) = form_at(equations.grammar, node) else {
+        return NONE;
+    };
+    match form {
+        Form::Leaf(leaf) => leaf_cost(equations.sets, node, leaf, equations.front),
+        Form::Seq(parts) => sum(1, joint_cost(plain, costs, parts.as_slice())),
         Form::Choice(parts) => sum(1, least_of(costs, parts.as_slice())),
-        Form::Many(_) => 1,
-        Form::Chain(_, _, part, _) | Form::Expression(_, part) | Form::Around(_, part) => {
-            sum(1, costs.at(*part))
-        }
-        Form::Rule(rule) => sum(1, rule_cost(grammar, costs, *rule)),
-        Form::Leaf(_) => NONE,
-    }
-}
-
-/// What the node costs where its text has a character at its front: a part begins with it, and those before are empty.
-pub(crate) fn leading_cost(grammar: &Grammar, plain: Plain<'_>, costs: &Costs, node: &Node) -> u32 {
-    match node {
-        Form::Seq(parts) => sum(1, sequence_cost(plain, costs, parts.as_slice())),
-        Form::Choice(parts) => sum(1, least_of(costs, parts.as_slice())),
+        Form::Many(part) => match plain {
+            Some(_) => sum(1, costs.at(*part)),
+            None => 1,
+        },
         Form::Chain(_, _, operand, separator) => {
-            let first = costs.at(*operand);
-            let later = sequence_cost(plain, costs, &[*operand, *separator, *operand]);
-            sum(1, first.min(later))
+            let parts = [*operand, *separator, *operand];
+            let later = joint_cost(plain, costs, &parts);
+            sum(1, costs.at(*operand).min(later))
         }
-        Form::Many(part) | Form::Expression(_, part) | Form::Around(_, part) => {
-            sum(1, costs.at(*part))
-        }
-        Form::Rule(rule) => sum(1, rule_cost(grammar, costs, *rule)),
-        Form::Leaf(_) => NONE,
+        Form::Expression(_, part) | Form::Around(_, part) => sum(1, costs.at(*part)),
+        Form::Rule(rule) => match body_of(equations.grammar, *rule) {
+            Some(body) => sum(1, costs.at(body)),
+            None => NONE,
+        },
     }
 }
 
-/// What the body of a rule costs.
-fn rule_cost(grammar: &Grammar, costs: &Costs, rule: RuleId) -> u32 {
-    match grammar.rules().get(rule.index()) {
-        Some(rule) => costs.at(rule.body),
-        None => NONE,
+/// What these cost one after another; with plain costs one of them begins with a character, and those before it are empty.
+fn joint_cost(plain: Option<&Plain>, costs: &Costs, parts: &[NodeId]) -> u32 {
+    match plain {
+        Some(plain) => sequence_cost(plain, costs, parts),
+        None => sum_of(costs, parts),
     }
 }
 
@@ -63,7 +63,7 @@ fn least_of(costs: &Costs, parts: &[NodeId]) -> u32 {
 }
 
 /// What a sequence of these costs, of which one begins with a character, and those before it are empty.
-pub(crate) fn sequence_cost(plain: Plain<'_>, costs: &Costs, parts: &[NodeId]) -> u32 {
+pub(crate) fn sequence_cost(plain: &Plain, costs: &Costs, parts: &[NodeId]) -> u32 {
     let mut least = NONE;
     let mut after = 0;
     for part in parts.iter().rev() {
@@ -75,7 +75,7 @@ pub(crate) fn sequence_cost(plain: Plain<'_>, costs: &Costs, parts: &[NodeId]) -
 }
 
 /// Which of these begins with a character where that costs least, those before it being empty: how many stand before it.
-pub(crate) fn leader(plain: Plain<'_>, costs: &Costs, parts: &[NodeId]) -> Option<usize> {
+pub(crate) fn leader(plain: &Plain, costs: &Costs, parts: &[NodeId]) -> Option<usize> {
     let mut found = None;
     let mut least = NONE;
     let mut after = 0;

@@ -1,10 +1,10 @@
-//! What a draft does at the node that a finding names, and what texts its nodes are to have.
+//! What a draft does at the end of its way, and what texts its nodes are to have.
 
 use pg_form::NodeId;
 
 /// What text a node is to have.
-#[derive(Clone, Copy, PartialEq, Eq)]
-pub(crate) enum Want {
+#[derive(Clone, Copy)]
+pub enum Want {
     /// A shortest one.
     Any,
     /// None.
@@ -19,7 +19,7 @@ pub(crate) enum Want {
 
 /// What is done at the node that the way leads to.
 #[derive(Clone, Copy)]
-pub(crate) enum Target {
+pub enum Target {
     /// The draft ends before it.
     Stop,
     /// The node has such a text.
@@ -34,12 +34,12 @@ pub(crate) enum Target {
 
 /// What is to be done next.
 #[derive(Clone, Copy)]
-pub(crate) enum Task {
+pub enum Task {
     /// The guide begins.
     Start,
     /// A node gets a text.
     Node(NodeId, Want),
-    /// The step of the way with this number.
+    /// The step of the way with this number, if there is one.
     Step(usize),
     /// More rounds of a part, as long as the guide has them, noted at a place of the picks.
     More(NodeId, usize),
@@ -51,22 +51,11 @@ pub(crate) enum Task {
 
 /// What is picked at a node.
 #[derive(Clone, Copy)]
-pub(crate) enum Pick {
+pub enum Pick {
     /// The alternative, counted from 1.
     Alternative(usize),
     /// So many rounds.
     Rounds(usize),
     /// The operator with this number in the table, or none.
     Operator(Option<usize>),
-}
-
-/// What shows a finding.
-#[derive(Clone, Copy, PartialEq, Eq)]
-pub(crate) enum Shows {
-    /// That the parser loses a derivation.
-    Loss,
-    /// That the parser has no answer.
-    NoAnswer,
-    /// That the parser comes to a round that took nothing.
-    EmptyRound,
 }

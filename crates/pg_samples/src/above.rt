@@ -1,5 +1,6 @@
 //! What stands above each node: the form that it is a part of, or the uses of the rule whose body it is.
 
+use crate::forms::body_of;
 use pg_form::{Form, Node, NodeId};
 use pg_graph::{Numbers, empty_lists, join};
 use pg_value::Grammar;
@@ -19,25 +20,23 @@ fn join_node(
     grammar: &Grammar,
     number: usize,
     node: &Node,
-    above: &mut Vec<Numbers>,
+    above: &mut [Numbers],
 ) -> Result<(), AllocError> {
     match node {
         Form::Seq(parts) | Form::Choice(parts) => join_each(number, parts.as_slice(), above),
-        Form::Chain(_, _, operand, separator) => {
-            join_each(number, &[*operand, *separator], above)
-        }
+        Form::Chain(_, _, operand, separator) => join_each(number, &[*operand, *separator], above),
         Form::Many(part) | Form::Expression(_, part) | Form::Around(_, part) => {
             join(above, part.index(), number)
         }
-        Form::Rule(rule) => match grammar.rules().get(rule.index()) {
-            Some(rule) => join(above, rule.body.index(), number),
+        Form::Rule(rule) => match body_of(grammar, *rule) {
+            Some(body) => join(above, body.index(), number),
             None => Ok(()),
         },
         Form::Leaf(_) => Ok(()),
     }
 }
 
-fn join_each(number: usize, parts: &[NodeId], above: &mut Vec<Numbers>) -> Result<(), AllocError> {
+fn join_each(number: usize, parts: &[NodeId], above: &mut [Numbers]) -> Result<(), AllocError> {
     for part in parts {
         join(above, part.index(), number)?;
     }

@@ -1,6 +1,7 @@
 //! The costs of texts that begin with a character, for those characters that were asked for.
 
-use crate::shortest::{Costs, Front, Ground, Plain, leading_costs};
+use crate::basis::Basis;
+use crate::shortest::{Costs, solved};
 use std::alloc::{AllocError, Global};
 
 /// The costs of texts that begin with a character.
@@ -10,22 +11,22 @@ struct Begun {
     costs: Costs,
 }
 
-/// The costs by characters.
+/// The costs of texts by the characters that they begin with.
 #[derive(Drop)]
-pub(crate) struct Fronts {
+pub struct Fronts {
     begun: Vec<Begun>,
 }
 
 impl Fronts {
     /// None was asked for.
-    pub(crate) fn new(alloc: Global) -> Fronts {
+    pub fn new(alloc: Global) -> Fronts {
         Fronts {
             begun: Vec::new(alloc),
         }
     }
 
     /// The costs of texts that begin with this character, if it was asked for.
-    pub(crate) fn of(&self, c: char) -> Option<&Costs> {
+    pub fn of(&self, c: char) -> Option<&Costs> {
         for begun in &self.begun {
             if begun.character == c {
                 return Some(&begun.costs);
@@ -35,15 +36,14 @@ impl Fronts {
     }
 
     /// Works out the costs of texts that begin with one of these characters, where they aren't there. The only error is that memory ran out.
-    pub(crate) fn ask(
+    pub fn ask(
         &mut self,
         alloc: Global,
-        ground: Ground<'_>,
-        plain: Plain<'_>,
+        basis: &Basis<'_>,
         characters: &[char],
     ) -> Result<(), AllocError> {
         for character in characters {
-            self.ask_one(alloc, ground, plain, *character)?;
+            self.ask_one(alloc, basis, *character)?;
         }
         Ok(())
     }
@@ -51,14 +51,13 @@ impl Fronts {
     fn ask_one(
         &mut self,
         alloc: Global,
-        ground: Ground<'_>,
-        plain: Plain<'_>,
+        basis: &Basis<'_>,
         character: char,
     ) -> Result<(), AllocError> {
         if self.of(character).is_some() {
             return Ok(());
         }
-        let costs = leading_costs(alloc, ground, plain, Front::Character(character))?;
+        let costs = solved(alloc, basis.begun_with(character), Some(&basis.plain))?;
         self.begun.push(Begun { character, costs })?;
         Ok(())
     }

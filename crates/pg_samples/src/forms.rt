@@ -1,0 +1,62 @@
+//! What stands at nodes, and where parts stand in it.
+
+use pg_form::{Form, Node, NodeId, RuleId};
+use pg_value::Grammar;
+
+/// What stands at a node, if it is there.
+pub fn form_at(grammar: &Grammar, node: NodeId) -> Option<&Node> {
+    grammar.nodes().get(node.index())
+}
+
+/// The body of a rule, if it is there.
+pub(crate) fn body_of(grammar: &Grammar, rule: RuleId) -> Option<NodeId> {
+    match grammar.rules().get(rule.index()) {
+        Some(rule) => Some(rule.body),
+        None => None,
+    }
+}
+
+/// The parts before one and those after it; none where it isn't there.
+pub(crate) fn around(parts: &[NodeId], part: NodeId) -> (&[NodeId], &[NodeId]) {
+    for (place, other) in parts.iter().enumerate() {
+        if *other == part {
+            let (before, rest) = parts.split_at(place.min(parts.len()));
+            return match rest {
+                [_, after @ ..] => (before, after),
+                [] => (before, rest),
+            };
+        }
+    }
+    (&[], &[])
+}
+
+/// The alternatives of a choice; none of another form.
+pub fn alternatives(grammar: &Grammar, node: NodeId) -> &[NodeId] {
+    match form_at(grammar, node) {
+        Some(Form::Choice(parts)) => parts.as_slice(),
+        Some(
+            Form::Leaf(_)
+            | Form::Seq(_)
+            | Form::Many(_)
+            | Form::Chain(_, _, _, _)
+            | Form::Rule(_)
+            | Form::Expression(_, _)
+            | Form::Around(_, _),
+        )
+        | None => &[],
+    }
+}
+
+/// The term of an expression.
+pub(crate) fn term_of(form: &Node) -> Option<NodeId> {
+    match form {
+        Form::Expression(_, term) => Some(*term),
+        Form::Leaf(_)
+        | Form::Seq(_)
+        | Form::Choice(_)
+        | Form::Many(_)
+        | Form::Chain(_, _, _, _)
+        | Form::Rule(_)
+        | Form::Around(_, _) => None,
+    }
+}

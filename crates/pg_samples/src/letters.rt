@@ -1,0 +1,102 @@
+//! The characters that a leaf of a draft gets.
+
+use crate::characters::character_of;
+use crate::drafting::Draft;
+use crate::leaves::start_at;
+use crate::target::Want;
+use pg_class::Class;
+use pg_form::{Leaf, NodeId, WordId};
+use pg_start::{Reserved, StartKind};
+
+/// The most characters that are put to a word that is reserved.
+const LONGER: usize = 3;
+
+impl<'g> Draft<'g> {
+    /// A leaf gets its characters.
+    pub(crate) fn leaf(&mut self, node: NodeId, leaf: &Leaf<WordId>, want: Want) {
+        match leaf {
+            Leaf::Satisfy(_) | Leaf::Word(_) => match start_at(self.field.basis.sets, node) {
+                Some(StartKind::Class(class)) => self.one_of(class, want),
+                Some(StartKind::Word(heads, rest, reserved)) => {
+                    self.word(heads, rest, reserved, want)
+                }
+                Some(StartKind::Key(_, _) | StartKind::End) | None => self.give_up(),
+            },
+            Leaf::String(text) => self.put_all(text.as_slice()),
+            Leaf::NotFollowedBy(_) | Leaf::EndOfText => {}
+            Leaf::Declare(_) => self.declaration(),
+        }
+    }
+
+    /// A character of the class is put.
+    fn one_of(&mut self, class: &Class, want: Want) {
+        match self.chosen(class, want) {
+            Some(c) => self.put(c),
+            None => self.give_up(),
+        }
+    }
+
+    /// The character of the class that the guide has next, or a space where that is wanted; else the least that may come next, or another.
+    fn chosen(&mut self, class: &Class, want: Want) -> Option<char> {
+        if let Some(c) = self.next_wish() {
+            if class.has(c) {
+                return Some(c);
+            }
+        }
+        if matches!(want, Want::Space) && class.has(' ') {
+            return Some(' ');
+        }
+        let passed = if self.varies() {
+            self.random.below(94)
+        } else {
+            0
+        };
+        match character_of(class, self.excluded, passed) {
+            Some(c) => Some(c),
+            None => character_of(class, None, passed),
+        }
+    }
+
+    /// A word is put: as much as the guide has, and no reserved one.
+    fn word(&mut self, heads: &Class, rest: &'g Class, reserved: &Reserved, want: Want) {
+        let from = self.text.len();
+        self.one_of(heads, want);
+        for _ in 0..self.plan.guide.len() {
+            self.follow(rest);
+        }
+        for _ in 0..LONGER {
+            if is_among(reserved, from_place(&self.text, from)) {
+                self.one_of(rest, Want::Any);
+            }
+        }
+        self.excluded = Some(rest);
+    }
+
+    /// The next character of the guide is put, if the class has it.
+    fn follow(&mut self, class: &Class) {
+        if let Some(c) = self.next_wish() {
+            if class.has(c) {
+                self.put(c);
+            }
+        }
+    }
+}
+
+/// The characters from a place on.
+fn from_place(text: &[char], from: usize) -> &[char] {
+    if from <= text.len() {
+        &text[from..]
+    } else {
+        &[]
+    }
+}
+
+/// Whether the word is reserved.
+pub(crate) fn is_among(reserved: &Reserved, word: &[char]) -> bool {
+    for text in reserved.as_slice() {
+        if text.as_slice() == word {
+            return true;
+        }
+    }
+    false
+}
