@@ -3,15 +3,7 @@
 //! Where two runs of blanks can come next to one another, nothing tells whose a blank is. So one of them goes: blanks come after each
 //! token, and those at the very beginning are taken once.
 
-use crate::change::Change;
-use crate::draft::{Draft, push_draft};
-use crate::following::users;
-use crate::forms::Forms;
-use crate::inlined::start_name;
-use crate::kinds::Kind;
-use crate::leading::Met;
-use crate::pieces::Piece;
-use crate::swaps::next_part;
+use pg_draft::{Change, Draft, Forms, Kind, Met, push_draft};
 use pg_items::Span;
 use std::alloc::{AllocError, Global};
 
@@ -37,64 +29,76 @@ pub(crate) fn push_blanks(
         push_twice(alloc, forms, *taken, drafts)?;
     }
     if run.is_skipped {
-        push_leading(alloc, forms, &run.uses, true, drafts)?;
-        push_singles(alloc, forms, &run.uses, drafts)?;
-        push_leading(alloc, forms, &run.uses, false, drafts)?;
+        push_skipped(alloc, forms, &run.uses, drafts)?;
     }
     Ok(())
 }
 
-/// Takes these away one at a time.
-fn push_singles(
+/// Drafts for a run whose trees are left out: it goes where it is first, or in one place.
+fn push_skipped(
     alloc: Global,
     forms: &Forms,
     uses: &[usize],
     drafts: &mut Vec<Draft>,
 ) -> Result<(), AllocError> {
-    for taken in uses.iter().take(USES) {
+    push_leading(alloc, forms, uses, true, drafts)?;
+    let tried = match uses.get(..USES) {
+        Some(tried) => tried,
+        None => uses,
+    };
+    for taken in tried {
         // What comes next may take blanks too, and keep them.
-        let mut draft = Draft::new(alloc, Change::BlanksOnce, true);
-        take_away(alloc, forms, *taken, &mut draft)?;
-        push_draft(drafts, draft)?;
+        push_single(alloc, forms, *taken, true, drafts)?;
     }
-    Ok(())
+    push_leading(alloc, forms, uses, false, drafts)
+}
+
+/// Takes a part away.
+fn push_single(
+    alloc: Global,
+    forms: &Forms,
+    taken: usize,
+    tree_changes: bool,
+    drafts: &mut Vec<Draft>,
+) -> Result<(), AllocError> {
+    let mut draft = Draft::new(alloc, Change::BlanksOnce, tree_changes);
+    take_away(forms, taken, &mut draft)?;
+    push_draft(drafts, draft)
 }
 
 /// Where a repetition is taken as a part of others, by itself or through rules and forms around it.
 fn run_of(alloc: Global, forms: &Forms, form: usize) -> Result<Run, AllocError> {
-    let mut met = Met::new(alloc, forms.count())?;
     let mut uses = Vec::new(alloc);
     let mut is_skipped = false;
+    let mut met = Met::new(alloc, forms.count())?;
     met.meet(form)?;
     for number in 0..forms.count() {
         let Some(form) = met.get(number) else {
             break;
         };
         match forms.parent(form) {
-            Some(parent) if is_around(alloc, forms, parent)? => {
+            Some(parent) if is_around(forms, parent) => {
                 is_skipped = is_skipped || forms.is(parent, Kind::Skip);
                 met.meet(parent)?;
             }
             Some(_) => uses.push(form)?,
-            None => {
-                let users = users(alloc, forms, form)?;
-                met.meet_all(&users)?;
-            }
+            None => met.meet_uses(forms, form)?,
         }
     }
     Ok(Run { uses, is_skipped })
 }
 
 /// Whether a form has one part, which it takes once.
-fn is_around(alloc: Global, forms: &Forms, form: usize) -> Result<bool, AllocError> {
-    let is_around = forms.is(form, Kind::Skip)
-        || forms.is(form, Kind::Text)
-        || forms.is(form, Kind::Label)
-        || forms.is(form, Kind::Build)
-        || forms.is(form, Kind::Try)
-        || forms.is(form, Kind::Seq);
-    let parts = forms.parts(alloc, form)?;
-    Ok(is_around && parts.len() == 1)
+fn is_around(forms: &Forms, form: usize) -> bool {
+    let kinds = [
+        Kind::Skip,
+        Kind::Text,
+        Kind::Label,
+        Kind::Build,
+        Kind::Try,
+        Kind::Seq,
+    ];
+    forms.parts(form).len() == 1 && forms.is_among(form, &kinds)
 }
 
 /// Where the same comes next, or after one part that may be missing, the later one goes, or is taken with that part.
@@ -104,95 +108,77 @@ fn push_twice(
     taken: usize,
     drafts: &mut Vec<Draft>,
 ) -> Result<(), AllocError> {
-    let Some(next) = next_part(alloc, forms, taken)? else {
+    let Some(next) = forms.next_part(taken) else {
         return Ok(());
     };
     if forms.is_alike(taken, next) {
-        let mut draft = Draft::new(alloc, Change::BlanksOnce, false);
-        take_away(alloc, forms, next, &mut draft)?;
-        return push_draft(drafts, draft);
+        return push_single(alloc, forms, next, false, drafts);
     }
-    let Some(after) = next_part(alloc, forms, next)? else {
-        return Ok(());
-    };
-    let parts = forms.parts(alloc, next)?;
-    if let [inner] = parts.as_slice()
-        && (forms.is(next, Kind::Option) || forms.is(next, Kind::Many))
-        && forms.is_alike(taken, after)
-    {
-        push_inside(alloc, forms, next, *inner, after, drafts)?;
+    match (forms.next_part(next), forms.parts(next)) {
+        (Some(after), [inner])
+            if forms.is_among(next, &[Kind::Option, Kind::Many]) && forms.is_alike(taken, after) =>
+            { push_inside(alloc, forms, *inner, after, drafts) }
+        (_, _) => Ok(()),
     }
-    Ok(())
 }
 
 /// Takes what comes after an option or a repetition with each of its parts.
 fn push_inside(
     alloc: Global,
     forms: &Forms,
-    around: usize,
     inner: usize,
     after: usize,
     drafts: &mut Vec<Draft>,
 ) -> Result<(), AllocError> {
+    let span = forms.span(inner);
     let mut draft = Draft::new(alloc, Change::BlanksOnce, false);
-    draft.put_in(alloc, forms.span(inner).first, "seq(")?;
-    let taken = vec![in alloc;
-        Piece::New(", "),
-        Piece::Kept(forms.span(after)),
-        Piece::New(")"),
-    ]?;
-    let end = Span {
-        first: forms.span(inner).after,
-        after: forms.span(inner).after,
-    };
-    draft.replace(end, taken)?;
-    take_away(alloc, forms, after, &mut draft)?;
+    draft.put_in(span.first, "seq(")?;
+    draft.put_in(span.after, ", ")?;
+    draft.keep(forms.span(after))?;
+    draft.write(")")?;
+    take_away(forms, after, &mut draft)?;
     push_draft(drafts, draft)
 }
 
 /// Takes a part out of its form of several parts.
-fn take_away(
-    alloc: Global,
-    forms: &Forms,
-    taken: usize,
-    draft: &mut Draft,
-) -> Result<(), AllocError> {
-    let Some(parent) = forms.parent(taken) else {
-        return Ok(());
-    };
-    if forms.is(parent, Kind::Seq) || forms.is(parent, Kind::Try) || forms.is(parent, Kind::Local) {
-        let parts = forms.parts(alloc, parent)?;
-        if let Some(span) = with_comma(forms, &parts, taken) {
-            draft.replace(span, Vec::new(alloc))?;
+fn take_away(forms: &Forms, taken: usize, draft: &mut Draft) -> Result<(), AllocError> {
+    let kinds = [Kind::Seq, Kind::Try, Kind::Local];
+    match forms.parent(taken) {
+        Some(parent) if forms.is_among(parent, &kinds) => {
+            match with_comma(forms, forms.parts(parent), taken) {
+                Some(span) => draft.replace(span),
+                None => Ok(()),
+            }
         }
+        Some(_) | None => Ok(()),
     }
-    Ok(())
 }
 
 /// A part of several and the comma before it, or after the first one.
 fn with_comma(forms: &Forms, parts: &[usize], taken: usize) -> Option<Span> {
     let span = forms.span(taken);
-    let mut before = None;
-    let mut after = None;
+    let mut first = None;
     for part in parts {
         if *part < taken {
-            before = Some(forms.span(*part).after);
-        }
-        if *part > taken && after.is_none() {
-            after = Some(forms.span(*part).first);
+            first = Some(forms.span(*part).after);
+        } else if *part > taken {
+            return Some(match first {
+                Some(first) => Span {
+                    first,
+                    after: span.after,
+                },
+                None => Span {
+                    first: span.first,
+                    after: forms.span(*part).first,
+                },
+            });
         }
     }
-    match (before, after) {
-        (Some(first), _) => Some(Span {
-            first,
-            after: span.after,
-        }),
-        (None, Some(after)) => Some(Span {
-            first: span.first,
-            after,
-        }),
-        (None, None) => None,
-    }
+    let first = first?;
+    Some(Span {
+        first,
+        after: span.after,
+    })
 }
 
 /// Takes all of these away that stand first in their `seq`, and puts one at the beginning of the start rule, where that is said.
@@ -204,25 +190,31 @@ fn push_leading(
     drafts: &mut Vec<Draft>,
 ) -> Result<(), AllocError> {
     let mut draft = Draft::new(alloc, Change::BlanksOnce, !is_moved);
-    let start = start_body(forms);
-    let mut last = None;
-    for taken in uses {
-        if is_first(forms, *taken) && forms.parent(*taken) != start {
-            take_away(alloc, forms, *taken, &mut draft)?;
-            last = Some(*taken);
-        }
-    }
-    if is_moved && let (Some(taken), Some(body)) = (last, start) {
-        put_first(alloc, forms, taken, body, &mut draft)?;
-    }
+    write_leading(forms, uses, is_moved, &mut draft)?;
     push_draft(drafts, draft)
 }
 
-/// The body of the rule to start with.
-fn start_body(forms: &Forms) -> Option<usize> {
-    match start_name(forms) {
-        Some(name) => forms.body_named(name),
+/// Takes them away, and puts one in.
+fn write_leading(
+    forms: &Forms,
+    uses: &[usize],
+    is_moved: bool,
+    draft: &mut Draft,
+) -> Result<(), AllocError> {
+    let start = match forms.start() {
+        Some(rule) => Some(rule.body),
         None => None,
+    };
+    let mut last = None;
+    for taken in uses {
+        if is_first(forms, *taken) && forms.parent(*taken) != start {
+            take_away(forms, *taken, draft)?;
+            last = Some(*taken);
+        }
+    }
+    match (last, start) {
+        (Some(taken), Some(body)) if is_moved => put_first(forms, taken, body, draft),
+        (_, _) => Ok(()),
     }
 }
 
@@ -236,28 +228,32 @@ fn is_first(forms: &Forms, form: usize) -> bool {
 
 /// Puts what a form is before a body.
 fn put_first(
-    alloc: Global,
     forms: &Forms,
     taken: usize,
     body: usize,
     draft: &mut Draft,
 ) -> Result<(), AllocError> {
-    let inner = body.saturating_add(1);
-    let is_seq = is_first(forms, inner) && forms.parent(inner) == Some(body);
-    let first = if is_seq {
-        forms.span(inner).first
-    } else {
-        draft.put_in(alloc, forms.span(body).after, ")")?;
-        forms.span(body).first
-    };
-    let before = vec![in alloc;
-        Piece::New(if is_seq { "" } else { "seq(" }),
-        Piece::Kept(forms.span(taken)),
-        Piece::New(", "),
-    ]?;
-    let place = Span {
-        first,
-        after: first,
-    };
-    draft.replace(place, before)
+    let span = forms.span(body);
+    match forms.parts(body) {
+        [inner, ..] if forms.is(body, Kind::Seq) => {
+            put_before(forms, taken, forms.span(*inner).first, "", draft)
+        }
+        _ => {
+            draft.put_in(span.after, ")")?;
+            put_before(forms, taken, span.first, "seq(", draft)
+        }
+    }
+}
+
+/// Puts words, what a form is and a comma in at a place.
+fn put_before(
+    forms: &Forms,
+    taken: usize,
+    place: usize,
+    words: &'static str,
+    draft: &mut Draft,
+) -> Result<(), AllocError> {
+    draft.put_in(place, words)?;
+    draft.keep(forms.span(taken))?;
+    draft.write(", ")
 }

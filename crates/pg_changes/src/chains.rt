@@ -2,13 +2,7 @@
 //!
 //! `e = choice(seq(e, op, t), t)` is `chainl1(list, t, op)`, and what else comes after `e` in such alternatives is repeated.
 
-use crate::change::Change;
-use crate::draft::{Draft, push_draft};
-use crate::forms::{Forms, WrittenRule};
-use crate::inlined::take_out;
-use crate::kinds::Kind;
-use crate::levels::{Level, levels};
-use crate::pieces::{Piece, kept, new_around, new_choice, new_form, new_seq, new_words};
+use pg_draft::{Change, Draft, Forms, Kind, Level, WrittenRule, push_draft, take_out};
 use std::alloc::{AllocError, Global};
 
 /// Drafts for a rule with this body that comes back to itself; also for all other rules, since several may do so together. The only error is
@@ -32,7 +26,7 @@ pub(crate) fn push_chains(
     Ok(())
 }
 
-/// The alternatives of a rule: those that begin with it, opened so far, and the others.
+/// The alternatives of a rule: those that begin with it, opened so far that this shows, and the others.
 #[derive(Drop)]
 struct Alternatives {
     again: Vec<Level>,
@@ -53,46 +47,47 @@ fn push_rule(
     if all.again.is_empty() || all.others.is_empty() {
         return Ok(());
     }
-    push_chain(alloc, forms, rule, &all, drafts)?;
+    if are_chained(forms, rule, &all) {
+        push_chain(alloc, forms, rule, &all, drafts)?;
+    }
     push_repeated(alloc, forms, rule, &all, drafts)
 }
 
 /// The alternatives of a rule's body.
 fn parted(alloc: Global, forms: &Forms, rule: WrittenRule) -> Result<Alternatives, AllocError> {
-    let mut again = Vec::new(alloc);
-    let mut others = Vec::new(alloc);
-    for part in &forms.parts(alloc, rule.body)? {
-        match returning(alloc, forms, rule, *part)? {
-            Some(level) => again.push(level)?,
-            None => others.push(*part)?,
+    let mut all = Alternatives {
+        again: Vec::new(alloc),
+        others: Vec::new(alloc),
+    };
+    for part in forms.parts(rule.body) {
+        match Level::begun_with(alloc, forms, *part, rule.name, true)? {
+            Some(level) => all.again.push(level)?,
+            None => all.others.push(*part)?,
         }
     }
-    Ok(Alternatives { again, others })
+    Ok(all)
 }
 
-/// An alternative that is opened until it begins with the rule, if it does.
-fn returning(
-    alloc: Global,
-    forms: &Forms,
-    rule: WrittenRule,
-    part: usize,
-) -> Result<Option<Level>, AllocError> {
-    for level in levels(alloc, forms, part, true)? {
-        if let Some(first) = level.parts.first()
-            && is_use(forms, rule, *first)
-        {
-            return Ok(Some(level));
+/// Whether each alternative that begins with the rule ends with an operand.
+fn are_chained(forms: &Forms, rule: WrittenRule, all: &Alternatives) -> bool {
+    for level in &all.again {
+        match level.parts.as_slice() {
+            [_, .., last] if is_operand(forms, rule, &all.others, *last) => {}
+            _ => return false,
         }
     }
-    Ok(None)
+    true
 }
 
-/// Whether a form is the name of the rule.
-fn is_use(forms: &Forms, rule: WrittenRule, form: usize) -> bool {
-    forms.body(form) == Some(rule.body)
+/// Whether a form is the rule again, or the only other alternative.
+fn is_operand(forms: &Forms, rule: WrittenRule, others: &[usize], form: usize) -> bool {
+    match others {
+        [only] if forms.is_alike(*only, form) => true,
+        _ => forms.spelling(form) == rule.name,
+    }
 }
 
-/// A chain, where each alternative ends with an operand.
+/// A chain in the place of a rule's body.
 fn push_chain(
     alloc: Global,
     forms: &Forms,
@@ -100,108 +95,74 @@ fn push_chain(
     all: &Alternatives,
     drafts: &mut Vec<Draft>,
 ) -> Result<(), AllocError> {
-    if let Some(separators) = separators(alloc, forms, rule, all)? {
-        let chain = new_chain(alloc, forms, all, separators)?;
-        push_body(alloc, forms, rule, all, Change::Chain, true, chain, drafts)?;
-    }
-    Ok(())
-}
-
-/// What stands between the operands of each alternative, if each ends with one.
-fn separators(
-    alloc: Global,
-    forms: &Forms,
-    rule: WrittenRule,
-    all: &Alternatives,
-) -> Result<Option<Vec<Vec<Piece>>>, AllocError> {
-    let mut separators = Vec::new(alloc);
-    for level in &all.again {
-        match level.parts.as_slice() {
-            [_, between @ .., last] if is_operand(forms, rule, &all.others, *last) => {
-                separators.push(sequence(alloc, forms, between)?)?;
-            }
-            _ => return Ok(None),
-        }
-    }
-    Ok(Some(separators))
-}
-
-/// A chain with these separators.
-fn new_chain(
-    alloc: Global,
-    forms: &Forms,
-    all: &Alternatives,
-    separators: Vec<Vec<Piece>>,
-) -> Result<Vec<Piece>, AllocError> {
-    let mut builder = None;
-    for level in &all.again {
-        builder = builder.or(level.build);
-    }
-    let mut values = Vec::new(alloc);
-    values.push(builder_of(alloc, forms, builder)?)?;
-    values.push(operand(alloc, forms, &all.others)?)?;
-    values.push(new_choice(alloc, separators)?)?;
-    new_form(alloc, "chainl1(", values)
-}
-
-/// Puts something in the place of a rule's body, and takes out rules that nothing uses then.
-fn push_body(
-    alloc: Global,
-    forms: &Forms,
-    rule: WrittenRule,
-    all: &Alternatives,
-    change: Change,
-    tree_changes: bool,
-    value: Vec<Piece>,
-    drafts: &mut Vec<Draft>,
-) -> Result<(), AllocError> {
-    let mut draft = Draft::new(alloc, change, tree_changes);
-    draft.replace(forms.span(rule.body), value)?;
-    for level in &all.again {
-        take_out(alloc, forms, level.opened.as_slice(), rule.body, &mut draft)?;
-    }
+    let mut draft = Draft::new(alloc, Change::Chain, true);
+    draft.replace(forms.span(rule.body))?;
+    write_chain(forms, all, &mut draft)?;
+    take_out_all(forms, rule, all, &mut draft)?;
     push_draft(drafts, draft)
 }
 
-/// Whether a form is the rule again, or the only other alternative.
-fn is_operand(forms: &Forms, rule: WrittenRule, others: &[usize], form: usize) -> bool {
-    match others {
-        [only] if forms.is_alike(*only, form) => true,
-        _ => is_use(forms, rule, form),
+/// Writes a chain of the other alternatives, with what stands between the operands.
+fn write_chain(forms: &Forms, all: &Alternatives, draft: &mut Draft) -> Result<(), AllocError> {
+    draft.write("chainl1(")?;
+    match builder(forms, all) {
+        Some(name) => draft.write_characters(name)?,
+        None => draft.write("list")?,
     }
+    draft.write(", ")?;
+    draft.write_group(forms, "choice(", &all.others)?;
+    draft.write(", ")?;
+    write_rests(forms, all, true, draft)?;
+    draft.write(")")
 }
 
-/// The builder of a `build`, or `list`.
-fn builder_of(
-    alloc: Global,
+/// The builder of the first `build` that was left out.
+fn builder<'s>(forms: &Forms<'s>, all: &Alternatives) -> Option<&'s [char]> {
+    for level in &all.again {
+        if let Some(build) = level.build {
+            return forms.characters(build, Kind::Build);
+        }
+    }
+    None
+}
+
+/// Writes a choice of what the alternatives that begin with the rule go on with, without the operands at their ends, where that is said.
+fn write_rests(
     forms: &Forms,
-    build: Option<usize>,
-) -> Result<Vec<Piece>, AllocError> {
-    if let Some(build) = build
-        && let Some(name) = forms.builder(build)
-    {
-        let name = Piece::Written(Vec::from_slice(alloc, name)?);
-        return Ok(vec![in alloc; name]?);
+    all: &Alternatives,
+    are_chained: bool,
+    draft: &mut Draft,
+) -> Result<(), AllocError> {
+    let mut is_first = true;
+    draft.open_group("choice(", all.again.len())?;
+    for level in &all.again {
+        draft.write_comma(is_first)?;
+        draft.write_group(forms, "seq(", rest_of(&level.parts, are_chained))?;
+        is_first = false;
     }
-    new_words(alloc, "list")
+    draft.close_group(all.again.len())
 }
 
-/// A choice of the alternatives that don't begin with the rule.
-fn operand(alloc: Global, forms: &Forms, others: &[usize]) -> Result<Vec<Piece>, AllocError> {
-    let mut values = Vec::new(alloc);
-    for other in others {
-        values.push(kept(alloc, forms.span(*other))?)?;
+/// What comes after the first of these, without the last one, where that is said.
+fn rest_of(parts: &[usize], is_chained: bool) -> &[usize] {
+    match parts {
+        [_, between @ .., _] if is_chained => between,
+        [_, rest @ ..] => rest,
+        [] => &[],
     }
-    new_choice(alloc, values)
 }
 
-/// These forms one after another.
-fn sequence(alloc: Global, forms: &Forms, parts: &[usize]) -> Result<Vec<Piece>, AllocError> {
-    let mut values = Vec::new(alloc);
-    for part in parts {
-        values.push(kept(alloc, forms.span(*part))?)?;
+/// Takes out rules that nothing uses any more.
+fn take_out_all(
+    forms: &Forms,
+    rule: WrittenRule,
+    all: &Alternatives,
+    draft: &mut Draft,
+) -> Result<(), AllocError> {
+    for level in &all.again {
+        take_out(forms, &level.opened, rule.body, draft)?;
     }
-    new_seq(alloc, values)
+    Ok(())
 }
 
 /// A repetition of what comes after the rule, behind an alternative that doesn't begin with it.
@@ -216,38 +177,22 @@ fn push_repeated(
     for level in &all.again {
         tree_changes = tree_changes || level.tree_changes;
     }
-    let value = new_repetition(alloc, forms, all)?;
-    push_body(
-        alloc,
-        forms,
-        rule,
-        all,
-        Change::Repeated,
-        tree_changes,
-        value,
-        drafts,
-    )
+    let mut draft = Draft::new(alloc, Change::Repeated, tree_changes);
+    draft.replace(forms.span(rule.body))?;
+    write_repetition(forms, all, &mut draft)?;
+    take_out_all(forms, rule, all, &mut draft)?;
+    push_draft(drafts, draft)
 }
 
-/// An alternative that doesn't begin with the rule, and then as often as they come what the others go on with.
-fn new_repetition(
-    alloc: Global,
+/// Writes an alternative that doesn't begin with the rule, and then as often as they come what the others go on with.
+fn write_repetition(
     forms: &Forms,
     all: &Alternatives,
-) -> Result<Vec<Piece>, AllocError> {
-    let mut values = Vec::new(alloc);
-    values.push(operand(alloc, forms, &all.others)?)?;
-    values.push(rounds(alloc, forms, all)?)?;
-    new_form(alloc, "seq(", values)
-}
-
-/// A repetition of what the alternatives that begin with the rule go on with.
-fn rounds(alloc: Global, forms: &Forms, all: &Alternatives) -> Result<Vec<Piece>, AllocError> {
-    let mut rounds = Vec::new(alloc);
-    for level in &all.again {
-        if let [_, rest @ ..] = level.parts.as_slice() {
-            rounds.push(sequence(alloc, forms, rest)?)?;
-        }
-    }
-    new_around(alloc, "many(", new_choice(alloc, rounds)?)
+    draft: &mut Draft,
+) -> Result<(), AllocError> {
+    draft.write("seq(")?;
+    draft.write_group(forms, "choice(", &all.others)?;
+    draft.write(", many(")?;
+    write_rests(forms, all, false, draft)?;
+    draft.write("))")
 }

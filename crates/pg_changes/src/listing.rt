@@ -2,11 +2,6 @@
 
 use crate::blanks::push_blanks;
 use crate::chains::push_chains;
-use crate::draft::Draft;
-use crate::following::following;
-use crate::forms::Forms;
-use crate::kinds::Kind;
-use crate::leading::leading;
 use crate::once::push_once;
 use crate::order::push_orders;
 use crate::reserving::push_reserved;
@@ -14,21 +9,38 @@ use crate::rounds::push_rounds;
 use crate::runs::push_word;
 use crate::swaps::{push_eof_out, push_swaps};
 use crate::trying::push_tries;
-use pg_predict::ViolationKind;
+use pg_draft::{Draft, Forms, Kind, following, leading};
 use std::alloc::{AllocError, Global};
 
 /// How many alternatives a choice may have for all of them to be changed together.
 pub(crate) const ALTERNATIVES: usize = 32;
+
+/// What is wrong at a form; alternatives go by their numbers, from 1.
+#[derive(Clone, Copy)]
+pub enum Trouble {
+    /// A rule comes back to itself before anything is taken.
+    LeftRecursion,
+    /// A round of a repetition or a chain can be empty.
+    EmptyRound,
+    /// An alternative can be empty and isn't the last, or what is optional or repeated can be empty.
+    EmptyAlternative(usize),
+    /// Two alternatives can begin alike.
+    AlternativesMeet(usize, usize),
+    /// An alternative, or what is optional, can begin as what follows does.
+    AlternativeMeetsFollow(usize),
+    /// A round can begin as what follows does.
+    RoundMeetsFollow,
+}
 
 /// The changes that may help against what is wrong at a form, the best first (ours). The only error is that memory ran out.
 pub fn drafts(
     alloc: Global,
     forms: &Forms,
     form: usize,
-    kind: &ViolationKind<usize>,
+    trouble: Trouble,
 ) -> Result<Vec<Draft>, AllocError> {
     let mut drafts = Vec::new(alloc);
-    push_drafts(alloc, forms, form, kind, &mut drafts)?;
+    push_drafts(alloc, forms, form, trouble, &mut drafts)?;
     Ok(drafts)
 }
 
@@ -37,47 +49,33 @@ fn push_drafts(
     alloc: Global,
     forms: &Forms,
     form: usize,
-    kind: &ViolationKind<usize>,
+    trouble: Trouble,
     drafts: &mut Vec<Draft>,
 ) -> Result<(), AllocError> {
-    match kind {
-        ViolationKind::LeftRecursion => push_chains(alloc, forms, form, drafts),
-        ViolationKind::EmptyRound => push_rounds(alloc, forms, form, drafts),
-        ViolationKind::EmptyAlternative(k) => push_orders(alloc, forms, form, *k, drafts),
-        ViolationKind::AlternativesMeet(j, k, _, _) => {
-            push_choices(alloc, forms, form, *j, *k, drafts)
+    match trouble {
+        Trouble::LeftRecursion => push_chains(alloc, forms, form, drafts),
+        Trouble::EmptyRound => push_rounds(alloc, forms, form, drafts),
+        Trouble::EmptyAlternative(k) => push_orders(alloc, forms, form, k, drafts),
+        Trouble::AlternativesMeet(j, k) => push_choices(alloc, forms, form, j, k, drafts),
+        Trouble::AlternativeMeetsFollow(k) => {
+            push_follows(alloc, forms, form, alternative(forms, form, k), drafts)
         }
-        ViolationKind::AlternativeMeetsFollow(k, _, _) => {
-            let alternative = alternative(alloc, forms, form, *k)?;
-            push_follows(alloc, forms, form, &alternative, drafts)
-        }
-        ViolationKind::RoundMeetsFollow(_, _) => push_repetition(alloc, forms, form, drafts),
-        ViolationKind::EmptyOperand
-        | ViolationKind::OperandMeetsOperators(_)
-        | ViolationKind::FollowMeetsOperators(_)
-        | ViolationKind::GapMeets(_)
-        | ViolationKind::StepCostOver => Ok(()),
+        Trouble::RoundMeetsFollow => push_repetition(alloc, forms, form, drafts),
     }
 }
 
 /// The alternative of a choice with this number, from 1, or the part that is optional.
-fn alternative(
-    alloc: Global,
-    forms: &Forms,
-    form: usize,
-    number: usize,
-) -> Result<Vec<usize>, AllocError> {
-    let parts = forms.parts(alloc, form)?;
+fn alternative<'f>(forms: &'f Forms, form: usize, number: usize) -> &'f [usize] {
+    let parts = forms.parts(form);
     let place = if forms.is(form, Kind::Choice) {
         number.saturating_sub(1)
     } else {
         0
     };
-    let mut alternative = Vec::new(alloc);
-    if let Some(part) = parts.get(place) {
-        alternative.push(*part)?;
+    match parts.get(place..place.saturating_add(1)) {
+        Some(alternative) => alternative,
+        None => &[],
     }
-    Ok(alternative)
 }
 
 /// Changes for two alternatives that meet.
@@ -89,9 +87,13 @@ fn push_choices(
     other: usize,
     drafts: &mut Vec<Draft>,
 ) -> Result<(), AllocError> {
-    let both = sides_of(alloc, forms, form, &[one, other])?;
+    let fronts = [
+        alternative(forms, form, one),
+        alternative(forms, form, other),
+    ];
+    let both = sides_of(alloc, forms, &fronts)?;
     push_tries(alloc, forms, &both, drafts)?;
-    let all = all_sides(alloc, forms, form)?;
+    let all = all_sides(alloc, forms, forms.parts(form))?;
     push_by_sides(alloc, forms, form, &both, &all, drafts)
 }
 
@@ -111,27 +113,24 @@ fn push_by_sides(
     push_once(alloc, forms, form, true, drafts)
 }
 
-/// With which forms the alternatives with these numbers can begin, a list for each.
+/// With which forms each of these lists of forms can begin, a list for each.
 fn sides_of(
     alloc: Global,
     forms: &Forms,
-    form: usize,
-    numbers: &[usize],
+    fronts: &[&[usize]],
 ) -> Result<Vec<Vec<usize>>, AllocError> {
     let mut sides = Vec::new(alloc);
-    for number in numbers {
-        let alternative = alternative(alloc, forms, form, *number)?;
-        sides.push(leading(alloc, forms, &alternative)?)?;
+    for front in fronts {
+        sides.push(leading(alloc, forms, front)?)?;
     }
     Ok(sides)
 }
 
-/// With which forms the parts of a form can begin, a list for each; none where there are too many parts.
-fn all_sides(alloc: Global, forms: &Forms, form: usize) -> Result<Vec<Vec<usize>>, AllocError> {
+/// With which forms each of these can begin, a list for each; none where there are too many.
+fn all_sides(alloc: Global, forms: &Forms, parts: &[usize]) -> Result<Vec<Vec<usize>>, AllocError> {
     let mut sides = Vec::new(alloc);
-    let parts = forms.parts(alloc, form)?;
     if parts.len() <= ALTERNATIVES {
-        for part in &parts {
+        for part in parts {
             sides.push(leading(alloc, forms, &[*part])?)?;
         }
     }
@@ -147,21 +146,8 @@ fn push_follows(
     drafts: &mut Vec<Draft>,
 ) -> Result<(), AllocError> {
     let next = following(alloc, forms, form)?;
-    let sides = two_sides(alloc, forms, inside, &next)?;
+    let sides = sides_of(alloc, forms, &[inside, next.as_slice()])?;
     push_by_follow(alloc, forms, form, &next, &sides, drafts)
-}
-
-/// With which forms these and those can begin.
-fn two_sides(
-    alloc: Global,
-    forms: &Forms,
-    one: &[usize],
-    other: &[usize],
-) -> Result<Vec<Vec<usize>>, AllocError> {
-    let mut sides = Vec::new(alloc);
-    sides.push(leading(alloc, forms, one)?)?;
-    sides.push(leading(alloc, forms, other)?)?;
-    Ok(sides)
 }
 
 /// Changes for the sides of a form and of what follows it.
@@ -187,8 +173,7 @@ fn push_repetition(
     form: usize,
     drafts: &mut Vec<Draft>,
 ) -> Result<(), AllocError> {
-    let parts = forms.parts(alloc, form)?;
     push_blanks(alloc, forms, form, drafts)?;
     push_word(alloc, forms, form, drafts)?;
-    push_follows(alloc, forms, form, &parts, drafts)
+    push_follows(alloc, forms, form, forms.parts(form), drafts)
 }

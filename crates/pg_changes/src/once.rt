@@ -1,13 +1,7 @@
 //! What several alternatives begin with, read once.
 
-use crate::change::Change;
-use crate::draft::{Draft, push_draft};
-use crate::forms::Forms;
-use crate::inlined::take_out;
-use crate::kinds::Kind;
-use crate::levels::{Level, levels};
 use crate::listing::ALTERNATIVES;
-use crate::pieces::{Piece, joined, kept, new_around, new_choice, new_seq, new_words};
+use pg_draft::{Change, Draft, Forms, Kind, LEVELS, Level, Met, push_draft, take_out};
 use pg_items::Span;
 use std::alloc::{AllocError, Global};
 
@@ -20,46 +14,35 @@ pub(crate) fn push_once(
     is_loose: bool,
     drafts: &mut Vec<Draft>,
 ) -> Result<(), AllocError> {
-    let parts = forms.parts(alloc, choice)?;
+    let parts = forms.parts(choice);
     if !forms.is(choice, Kind::Choice) || parts.len() > ALTERNATIVES {
         return Ok(());
     }
-    let groups = groups(alloc, forms, &parts, is_loose)?;
+    let groups = groups(alloc, forms, parts, is_loose)?;
     if groups.len() < parts.len() {
-        let draft = grouped_draft(alloc, forms, choice, &parts, &groups)?;
-        push_draft(drafts, draft)?;
+        push_grouped(alloc, forms, choice, &groups, drafts)?;
     }
     Ok(())
 }
 
 /// A draft that reads once what the alternatives of each group begin with.
-fn grouped_draft(
+fn push_grouped(
     alloc: Global,
     forms: &Forms,
     choice: usize,
-    parts: &[usize],
     groups: &[Vec<Level>],
-) -> Result<Draft, AllocError> {
+    drafts: &mut Vec<Draft>,
+) -> Result<(), AllocError> {
     let mut draft = Draft::new(alloc, Change::ReadOnce, are_changed(groups));
     let span = if groups.len() == 1 {
         forms.span(choice)
     } else {
-        inside(forms, parts)
+        inside(forms, forms.parts(choice))
     };
-    draft.replace(span, all_once(alloc, forms, groups)?)?;
-    for group in groups {
-        take_out_all(alloc, forms, group, choice, &mut draft)?;
-    }
-    Ok(draft)
-}
-
-/// The alternatives, those of each group read once.
-fn all_once(alloc: Global, forms: &Forms, groups: &[Vec<Level>]) -> Result<Vec<Piece>, AllocError> {
-    let mut values = Vec::new(alloc);
-    for group in groups {
-        values.push(read_once(alloc, forms, group)?)?;
-    }
-    joined(alloc, values)
+    draft.replace(span)?;
+    write_groups(forms, groups, &mut draft)?;
+    take_out_all(forms, groups, choice, &mut draft)?;
+    push_draft(drafts, draft)
 }
 
 /// From the first of these to the last.
@@ -85,16 +68,17 @@ fn are_changed(groups: &[Vec<Level>]) -> bool {
     false
 }
 
-/// Takes out the rules that the levels of a group opened.
+/// Takes out the rules that the levels of the groups opened.
 fn take_out_all(
-    alloc: Global,
     forms: &Forms,
-    group: &[Level],
+    groups: &[Vec<Level>],
     choice: usize,
     draft: &mut Draft,
 ) -> Result<(), AllocError> {
-    for level in group {
-        take_out(alloc, forms, level.opened.as_slice(), choice, draft)?;
+    for group in groups {
+        for level in group {
+            take_out(forms, &level.opened, choice, draft)?;
+        }
     }
     Ok(())
 }
@@ -107,23 +91,14 @@ fn groups(
     is_loose: bool,
 ) -> Result<Vec<Vec<Level>>, AllocError> {
     let mut groups = Vec::new(alloc);
-    let mut grouped = Vec::new(alloc);
+    let mut grouped = Met::new(alloc, forms.count())?;
     for part in parts {
-        if !has_number(&grouped, *part) {
-            let group = group(alloc, forms, parts, *part, &mut grouped, is_loose)?;
-            groups.push(group)?;
+        if !grouped.has(*part) {
+            grouped.meet(*part)?;
+            groups.push(group(alloc, forms, parts, *part, &mut grouped, is_loose)?)?;
         }
     }
     Ok(groups)
-}
-
-fn has_number(numbers: &[usize], number: usize) -> bool {
-    for other in numbers {
-        if *other == number {
-            return true;
-        }
-    }
-    false
 }
 
 /// An alternative with those after it that begin alike and aren't in a group, or alone.
@@ -132,164 +107,148 @@ fn group(
     forms: &Forms,
     parts: &[usize],
     part: usize,
-    grouped: &mut Vec<usize>,
+    grouped: &mut Met,
     is_loose: bool,
 ) -> Result<Vec<Level>, AllocError> {
-    for level in levels(alloc, forms, part, is_loose)? {
-        let mut group = likes(alloc, forms, parts, part, &level, grouped, is_loose)?;
+    let mut group = Vec::new(alloc);
+    let mut level = Level::new(alloc, part)?;
+    for _ in 0..LEVELS {
+        push_likes(alloc, forms, parts, &level, is_loose, grouped, &mut group)?;
         if !group.is_empty() {
             group.insert(0, level)?;
             return Ok(group);
         }
-    }
-    alone(alloc, part)
-}
-
-/// The alternatives after one that aren't in a group, and begin as it does where it is opened so far.
-fn likes(
-    alloc: Global,
-    forms: &Forms,
-    parts: &[usize],
-    part: usize,
-    level: &Level,
-    grouped: &mut Vec<usize>,
-    is_loose: bool,
-) -> Result<Vec<Level>, AllocError> {
-    let mut group = Vec::new(alloc);
-    if let Some(front) = level.parts.first() {
-        for other in parts {
-            if *other > part && !has_number(grouped, *other) {
-                push_like(alloc, forms, *other, *front, is_loose, grouped, &mut group)?;
-            }
+        if !level.open(forms, is_loose)? {
+            break;
         }
     }
+    group.push(Level::new(alloc, part)?)?;
     Ok(group)
 }
 
-/// Pushes an alternative, if it begins with what is spelled like this form.
+/// Pushes the alternatives after the first of a group that begin as it does where it is opened so far, and aren't in one.
+fn push_likes(
+    alloc: Global,
+    forms: &Forms,
+    parts: &[usize],
+    level: &Level,
+    is_loose: bool,
+    grouped: &mut Met,
+    group: &mut Vec<Level>,
+) -> Result<(), AllocError> {
+    let Some(first) = level.parts.first() else {
+        return Ok(());
+    };
+    let front = forms.spelling(*first);
+    for other in parts {
+        if !grouped.has(*other) {
+            push_like(alloc, forms, *other, front, is_loose, grouped, group)?;
+        }
+    }
+    Ok(())
+}
+
+/// Pushes an alternative, opened so far that it begins with what is spelled so, if it comes to that.
 fn push_like(
     alloc: Global,
     forms: &Forms,
     part: usize,
-    front: usize,
+    front: &[char],
     is_loose: bool,
-    grouped: &mut Vec<usize>,
+    grouped: &mut Met,
     group: &mut Vec<Level>,
 ) -> Result<(), AllocError> {
-    if let Some(like) = like(alloc, forms, part, front, is_loose)? {
-        group.push(like)?;
-        grouped.push(part)?;
+    match Level::begun_with(alloc, forms, part, front, is_loose)? {
+        Some(like) => {
+            group.push(like)?;
+            grouped.meet(part)
+        }
+        None => Ok(()),
+    }
+}
+
+/// Writes the alternatives, those of each group read once.
+fn write_groups(forms: &Forms, groups: &[Vec<Level>], draft: &mut Draft) -> Result<(), AllocError> {
+    let mut is_first = true;
+    for group in groups {
+        draft.write_comma(is_first)?;
+        write_group(forms, group, draft)?;
+        is_first = false;
     }
     Ok(())
 }
 
-/// An alternative in a group of its own.
-fn alone(alloc: Global, part: usize) -> Result<Vec<Level>, AllocError> {
-    let level = Level {
-        parts: vec![in alloc; part]?,
-        opened: Vec::new(alloc),
-        build: None,
-        tree_changes: false,
-    };
-    Ok(vec![in alloc; level]?)
-}
-
-/// The alternative opened until it begins with what is spelled like this form, if it does.
-fn like(
-    alloc: Global,
-    forms: &Forms,
-    part: usize,
-    front: usize,
-    is_loose: bool,
-) -> Result<Option<Level>, AllocError> {
-    for level in levels(alloc, forms, part, is_loose)? {
-        if let Some(first) = level.parts.first()
-            && forms.is_alike(*first, front)
-        {
-            return Ok(Some(level));
-        }
-    }
-    Ok(None)
-}
-
-/// What alternatives of a group begin with, and then a choice of what they go on with; one that ends there is the last.
-fn read_once(alloc: Global, forms: &Forms, group: &[Level]) -> Result<Vec<Piece>, AllocError> {
-    let common = common_count(forms, group);
-    let mut values = Vec::new(alloc);
-    if let [first, ..] = group {
-        for part in first.parts.as_slice().iter().take(common) {
-            values.push(kept(alloc, forms.span(*part))?)?;
-        }
-    }
-    if group.len() > 1 {
-        push_rests(alloc, forms, group, common, &mut values)?;
-    }
-    new_seq(alloc, values)
-}
-
-/// Pushes the choice of what the alternatives go on with, if one does.
-fn push_rests(
-    alloc: Global,
-    forms: &Forms,
-    group: &[Level],
-    common: usize,
-    values: &mut Vec<Vec<Piece>>,
-) -> Result<(), AllocError> {
-    let rests = rests(alloc, forms, group, common)?;
-    if rests.is_empty() {
+/// Writes what alternatives of a group begin with, and then a choice of what they go on with; one that ends there is the last.
+fn write_group(forms: &Forms, group: &[Level], draft: &mut Draft) -> Result<(), AllocError> {
+    let [first, ..] = group else {
         return Ok(());
+    };
+    let common = common_count(forms, group);
+    let rests = rest_count(group, common);
+    let front = before(&first.parts, common);
+    if rests == 0 {
+        return draft.write_group(forms, "seq(", front);
     }
-    let has_empty = rests.len() < group.len();
-    values.push(choice_of(alloc, rests, has_empty)?)?;
-    Ok(())
+    let count = front.len().saturating_add(1);
+    draft.open_group("seq(", count)?;
+    draft.write_list(forms, front)?;
+    draft.write_comma(front.is_empty())?;
+    write_rests(forms, group, common, rests, draft)?;
+    draft.close_group(count)
 }
 
-/// What the alternatives of a group go on with, those that do.
-fn rests(
-    alloc: Global,
+/// Writes the choice of what so many of the alternatives go on with.
+fn write_rests(
     forms: &Forms,
     group: &[Level],
     common: usize,
-) -> Result<Vec<Vec<Piece>>, AllocError> {
-    let mut rests = Vec::new(alloc);
+    count: usize,
+    draft: &mut Draft,
+) -> Result<(), AllocError> {
+    let has_empty = count < group.len();
+    let is_option = has_empty && count == 1;
+    draft.write(if is_option { "option(" } else { "choice(" })?;
+    let mut is_first = true;
+    for level in group {
+        let rest = behind(&level.parts, common);
+        if !rest.is_empty() {
+            draft.write_comma(is_first)?;
+            draft.write_group(forms, "seq(", rest)?;
+            is_first = false;
+        }
+    }
+    draft.write(if has_empty && !is_option {
+        ", seq())"
+    } else {
+        ")"
+    })
+}
+
+/// How many of the alternatives of a group go on behind the first so many forms.
+fn rest_count(group: &[Level], common: usize) -> usize {
+    let mut count: usize = 0;
     for level in group {
         if level.parts.len() > common {
-            let rest = rest_of(alloc, forms, level.parts.as_slice(), common)?;
-            rests.push(new_seq(alloc, rest)?)?;
+            count = count.saturating_add(1);
         }
     }
-    Ok(rests)
+    count
 }
 
-/// A choice of these, or of nothing in the end, where that is said.
-fn choice_of(
-    alloc: Global,
-    rests: Vec<Vec<Piece>>,
-    has_empty: bool,
-) -> Result<Vec<Piece>, AllocError> {
-    if !has_empty {
-        return new_choice(alloc, rests);
+/// The first so many of these.
+fn before(parts: &[usize], count: usize) -> &[usize] {
+    match parts.get(..count) {
+        Some(front) => front,
+        None => parts,
     }
-    if rests.len() == 1 {
-        return new_around(alloc, "option(", joined(alloc, rests)?);
-    }
-    let mut rests = rests;
-    rests.push(new_words(alloc, "seq()")?)?;
-    new_choice(alloc, rests)
 }
 
-/// The forms after the first so many, each kept.
-fn rest_of(
-    alloc: Global,
-    forms: &Forms,
-    parts: &[usize],
-    common: usize,
-) -> Result<Vec<Vec<Piece>>, AllocError> {
-    let mut rest = Vec::new(alloc);
-    for part in parts.iter().skip(common) {
-        rest.push(kept(alloc, forms.span(*part))?)?;
+/// Those behind the first so many.
+fn behind(parts: &[usize], count: usize) -> &[usize] {
+    match parts.get(count..) {
+        Some(rest) => rest,
+        None => &[],
     }
-    Ok(rest)
 }
 
 /// How many forms all alternatives of a group begin with, spelled alike.
@@ -307,11 +266,13 @@ fn common_count(forms: &Forms, group: &[Level]) -> usize {
 /// How many forms of two lists are spelled alike, from the left.
 fn alike_count(forms: &Forms, one: &[usize], other: &[usize]) -> usize {
     let mut count: usize = 0;
-    for (number, part) in one.iter().enumerate() {
-        match other.get(number) {
-            Some(like) if forms.is_alike(*part, *like) => count = count.saturating_add(1),
-            Some(_) | None => return count,
+    let mut rest = other;
+    for part in one {
+        match rest {
+            [like, after @ ..] if forms.is_alike(*part, *like) => rest = after,
+            _ => break,
         }
+        count = count.saturating_add(1);
     }
     count
 }

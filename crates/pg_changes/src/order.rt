@@ -1,12 +1,7 @@
 //! Alternatives that can be empty and aren't the last.
 
-use crate::change::Change;
-use crate::draft::{Draft, push_draft};
-use crate::fillings::filled;
-use crate::forms::Forms;
-use crate::kinds::Kind;
-use crate::pieces::{Piece, kept};
 use crate::rounds::push_filling;
+use pg_draft::{Change, Draft, Forms, Kind, fill, push_draft, write_filled};
 use std::alloc::{AllocError, Global};
 
 /// Drafts for a choice of which the alternative with this number, from 1, can be empty and isn't the last. The only error is that memory
@@ -18,84 +13,80 @@ pub(crate) fn push_orders(
     number: usize,
     drafts: &mut Vec<Draft>,
 ) -> Result<(), AllocError> {
-    let parts = forms.parts(alloc, form)?;
     if forms.is(form, Kind::Choice) {
-        push_moved(alloc, forms, &parts, number, false, drafts)?;
-        push_moved(alloc, forms, &parts, number, true, drafts)?;
+        push_moved(alloc, forms, form, number, false, drafts)?;
+        push_moved(alloc, forms, form, number, true, drafts)?;
     }
-    if let [inner] = parts.as_slice()
-        && forms.is(form, Kind::Option)
-    {
-        let mut draft = Draft::new(alloc, Change::NoInnerOption, false);
-        draft.replace(forms.span(form), kept(alloc, forms.span(*inner))?)?;
-        push_draft(drafts, draft)?;
+    match forms.parts(form) {
+        [_] if forms.is(form, Kind::Option) => {
+            push_filling(alloc, forms, form, Change::NoInnerOption, drafts)
+        }
+        [value, _] => push_filling(alloc, forms, *value, Change::Many1, drafts),
+        _ => Ok(()),
     }
-    if let [value, _] = parts.as_slice() {
-        push_filling(alloc, forms, *value, Change::Many1, drafts)?;
-    }
-    Ok(())
 }
 
 /// Puts an alternative last; the others consume then, where that is said.
 fn push_moved(
     alloc: Global,
     forms: &Forms,
-    parts: &[usize],
+    form: usize,
     number: usize,
     are_filled: bool,
     drafts: &mut Vec<Draft>,
 ) -> Result<(), AllocError> {
-    let Some(moved) = parts.get(number.saturating_sub(1)).copied() else {
+    let parts = forms.parts(form);
+    let moved = number.saturating_sub(1);
+    if moved >= parts.len() {
         return Ok(());
-    };
-    let order = moved_last(alloc, parts, moved)?;
-    let mut draft = Draft::new(alloc, Change::EmptyLast, false);
-    for (place, part) in parts.iter().enumerate() {
-        if let Some(other) = order.get(place) {
-            let is_filled = are_filled && *other != moved;
-            put(alloc, forms, *part, *other, is_filled, &mut draft)?;
-        }
     }
+    let mut draft = Draft::new(alloc, Change::EmptyLast, false);
+    write_moved(forms, parts, moved, are_filled, &mut draft)?;
     push_draft(drafts, draft)
 }
 
-/// These with one of them last.
-fn moved_last(alloc: Global, parts: &[usize], moved: usize) -> Result<Vec<usize>, AllocError> {
-    let mut order = Vec::new(alloc);
-    for part in parts {
-        if *part != moved {
-            order.push(*part)?;
+/// Puts the alternative with this number, from 0, last, and those after it one place to the left.
+fn write_moved(
+    forms: &Forms,
+    parts: &[usize],
+    moved: usize,
+    are_filled: bool,
+    draft: &mut Draft,
+) -> Result<(), AllocError> {
+    for (number, part) in parts.iter().enumerate() {
+        let next = number.saturating_add(1);
+        let from = if number < moved {
+            number
+        } else if next < parts.len() {
+            next
+        } else {
+            moved
+        };
+        if let Some(other) = parts.get(from) {
+            put(forms, *part, *other, are_filled && from != moved, draft)?;
         }
     }
-    order.push(moved)?;
-    Ok(order)
+    Ok(())
 }
 
-/// Puts an alternative in the place of one, unless that changes nothing.
+/// Puts an alternative in the place of one, as it is or so that it consumes.
 fn put(
-    alloc: Global,
     forms: &Forms,
     part: usize,
     other: usize,
     is_filled: bool,
     draft: &mut Draft,
 ) -> Result<(), AllocError> {
-    let value = value_of(alloc, forms, other, is_filled)?;
-    if part != other || value.len() != 1 {
-        draft.replace(forms.span(part), value)?;
+    let filled = if is_filled { fill(forms, other) } else { None };
+    match filled {
+        Some(filled) => {
+            draft.replace(forms.span(part))?;
+            write_filled(forms, filled, draft)
+        }
+        None if part != other => {
+            draft.replace(forms.span(part))?;
+            draft.keep(forms.span(other))
+        }
+        None => Ok(()),
     }
-    Ok(())
-}
-
-/// An alternative as it is, or one that consumes in its place.
-fn value_of(
-    alloc: Global,
-    forms: &Forms,
-    form: usize,
-    is_filled: bool,
-) -> Result<Vec<Piece>, AllocError> {
-    if is_filled && let Some(value) = filled(alloc, forms, form)? {
-        return Ok(value);
-    }
-    kept(alloc, forms.span(form))
 }

@@ -2,15 +2,10 @@
 //!
 //! A keyword is told from words where it is reserved, tried, and not followed by what a word goes on with.
 
-use crate::change::Change;
-use crate::draft::{Draft, push_draft};
-use crate::forms::Forms;
-use crate::kinds::Kind;
-use crate::leading::Met;
-use crate::literals::literal;
-use crate::pieces::{Piece, kept, new_around};
-use crate::spans::slice_of;
-use crate::trying::{guard_string, lexeme_of};
+use crate::runs::trimmed;
+use crate::strings::lexeme_of;
+use crate::trying::{Class, guard_string};
+use pg_draft::{Change, Draft, Forms, Kind, Met, push_draft};
 use pg_items::{Item, Span};
 use pg_text::Characters;
 use pg_tokens::{Lexeme, Mark};
@@ -23,51 +18,30 @@ pub(crate) fn push_reserved(
     sides: &[Vec<usize>],
     drafts: &mut Vec<Draft>,
 ) -> Result<(), AllocError> {
-    push_draft(drafts, reserved_draft(alloc, forms, sides, false)?)?;
-    push_draft(drafts, reserved_draft(alloc, forms, sides, true)?)
+    push_reserving(alloc, forms, sides, false, drafts)?;
+    push_reserving(alloc, forms, sides, true, drafts)
 }
 
 /// A draft that reserves strings, and has them tried where that is said.
-fn reserved_draft(
+fn push_reserving(
     alloc: Global,
     forms: &Forms,
     sides: &[Vec<usize>],
     are_guarded: bool,
-) -> Result<Draft, AllocError> {
+    drafts: &mut Vec<Draft>,
+) -> Result<(), AllocError> {
     let mut draft = Draft::new(alloc, Change::Reserved, false);
-    let mut met = Met::new(alloc, forms.count())?;
+    let mut guarded = Met::new(alloc, forms.count())?;
     for item in forms.items {
         if let Some(word) = word_item(forms, item) {
-            reserve_for(
-                alloc,
-                forms,
-                sides,
-                &word,
-                are_guarded,
-                &mut met,
-                &mut draft,
-            )?;
+            let keys = keys_beside(alloc, forms, sides, word.name)?;
+            reserve(alloc, forms, &word, &keys, &mut draft)?;
+            if are_guarded {
+                guard_all(forms, &word, &keys, &mut guarded, &mut draft)?;
+            }
         }
     }
-    Ok(draft)
-}
-
-/// Reserves strings for the words of an item.
-fn reserve_for(
-    alloc: Global,
-    forms: &Forms,
-    sides: &[Vec<usize>],
-    word: &WordItem,
-    are_guarded: bool,
-    met: &mut Met,
-    draft: &mut Draft,
-) -> Result<(), AllocError> {
-    let keys = keys_beside(alloc, forms, sides, word.name)?;
-    reserve(alloc, forms, word, &keys, draft)?;
-    if are_guarded {
-        guard_all(alloc, forms, word, &keys, met, draft)?;
-    }
-    Ok(())
+    push_draft(drafts, draft)
 }
 
 /// A word item, as it is written.
@@ -112,21 +86,16 @@ fn keys_beside(
     let mut keys = Met::new(alloc, forms.count())?;
     for (number, side) in sides.iter().enumerate() {
         if has_word(forms, side, name) {
-            for (other, beside) in sides.iter().enumerate() {
-                if other != number {
-                    meet_keys(forms, beside, &mut keys)?;
-                }
-            }
+            meet_keys(forms, sides, number, &mut keys)?;
         }
     }
-    let Met { forms, .. } = keys;
-    Ok(forms)
+    Ok(keys.into_forms())
 }
 
 /// Whether one of these forms is a word of this item.
 fn has_word(forms: &Forms, side: &[usize], name: &[char]) -> bool {
     for form in side {
-        if let Some(other) = forms.word(*form)
+        if let Some(other) = forms.characters(*form, Kind::Word)
             && other == name
         {
             return true;
@@ -135,21 +104,31 @@ fn has_word(forms: &Forms, side: &[usize], name: &[char]) -> bool {
     false
 }
 
-/// Meets the strings that look like words.
-fn meet_keys(forms: &Forms, side: &[usize], keys: &mut Met) -> Result<(), AllocError> {
-    for form in side {
-        if let Some([first, ..]) = forms.string(*form)
-            && is_in_words(*first)
-        {
-            keys.meet(*form)?;
+/// Meets the strings of all sides but the one with this number that look like words.
+fn meet_keys(
+    forms: &Forms,
+    sides: &[Vec<usize>],
+    number: usize,
+    keys: &mut Met,
+) -> Result<(), AllocError> {
+    for (other, side) in sides.iter().enumerate() {
+        if other != number {
+            for form in side {
+                if is_key(forms, *form) {
+                    keys.meet(*form)?;
+                }
+            }
         }
     }
     Ok(())
 }
 
-/// Whether words are mostly made of such characters.
-fn is_in_words(c: char) -> bool {
-    c.is_ascii_alphanumeric() || c == '_' || c > '\u{7f}'
+/// Whether a form is a string that begins with what words are mostly made of.
+fn is_key(forms: &Forms, form: usize) -> bool {
+    match forms.characters(form, Kind::String) {
+        Some([c, ..]) => c.is_ascii_alphanumeric() || *c == '_' || *c > '\u{7f}',
+        Some([]) | None => false,
+    }
 }
 
 /// Adds those keys to an item that it doesn't reserve.
@@ -164,13 +143,17 @@ fn reserve(
     if added.is_empty() {
         return Ok(());
     }
-    let pieces = reserving(alloc, &added, word.reserved.is_empty())?;
-    let end = word.span.after.saturating_sub(1);
-    let end = Span {
-        first: end,
-        after: end,
+    let words = if word.reserved.is_empty() {
+        " reserved"
+    } else {
+        ""
     };
-    draft.replace(end, pieces)
+    draft.put_in(word.span.after.saturating_sub(1), words)?;
+    for text in &added {
+        draft.write(" ")?;
+        draft.write_literal(text)?;
+    }
+    Ok(())
 }
 
 /// The texts of those keys that an item doesn't reserve, each once.
@@ -182,27 +165,14 @@ fn unreserved<'s>(
 ) -> Result<Vec<&'s [char]>, AllocError> {
     let mut added = Vec::new(alloc);
     for key in keys {
-        if let Some(text) = forms.string(*key)
+        if let Some(text) = forms.characters(*key, Kind::String)
             && !is_reserved(word.reserved, text)
-            && !is_among(&added, text)
+            && !added.contains(&text)
         {
             added.push(text)?;
         }
     }
     Ok(added)
-}
-
-/// Texts that are reserved, behind the word for that, where they are the first.
-fn reserving(alloc: Global, texts: &[&[char]], are_first: bool) -> Result<Vec<Piece>, AllocError> {
-    let mut pieces = Vec::new(alloc);
-    if are_first {
-        pieces.push(Piece::New(" reserved"))?;
-    }
-    for text in texts {
-        pieces.push(Piece::New(" "))?;
-        pieces.push(Piece::Written(literal(alloc, text)?))?;
-    }
-    Ok(pieces)
 }
 
 fn is_reserved(reserved: &[Characters], text: &[char]) -> bool {
@@ -214,59 +184,37 @@ fn is_reserved(reserved: &[Characters], text: &[char]) -> bool {
     false
 }
 
-fn is_among(texts: &[&[char]], text: &[char]) -> bool {
-    for other in texts {
-        if *other == text {
-            return true;
-        }
-    }
-    false
-}
-
 /// Has each key tried, and not followed by what words of the item go on with; each key once.
 fn guard_all(
-    alloc: Global,
     forms: &Forms,
     word: &WordItem,
     keys: &[usize],
-    met: &mut Met,
+    guarded: &mut Met,
     draft: &mut Draft,
 ) -> Result<(), AllocError> {
     let Some(rest) = rest_class(forms, word.span) else {
         return Ok(());
     };
     for key in keys {
-        if !met.has(*key) {
-            met.meet(*key)?;
-            guard_key(alloc, forms, rest, *key, draft)?;
+        if !guarded.has(*key) {
+            guarded.meet(*key)?;
+            guard_key(forms, rest, *key, draft)?;
         }
     }
     Ok(())
 }
 
 /// Has a key tried, and not followed by the class with this span.
-fn guard_key(
-    alloc: Global,
-    forms: &Forms,
-    rest: Span,
-    key: usize,
-    draft: &mut Draft,
-) -> Result<(), AllocError> {
-    let lexeme = lexeme_of(alloc, forms, key)?;
-    let class = kept(alloc, rest)?;
+fn guard_key(forms: &Forms, rest: Span, key: usize, draft: &mut Draft) -> Result<(), AllocError> {
+    let lexeme = lexeme_of(forms, key);
     let Some(guard) = lexeme.guard else {
-        return guard_string(alloc, forms, key, class, draft);
+        return guard_string(forms, key, Class::Kept(rest), draft);
     };
     if !lexeme.is_tried {
-        draft.wrap(alloc, forms.span(lexeme.whole), "try(", ")")?;
+        draft.wrap(forms.span(lexeme.whole), "try(", ")")?;
     }
-    if forms.is(guard, Kind::NotFollowedBy) {
-        draft.replace(
-            forms.span(guard),
-            new_around(alloc, "notFollowedBy(", class)?,
-        )?;
-    }
-    Ok(())
+    draft.replace(forms.span(guard))?;
+    draft.write_around("notFollowedBy(", rest)
 }
 
 /// The class that words of an item go on with.
@@ -279,13 +227,8 @@ fn rest_class(forms: &Forms, item: Span) -> Option<Span> {
             if let Some(first) = begun
                 && is_end(lexeme)
             {
-                return Some(trimmed(
-                    forms.text,
-                    Span {
-                        first,
-                        after: lexeme.place,
-                    },
-                ));
+                let after = lexeme.place;
+                return Some(trimmed(forms.text, Span { first, after }));
             }
             if begun.is_none() && number >= 4 && can_begin && lexeme.token.is_word("rest") {
                 begun = Some(lexeme.place.saturating_add(4));
@@ -307,27 +250,4 @@ fn is_open(lexeme: &Lexeme) -> bool {
     lexeme.token.is_word("not")
         || lexeme.token.is_mark(Mark::Bar)
         || lexeme.token.is_mark(Mark::Open)
-}
-
-/// The span without the blanks at its ends.
-pub(crate) fn trimmed(text: &[char], span: Span) -> Span {
-    let mut first = span.first;
-    let mut after = span.after;
-    for c in slice_of(text, span) {
-        if !is_blank(*c) {
-            break;
-        }
-        first = first.saturating_add(1);
-    }
-    for c in slice_of(text, span).iter().rev() {
-        if !is_blank(*c) {
-            break;
-        }
-        after = after.saturating_sub(1);
-    }
-    Span { first, after }
-}
-
-fn is_blank(c: char) -> bool {
-    c == ' ' || c == '\n' || c == '\t' || c == '\r'
 }

@@ -3,13 +3,9 @@
 //! `many(option(v))` and `many(many(v))` say twice that there may be nothing. A round of several parts, each of which can be empty, takes one
 //! of them. Else a part is changed that the round can be empty by.
 
-use crate::change::Change;
-use crate::draft::{Draft, push_draft};
-use crate::fillings::{consuming, filled};
-use crate::forms::Forms;
-use crate::kinds::Kind;
-use crate::leading::leading;
-use crate::pieces::{Piece, kept, new_around, new_choice};
+use pg_draft::{
+    Change, Draft, Forms, Kind, consuming, fill, leading, push_draft, write_filled, write_filling,
+};
 use std::alloc::{AllocError, Global};
 
 /// Drafts for a repetition or a chain of which a round can be empty. The only error is that memory ran out.
@@ -19,12 +15,12 @@ pub(crate) fn push_rounds(
     form: usize,
     drafts: &mut Vec<Draft>,
 ) -> Result<(), AllocError> {
-    let parts = forms.parts(alloc, form)?;
-    if let [round] = parts.as_slice() {
+    let parts = forms.parts(form);
+    if let [round] = parts {
         push_direct(alloc, forms, form, *round, drafts)?;
         push_one_of(alloc, forms, form, *round, drafts)?;
     }
-    push_fillings(alloc, forms, &parts, drafts)
+    push_fillings(alloc, forms, parts, drafts)
 }
 
 /// Has the part of an inner repetition or option repeated.
@@ -35,16 +31,29 @@ fn push_direct(
     round: usize,
     drafts: &mut Vec<Draft>,
 ) -> Result<(), AllocError> {
-    let is_twice = forms.is(round, Kind::Option) || forms.is(round, Kind::Many);
-    let parts = forms.parts(alloc, round)?;
-    if let [inner] = parts.as_slice()
-        && is_twice
-    {
-        let value = kept(alloc, forms.span(*inner))?;
-        let draft = new_rounds(alloc, forms, form, round, Change::NoInnerOption, value)?;
-        push_draft(drafts, draft)?;
+    let kinds = [Kind::Option, Kind::Many];
+    match forms.parts(round) {
+        [inner] if forms.is_among(round, &kinds) => {
+            let place = place_of(forms, form, round);
+            let mut draft = Draft::new(alloc, Change::NoInnerOption, false);
+            write_kept(forms, place, *inner, &mut draft)?;
+            push_draft(drafts, draft)
+        }
+        _ => Ok(()),
     }
-    Ok(())
+}
+
+/// Writes a round that is a form of the file.
+fn write_kept(
+    forms: &Forms,
+    place: Place,
+    round: usize,
+    draft: &mut Draft,
+) -> Result<(), AllocError> {
+    draft.replace(forms.span(place.form))?;
+    draft.write(place.before)?;
+    draft.keep(forms.span(round))?;
+    draft.write(place.after)
 }
 
 /// Has a round take one of its parts, each of which consumes then.
@@ -55,52 +64,71 @@ fn push_one_of(
     round: usize,
     drafts: &mut Vec<Draft>,
 ) -> Result<(), AllocError> {
-    let parts = forms.parts(alloc, round)?;
-    if !forms.is(round, Kind::Seq) || parts.len() < 2 {
+    let parts = forms.parts(round);
+    if !forms.is(round, Kind::Seq) || parts.len() < 2 || !are_filled(forms, parts) {
         return Ok(());
     }
-    if let Some(values) = all_filled(alloc, forms, &parts)? {
-        let value = new_choice(alloc, values)?;
-        push_draft(
-            drafts,
-            new_rounds(alloc, forms, form, round, Change::OneOf, value)?,
-        )?;
-    }
-    Ok(())
+    let place = place_of(forms, form, round);
+    let mut draft = Draft::new(alloc, Change::OneOf, false);
+    write_one_of(forms, place, parts, &mut draft)?;
+    push_draft(drafts, draft)
 }
 
-/// What consumes in the place of each of these, if each can be empty.
-fn all_filled(
-    alloc: Global,
-    forms: &Forms,
-    parts: &[usize],
-) -> Result<Option<Vec<Vec<Piece>>>, AllocError> {
-    let mut values = Vec::new(alloc);
+/// Whether something consumes in the place of each of these.
+fn are_filled(forms: &Forms, parts: &[usize]) -> bool {
     for part in parts {
-        match filled(alloc, forms, *part)? {
-            Some(value) => values.push(value)?,
-            None => return Ok(None),
+        if fill(forms, *part).is_none() {
+            return false;
         }
     }
-    Ok(Some(values))
+    true
 }
 
-/// A draft with another round of a repetition, of which there may be none.
-fn new_rounds(
-    alloc: Global,
+/// Writes a round that takes one of these, two or more, each of which consumes.
+fn write_one_of(
     forms: &Forms,
-    form: usize,
-    round: usize,
-    change: Change,
-    value: Vec<Piece>,
-) -> Result<Draft, AllocError> {
-    let mut draft = Draft::new(alloc, change, false);
-    if forms.is(form, Kind::Many) {
-        draft.replace(forms.span(round), value)?;
-    } else {
-        draft.replace(forms.span(form), new_around(alloc, "many(", value)?)?;
+    place: Place,
+    parts: &[usize],
+    draft: &mut Draft,
+) -> Result<(), AllocError> {
+    let mut is_first = true;
+    draft.replace(forms.span(place.form))?;
+    draft.write(place.before)?;
+    draft.write("choice(")?;
+    for part in parts {
+        if let Some(filled) = fill(forms, *part) {
+            draft.write_comma(is_first)?;
+            write_filled(forms, filled, draft)?;
+            is_first = false;
+        }
     }
-    Ok(draft)
+    draft.write(")")?;
+    draft.write(place.after)
+}
+
+/// What a new round of a repetition, of which there may be none, stands in the place of, and the words around it.
+#[derive(Clone, Copy)]
+struct Place {
+    form: usize,
+    before: &'static str,
+    after: &'static str,
+}
+
+/// The place of a new round of a repetition.
+fn place_of(forms: &Forms, form: usize, round: usize) -> Place {
+    if forms.is(form, Kind::Many) {
+        Place {
+            form: round,
+            before: "",
+            after: "",
+        }
+    } else {
+        Place {
+            form,
+            before: "many(",
+            after: ")",
+        }
+    }
 }
 
 /// Has one of the forms consume by which these can be empty: choices first, from the outside in.
@@ -117,18 +145,22 @@ fn push_fillings(
         }
     }
     for form in &met {
-        if forms.is(*form, Kind::Option) {
-            push_filling(alloc, forms, *form, Change::NoInnerOption, drafts)?;
-        }
-        if is_repetition(forms, *form) {
-            push_filling(alloc, forms, *form, Change::Many1, drafts)?;
+        if let Some(change) = change_of(forms, *form) {
+            push_filling(alloc, forms, *form, change, drafts)?;
         }
     }
     Ok(())
 }
 
-fn is_repetition(forms: &Forms, form: usize) -> bool {
-    forms.is(form, Kind::Many) || forms.is(form, Kind::SepBy) || forms.is(form, Kind::EndBy)
+/// What is changed where an option or a repetition consumes.
+fn change_of(forms: &Forms, form: usize) -> Option<Change> {
+    if forms.is(form, Kind::Option) {
+        return Some(Change::NoInnerOption);
+    }
+    if forms.is_among(form, &[Kind::Many, Kind::SepBy, Kind::EndBy]) {
+        return Some(Change::Many1);
+    }
+    None
 }
 
 /// Has a form consume, if it can be empty. The only error is that memory ran out.
@@ -142,10 +174,11 @@ pub(crate) fn push_filling(
     if !forms.is_nullable(form) {
         return Ok(());
     }
-    if let Some(pieces) = consuming(alloc, forms, form, true)? {
-        let mut draft = Draft::new(alloc, change, false);
-        draft.replace(forms.span(form), pieces)?;
-        push_draft(drafts, draft)?;
-    }
-    Ok(())
+    let Some(filling) = consuming(forms, form, true) else {
+        return Ok(());
+    };
+    let mut draft = Draft::new(alloc, change, false);
+    draft.replace(forms.span(form))?;
+    write_filling(forms, filling, &mut draft)?;
+    push_draft(drafts, draft)
 }

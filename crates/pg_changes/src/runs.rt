@@ -2,14 +2,8 @@
 //!
 //! `text(many1(satisfy(c)))` is such a run, and so is `text(seq(satisfy(h), many(satisfy(c))))`.
 
-use crate::change::Change;
-use crate::draft::{Draft, push_draft};
-use crate::forms::Forms;
-use crate::kinds::Kind;
-use crate::literals::word_name;
-use crate::pieces::{Piece, new_around};
-use crate::reserving::trimmed;
-use pg_items::Span;
+use pg_draft::{Change, Draft, Forms, Kind, push_draft, slice_of};
+use pg_items::{Item, Span};
 use std::alloc::{AllocError, Global};
 
 /// A draft that makes a word of the run in which a repetition stands. The only error is that memory ran out.
@@ -19,27 +13,52 @@ pub(crate) fn push_word(
     form: usize,
     drafts: &mut Vec<Draft>,
 ) -> Result<(), AllocError> {
-    let parts = forms.parts(alloc, form)?;
-    let (Some(parent), [round]) = (forms.parent(form), parts.as_slice()) else {
-        return Ok(());
+    match run_around(forms, form) {
+        Some(run) => push_run(alloc, forms, run, drafts),
+        None => Ok(()),
+    }
+}
+
+/// A run of characters.
+#[derive(Clone, Copy)]
+struct Run {
+    /// The `text` form.
+    form: usize,
+    /// The class that it begins with.
+    head: Span,
+    /// The class that it goes on with.
+    rest: Span,
+}
+
+/// The run in which a repetition stands.
+fn run_around(forms: &Forms, form: usize) -> Option<Run> {
+    let rest = match forms.parts(form) {
+        [round] => class_in(forms, *round)?,
+        _ => return None,
     };
-    let Some(rest) = class_in(forms, *round) else {
-        return Ok(());
-    };
+    let parent = forms.parent(form)?;
     if forms.is(form, Kind::Many1) && forms.is(parent, Kind::Text) {
-        return push_item(alloc, forms, parent, rest, rest, drafts);
+        return Some(Run {
+            form: parent,
+            head: rest,
+            rest,
+        });
     }
-    let before = forms.parts(alloc, parent)?;
-    if let ([head, last], Some(text)) = (before.as_slice(), forms.parent(parent))
-        && *last == form
-        && forms.is(form, Kind::Many)
-        && forms.is(parent, Kind::Seq)
-        && forms.is(text, Kind::Text)
-        && let Some(head) = class_in(forms, *head)
-    {
-        return push_item(alloc, forms, text, head, rest, drafts);
+    let text = forms.parent(parent)?;
+    match forms.parts(parent) {
+        [head, last]
+            if *last == form
+                && forms.is(form, Kind::Many)
+                && forms.is(parent, Kind::Seq)
+                && forms.is(text, Kind::Text) => {
+            Some(Run {
+                form: text,
+                head: class_in(forms, *head)?,
+                rest,
+            })
+        }
+        _ => None,
     }
-    Ok(())
 }
 
 /// The class of a `satisfy`: what stands in its parentheses.
@@ -55,42 +74,98 @@ fn class_in(forms: &Forms, form: usize) -> Option<Span> {
         }
         first = first.saturating_add(1);
     }
-    let inside = Span {
-        first,
-        after: span.after.saturating_sub(1),
-    };
-    Some(trimmed(forms.text, inside))
+    let after = span.after.saturating_sub(1);
+    Some(trimmed(forms.text, Span { first, after }))
 }
 
-/// Puts a word item before the rule in which a form stands, and a word in the form's place.
-fn push_item(
+/// The span without the blanks at its ends.
+pub(crate) fn trimmed(text: &[char], span: Span) -> Span {
+    let mut first = span.first;
+    let mut after = span.after;
+    let inside = slice_of(text, span);
+    for c in inside {
+        if !is_blank(*c) {
+            break;
+        }
+        first = first.saturating_add(1);
+    }
+    for c in inside.iter().rev() {
+        if !is_blank(*c) {
+            break;
+        }
+        after = after.saturating_sub(1);
+    }
+    Span { first, after }
+}
+
+fn is_blank(c: char) -> bool {
+    c == ' ' || c == '\n' || c == '\t' || c == '\r'
+}
+
+/// Puts a word item before the rule in which a run stands, and a word in the run's place.
+fn push_run(
     alloc: Global,
     forms: &Forms,
-    form: usize,
-    head: Span,
-    rest: Span,
+    run: Run,
     drafts: &mut Vec<Draft>,
 ) -> Result<(), AllocError> {
-    let Some(rule) = forms.rule_around(form) else {
+    let Some(rule) = forms.rule_around(run.form) else {
         return Ok(());
     };
+    let name = word_name(alloc, forms.items, rule.name)?;
     let mut draft = Draft::new(alloc, Change::Word, false);
-    let mut item = Vec::new(alloc);
-    item.push(Piece::New("word "))?;
-    item.push(Piece::Written(word_name(alloc, forms.items, rule.name.as_slice())?))?;
-    item.push(Piece::New(" head "))?;
-    item.push(Piece::Kept(head))?;
-    item.push(Piece::New(" rest "))?;
-    item.push(Piece::Kept(rest))?;
-    item.push(Piece::New(";\n"))?;
-    let place = Span {
-        first: rule.place,
-        after: rule.place,
-    };
-    draft.replace(place, item)?;
-    let name = vec![in alloc;
-        Piece::Written(word_name(alloc, forms.items, rule.name.as_slice())?),
-    ]?;
-    draft.replace(forms.span(form), new_around(alloc, "word(", name)?)?;
+    write_run(forms, run, rule.place, &name, &mut draft)?;
     push_draft(drafts, draft)
+}
+
+/// Puts a word item with this name in at a place, and a word of it in the run's place.
+fn write_run(
+    forms: &Forms,
+    run: Run,
+    place: usize,
+    name: &[char],
+    draft: &mut Draft,
+) -> Result<(), AllocError> {
+    draft.put_in(place, "word ")?;
+    draft.write_characters(name)?;
+    draft.write(" head ")?;
+    draft.keep(run.head)?;
+    draft.write(" rest ")?;
+    draft.keep(run.rest)?;
+    draft.write(";\n")?;
+    draft.replace(forms.span(run.form))?;
+    draft.write("word(")?;
+    draft.write_characters(name)?;
+    draft.write(")")
+}
+
+/// A name that no word item has, made of a rule's name by as many letters after it as that takes.
+fn word_name(alloc: Global, items: &[Item], rule: &[char]) -> Result<Vec<char>, AllocError> {
+    let mut name = Vec::from_slice(alloc, rule)?;
+    for _ in items {
+        if !is_word_item(items, &name) {
+            break;
+        }
+        name.push('W')?;
+    }
+    Ok(name)
+}
+
+/// Whether a word item has this name.
+fn is_word_item(items: &[Item], wanted: &[char]) -> bool {
+    for item in items {
+        match item {
+            Item::Word { name, .. } => {
+                if name.as_slice() == wanted {
+                    return true;
+                }
+            }
+            Item::Class { .. }
+            | Item::Rule { .. }
+            | Item::Operators { .. }
+            | Item::Table { .. }
+            | Item::Start { .. } => {}
+        }
+    }
+    false
 }

@@ -1,10 +1,11 @@
 //! The cure of a finding: the first change of the list that takes it away.
 
-use crate::finding::{Found, Gone, code_of};
+use crate::finding::{Found, Gone, code_of, trouble_of};
 use crate::items::changed_items;
 use crate::judging::{Judged, judge};
 use crate::source::{Bound, Source};
-use pg_changes::{Change, Changed, Draft, Forms, drafts};
+use pg_changes::{Trouble, drafts};
+use pg_draft::{Change, Changed, Draft, Forms};
 use pg_form::NodeId;
 use pg_items::Item;
 use pg_parser::{SyntaxError, read_items};
@@ -56,7 +57,8 @@ pub fn find_cure(
     kind: &ViolationKind<usize>,
     bound: &mut Bound,
 ) -> Result<Option<Cure>, AllocError> {
-    let Some(span) = source.spans.get(node.index()).copied() else {
+    let (Some(span), Some(trouble)) = (source.spans.get(node.index()).copied(), trouble_of(kind))
+    else {
         return Ok(None);
     };
     if source.text.len() > TEXT_LIMIT {
@@ -67,7 +69,7 @@ pub fn find_cure(
     }
     let code = code_of(kind);
     let cured = Found { node, span, code };
-    cure_in(alloc, source, &cured, kind, bound)
+    cure_in(alloc, source, &cured, trouble, bound)
 }
 
 /// Reads the file's items, and looks for a cure.
@@ -75,7 +77,7 @@ fn cure_in(
     alloc: Global,
     source: &Source,
     cured: &Found,
-    kind: &ViolationKind<usize>,
+    trouble: Trouble,
     bound: &mut Bound,
 ) -> Result<Option<Cure>, AllocError> {
     let lexemes = lex(alloc, source.text)?;
@@ -85,7 +87,7 @@ fn cure_in(
                 lexemes: lexemes.as_slice(),
                 items: items.as_slice(),
             };
-            cure_by(alloc, source, read, cured, kind, bound)
+            cure_by(alloc, source, read, cured, trouble, bound)
         }
         Err(SyntaxError::Memory) => Err(AllocError),
         Err(SyntaxError::Fault(_, _)) => Ok(None),
@@ -105,23 +107,33 @@ fn cure_by(
     source: &Source,
     read: Read,
     cured: &Found,
-    kind: &ViolationKind<usize>,
+    trouble: Trouble,
     bound: &mut Bound,
 ) -> Result<Option<Cure>, AllocError> {
-    let sets = source.refused.sets();
+    let nullable = nullable_nodes(alloc, source)?;
     let forms = Forms::of(
         alloc,
         source.text,
         read.lexemes,
         read.items,
-        sets,
         source.spans,
+        &nullable,
     )?;
     let Some(form) = forms.at(cured.span) else {
         return Ok(None);
     };
-    let drafts = drafts(alloc, &forms, form, kind)?;
+    let drafts = drafts(alloc, &forms, form, trouble)?;
     first_cure(alloc, source, &forms, cured, &drafts, bound)
+}
+
+/// Whether each node of the grammar can be empty.
+fn nullable_nodes(alloc: Global, source: &Source) -> Result<Vec<bool>, AllocError> {
+    let sets = source.refused.sets();
+    let mut nullable = Vec::new(alloc);
+    for node in 0..source.spans.len() {
+        nullable.push(sets.nullable(NodeId::new(node)))?;
+    }
+    Ok(nullable)
 }
 
 /// The first of these drafts that is a cure.
@@ -157,7 +169,7 @@ fn cure_of(
     let mut taken_out = Vec::new(alloc);
     for body in &draft.taken_out {
         if let Some(rule) = forms.rule_with(*body) {
-            taken_out.push(utf8(alloc, rule.name.as_slice())?)?;
+            taken_out.push(utf8(alloc, rule.name)?)?;
         }
     }
     let Judged { accepted, gone } = judged;

@@ -2,6 +2,7 @@
 //!
 //! What is wrong at one form in one way counts once, as with a choice of which several alternatives meet.
 
+use pg_changes::Trouble;
 use pg_form::NodeId;
 use pg_items::Span;
 use pg_predict::{Refused, ViolationKind};
@@ -39,6 +40,23 @@ pub(crate) fn code_of(kind: &ViolationKind<usize>) -> u8 {
         ViolationKind::FollowMeetsOperators(_) => 8,
         ViolationKind::GapMeets(_) => 9,
         ViolationKind::StepCostOver => 11,
+    }
+}
+
+/// What a change has to help against, if some may.
+pub(crate) fn trouble_of(kind: &ViolationKind<usize>) -> Option<Trouble> {
+    match kind {
+        ViolationKind::LeftRecursion => Some(Trouble::LeftRecursion),
+        ViolationKind::EmptyRound => Some(Trouble::EmptyRound),
+        ViolationKind::EmptyAlternative(k) => Some(Trouble::EmptyAlternative(*k)),
+        ViolationKind::AlternativesMeet(j, k, _, _) => Some(Trouble::AlternativesMeet(*j, *k)),
+        ViolationKind::AlternativeMeetsFollow(k, _, _) => Some(Trouble::AlternativeMeetsFollow(*k)),
+        ViolationKind::RoundMeetsFollow(_, _) => Some(Trouble::RoundMeetsFollow),
+        ViolationKind::EmptyOperand
+        | ViolationKind::OperandMeetsOperators(_)
+        | ViolationKind::FollowMeetsOperators(_)
+        | ViolationKind::GapMeets(_)
+        | ViolationKind::StepCostOver => None,
     }
 }
 

@@ -1,6 +1,6 @@
 //! The items of a changed file that read otherwise than before.
 
-use pg_changes::{Changed, item_spans, slice_of};
+use pg_draft::{Changed, item_spans, slice_of};
 use pg_items::Span;
 use pg_tokens::{lex, utf8};
 use std::alloc::{AllocError, Global};

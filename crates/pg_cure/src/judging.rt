@@ -3,7 +3,7 @@
 //! It is one where its grammar is accepted, or where the finding is gone and each finding that there is stood at the same form before.
 
 use crate::finding::{Found, Gone, findings};
-use pg_changes::{Changed, is_same};
+use pg_draft::Changed;
 use pg_file::{FileError, read_placed};
 use pg_items::Span;
 use pg_making::PlacedGrammar;
@@ -130,7 +130,7 @@ fn moved(found: &Found, span: Span) -> Found {
 /// Whether one of these is of the same condition at the same form.
 fn is_among(all: &[Found], one: &Found) -> bool {
     for other in all {
-        if other.code == one.code && is_same(other.span, one.span) {
+        if other.code == one.code && other.span == one.span {
             return true;
         }
     }

@@ -1,7 +1,7 @@
 //! The kinds of changes, in words.
 
 /// What is changed.
-#[derive(Clone, Copy, Debug, PartialEq, Eq)]
+#[derive(Clone, Copy)]
 pub enum Change {
     /// A string is tried as a whole.
     Try,

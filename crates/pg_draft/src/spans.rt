@@ -4,11 +4,6 @@ use pg_items::Span;
 use pg_tokens::{Lexeme, Mark};
 use std::alloc::{AllocError, Global};
 
-/// Whether two spans have the same characters.
-pub fn is_same(one: Span, other: Span) -> bool {
-    one.first == other.first && one.after == other.after
-}
-
 /// The characters of a span; none where it passes the end.
 pub fn slice_of(text: &[char], span: Span) -> &[char] {
     if span.first <= span.after && span.after <= text.len() {
@@ -18,20 +13,19 @@ pub fn slice_of(text: &[char], span: Span) -> &[char] {
     }
 }
 
-/// The spans of items. The only error is that memory ran out.
+/// The spans of items, each from its first token to its semicolon. The only error is that memory ran out.
 pub fn item_spans(alloc: Global, lexemes: &[Lexeme]) -> Result<Vec<Span>, AllocError> {
     let mut spans = Vec::new(alloc);
-    let mut begun = None;
+    let mut first = 0;
+    let mut is_begun = false;
     for lexeme in lexemes {
-        let first = match begun {
-            Some(first) => first,
-            None => lexeme.place,
-        };
-        begun = Some(first);
-        if lexeme.token.is_mark(Mark::Semicolon) {
+        if !is_begun {
+            first = lexeme.place;
+        }
+        is_begun = !lexeme.token.is_mark(Mark::Semicolon);
+        if !is_begun {
             let after = lexeme.place.saturating_add(1);
             spans.push(Span { first, after })?;
-            begun = None;
         }
     }
     Ok(spans)

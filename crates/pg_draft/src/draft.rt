@@ -1,0 +1,155 @@
+//! A change that is to be tried: which characters of the file are replaced, and by what.
+//!
+//! Edits are kept in the order of their places, and what is written goes to the one that was begun last. One that begins before the end of
+//! the edit before it is left out.
+
+use crate::change::Change;
+use crate::changed::Changed;
+use pg_items::Span;
+use std::alloc::{AllocError, Global};
+
+/// A piece of what stands in the place of characters.
+#[derive(Clone, Copy)]
+enum Piece {
+    /// These characters of the file.
+    Kept(Span),
+    /// These words.
+    New(&'static str),
+    /// This character.
+    Written(char),
+}
+
+/// Characters that are replaced, none of them where something is put in, and the pieces in their place: from one number up to another.
+#[derive(Clone, Copy)]
+struct Edit {
+    span: Span,
+    first: usize,
+    after: usize,
+}
+
+/// A change that is to be tried.
+#[derive(Drop)]
+pub struct Draft {
+    /// What is changed, in words.
+    pub change: Change,
+    /// Whether it may add, drop or regroup trees.
+    pub tree_changes: bool,
+    /// The rules that it takes out, since nothing uses them any more, by their bodies.
+    pub taken_out: Vec<usize>,
+    edits: Vec<Edit>,
+    /// The number of the edit that was begun last.
+    begun: usize,
+    pieces: Vec<Piece>,
+}
+
+impl Draft {
+    /// No edit.
+    pub fn new(alloc: Global, change: Change, tree_changes: bool) -> Draft {
+        Draft {
+            change,
+            tree_changes,
+            taken_out: Vec::new(alloc),
+            edits: Vec::new(alloc),
+            begun: 0,
+            pieces: Vec::new(alloc),
+        }
+    }
+
+    /// Has the characters of the span replaced by what is written from now on. The only error is that memory ran out.
+    pub fn replace(&mut self, span: Span) -> Result<(), AllocError> {
+        let first = self.pieces.len();
+        let place = place_in(self.edits.as_slice(), span.first);
+        if place <= self.edits.len() {
+            let edit = Edit {
+                span,
+                first,
+                after: first,
+            };
+            self.edits.insert(place, edit)?;
+            self.begun = place;
+        }
+        Ok(())
+    }
+
+    /// Writes characters of the file. The only error is that memory ran out.
+    pub fn keep(&mut self, span: Span) -> Result<(), AllocError> {
+        self.push(Piece::Kept(span))
+    }
+
+    /// Writes words. The only error is that memory ran out.
+    pub fn write(&mut self, words: &'static str) -> Result<(), AllocError> {
+        self.push(Piece::New(words))
+    }
+
+    /// Writes characters anew. The only error is that memory ran out.
+    pub fn write_characters(&mut self, characters: &[char]) -> Result<(), AllocError> {
+        for c in characters {
+            self.push(Piece::Written(*c))?;
+        }
+        Ok(())
+    }
+
+    /// Pushes a piece of the edit that was begun last.
+    fn push(&mut self, piece: Piece) -> Result<(), AllocError> {
+        self.pieces.push(piece)?;
+        let after = self.pieces.len();
+        if let Some(edit) = self.edits.get_mut(self.begun) {
+            edit.after = after;
+        }
+        Ok(())
+    }
+
+    /// The text of the file, changed. The only error is that memory ran out.
+    pub fn applied(&self, alloc: Global, text: &[char]) -> Result<Changed, AllocError> {
+        let mut changed = Changed::new(alloc);
+        let mut first = 0;
+        for edit in &self.edits {
+            let after = edit.span.first;
+            if first <= after {
+                changed.keep(text, Span { first, after })?;
+                self.write_edit(text, *edit, &mut changed)?;
+                first = edit.span.after;
+            }
+        }
+        let after = text.len();
+        changed.keep(text, Span { first, after })?;
+        Ok(changed)
+    }
+
+    /// Writes the pieces of an edit.
+    fn write_edit(
+        &self,
+        text: &[char],
+        edit: Edit,
+        changed: &mut Changed,
+    ) -> Result<(), AllocError> {
+        for number in edit.first..edit.after {
+            match self.pieces.get(number) {
+                Some(Piece::Kept(span)) => changed.keep(text, *span)?,
+                Some(Piece::New(words)) => changed.push_words(words)?,
+                Some(Piece::Written(c)) => changed.push(*c, None)?,
+                None => {}
+            }
+        }
+        Ok(())
+    }
+}
+
+/// How many of these edits begin at a place or before it.
+fn place_in(edits: &[Edit], first: usize) -> usize {
+    let mut count: usize = 0;
+    for edit in edits {
+        if edit.span.first <= first {
+            count = count.saturating_add(1);
+        }
+    }
+    count
+}
+
+/// Keeps a draft, if it has an edit. The only error is that memory ran out.
+pub fn push_draft(drafts: &mut Vec<Draft>, draft: Draft) -> Result<(), AllocError> {
+    if !draft.edits.is_empty() {
+        drafts.push(draft)?;
+    }
+    Ok(())
+}

@@ -1,0 +1,165 @@
+//! What a form that can be empty takes where it isn't.
+
+use crate::draft::Draft;
+use crate::forms::Forms;
+use crate::kinds::Kind;
+use pg_items::Span;
+use std::alloc::AllocError;
+
+/// How many forms around one are looked into at most.
+const STEPS: usize = 8;
+
+/// What consumes in the place of a form that can be empty.
+#[derive(Clone, Copy)]
+pub enum Filling {
+    /// These words, and then these characters of the file: the same form by another word, or the part of an option.
+    Kept(&'static str, Span),
+    /// At least one value, each with a separator after it.
+    Ended(usize, usize),
+    /// A choice without the alternatives that take nothing: those that are `seq()`, and where that is said `eof`.
+    Alternatives(usize, bool),
+}
+
+/// What consumes in the place of a repetition, an option or a choice, if anything does. An alternative that is `eof` is left out where that is
+/// said, and `seq()` ever.
+pub fn consuming(forms: &Forms, form: usize, is_loose: bool) -> Option<Filling> {
+    match (forms.kind(form), forms.parts(form)) {
+        (Some(Kind::Many), [_]) => Some(renamed(forms, form, "many1", 4)),
+        (Some(Kind::SepBy), [_, _]) => Some(renamed(forms, form, "sepBy1", 5)),
+        (Some(Kind::Option), [part]) => Some(Filling::Kept("", forms.span(*part))),
+        (Some(Kind::EndBy), [value, separator]) => Some(Filling::Ended(*value, *separator)),
+        (Some(Kind::Choice), parts) if consuming_count(forms, parts, is_loose) > 0 => {
+            Some(Filling::Alternatives(form, is_loose))
+        }
+        (_, _) => None,
+    }
+}
+
+/// A form by another word, in the place of so many characters.
+fn renamed(forms: &Forms, form: usize, word: &'static str, length: usize) -> Filling {
+    let Span { first, after } = forms.span(form);
+    let first = first.saturating_add(length);
+    Filling::Kept(word, Span { first, after })
+}
+
+/// How many of these alternatives consume, if all do that are left; else 0.
+fn consuming_count(forms: &Forms, parts: &[usize], is_loose: bool) -> usize {
+    let mut count: usize = 0;
+    for part in parts {
+        if !takes_nothing(forms, *part, is_loose) {
+            if forms.is_nullable(*part) {
+                return 0;
+            }
+            count = count.saturating_add(1);
+        }
+    }
+    count
+}
+
+/// Whether a form is `seq()`, or `eof`, where that counts.
+fn takes_nothing(forms: &Forms, form: usize, is_loose: bool) -> bool {
+    match forms.kind(form) {
+        Some(Kind::Seq) => forms.parts(form).is_empty(),
+        Some(Kind::EndOfText) => is_loose,
+        Some(_) | None => false,
+    }
+}
+
+/// Writes what consumes. The only error is that memory ran out.
+pub fn write_filling(forms: &Forms, filling: Filling, draft: &mut Draft) -> Result<(), AllocError> {
+    match filling {
+        Filling::Kept(words, span) => {
+            draft.write(words)?;
+            draft.keep(span)
+        }
+        Filling::Ended(value, separator) => {
+            draft.write("many1(seq(")?;
+            draft.keep(forms.span(value))?;
+            draft.write_around(", skip(", forms.span(separator))?;
+            draft.write("))")
+        }
+        Filling::Alternatives(choice, is_loose) => {
+            write_alternatives(forms, forms.parts(choice), is_loose, draft)
+        }
+    }
+}
+
+/// Writes the alternatives that consume.
+fn write_alternatives(
+    forms: &Forms,
+    parts: &[usize],
+    is_loose: bool,
+    draft: &mut Draft,
+) -> Result<(), AllocError> {
+    let count = consuming_count(forms, parts, is_loose);
+    let mut is_first = true;
+    draft.open_group("choice(", count)?;
+    for part in parts {
+        if !takes_nothing(forms, *part, is_loose) {
+            draft.write_comma(is_first)?;
+            draft.keep(forms.span(*part))?;
+            is_first = false;
+        }
+    }
+    draft.close_group(count)
+}
+
+/// A form that consumes in the place of one that can be empty: one that takes the same texts but for the empty one, and makes the same trees
+/// of them.
+#[derive(Clone, Copy)]
+pub struct Filled {
+    /// The form or the body that stands for it.
+    outer: usize,
+    /// What it is but for forms around it.
+    inner: usize,
+    filling: Filling,
+}
+
+/// What consumes in the place of a form that can be empty, also behind rules and forms of one part, if it is such a one.
+pub fn fill(forms: &Forms, form: usize) -> Option<Filled> {
+    if !forms.is_nullable(form) {
+        return None;
+    }
+    let mut outer = form;
+    let mut inner = form;
+    for _ in 0..STEPS {
+        if let Some(body) = forms.body(inner) {
+            outer = body;
+            inner = body;
+        } else if let Some(part) = only_part(forms, inner) {
+            inner = part;
+        } else {
+            break;
+        }
+    }
+    let filling = consuming(forms, inner, false)?;
+    Some(Filled {
+        outer,
+        inner,
+        filling,
+    })
+}
+
+/// The part of a form that has no other, and that makes nothing of no tree.
+fn only_part(forms: &Forms, form: usize) -> Option<usize> {
+    let kinds = [Kind::Skip, Kind::Label, Kind::Seq, Kind::Try];
+    match forms.parts(form) {
+        [only] if forms.is_among(form, &kinds) => Some(*only),
+        _ => None,
+    }
+}
+
+/// Writes a form that consumes, with what stands around it. The only error is that memory ran out.
+pub fn write_filled(forms: &Forms, filled: Filled, draft: &mut Draft) -> Result<(), AllocError> {
+    let outer = forms.span(filled.outer);
+    let inner = forms.span(filled.inner);
+    draft.keep(Span {
+        first: outer.first,
+        after: inner.first,
+    })?;
+    write_filling(forms, filled.filling, draft)?;
+    draft.keep(Span {
+        first: inner.after,
+        after: outer.after,
+    })
+}
