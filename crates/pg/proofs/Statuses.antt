@@ -20,7 +20,8 @@ use Rattle.pg_grammar_bench.specs.Showing.{IsShownFile}
 use Rattle.pg_grammar_bench.specs.Verifying.{IsVerifiedFile, IsVerdictOf}
 use Rattle.pg_grammar_bench.specs.declared.fault.BenchFault.{BenchFault}
 use Rattle.pg_grammar_bench.specs.declared.fault.BenchFault.TheVariants.{File, Refused, Reader, NotUtf8, TooLong, NotATrail, NotVerified, ParseError, Writer, Memory}
-use Rattle.pg.specs.Status.{status_of, status_of_verdict, IsStatus, yes, no, unusable, out_of_memory, Refuses, IsCheckStatus, IsParseStatus, IsProbeStatus, IsReplayStatus, IsPrintStatus, IsVerifyStatus}
+use Rattle.pg_report.specs.Status.{status_of, status_of_verdict}
+use Rattle.pg.specs.Status.{IsStatus, yes, no, unusable, out_of_memory, IsCheckStatus, IsParseStatus, IsProbeStatus, IsReplayStatus, IsPrintStatus, IsVerifyStatus}
 
 -- ---- a check
 

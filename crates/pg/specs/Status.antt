@@ -1,5 +1,5 @@
 -- What the program answers to its caller: the exit status, and what that says of the files.
-use Rattle.std.specs.Prelude.{ℕ, List, Bool, true, false, Option, Result, Ok, Err, ◌⊎◌}
+use Rattle.std.specs.Prelude.{ℕ, List, Bool, true, false, Option, ◌⊎◌}
 use Rattle.pg_message.specs.declared.error.ParseError as message
 use Rattle.pg_tree.specs.Trees.{Tree}
 use Rattle.pg_value.specs.declared.trail.TrailItem.{TrailItem}
@@ -14,26 +14,6 @@ use Rattle.pg_bench.specs.Parsed.{IsForestOf, IsErrorOf}
 use Rattle.pg_bench.specs.Probing.{IsShown}
 use Rattle.pg_bench.specs.Showing.{IsShownBy}
 use Rattle.pg_bench.specs.Replaying.{IsReplayOfText}
-use Rattle.pg_grammar_bench.specs.declared.fault.BenchFault.{BenchFault}
-use Rattle.pg_grammar_bench.specs.declared.fault.BenchFault.TheVariants.{File, Refused, Reader, NotUtf8, TooLong, NotATrail, NotVerified, ParseError, Writer, Memory}
-
--- the exit status of a fault: 1 if the grammar isn't accepted, a certificate doesn't show that it is, or the text isn't the grammar's, 2 if something can't be used, 3 if memory ran out
-abbrev pub status_of : BenchFault → ℕ
-status_of (File fault) = 2
-status_of (Refused refused) = 1
-status_of Reader = 2
-status_of NotUtf8 = 2
-status_of TooLong = 2
-status_of NotATrail = 2
-status_of (NotVerified verdict) = 1
-status_of (ParseError error) = 1
-status_of Writer = 2
-status_of Memory = 3
-
--- and of what is found of a certificate
-abbrev pub status_of_verdict : {T : Type 0} → Result T BenchFault → ℕ
-status_of_verdict (Ok x) = 0
-status_of_verdict (Err fault) = status_of fault
 
 -- the exit status of a command: yes, no, something can't be used, or memory ran out
 pub data IsStatus (Yes No : Type 0) : ℕ → Type 0 where

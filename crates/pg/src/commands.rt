@@ -20,11 +20,10 @@ use crate::commands::parse::parse_files;
 use crate::commands::probe::{Probing, probe_files};
 use crate::commands::replay::replay_files;
 use crate::commands::show::{print_file, show_file, verify_files};
-use crate::handle::Handle;
-use crate::reporting::Names;
 use pg_language::Reading;
 use pg_pred::Registry;
 use pg_registry::UsesRegistry;
+use pg_report::Handle;
 use pg_request::Request;
 use std::alloc::AllocError;
 use std::io::Input;
@@ -103,19 +102,5 @@ fn answer<R: AllocGlobal + Files + Input + Print + Eprint>(
         } => replay_files(rt, grammar, text, trail, registry),
         Request::Print { grammar } => print_file(rt, grammar, registry),
         Request::Sets { grammar } => show_file(rt, grammar, registry),
-    }
-}
-
-/// The name of a grammar file that is read alone.
-pub(crate) fn of_grammar(grammar: &str) -> Names<'_> {
-    of_text(grammar, "")
-}
-
-/// The names of a grammar file and of a text.
-pub(crate) fn of_text<'a>(grammar: &'a str, text: &'a str) -> Names<'a> {
-    Names {
-        grammar,
-        text,
-        trail: "",
     }
 }

@@ -1,28 +1,24 @@
 //! The program `pgw`.
 //!
-//! The files are opened in the order of the words, and only then read. Results go to standard output, and everything else
-//! to standard error: a line for a fault or a finding, and a parse error as Text.Parsec prints it, but for the four differences
-//! in docs/DECISIONS.md (*Errors of parsers*). The exit status is 0 for a result, 1 for a grammar that isn't accepted, a text
-//! that doesn't parse or a probe that isn't ok, 2 for words or files that can't be used, and 3 for memory; if standard error
-//! takes nothing, it stays what it was.
+//! The files that one answer needs are opened in the order of the words, and only then read; of several grammars or texts
+//! each is opened when its turn comes. Results go to standard output, and everything else to standard error: a line for a
+//! fault or a finding, and a parse error as Text.Parsec prints it, but for the four differences in docs/DECISIONS.md
+//! (*Errors of parsers*). The exit status is 0 for a result, 1 for a grammar that isn't accepted, a text that doesn't parse or
+//! a probe that isn't ok, 2 for words or files that can't be used, and 3 for memory; if standard error takes nothing, it
+//! stays what it was.
 #![tactic(auto)]
 
 mod commands;
-mod files;
-mod handle;
-mod printing;
-mod reporting;
 
 use clap::ArgMatches;
 use clap::error::ErrorKind;
 use commands::Asked;
-use files::{STANDARD_INPUT, null_file};
-use handle::Handle;
-use pg_bench::BenchFault;
 use pg_code_pages::page;
 use pg_registry::with_registry;
+use pg_report::{
+    Handle, STANDARD_INPUT, UNUSABLE, cannot_write, null_file, print_page, refuse, say,
+};
 use pg_request::{command, is_quiet, request_of};
-use printing::{UNUSABLE, print_page, refuse, say};
 use std::alloc::AllocError;
 use std::io::Input;
 use std::process::ExitCode;
@@ -117,7 +113,7 @@ fn tell<R: Print + Eprint>(rt: &R, error: &clap::Error) -> Result<u8, AllocError
     if error.use_stderr() {
         Ok(UNUSABLE)
     } else if printed.is_err() {
-        Ok(refuse(rt, BenchFault::Writer))
+        Ok(cannot_write(rt))
     } else {
         Ok(0)
     }

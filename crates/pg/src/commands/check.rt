@@ -2,22 +2,17 @@
 
 ghost use Rattle.std.specs.Prelude.{◌≡◌, false, IfOk};
 ghost use Rattle.pg_pred.specs.Offer.{offer_of};
-ghost use Rattle.pg.specs.Status.{status_of, IsCheckStatus};
+ghost use Rattle.pg.specs.Status.{IsCheckStatus};
 
-use crate::commands::{NO, of_grammar};
-use crate::files::grammar_alone;
-use crate::handle::Handle;
-use crate::printing::{UNUSABLE, print_page, print_report};
-use crate::reporting::status;
-use pg_bench::{BenchFault, check_bytes};
+use crate::commands::NO;
+use pg_bench::check_bytes;
 use pg_explain_bench::{Places, PlacingWriter, places_of};
-use pg_file::FileFault;
-use pg_finding_json::fault_line;
 use pg_json_bench::json_bytes;
 use pg_pred::Registry;
+use pg_report::{Handle, Names, UNUSABLE, grammar_alone, print_json_fault, print_report};
 use pg_request::Findings;
 use pg_tree::Meter;
-use std::alloc::{AllocError, Global};
+use std::alloc::AllocError;
 use std::io::{Input, Write};
 use std::rt::Files;
 use std::{cmp, io};
@@ -103,39 +98,8 @@ fn check_as_json<R: AllocGlobal + Print + Eprint>(
     match json_bytes(rt.alloc(), grammar, bytes, registry, &mut writer) {
         Ok(true) => Ok(0),
         Ok(false) => Ok(NO),
-        Err(fault) => json_fault(rt, grammar, fault),
+        Err(fault) => print_json_fault(rt, fault, grammar),
     }
-}
-
-/// Writes a fault of the file as JSON, and prints the report of another; gives the status.
-fn json_fault<R: AllocGlobal + Print + Eprint>(
-    rt: &R,
-    grammar: &str,
-    fault: BenchFault,
-) -> Result<u8, AllocError>
-    ensures { IfOk result (λ status. status ≡ status_of fault) }
-{
-    let line = match &fault {
-        BenchFault::File(fault) => file_fault_line(rt.alloc(), grammar, fault)?,
-        BenchFault::Refused(_)
-        | BenchFault::Reader
-        | BenchFault::NotUtf8
-        | BenchFault::TooLong
-        | BenchFault::NotATrail
-        | BenchFault::NotVerified(_)
-        | BenchFault::ParseError(_)
-        | BenchFault::Writer
-        | BenchFault::Memory => return print_report(rt, fault, of_grammar(grammar)),
-    };
-    print_page(rt, line.as_str())?;
-    Ok(status(&fault))
-}
-
-/// The fault of a file as JSON. The only error is that memory ran out.
-fn file_fault_line(alloc: Global, grammar: &str, fault: &FileFault) -> Result<String, AllocError> {
-    let kind = &fault.kind;
-    let message = format!(in alloc; "{kind}")?;
-    fault_line(alloc, grammar, fault.position, message.as_str())
 }
 
 /// Each line with the file's name in front.
@@ -170,7 +134,7 @@ fn check_placed<R: AllocGlobal + Print + Eprint>(
             let mut writer = Meter::new(PlacingWriter::new(rt.alloc(), io::writer(rt), &places));
             check_grammar(rt, bytes, grammar, registry, certificate, &mut writer)
         }
-        Err(fault) => print_report(rt, fault, of_grammar(grammar)),
+        Err(fault) => print_report(rt, fault, Names::of_grammar(grammar)),
     }
 }
 
@@ -189,6 +153,6 @@ fn check_grammar<R: AllocGlobal + Print + Eprint, W: Write>(
     match check_bytes(rt.alloc(), bytes, registry, writer, certificate) {
         Ok(true) => Ok(0),
         Ok(false) => Ok(NO),
-        Err(fault) => print_report(rt, fault, of_grammar(grammar)),
+        Err(fault) => print_report(rt, fault, Names::of_grammar(grammar)),
     }
 }

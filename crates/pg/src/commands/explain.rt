@@ -1,19 +1,15 @@
 //! What is wrong with a grammar, told for people.
 
-ghost use Rattle.std.specs.Prelude.{◌≡◌, IfOk};
+ghost use Rattle.std.specs.Prelude.{IfOk};
 ghost use Rattle.pg_pred.specs.Offer.{offer_of};
-ghost use Rattle.pg.specs.Status.{status_of, IsCheckStatus};
+ghost use Rattle.pg.specs.Status.{IsCheckStatus};
 
-use crate::commands::{NO, of_grammar};
-use crate::files::grammar_alone;
-use crate::handle::Handle;
-use crate::printing::{UNUSABLE, not_there, print_report, put, say};
-use pg_bench::BenchFault;
+use crate::commands::NO;
 use pg_explain_bench::{Explained, explain_bytes};
-use pg_explain_fault::{fault_page, nearest_rule};
 use pg_pred::Registry;
+use pg_report::{Handle, UNUSABLE, grammar_alone, print_explained_fault, tell_nearest};
 use pg_tree::Meter;
-use std::alloc::{AllocError, Global};
+use std::alloc::AllocError;
 use std::io;
 use std::io::Input;
 use std::rt::Files;
@@ -46,67 +42,6 @@ fn explain_grammar<R: AllocGlobal + Print + Eprint>(
         Ok(Explained::Accepted) => Ok(0),
         Ok(Explained::Refused) => Ok(NO),
         Ok(Explained::NotThere) => tell_nearest(rt, bytes, grammar, asked),
-        Err(fault) => explain_fault(rt, bytes, grammar, fault),
-    }
-}
-
-/// Says that a grammar has no such rule or node, and which rule is named nearly so, and gives the status.
-pub(crate) fn tell_nearest<R: AllocGlobal + Eprint>(
-    rt: &R,
-    bytes: &[u8],
-    grammar: &str,
-    asked: &str,
-) -> Result<u8, AllocError>
-    ensures { IfOk result (λ status. status ≡ UNUSABLE) }
-{
-    let nearest = nearest_rule(rt.alloc(), bytes, rule_asked(asked))?;
-    let status = not_there(rt, grammar, asked);
-    if let Some(name) = nearest {
-        say(rt, format_args!("did you mean {name}?"));
-    }
-    Ok(status)
-}
-
-/// The rule of `RULE` or `RULE:NODE`.
-fn rule_asked(asked: &str) -> &str {
-    match asked.split_once(':') {
-        Some((rule, _)) => rule,
-        None => asked,
-    }
-}
-
-/// Prints the report of a fault, and of a fault of the file what it means, and gives the status.
-fn explain_fault<R: AllocGlobal + Eprint>(
-    rt: &R,
-    bytes: &[u8],
-    grammar: &str,
-    fault: BenchFault,
-) -> Result<u8, AllocError>
-    ensures { IfOk result (λ status. status ≡ status_of fault) }
-{
-    let page = fault_words(rt.alloc(), bytes, grammar, &fault)?;
-    let status = print_report(rt, fault, of_grammar(grammar))?;
-    put(rt, page.as_str());
-    Ok(status)
-}
-
-/// What a fault of a grammar file means; nothing of another.
-fn fault_words(
-    alloc: Global,
-    bytes: &[u8],
-    grammar: &str,
-    fault: &BenchFault,
-) -> Result<String, AllocError> {
-    match fault {
-        BenchFault::File(fault) => fault_page(alloc, grammar, bytes, fault),
-        BenchFault::Refused(_)
-        | BenchFault::Reader
-        | BenchFault::NotUtf8
-        | BenchFault::TooLong
-        | BenchFault::NotATrail
-        | BenchFault::NotVerified(_)
-        | BenchFault::ParseError(_)
-        | BenchFault::Writer
-        | BenchFault::Memory => Ok(String::new(alloc)),
+        Err(fault) => print_explained_fault(rt, fault, bytes, grammar),
     }
 }

@@ -4,15 +4,12 @@ ghost use Rattle.std.specs.Prelude.{◌≡◌, Some, false, IfOk};
 ghost use Rattle.pg_pred.specs.Offer.{offer_of};
 ghost use Rattle.pg.specs.Status.{IsParseStatus};
 
-use crate::commands::{of_grammar, of_text};
-use crate::files::{grammar_alone, inputs, opened, text_alone};
-use crate::handle::Handle;
-use crate::printing::{UNUSABLE, print_report};
-use crate::reporting::Names;
 use pg_bench::{BenchFault, parse_bytes};
 use pg_explain_bench::outline_bytes;
-use pg_grammar_bench::checked_of;
 use pg_pred::Registry;
+use pg_report::{
+    Handle, Names, UNUSABLE, grammar_alone, inputs, opened, print_refusal, print_report, text_alone,
+};
 use pg_request::Parsed;
 use pg_tree::{Meter, WriteFault};
 use std::alloc::AllocError;
@@ -50,7 +47,7 @@ fn parse_file<R: AllocGlobal + Files + Input + Print + Eprint>(
             rt,
             bytes.as_slice(),
             file,
-            of_text(grammar, text),
+            Names::of_text(grammar, text),
             registry,
             parsed,
         ),
@@ -67,13 +64,22 @@ fn parse_each<R: AllocGlobal + Files + Input + Print + Eprint>(
     registry: &Registry,
     parsed: Parsed,
 ) -> Result<u8, AllocError> {
-    if let Err(fault) = checked_of(rt.alloc(), bytes, registry) {
-        return print_report(rt, fault, of_grammar(grammar));
+    if let Some(status) = print_refusal(rt, bytes, grammar, registry)? {
+        return Ok(status);
     }
     let mut greatest = 0;
     for text in texts {
         let status = match opened(rt, text) {
-            Some(file) => { parse_open(rt, bytes, file, of_text(grammar, text), registry, parsed)? }
+            Some(file) => {
+                parse_open(
+                    rt,
+                    bytes,
+                    file,
+                    Names::of_text(grammar, text),
+                    registry,
+                    parsed,
+                )?
+            }
             None => UNUSABLE,
         };
         greatest = cmp::max(greatest, status);

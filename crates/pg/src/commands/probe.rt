@@ -4,16 +4,14 @@ ghost use Rattle.std.specs.Prelude.{◌≡◌, Some, IfOk};
 ghost use Rattle.pg_pred.specs.Offer.{offer_of};
 ghost use Rattle.pg.specs.Status.{IsProbeStatus};
 
-use crate::commands::explain::tell_nearest;
-use crate::commands::{NO, of_text};
-use crate::files::{inputs, text_alone};
-use crate::handle::Handle;
-use crate::printing::{ErrorWriter, UNUSABLE, print_report};
-use crate::reporting::Names;
+use crate::commands::NO;
 use pg_bench::probe_bytes;
 use pg_explain_bench::{Tracing, trace_bytes};
 use pg_language::Reading;
 use pg_pred::Registry;
+use pg_report::{
+    ErrorWriter, Handle, Names, UNUSABLE, inputs, print_report, tell_nearest, text_alone,
+};
 use pg_tree::{Meter, WriteFault};
 use std::alloc::AllocError;
 use std::io;
@@ -39,7 +37,7 @@ pub(crate) fn probe_files<R: AllocGlobal + Files + Input + Print + Eprint>(
 ) -> Result<u8, AllocError> {
     match inputs(rt, grammar, text)? {
         Some((bytes, file)) => {
-            let names = of_text(grammar, text);
+            let names = Names::of_text(grammar, text);
             if probing.trace {
                 trace_file(rt, bytes.as_slice(), file, names, registry, probing)
             } else {

@@ -5,12 +5,9 @@ ghost use Rattle.pg_pred.specs.Offer.{offer_of};
 ghost use Rattle.pg.specs.Status.{IsReplayStatus};
 
 use crate::commands::NO;
-use crate::files::inputs_with_trail;
-use crate::handle::Handle;
-use crate::printing::{UNUSABLE, print_report};
-use crate::reporting::Names;
 use pg_bench::replay_bytes;
 use pg_pred::Registry;
+use pg_report::{Handle, Names, UNUSABLE, inputs_with_trail, print_report};
 use pg_tree::Meter;
 use std::alloc::AllocError;
 use std::io;

@@ -4,12 +4,11 @@ ghost use Rattle.std.specs.Prelude.{IfOk};
 ghost use Rattle.pg_pred.specs.Offer.{offer_of};
 ghost use Rattle.pg.specs.Status.{IsPrintStatus, IsVerifyStatus};
 
-use crate::commands::of_grammar;
-use crate::files::{grammar_alone, grammar_with_certificate};
-use crate::handle::Handle;
-use crate::printing::{UNUSABLE, print_report, print_verdict};
 use pg_bench::{print_bytes, sets_bytes, verify_bytes};
 use pg_pred::Registry;
+use pg_report::{
+    Handle, Names, UNUSABLE, grammar_alone, grammar_with_certificate, print_report, print_verdict,
+};
 use pg_tree::Meter;
 use std::alloc::AllocError;
 use std::io;
@@ -41,7 +40,7 @@ fn verify_grammar<R: AllocGlobal + Print + Eprint>(
     ensures { IfOk result (IsVerifyStatus (offer_of registry.now) bytes.now certificate.now) }
 {
     let verdict = verify_bytes(rt.alloc(), bytes, registry, certificate);
-    print_verdict(rt, verdict, of_grammar(grammar))
+    print_verdict(rt, verdict, Names::of_grammar(grammar))
 }
 
 /// Prints the canonical form of the grammar in a file.
@@ -68,7 +67,7 @@ fn print_grammar<R: AllocGlobal + Print + Eprint>(
     let mut writer = Meter::new(io::writer(rt));
     match print_bytes(rt.alloc(), bytes, registry, &mut writer) {
         Ok(()) => Ok(0),
-        Err(fault) => print_report(rt, fault, of_grammar(grammar)),
+        Err(fault) => print_report(rt, fault, Names::of_grammar(grammar)),
     }
 }
 
@@ -96,6 +95,6 @@ fn show_grammar<R: AllocGlobal + Print + Eprint>(
     let mut writer = Meter::new(io::writer(rt));
     match sets_bytes(rt.alloc(), bytes, registry, &mut writer) {
         Ok(()) => Ok(0),
-        Err(fault) => print_report(rt, fault, of_grammar(grammar)),
+        Err(fault) => print_report(rt, fault, Names::of_grammar(grammar)),
     }
 }

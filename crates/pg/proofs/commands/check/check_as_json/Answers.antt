@@ -5,5 +5,5 @@ use Rattle.pg.proofs.commands.check.check_as_json.Goals as goal
 
 pub returns-in-Err : goal.returns-in-Err
 returns-in-Err g c =
-    IfOk-weaker c.json_fault.result _ _
-    (λ status is. check_fault_status (offer_of c.args.registry.now) c.args.bytes.now c.in-Err.fault status c.in-Err.ensures.err is) c.json_fault.ensures
+    IfOk-weaker c.print_json_fault.result _ _
+    (λ status is. check_fault_status (offer_of c.args.registry.now) c.args.bytes.now c.in-Err.fault status c.in-Err.ensures.err is) c.print_json_fault.ensures

@@ -10,7 +10,9 @@ use std::io;
 /// A handle by which files are opened, and which prints by it, or, where it is quiet, drops what it is to print.
 #[derive(Drop)]
 pub struct Handle<'a, R> {
+    /// What opens files and prints.
     pub rt: &'a R,
+    /// Whether nothing is printed.
     pub is_quiet: bool,
     /// Whether standard output took something not.
     has_failed: Cell<bool>,

@@ -2,7 +2,7 @@
 use Rattle.std.specs.Prelude.{ℕ, List, [], ◌++◌, codes}
 use Rattle.pg_message.specs.Printed.{printed}
 use Rattle.pg_predict.specs.Findings.{lines_of}
-use Rattle.pg.specs.declared.reporting.Names.{Names}
+use Rattle.pg_report.specs.declared.reporting.Names.{Names}
 use Rattle.pg_grammar_bench.specs.Texts.{fault_text}
 use Rattle.pg_grammar_bench.specs.declared.fault.BenchFault.{BenchFault}
 use Rattle.pg_grammar_bench.specs.declared.fault.BenchFault.TheVariants.{File, Refused, Reader, NotUtf8, TooLong, NotATrail, NotVerified, ParseError, Writer, Memory}

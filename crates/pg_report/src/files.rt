@@ -1,14 +1,15 @@
 //! The files that a command reads.
 //!
-//! All of them are opened before any is read, and a file that can't be is told at once. The name `-` stands for standard input.
+//! What one answer needs is opened before any of it is read, and a file that can't be opened or read is told at once. Of several grammars
+//! or texts each is opened when its turn comes. The name `-` stands for standard input.
 
 ghost use Rattle.std.specs.Prelude.{IfOk, IfSome};
-ghost use Rattle.pg.specs.Files.{IsAllOf};
+ghost use Rattle.pg_report.specs.Files.{IsAllOf};
 
 use crate::handle::Handle;
 use crate::printing::{cannot_read, print_report};
 use crate::reporting::Names;
-use pg_bench::BenchFault;
+use pg_grammar_bench::BenchFault;
 use pg_tree::{Meter, ReadFault, read_bytes};
 use std::alloc::{AllocError, Global};
 use std::io::{Input, Read};
@@ -55,10 +56,7 @@ pub fn inputs<R: AllocGlobal + Files + Input + Eprint>(
     grammar: &str,
     text: &str,
 ) -> Result<Option<(Vec<u8>, Source<R::File, R::Reader>)>, AllocError> {
-    let Some(grammar_file) = opened(rt, grammar) else {
-        return Ok(None);
-    };
-    let Some(text_file) = opened(rt, text) else {
+    let Some((grammar_file, text_file)) = opened_both(rt, grammar, text) else {
         return Ok(None);
     };
     match contents(rt, grammar_file, grammar)? {
@@ -74,20 +72,14 @@ pub fn inputs_with_trail<R: AllocGlobal + Files + Input + Eprint>(
     text: &str,
     trail: &str,
 ) -> Result<Option<(Vec<u8>, Source<R::File, R::Reader>, Vec<u8>)>, AllocError> {
-    let Some(grammar_file) = opened(rt, grammar) else {
-        return Ok(None);
-    };
-    let Some(text_file) = opened(rt, text) else {
+    let Some((grammar_file, text_file)) = opened_both(rt, grammar, text) else {
         return Ok(None);
     };
     let Some(trail_file) = opened(rt, trail) else {
         return Ok(None);
     };
-    let Some(bytes) = contents(rt, grammar_file, grammar)? else {
-        return Ok(None);
-    };
-    match contents(rt, trail_file, trail)? {
-        Some(items) => Ok(Some((bytes, text_file, items))),
+    match both_contents(rt, grammar_file, grammar, trail_file, trail)? {
+        Some((bytes, items)) => Ok(Some((bytes, text_file, items))),
         None => Ok(None),
     }
 }
@@ -99,17 +91,10 @@ pub fn grammar_with_certificate<R: AllocGlobal + Files + Input + Eprint>(
     grammar: &str,
     certificate: &str,
 ) -> Result<Option<(Vec<u8>, Vec<u8>)>, AllocError> {
-    let Some(grammar_file) = opened(rt, grammar) else {
-        return Ok(None);
-    };
-    let Some(certificate_file) = opened(rt, certificate) else {
-        return Ok(None);
-    };
-    let Some(bytes) = contents(rt, grammar_file, grammar)? else {
-        return Ok(None);
-    };
-    match contents(rt, certificate_file, certificate)? {
-        Some(claims) => Ok(Some((bytes, claims))),
+    match opened_both(rt, grammar, certificate) {
+        Some((grammar_file, certificate_file)) => {
+            both_contents(rt, grammar_file, grammar, certificate_file, certificate)
+        }
         None => Ok(None),
     }
 }
@@ -142,6 +127,17 @@ pub fn opened<R: Files + Input + Eprint>(
     }
 }
 
+/// What two names stand for, open; none if one can't be opened, which is printed.
+fn opened_both<R: Files + Input + Eprint>(
+    rt: &Handle<R>,
+    first: &str,
+    second: &str,
+) -> Option<(Source<R::File, R::Reader>, Source<R::File, R::Reader>)> {
+    let first = opened(rt, first)?;
+    let second = opened(rt, second)?;
+    Some((first, second))
+}
+
 /// The bytes of an open text; none if it can't be read, which is printed as a parse would.
 pub fn text_alone<R: AllocGlobal + Eprint, F: Read + Drop>(
     rt: &R,
@@ -153,6 +149,23 @@ pub fn text_alone<R: AllocGlobal + Eprint, F: Read + Drop>(
         print_report(rt, BenchFault::Reader, names)?;
     }
     Ok(bytes)
+}
+
+/// The bytes of two open files of these names, one after the other; none if one can't be read, or has more than are read, which is printed.
+fn both_contents<R: AllocGlobal + Eprint, F: Read + Drop>(
+    rt: &R,
+    first: F,
+    first_name: &str,
+    second: F,
+    second_name: &str,
+) -> Result<Option<(Vec<u8>, Vec<u8>)>, AllocError> {
+    let Some(bytes) = contents(rt, first, first_name)? else {
+        return Ok(None);
+    };
+    match contents(rt, second, second_name)? {
+        Some(others) => Ok(Some((bytes, others))),
+        None => Ok(None),
+    }
 }
 
 /// The bytes of an open file of this name; none if it can't be read, or has more than are read, which is printed.

@@ -7,10 +7,10 @@ ghost use Rattle.std.specs.Prelude.{◌≡◌, ◌++◌, false, IfOk, OnOk, IsEr
 ghost use Rattle.std.specs.String.{string_bytes};
 ghost use Rattle.std.specs.Io.KnownBytes.{Appends};
 ghost use Rattle.pg_tree.specs.Bytes.{AppendsPrefix};
-ghost use Rattle.pg.specs.Status.{status_of};
-ghost use Rattle.pg.specs.Texts.{front_of, line_of, text_of, report_of, names_of};
+ghost use Rattle.pg_report.specs.Status.{status_of};
+ghost use Rattle.pg_report.specs.Texts.{front_of, line_of, text_of, report_of, names_of};
 
-use pg_bench::BenchFault;
+use pg_grammar_bench::BenchFault;
 use pg_message::render;
 use pg_tree::{Meter, WriteFault, write_bytes};
 use std::alloc::{AllocError, Global};
@@ -19,9 +19,28 @@ use std::io::Write;
 /// The names of the files of a run, as the caller gave them; those that it has none of are empty.
 #[derive(Clone, Copy)]
 pub struct Names<'a> {
+    /// The name of the grammar file.
     pub grammar: &'a str,
+    /// The name of the text.
     pub text: &'a str,
+    /// The name of the file that a trail is read from.
     pub trail: &'a str,
+}
+
+impl<'a> Names<'a> {
+    /// The name of a grammar file that is read alone.
+    pub fn of_grammar(grammar: &'a str) -> Names<'a> {
+        Names::of_text(grammar, "")
+    }
+
+    /// The names of a grammar file and of a text.
+    pub fn of_text(grammar: &'a str, text: &'a str) -> Names<'a> {
+        Names {
+            grammar,
+            text,
+            trail: "",
+        }
+    }
 }
 
 /// Writes the report of a fault in a run over files of these names: a line for each finding of a grammar that is refused, a

@@ -1,10 +1,11 @@
 //! What goes to standard error, and what is found of a certificate to standard output, with the exit status that goes with it.
 
 ghost use Rattle.std.specs.Prelude.{◌≡◌, ◌⊎◌, IfOk};
-ghost use Rattle.pg.specs.Status.{status_of, status_of_verdict};
+ghost use Rattle.pg_report.specs.Status.{status_of, status_of_verdict};
 
 use crate::reporting::{Names, status, write_report};
-use pg_bench::BenchFault;
+use pg_grammar_bench::{BenchFault, checked_of};
+use pg_pred::Registry;
 use pg_tree::{Meter, WriteFault, write_bytes};
 use std::alloc::AllocError;
 use std::fmt::Display;
@@ -25,7 +26,8 @@ pub fn print_report<R: AllocGlobal + Eprint>(
     print_fault(rt, &fault, names)
 }
 
-fn print_fault<R: AllocGlobal + Eprint>(
+/// The same of a fault that is lent.
+pub(crate) fn print_fault<R: AllocGlobal + Eprint>(
     rt: &R,
     fault: &BenchFault,
     names: Names,
@@ -39,6 +41,19 @@ fn print_fault<R: AllocGlobal + Eprint>(
     }
 }
 
+/// Prints why the grammar of these bytes isn't accepted, and gives the status; none, if it is.
+pub fn print_refusal<R: AllocGlobal + Eprint>(
+    rt: &R,
+    bytes: &[u8],
+    grammar: &str,
+    registry: &Registry,
+) -> Result<Option<u8>, AllocError> {
+    match checked_of(rt.alloc(), bytes, registry) {
+        Ok(_) => Ok(None),
+        Err(fault) => Ok(Some(print_report(rt, fault, Names::of_grammar(grammar))?)),
+    }
+}
+
 /// Prints what was found of a certificate: `accepted`, or why it shows nothing, on standard output; and every other fault as its report.
 pub fn print_verdict<R: AllocGlobal + Print + Eprint>(
     rt: &R,
@@ -48,20 +63,8 @@ pub fn print_verdict<R: AllocGlobal + Print + Eprint>(
     ensures { IfOk result (λ status. (status ≡ UNUSABLE) ⊎ (status ≡ status_of_verdict verdict)) }
 {
     match verdict {
-        Ok(()) => print_accepted(rt, names),
+        Ok(()) => print_page(rt, "accepted\n"),
         Err(fault) => print_refuted(rt, &fault, names),
-    }
-}
-
-/// Prints `accepted`.
-fn print_accepted<R: AllocGlobal + Print + Eprint>(rt: &R, names: Names) -> Result<u8, AllocError>
-    ensures { IfOk result (λ status. (status ≡ UNUSABLE) ⊎ (status ≡ 0)) }
-{
-    let mut writer = Meter::new(io::writer(rt));
-    match write_bytes(b"accepted\n", &mut writer) {
-        Ok(()) => Ok(0),
-        Err(WriteFault::Writer) => print_report(rt, BenchFault::Writer, names),
-        Err(WriteFault::Memory) => Err(AllocError),
     }
 }
 
@@ -106,6 +109,7 @@ fn print_not_verified<R: AllocGlobal + Print + Eprint>(
 /// Standard error as a writer of text. It takes all that it is given, or fails.
 #[derive(Drop)]
 pub struct ErrorWriter<'a, R> {
+    /// What prints.
     pub rt: &'a R,
 }
 
@@ -124,25 +128,34 @@ impl<R: Eprint> Write for ErrorWriter<'_, R> {
 }
 
 /// Says that a file can't be read, and gives the status.
-pub fn cannot_read<R: Eprint>(rt: &R, name: &str) -> u8
+pub(crate) fn cannot_read<R: Eprint>(rt: &R, name: &str) -> u8
     ensures { result ≡ UNUSABLE }
 {
     refuse(rt, format_args!("{name}: cannot read"))
 }
 
 /// Says that a grammar has no such rule or node, and gives the status.
-pub fn not_there<R: Eprint>(rt: &R, name: &str, asked: &str) -> u8
+pub(crate) fn not_there<R: Eprint>(rt: &R, name: &str, asked: &str) -> u8
     ensures { result ≡ UNUSABLE }
 {
     refuse(rt, format_args!("{name}: no rule or node {asked}"))
 }
 
+/// Says that standard output takes no more, and gives the status.
+pub fn cannot_write<R: Eprint>(rt: &R) -> u8
+    ensures { result ≡ UNUSABLE }
+{
+    refuse(rt, BenchFault::Writer)
+}
+
 /// Prints a page to standard output, and gives the status.
-pub fn print_page<R: AllocGlobal + Print + Eprint>(rt: &R, page: &str) -> Result<u8, AllocError> {
+pub fn print_page<R: AllocGlobal + Print + Eprint>(rt: &R, page: &str) -> Result<u8, AllocError>
+    ensures { IfOk result (λ status. (status ≡ UNUSABLE) ⊎ (status ≡ 0)) }
+{
     let mut writer = Meter::new(io::writer(rt));
     match write_bytes(page.as_bytes(), &mut writer) {
         Ok(()) => Ok(0),
-        Err(WriteFault::Writer) => Ok(refuse(rt, BenchFault::Writer)),
+        Err(WriteFault::Writer) => Ok(cannot_write(rt)),
         Err(WriteFault::Memory) => Err(AllocError),
     }
 }
@@ -161,6 +174,6 @@ pub fn say<R: Eprint, M: Display + Drop>(rt: &R, message: M) {
 }
 
 /// Prints a text to standard error, as far as that takes it.
-pub fn put<R: Eprint>(rt: &R, text: &str) {
+pub(crate) fn put<R: Eprint>(rt: &R, text: &str) {
     let _ = rt.eprint(text);
 }
