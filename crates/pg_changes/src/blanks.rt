@@ -62,7 +62,7 @@ fn push_single(
     drafts: &mut Vec<Draft>,
 ) -> Result<(), AllocError> {
     let mut draft = Draft::new(alloc, Change::BlanksOnce, tree_changes);
-    take_away(forms, taken, &mut draft)?;
+    take_away(forms, taken, &mut draft);
     push_draft(drafts, draft)
 }
 
@@ -132,25 +132,25 @@ fn push_inside(
 ) -> Result<(), AllocError> {
     let span = forms.span(inner);
     let mut draft = Draft::new(alloc, Change::BlanksOnce, false);
-    draft.put_in(span.first, "seq(")?;
-    draft.put_in(span.after, ", ")?;
-    draft.keep(forms.span(after))?;
-    draft.write(")")?;
-    take_away(forms, after, &mut draft)?;
+    draft.put_in(span.first, "seq(");
+    draft.put_in(span.after, ", ");
+    draft.keep(forms.span(after));
+    draft.write(")");
+    take_away(forms, after, &mut draft);
     push_draft(drafts, draft)
 }
 
 /// Takes a part out of its form of several parts.
-fn take_away(forms: &Forms, taken: usize, draft: &mut Draft) -> Result<(), AllocError> {
+fn take_away(forms: &Forms, taken: usize, draft: &mut Draft) {
     let kinds = [Kind::Seq, Kind::Try, Kind::Local];
     match forms.parent(taken) {
         Some(parent) if forms.is_among(parent, &kinds) => {
             match with_comma(forms, forms.parts(parent), taken) {
                 Some(span) => draft.replace(span),
-                None => Ok(()),
+                None => {}
             }
         }
-        Some(_) | None => Ok(()),
+        Some(_) | None => {}
     }
 }
 
@@ -190,17 +190,12 @@ fn push_leading(
     drafts: &mut Vec<Draft>,
 ) -> Result<(), AllocError> {
     let mut draft = Draft::new(alloc, Change::BlanksOnce, !is_moved);
-    write_leading(forms, uses, is_moved, &mut draft)?;
+    write_leading(forms, uses, is_moved, &mut draft);
     push_draft(drafts, draft)
 }
 
 /// Takes them away, and puts one in.
-fn write_leading(
-    forms: &Forms,
-    uses: &[usize],
-    is_moved: bool,
-    draft: &mut Draft,
-) -> Result<(), AllocError> {
+fn write_leading(forms: &Forms, uses: &[usize], is_moved: bool, draft: &mut Draft) {
     let start = match forms.start() {
         Some(rule) => Some(rule.body),
         None => None,
@@ -208,13 +203,13 @@ fn write_leading(
     let mut last = None;
     for taken in uses {
         if is_first(forms, *taken) && forms.parent(*taken) != start {
-            take_away(forms, *taken, draft)?;
+            take_away(forms, *taken, draft);
             last = Some(*taken);
         }
     }
     match (last, start) {
         (Some(taken), Some(body)) if is_moved => put_first(forms, taken, body, draft),
-        (_, _) => Ok(()),
+        (_, _) => {}
     }
 }
 
@@ -227,33 +222,22 @@ fn is_first(forms: &Forms, form: usize) -> bool {
 }
 
 /// Puts what a form is before a body.
-fn put_first(
-    forms: &Forms,
-    taken: usize,
-    body: usize,
-    draft: &mut Draft,
-) -> Result<(), AllocError> {
+fn put_first(forms: &Forms, taken: usize, body: usize, draft: &mut Draft) {
     let span = forms.span(body);
     match forms.parts(body) {
         [inner, ..] if forms.is(body, Kind::Seq) => {
-            put_before(forms, taken, forms.span(*inner).first, "", draft)
+            put_before(forms, taken, forms.span(*inner).first, "", draft);
         }
         _ => {
-            draft.put_in(span.after, ")")?;
-            put_before(forms, taken, span.first, "seq(", draft)
+            draft.put_in(span.after, ")");
+            put_before(forms, taken, span.first, "seq(", draft);
         }
     }
 }
 
 /// Puts words, what a form is and a comma in at a place.
-fn put_before(
-    forms: &Forms,
-    taken: usize,
-    place: usize,
-    words: &'static str,
-    draft: &mut Draft,
-) -> Result<(), AllocError> {
-    draft.put_in(place, words)?;
-    draft.keep(forms.span(taken))?;
-    draft.write(", ")
+fn put_before(forms: &Forms, taken: usize, place: usize, words: &'static str, draft: &mut Draft) {
+    draft.put_in(place, words);
+    draft.keep(forms.span(taken));
+    draft.write(", ");
 }

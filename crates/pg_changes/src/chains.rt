@@ -96,24 +96,24 @@ fn push_chain(
     drafts: &mut Vec<Draft>,
 ) -> Result<(), AllocError> {
     let mut draft = Draft::new(alloc, Change::Chain, true);
-    draft.replace(forms.span(rule.body))?;
-    write_chain(forms, all, &mut draft)?;
-    take_out_all(forms, rule, all, &mut draft)?;
+    draft.replace(forms.span(rule.body));
+    write_chain(forms, all, &mut draft);
+    take_out_all(forms, rule, all, &mut draft);
     push_draft(drafts, draft)
 }
 
 /// Writes a chain of the other alternatives, with what stands between the operands.
-fn write_chain(forms: &Forms, all: &Alternatives, draft: &mut Draft) -> Result<(), AllocError> {
-    draft.write("chainl1(")?;
+fn write_chain(forms: &Forms, all: &Alternatives, draft: &mut Draft) {
+    draft.write("chainl1(");
     match builder(forms, all) {
-        Some(name) => draft.write_characters(name)?,
-        None => draft.write("list")?,
+        Some(name) => draft.write_characters(name),
+        None => draft.write("list"),
     }
-    draft.write(", ")?;
-    draft.write_group(forms, "choice(", &all.others)?;
-    draft.write(", ")?;
-    write_rests(forms, all, true, draft)?;
-    draft.write(")")
+    draft.write(", ");
+    draft.write_group(forms, "choice(", &all.others);
+    draft.write(", ");
+    write_rests(forms, all, true, draft);
+    draft.write(")");
 }
 
 /// The builder of the first `build` that was left out.
@@ -127,20 +127,15 @@ fn builder<'s>(forms: &Forms<'s>, all: &Alternatives) -> Option<&'s [char]> {
 }
 
 /// Writes a choice of what the alternatives that begin with the rule go on with, without the operands at their ends, where that is said.
-fn write_rests(
-    forms: &Forms,
-    all: &Alternatives,
-    are_chained: bool,
-    draft: &mut Draft,
-) -> Result<(), AllocError> {
+fn write_rests(forms: &Forms, all: &Alternatives, are_chained: bool, draft: &mut Draft) {
     let mut is_first = true;
-    draft.open_group("choice(", all.again.len())?;
+    draft.open_group("choice(", all.again.len());
     for level in &all.again {
-        draft.write_comma(is_first)?;
-        draft.write_group(forms, "seq(", rest_of(&level.parts, are_chained))?;
+        draft.write_comma(is_first);
+        draft.write_group(forms, "seq(", rest_of(&level.parts, are_chained));
         is_first = false;
     }
-    draft.close_group(all.again.len())
+    draft.close_group(all.again.len());
 }
 
 /// What comes after the first of these, without the last one, where that is said.
@@ -153,16 +148,10 @@ fn rest_of(parts: &[usize], is_chained: bool) -> &[usize] {
 }
 
 /// Takes out rules that nothing uses any more.
-fn take_out_all(
-    forms: &Forms,
-    rule: WrittenRule,
-    all: &Alternatives,
-    draft: &mut Draft,
-) -> Result<(), AllocError> {
+fn take_out_all(forms: &Forms, rule: WrittenRule, all: &Alternatives, draft: &mut Draft) {
     for level in &all.again {
-        take_out(forms, &level.opened, rule.body, draft)?;
+        take_out(forms, &level.opened, rule.body, draft);
     }
-    Ok(())
 }
 
 /// A repetition of what comes after the rule, behind an alternative that doesn't begin with it.
@@ -178,21 +167,17 @@ fn push_repeated(
         tree_changes = tree_changes || level.tree_changes;
     }
     let mut draft = Draft::new(alloc, Change::Repeated, tree_changes);
-    draft.replace(forms.span(rule.body))?;
-    write_repetition(forms, all, &mut draft)?;
-    take_out_all(forms, rule, all, &mut draft)?;
+    draft.replace(forms.span(rule.body));
+    write_repetition(forms, all, &mut draft);
+    take_out_all(forms, rule, all, &mut draft);
     push_draft(drafts, draft)
 }
 
 /// Writes an alternative that doesn't begin with the rule, and then as often as they come what the others go on with.
-fn write_repetition(
-    forms: &Forms,
-    all: &Alternatives,
-    draft: &mut Draft,
-) -> Result<(), AllocError> {
-    draft.write("seq(")?;
-    draft.write_group(forms, "choice(", &all.others)?;
-    draft.write(", many(")?;
-    write_rests(forms, all, false, draft)?;
-    draft.write("))")
+fn write_repetition(forms: &Forms, all: &Alternatives, draft: &mut Draft) {
+    draft.write("seq(");
+    draft.write_group(forms, "choice(", &all.others);
+    draft.write(", many(");
+    write_rests(forms, all, false, draft);
+    draft.write("))");
 }

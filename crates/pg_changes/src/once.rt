@@ -39,9 +39,9 @@ fn push_grouped(
     } else {
         inside(forms, forms.parts(choice))
     };
-    draft.replace(span)?;
-    write_groups(forms, groups, &mut draft)?;
-    take_out_all(forms, groups, choice, &mut draft)?;
+    draft.replace(span);
+    write_groups(forms, groups, &mut draft);
+    take_out_all(forms, groups, choice, &mut draft);
     push_draft(drafts, draft)
 }
 
@@ -69,18 +69,12 @@ fn are_changed(groups: &[Vec<Level>]) -> bool {
 }
 
 /// Takes out the rules that the levels of the groups opened.
-fn take_out_all(
-    forms: &Forms,
-    groups: &[Vec<Level>],
-    choice: usize,
-    draft: &mut Draft,
-) -> Result<(), AllocError> {
+fn take_out_all(forms: &Forms, groups: &[Vec<Level>], choice: usize, draft: &mut Draft) {
     for group in groups {
         for level in group {
-            take_out(forms, &level.opened, choice, draft)?;
+            take_out(forms, &level.opened, choice, draft);
         }
     }
-    Ok(())
 }
 
 /// The alternatives in groups, each of those that begin alike, opened so far that this shows.
@@ -168,52 +162,46 @@ fn push_like(
 }
 
 /// Writes the alternatives, those of each group read once.
-fn write_groups(forms: &Forms, groups: &[Vec<Level>], draft: &mut Draft) -> Result<(), AllocError> {
+fn write_groups(forms: &Forms, groups: &[Vec<Level>], draft: &mut Draft) {
     let mut is_first = true;
     for group in groups {
-        draft.write_comma(is_first)?;
-        write_group(forms, group, draft)?;
+        draft.write_comma(is_first);
+        write_group(forms, group, draft);
         is_first = false;
     }
-    Ok(())
 }
 
 /// Writes what alternatives of a group begin with, and then a choice of what they go on with; one that ends there is the last.
-fn write_group(forms: &Forms, group: &[Level], draft: &mut Draft) -> Result<(), AllocError> {
+fn write_group(forms: &Forms, group: &[Level], draft: &mut Draft) {
     let [first, ..] = group else {
-        return Ok(());
+        return;
     };
     let common = common_count(forms, group);
     let rests = rest_count(group, common);
     let front = before(&first.parts, common);
     if rests == 0 {
-        return draft.write_group(forms, "seq(", front);
+        draft.write_group(forms, "seq(", front);
+        return;
     }
     let count = front.len().saturating_add(1);
-    draft.open_group("seq(", count)?;
-    draft.write_list(forms, front)?;
-    draft.write_comma(front.is_empty())?;
-    write_rests(forms, group, common, rests, draft)?;
-    draft.close_group(count)
+    draft.open_group("seq(", count);
+    draft.write_list(forms, front);
+    draft.write_comma(front.is_empty());
+    write_rests(forms, group, common, rests, draft);
+    draft.close_group(count);
 }
 
 /// Writes the choice of what so many of the alternatives go on with.
-fn write_rests(
-    forms: &Forms,
-    group: &[Level],
-    common: usize,
-    count: usize,
-    draft: &mut Draft,
-) -> Result<(), AllocError> {
+fn write_rests(forms: &Forms, group: &[Level], common: usize, count: usize, draft: &mut Draft) {
     let has_empty = count < group.len();
     let is_option = has_empty && count == 1;
-    draft.write(if is_option { "option(" } else { "choice(" })?;
+    draft.write(if is_option { "option(" } else { "choice(" });
     let mut is_first = true;
     for level in group {
         let rest = behind(&level.parts, common);
         if !rest.is_empty() {
-            draft.write_comma(is_first)?;
-            draft.write_group(forms, "seq(", rest)?;
+            draft.write_comma(is_first);
+            draft.write_group(forms, "seq(", rest);
             is_first = false;
         }
     }
@@ -221,7 +209,7 @@ fn write_rests(
         ", seq())"
     } else {
         ")"
-    })
+    });
 }
 
 /// How many of the alternatives of a group go on behind the first so many forms.

@@ -41,18 +41,12 @@ fn push_moved(
         return Ok(());
     }
     let mut draft = Draft::new(alloc, Change::EmptyLast, false);
-    write_moved(forms, parts, moved, are_filled, &mut draft)?;
+    write_moved(forms, parts, moved, are_filled, &mut draft);
     push_draft(drafts, draft)
 }
 
 /// Puts the alternative with this number, from 0, last, and those after it one place to the left.
-fn write_moved(
-    forms: &Forms,
-    parts: &[usize],
-    moved: usize,
-    are_filled: bool,
-    draft: &mut Draft,
-) -> Result<(), AllocError> {
+fn write_moved(forms: &Forms, parts: &[usize], moved: usize, are_filled: bool, draft: &mut Draft) {
     for (number, part) in parts.iter().enumerate() {
         let next = number.saturating_add(1);
         let from = if number < moved {
@@ -63,30 +57,23 @@ fn write_moved(
             moved
         };
         if let Some(other) = parts.get(from) {
-            put(forms, *part, *other, are_filled && from != moved, draft)?;
+            put(forms, *part, *other, are_filled && from != moved, draft);
         }
     }
-    Ok(())
 }
 
 /// Puts an alternative in the place of one, as it is or so that it consumes.
-fn put(
-    forms: &Forms,
-    part: usize,
-    other: usize,
-    is_filled: bool,
-    draft: &mut Draft,
-) -> Result<(), AllocError> {
+fn put(forms: &Forms, part: usize, other: usize, is_filled: bool, draft: &mut Draft) {
     let filled = if is_filled { fill(forms, other) } else { None };
     match filled {
         Some(filled) => {
-            draft.replace(forms.span(part))?;
-            write_filled(forms, filled, draft)
+            draft.replace(forms.span(part));
+            write_filled(forms, filled, draft);
         }
         None if part != other => {
-            draft.replace(forms.span(part))?;
-            draft.keep(forms.span(other))
+            draft.replace(forms.span(part));
+            draft.keep(forms.span(other));
         }
-        None => Ok(()),
+        None => {}
     }
 }

@@ -148,10 +148,10 @@ fn reserve(
     } else {
         ""
     };
-    draft.put_in(word.span.after.saturating_sub(1), words)?;
+    draft.put_in(word.span.after.saturating_sub(1), words);
     for text in &added {
-        draft.write(" ")?;
-        draft.write_literal(text)?;
+        draft.write(" ");
+        draft.write_literal(text);
     }
     Ok(())
 }
@@ -198,23 +198,24 @@ fn guard_all(
     for key in keys {
         if !guarded.has(*key) {
             guarded.meet(*key)?;
-            guard_key(forms, rest, *key, draft)?;
+            guard_key(forms, rest, *key, draft);
         }
     }
     Ok(())
 }
 
 /// Has a key tried, and not followed by the class with this span.
-fn guard_key(forms: &Forms, rest: Span, key: usize, draft: &mut Draft) -> Result<(), AllocError> {
+fn guard_key(forms: &Forms, rest: Span, key: usize, draft: &mut Draft) {
     let lexeme = lexeme_of(forms, key);
     let Some(guard) = lexeme.guard else {
-        return guard_string(forms, key, Class::Kept(rest), draft);
+        guard_string(forms, key, Class::Kept(rest), draft);
+        return;
     };
     if !lexeme.is_tried {
-        draft.wrap(forms.span(lexeme.whole), "try(", ")")?;
+        draft.wrap(forms.span(lexeme.whole), "try(", ")");
     }
-    draft.replace(forms.span(guard))?;
-    draft.write_around("notFollowedBy(", rest)
+    draft.replace(forms.span(guard));
+    draft.write_around("notFollowedBy(", rest);
 }
 
 /// The class that words of an item go on with.

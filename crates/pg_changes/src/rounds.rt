@@ -36,7 +36,7 @@ fn push_direct(
         [inner] if forms.is_among(round, &kinds) => {
             let place = place_of(forms, form, round);
             let mut draft = Draft::new(alloc, Change::NoInnerOption, false);
-            write_kept(forms, place, *inner, &mut draft)?;
+            write_kept(forms, place, *inner, &mut draft);
             push_draft(drafts, draft)
         }
         _ => Ok(()),
@@ -44,16 +44,11 @@ fn push_direct(
 }
 
 /// Writes a round that is a form of the file.
-fn write_kept(
-    forms: &Forms,
-    place: Place,
-    round: usize,
-    draft: &mut Draft,
-) -> Result<(), AllocError> {
-    draft.replace(forms.span(place.form))?;
-    draft.write(place.before)?;
-    draft.keep(forms.span(round))?;
-    draft.write(place.after)
+fn write_kept(forms: &Forms, place: Place, round: usize, draft: &mut Draft) {
+    draft.replace(forms.span(place.form));
+    draft.write(place.before);
+    draft.keep(forms.span(round));
+    draft.write(place.after);
 }
 
 /// Has a round take one of its parts, each of which consumes then.
@@ -70,7 +65,7 @@ fn push_one_of(
     }
     let place = place_of(forms, form, round);
     let mut draft = Draft::new(alloc, Change::OneOf, false);
-    write_one_of(forms, place, parts, &mut draft)?;
+    write_one_of(forms, place, parts, &mut draft);
     push_draft(drafts, draft)
 }
 
@@ -85,25 +80,20 @@ fn are_filled(forms: &Forms, parts: &[usize]) -> bool {
 }
 
 /// Writes a round that takes one of these, two or more, each of which consumes.
-fn write_one_of(
-    forms: &Forms,
-    place: Place,
-    parts: &[usize],
-    draft: &mut Draft,
-) -> Result<(), AllocError> {
+fn write_one_of(forms: &Forms, place: Place, parts: &[usize], draft: &mut Draft) {
     let mut is_first = true;
-    draft.replace(forms.span(place.form))?;
-    draft.write(place.before)?;
-    draft.write("choice(")?;
+    draft.replace(forms.span(place.form));
+    draft.write(place.before);
+    draft.write("choice(");
     for part in parts {
         if let Some(filled) = fill(forms, *part) {
-            draft.write_comma(is_first)?;
-            write_filled(forms, filled, draft)?;
+            draft.write_comma(is_first);
+            write_filled(forms, filled, draft);
             is_first = false;
         }
     }
-    draft.write(")")?;
-    draft.write(place.after)
+    draft.write(")");
+    draft.write(place.after);
 }
 
 /// What a new round of a repetition, of which there may be none, stands in the place of, and the words around it.
@@ -178,7 +168,7 @@ pub(crate) fn push_filling(
         return Ok(());
     };
     let mut draft = Draft::new(alloc, change, false);
-    draft.replace(forms.span(form))?;
-    write_filling(forms, filling, &mut draft)?;
+    draft.replace(forms.span(form));
+    write_filling(forms, filling, &mut draft);
     push_draft(drafts, draft)
 }

@@ -114,29 +114,23 @@ fn push_run(
     };
     let name = word_name(alloc, forms.items, rule.name)?;
     let mut draft = Draft::new(alloc, Change::Word, false);
-    write_run(forms, run, rule.place, &name, &mut draft)?;
+    write_run(forms, run, rule.place, &name, &mut draft);
     push_draft(drafts, draft)
 }
 
 /// Puts a word item with this name in at a place, and a word of it in the run's place.
-fn write_run(
-    forms: &Forms,
-    run: Run,
-    place: usize,
-    name: &[char],
-    draft: &mut Draft,
-) -> Result<(), AllocError> {
-    draft.put_in(place, "word ")?;
-    draft.write_characters(name)?;
-    draft.write(" head ")?;
-    draft.keep(run.head)?;
-    draft.write(" rest ")?;
-    draft.keep(run.rest)?;
-    draft.write(";\n")?;
-    draft.replace(forms.span(run.form))?;
-    draft.write("word(")?;
-    draft.write_characters(name)?;
-    draft.write(")")
+fn write_run(forms: &Forms, run: Run, place: usize, name: &[char], draft: &mut Draft) {
+    draft.put_in(place, "word ");
+    draft.write_characters(name);
+    draft.write(" head ");
+    draft.keep(run.head);
+    draft.write(" rest ");
+    draft.keep(run.rest);
+    draft.write(";\n");
+    draft.replace(forms.span(run.form));
+    draft.write("word(");
+    draft.write_characters(name);
+    draft.write(")");
 }
 
 /// A name that no word item has, made of a rule's name by as many letters after it as that takes.

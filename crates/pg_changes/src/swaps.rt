@@ -53,10 +53,10 @@ fn push_swap(
     drafts: &mut Vec<Draft>,
 ) -> Result<(), AllocError> {
     let mut draft = Draft::new(alloc, Change::NeededFirst, false);
-    draft.replace(forms.span(form))?;
-    draft.keep(forms.span(next))?;
-    draft.replace(forms.span(next))?;
-    draft.keep(forms.span(form))?;
+    draft.replace(forms.span(form));
+    draft.keep(forms.span(next));
+    draft.replace(forms.span(next));
+    draft.keep(forms.span(form));
     push_draft(drafts, draft)
 }
 
@@ -70,12 +70,12 @@ fn push_end_by(
     drafts: &mut Vec<Draft>,
 ) -> Result<(), AllocError> {
     let mut draft = Draft::new(alloc, Change::EndBy, true);
-    draft.replace(both(forms, form, next))?;
-    draft.write("endBy(")?;
+    draft.replace(both(forms, form, next));
+    draft.write("endBy(");
     draft.keep(Span {
         first: forms.span(value).first,
         after: forms.span(form).after,
-    })?;
+    });
     push_draft(drafts, draft)
 }
 

@@ -26,18 +26,18 @@ fn push_tried(
 ) -> Result<(), AllocError> {
     let mut draft = Draft::new(alloc, Change::Try, false);
     for form in strings {
-        try_string(forms, *form, &mut draft)?;
+        try_string(forms, *form, &mut draft);
     }
     push_draft(drafts, draft)
 }
 
 /// Puts `try` around a string, if none is there, and around a `notFollowedBy` behind it.
-fn try_string(forms: &Forms, form: usize, draft: &mut Draft) -> Result<(), AllocError> {
+fn try_string(forms: &Forms, form: usize, draft: &mut Draft) {
     let lexeme = lexeme_of(forms, form);
     if lexeme.is_tried {
-        return Ok(());
+        return;
     }
-    draft.wrap(forms.span(lexeme.whole), "try(", ")")
+    draft.wrap(forms.span(lexeme.whole), "try(", ")");
 }
 
 /// A draft that also says what may not follow a string with which another one begins, if there is such a one.
@@ -71,9 +71,9 @@ fn guard_longer(
     let next = next_characters(alloc, forms, form, strings)?;
     let is_guarded = !next.is_empty() && lexeme_of(forms, form).guard.is_none();
     if is_guarded {
-        guard_string(forms, form, Class::OneOf(next.as_slice()), draft)?;
+        guard_string(forms, form, Class::OneOf(next.as_slice()), draft);
     } else {
-        try_string(forms, form, draft)?;
+        try_string(forms, form, draft);
     }
     Ok(is_guarded)
 }
@@ -85,22 +85,17 @@ pub(crate) enum Class<'a> {
     OneOf(&'a [char]),
 }
 
-/// Has a string tried, and not followed by a class. The only error is that memory ran out.
-pub(crate) fn guard_string(
-    forms: &Forms,
-    form: usize,
-    class: Class,
-    draft: &mut Draft,
-) -> Result<(), AllocError> {
+/// Has a string tried, and not followed by a class.
+pub(crate) fn guard_string(forms: &Forms, form: usize, class: Class, draft: &mut Draft) {
     let is_tried = lexeme_of(forms, form).is_tried;
     let span = forms.span(form);
     if !is_tried {
-        draft.put_in(span.first, "try(")?;
+        draft.put_in(span.first, "try(");
     }
-    draft.put_in(span.after, ", notFollowedBy(")?;
+    draft.put_in(span.after, ", notFollowedBy(");
     match class {
-        Class::Kept(class) => draft.keep(class)?,
-        Class::OneOf(characters) => draft.write_literal(characters)?,
+        Class::Kept(class) => draft.keep(class),
+        Class::OneOf(characters) => draft.write_literal(characters),
     }
-    draft.write(if is_tried { ")" } else { "))" })
+    draft.write(if is_tried { ")" } else { "))" });
 }

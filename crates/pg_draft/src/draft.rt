@@ -1,7 +1,8 @@
 //! A change that is to be tried: which characters of the file are replaced, and by what.
 //!
 //! Edits are kept in the order of their places, and what is written goes to the one that was begun last. One that begins before the end of
-//! the edit before it is left out.
+//! the edit before it is left out. A draft that memory ran out for keeps that in mind, and is no draft to be tried (`push_draft`): so
+//! what writes has no way out.
 
 use crate::change::Change;
 use crate::changed::Changed;
@@ -40,6 +41,8 @@ pub struct Draft {
     /// The number of the edit that was begun last.
     begun: usize,
     pieces: Vec<Piece>,
+    /// Whether memory ran out for a part of it.
+    is_short: bool,
 }
 
 impl Draft {
@@ -52,11 +55,12 @@ impl Draft {
             edits: Vec::new(alloc),
             begun: 0,
             pieces: Vec::new(alloc),
+            is_short: false,
         }
     }
 
-    /// Has the characters of the span replaced by what is written from now on. The only error is that memory ran out.
-    pub fn replace(&mut self, span: Span) -> Result<(), AllocError> {
+    /// Has the characters of the span replaced by what is written from now on.
+    pub fn replace(&mut self, span: Span) {
         let first = self.pieces.len();
         let place = place_in(self.edits.as_slice(), span.first);
         if place <= self.edits.len() {
@@ -65,38 +69,48 @@ impl Draft {
                 first,
                 after: first,
             };
-            self.edits.insert(place, edit)?;
             self.begun = place;
+            let inserted = self.edits.insert(place, edit);
+            self.note(inserted.is_err());
         }
-        Ok(())
     }
 
-    /// Writes characters of the file. The only error is that memory ran out.
-    pub fn keep(&mut self, span: Span) -> Result<(), AllocError> {
-        self.push(Piece::Kept(span))
+    /// Writes characters of the file.
+    pub fn keep(&mut self, span: Span) {
+        self.push(Piece::Kept(span));
     }
 
-    /// Writes words. The only error is that memory ran out.
-    pub fn write(&mut self, words: &'static str) -> Result<(), AllocError> {
-        self.push(Piece::New(words))
+    /// Writes words.
+    pub fn write(&mut self, words: &'static str) {
+        self.push(Piece::New(words));
     }
 
-    /// Writes characters anew. The only error is that memory ran out.
-    pub fn write_characters(&mut self, characters: &[char]) -> Result<(), AllocError> {
+    /// Writes characters anew.
+    pub fn write_characters(&mut self, characters: &[char]) {
         for c in characters {
-            self.push(Piece::Written(*c))?;
+            self.push(Piece::Written(*c));
         }
-        Ok(())
+    }
+
+    /// Notes that a rule is taken out, by its body.
+    pub(crate) fn push_taken_out(&mut self, body: usize) {
+        let pushed = self.taken_out.push(body);
+        self.note(pushed.is_err());
     }
 
     /// Pushes a piece of the edit that was begun last.
-    fn push(&mut self, piece: Piece) -> Result<(), AllocError> {
-        self.pieces.push(piece)?;
+    fn push(&mut self, piece: Piece) {
+        let pushed = self.pieces.push(piece);
+        self.note(pushed.is_err());
         let after = self.pieces.len();
         if let Some(edit) = self.edits.get_mut(self.begun) {
             edit.after = after;
         }
-        Ok(())
+    }
+
+    /// Keeps in mind whether memory ran out.
+    fn note(&mut self, has_run_out: bool) {
+        self.is_short = self.is_short || has_run_out;
     }
 
     /// The text of the file, changed. The only error is that memory ran out.
@@ -146,8 +160,11 @@ fn place_in(edits: &[Edit], first: usize) -> usize {
     count
 }
 
-/// Keeps a draft, if it has an edit. The only error is that memory ran out.
+/// Keeps a draft, if it has an edit. The only error is that memory ran out, now or while it was written.
 pub fn push_draft(drafts: &mut Vec<Draft>, draft: Draft) -> Result<(), AllocError> {
+    if draft.is_short {
+        return Err(AllocError);
+    }
     if !draft.edits.is_empty() {
         drafts.push(draft)?;
     }

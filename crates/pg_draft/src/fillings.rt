@@ -4,7 +4,6 @@ use crate::draft::Draft;
 use crate::forms::Forms;
 use crate::kinds::Kind;
 use pg_items::Span;
-use std::alloc::AllocError;
 
 /// How many forms around one are looked into at most.
 const STEPS: usize = 8;
@@ -65,43 +64,38 @@ fn takes_nothing(forms: &Forms, form: usize, is_loose: bool) -> bool {
     }
 }
 
-/// Writes what consumes. The only error is that memory ran out.
-pub fn write_filling(forms: &Forms, filling: Filling, draft: &mut Draft) -> Result<(), AllocError> {
+/// Writes what consumes.
+pub fn write_filling(forms: &Forms, filling: Filling, draft: &mut Draft) {
     match filling {
         Filling::Kept(words, span) => {
-            draft.write(words)?;
-            draft.keep(span)
+            draft.write(words);
+            draft.keep(span);
         }
         Filling::Ended(value, separator) => {
-            draft.write("many1(seq(")?;
-            draft.keep(forms.span(value))?;
-            draft.write_around(", skip(", forms.span(separator))?;
-            draft.write("))")
+            draft.write("many1(seq(");
+            draft.keep(forms.span(value));
+            draft.write_around(", skip(", forms.span(separator));
+            draft.write("))");
         }
         Filling::Alternatives(choice, is_loose) => {
-            write_alternatives(forms, forms.parts(choice), is_loose, draft)
+            write_alternatives(forms, forms.parts(choice), is_loose, draft);
         }
     }
 }
 
 /// Writes the alternatives that consume.
-fn write_alternatives(
-    forms: &Forms,
-    parts: &[usize],
-    is_loose: bool,
-    draft: &mut Draft,
-) -> Result<(), AllocError> {
+fn write_alternatives(forms: &Forms, parts: &[usize], is_loose: bool, draft: &mut Draft) {
     let count = consuming_count(forms, parts, is_loose);
     let mut is_first = true;
-    draft.open_group("choice(", count)?;
+    draft.open_group("choice(", count);
     for part in parts {
         if !takes_nothing(forms, *part, is_loose) {
-            draft.write_comma(is_first)?;
-            draft.keep(forms.span(*part))?;
+            draft.write_comma(is_first);
+            draft.keep(forms.span(*part));
             is_first = false;
         }
     }
-    draft.close_group(count)
+    draft.close_group(count);
 }
 
 /// A form that consumes in the place of one that can be empty: one that takes the same texts but for the empty one, and makes the same trees
@@ -149,17 +143,17 @@ fn only_part(forms: &Forms, form: usize) -> Option<usize> {
     }
 }
 
-/// Writes a form that consumes, with what stands around it. The only error is that memory ran out.
-pub fn write_filled(forms: &Forms, filled: Filled, draft: &mut Draft) -> Result<(), AllocError> {
+/// Writes a form that consumes, with what stands around it.
+pub fn write_filled(forms: &Forms, filled: Filled, draft: &mut Draft) {
     let outer = forms.span(filled.outer);
     let inner = forms.span(filled.inner);
     draft.keep(Span {
         first: outer.first,
         after: inner.first,
-    })?;
-    write_filling(forms, filled.filling, draft)?;
+    });
+    write_filling(forms, filled.filling, draft);
     draft.keep(Span {
         first: inner.after,
         after: outer.after,
-    })
+    });
 }

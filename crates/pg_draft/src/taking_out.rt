@@ -4,25 +4,17 @@ use crate::draft::Draft;
 use crate::forms::Forms;
 use crate::rules::WrittenRule;
 use pg_items::Span;
-use std::alloc::AllocError;
 
-/// Has the rules taken out whose only use is among these, but not the one in which a form stands, nor the rule to start with. The only
-/// error is that memory ran out.
-pub fn take_out(
-    forms: &Forms,
-    opened: &[usize],
-    inside: usize,
-    draft: &mut Draft,
-) -> Result<(), AllocError> {
+/// Has the rules taken out whose only use is among these, but not the one in which a form stands, nor the rule to start with.
+pub fn take_out(forms: &Forms, opened: &[usize], inside: usize, draft: &mut Draft) {
     for name in opened {
         if let Some(rule) = forms.rule_of(*name)
             && forms.use_count(rule.name) == 1
             && !is_kept(forms, rule, inside)
         {
-            take_out_rule(forms, rule, draft)?;
+            take_out_rule(forms, rule, draft);
         }
     }
-    Ok(())
 }
 
 /// Whether a rule has to stay.
@@ -35,17 +27,17 @@ fn is_kept(forms: &Forms, rule: WrittenRule, inside: usize) -> bool {
 }
 
 /// Takes a rule out, with the line feed after it.
-fn take_out_rule(forms: &Forms, rule: WrittenRule, draft: &mut Draft) -> Result<(), AllocError> {
+fn take_out_rule(forms: &Forms, rule: WrittenRule, draft: &mut Draft) {
     let Some(item) = forms.item_at(rule.place) else {
-        return Ok(());
+        return;
     };
     let after = match forms.text.get(item.after) {
         Some('\n') => item.after.saturating_add(1),
         Some(_) | None => item.after,
     };
-    draft.taken_out.push(rule.body)?;
+    draft.push_taken_out(rule.body);
     draft.replace(Span {
         first: item.first,
         after,
-    })
+    });
 }

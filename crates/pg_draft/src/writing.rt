@@ -3,86 +3,73 @@
 use crate::draft::Draft;
 use crate::forms::Forms;
 use pg_items::Span;
-use std::alloc::AllocError;
 
 impl Draft {
-    /// Has what is written from now on put in before the character at this place, words first. The only error is that memory ran out.
-    pub fn put_in(&mut self, place: usize, words: &'static str) -> Result<(), AllocError> {
+    /// Has what is written from now on put in before the character at this place, words first.
+    pub fn put_in(&mut self, place: usize, words: &'static str) {
         let span = Span {
             first: place,
             after: place,
         };
-        self.replace(span)?;
-        self.write(words)
+        self.replace(span);
+        self.write(words);
     }
 
-    /// Puts words in around a span. The only error is that memory ran out.
-    pub fn wrap(
-        &mut self,
-        span: Span,
-        before: &'static str,
-        after: &'static str,
-    ) -> Result<(), AllocError> {
-        self.put_in(span.first, before)?;
-        self.put_in(span.after, after)
+    /// Puts words in around a span.
+    pub fn wrap(&mut self, span: Span, before: &'static str, after: &'static str) {
+        self.put_in(span.first, before);
+        self.put_in(span.after, after);
     }
 
-    /// Writes a form of one value; the words before that end with the parenthesis. The only error is that memory ran out.
-    pub fn write_around(&mut self, words: &'static str, value: Span) -> Result<(), AllocError> {
-        self.write(words)?;
-        self.keep(value)?;
-        self.write(")")
+    /// Writes a form of one value; the words before that end with the parenthesis.
+    pub fn write_around(&mut self, words: &'static str, value: Span) {
+        self.write(words);
+        self.keep(value);
+        self.write(")");
     }
 
-    /// Begins a form of so many values, none where there is just one; the words end with the parenthesis. The only error is that memory ran
-    /// out.
-    pub fn open_group(&mut self, words: &'static str, count: usize) -> Result<(), AllocError> {
-        self.write(if count == 1 { "" } else { words })
+    /// Begins a form of so many values, none where there is just one; the words end with the parenthesis.
+    pub fn open_group(&mut self, words: &'static str, count: usize) {
+        self.write(if count == 1 { "" } else { words });
     }
 
-    /// Ends a form of so many values, none where there is just one. The only error is that memory ran out.
-    pub fn close_group(&mut self, count: usize) -> Result<(), AllocError> {
-        self.write(if count == 1 { "" } else { ")" })
+    /// Ends a form of so many values, none where there is just one.
+    pub fn close_group(&mut self, count: usize) {
+        self.write(if count == 1 { "" } else { ")" });
     }
 
-    /// Writes the comma before a value, if it isn't the first. The only error is that memory ran out.
-    pub fn write_comma(&mut self, is_first: bool) -> Result<(), AllocError> {
-        self.write(if is_first { "" } else { ", " })
+    /// Writes the comma before a value, if it isn't the first.
+    pub fn write_comma(&mut self, is_first: bool) {
+        self.write(if is_first { "" } else { ", " });
     }
 
-    /// Writes forms of the file in a form with these words, or the only one by itself. The only error is that memory ran out.
-    pub fn write_group(
-        &mut self,
-        forms: &Forms,
-        words: &'static str,
-        parts: &[usize],
-    ) -> Result<(), AllocError> {
-        self.open_group(words, parts.len())?;
-        self.write_list(forms, parts)?;
-        self.close_group(parts.len())
+    /// Writes forms of the file in a form with these words, or the only one by itself.
+    pub fn write_group(&mut self, forms: &Forms, words: &'static str, parts: &[usize]) {
+        self.open_group(words, parts.len());
+        self.write_list(forms, parts);
+        self.close_group(parts.len());
     }
 
-    /// Writes forms of the file with commas between them. The only error is that memory ran out.
-    pub fn write_list(&mut self, forms: &Forms, parts: &[usize]) -> Result<(), AllocError> {
+    /// Writes forms of the file with commas between them.
+    pub fn write_list(&mut self, forms: &Forms, parts: &[usize]) {
         let mut is_first = true;
         for part in parts {
-            self.write_comma(is_first)?;
-            self.keep(forms.span(*part))?;
+            self.write_comma(is_first);
+            self.keep(forms.span(*part));
             is_first = false;
         }
-        Ok(())
     }
 
-    /// Writes a literal: these characters between quotes, escaped where they have to be. The only error is that memory ran out.
-    pub fn write_literal(&mut self, characters: &[char]) -> Result<(), AllocError> {
-        self.write("\"")?;
+    /// Writes a literal: these characters between quotes, escaped where they have to be.
+    pub fn write_literal(&mut self, characters: &[char]) {
+        self.write("\"");
         for c in characters {
             match escaped(*c) {
-                Some(escape) => self.write(escape)?,
-                None => self.write_characters(&[*c])?,
+                Some(escape) => self.write(escape),
+                None => self.write_characters(&[*c]),
             }
         }
-        self.write("\"")
+        self.write("\"");
     }
 }
 

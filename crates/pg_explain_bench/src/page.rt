@@ -58,12 +58,39 @@ fn push_sections(
     requires { Fits (offer_of registry.now) refused.now.grammar }
 {
     let cures = cures_of(alloc, refused, file, registry, sections)?;
-    let grammar = refused.grammar();
-    let seeker = Seeker::of(alloc, grammar, refused.sets())?;
-    match Table::of(alloc, grammar) {
-        Ok(table) => push_shown(alloc, page, &seeker, &table, registry, sections, &cures),
+    push_with_cures(alloc, page, refused, sections, &cures, registry)
+}
+
+/// Pushes the sections, whose changes were found.
+fn push_with_cures(
+    alloc: Global,
+    page: &mut String,
+    refused: &Refused,
+    sections: &[Section],
+    cures: &[Option<Cure>],
+    registry: &Registry,
+) -> Result<(), AllocError>
+    requires { Fits (offer_of registry.now) refused.now.grammar }
+{
+    let seeker = Seeker::of(alloc, refused.grammar(), refused.sets())?;
+    push_with_texts(alloc, page, &seeker, sections, cures, registry)
+}
+
+/// Pushes the sections, for which texts are looked for.
+fn push_with_texts(
+    alloc: Global,
+    page: &mut String,
+    seeker: &Seeker,
+    sections: &[Section],
+    cures: &[Option<Cure>],
+    registry: &Registry,
+) -> Result<(), AllocError>
+    requires { Fits (offer_of registry.now) seeker.now.grammar.now }
+{
+    match Table::of(alloc, seeker.grammar) {
+        Ok(table) => push_shown(alloc, page, seeker, &table, registry, sections, cures),
         // No text is parsed then; no file that is read has such a grammar.
-        Err(InitialFault::NotAdmitted { .. }) => push_told(alloc, page, sections, &cures),
+        Err(InitialFault::NotAdmitted { .. }) => push_told(alloc, page, sections, cures),
         Err(InitialFault::Memory) => Err(AllocError),
     }
 }

@@ -34,7 +34,7 @@ pub fn outline_bytes<W: Write>(
 {
     match checked_of(alloc, grammar, registry) {
         Ok(checked) => outline_checked(alloc, &checked, registry, text, writer),
-        Err(fault) => unless_memory(&fault),
+        Err(fault) => unless_memory(fault),
     }
 }
 
@@ -106,10 +106,10 @@ pub fn trace_bytes<W: Write>(
 ) -> Result<bool, WriteFault> {
     match placed_of(alloc, grammar, registry) {
         Ok(placed) => trace_grammar(alloc, &placed.grammar, registry, text, tracing, writer),
-        Err(fault) => {
-            unless_memory(&fault)?;
-            Ok(true)
-        }
+        Err(fault) => match unless_memory(fault) {
+            Ok(()) => Ok(true),
+            Err(error) => Err(error),
+        },
     }
 }
 
@@ -168,8 +168,8 @@ fn table_of(alloc: Global, grammar: &Grammar) -> Result<Option<Table>, WriteFaul
     }
 }
 
-/// Of the faults of a grammar, want of memory alone is one here.
-fn unless_memory(fault: &BenchFault) -> Result<(), WriteFault> {
+/// Of the faults of a grammar, want of memory alone is one here. The fault is let go.
+fn unless_memory(fault: BenchFault) -> Result<(), WriteFault> {
     match fault {
         BenchFault::Memory => Err(WriteFault::Memory),
         BenchFault::File(_)

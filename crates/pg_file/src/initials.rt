@@ -56,12 +56,24 @@ fn grammar_of_initials(
     places: &mut Vec<usize>,
 ) -> Result<Grammar, AllocError> {
     let mut maker = Maker::new(alloc);
-    hand_in_operators(alloc, &mut maker, reserved, most)?;
-    for item in items {
-        hand_in_initial(alloc, &mut maker, item, places)?;
-    }
-    hand_in_rule(alloc, &mut maker)?;
+    hand_in_all(alloc, &mut maker, reserved, most, items, places)?;
     maker.finish().map_err(|_| AllocError)
+}
+
+/// Hands in an operators item, the initial operators of the items, and a rule.
+fn hand_in_all(
+    alloc: Global,
+    maker: &mut Maker,
+    reserved: &[Characters],
+    most: usize,
+    items: &[Item],
+    places: &mut Vec<usize>,
+) -> Result<(), AllocError> {
+    hand_in_operators(alloc, maker, reserved, most)?;
+    for item in items {
+        hand_in_initial(alloc, maker, item, places)?;
+    }
+    hand_in_rule(alloc, maker)
 }
 
 /// Hands in an operators item with these reserved symbols and so many operators at most.

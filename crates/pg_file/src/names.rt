@@ -74,7 +74,10 @@ pub fn name_fault(
 ) -> Result<Option<NameFault>, AllocError> {
     let defined = defined_in(alloc, items)?;
     let mut above = Above::nothing(alloc);
-    Ok(first_fault(alloc, registry, &defined, &mut above, items)?)
+    let fault = first_fault(alloc, registry, &defined, &mut above, items);
+    drop(above);
+    drop(defined);
+    fault
 }
 
 /// The first fault of the items, each of which is noted for those below it.

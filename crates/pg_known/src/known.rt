@@ -38,10 +38,11 @@ impl<'g> Known<'g> {
     ) -> Result<Known<'g>, AllocError> {
         let grammar = refused.grammar();
         let sets = refused.sets();
+        // What is dear to let go comes last, for what comes after it may run out of memory.
+        let positions = positions(alloc, file.text)?;
+        let contained = contained_sets(alloc, grammar, sets)?;
         let classes = classes_of_items(alloc, grammar.class_items())?;
         let operators = operator_starts(alloc, grammar)?;
-        let contained = contained_sets(alloc, grammar, sets)?;
-        let positions = positions(alloc, file.text)?;
         Ok(Known {
             file,
             positions,

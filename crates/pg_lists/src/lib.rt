@@ -18,7 +18,7 @@ mod run_forest;
 mod said;
 mod stretch;
 
-pub use build::{build_after, build_stretch};
+pub use build::{begin_build, build_after, build_stretch, end_build};
 pub use level::{Climbed, ExpressionFrame, Failure, Given, Level, Setting, Stretch};
 pub use lists::Lists;
 pub use run_forest::RunForest;

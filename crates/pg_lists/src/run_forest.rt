@@ -5,6 +5,7 @@
 //! relies on it, whose texts may stand deep in one another.
 
 ghost use Rattle.std.specs.Prelude.{◌≡◌, ◌∷◌, [], ◌<◌, ◌==◌, ◌^◌, drop, length, IfOk, OnOk};
+ghost use Rattle.pg_tree.specs.Trees.{node, kids_of};
 ghost use Rattle.pg_language.specs.Derives.{leaf_of};
 ghost use Rattle.pg_lists.specs.RunTrees.{no_run_trees, tree_count, with_trees, first_trees, hidden_after, rejoined, with_hiding, without_hiding};
 
@@ -180,6 +181,29 @@ impl RunForest {
             Ok(rest) => {
                 self.hidden = self.hidden.min(count - first);
                 Ok(rest)
+            }
+            Err(failed) => {
+                self.hidden = 0;
+                bounded(&self.tape);
+                Err(failed)
+            }
+        }
+    }
+
+    /// Makes the trees after the first that are kept the kids of one node with a copy of this label, and drops those that are only
+    /// counted. The kids stay where they lie. The only error is that memory ran out.
+    pub fn wrap(&mut self, label: &str, count: usize) -> Result<(), AllocError>
+        ensures { OnOk result (self.new ≡ rejoined (node label.now (kids_of (drop count self.old.kept)) ∷ []) 0 (first_trees count self.old)) }
+    {
+        if self.len() == usize::MAX {
+            return Err(AllocError);
+        }
+        let kept = self.tape.len();
+        let first = count.min(kept);
+        match self.tape.wrap(label, first) {
+            Ok(()) => {
+                self.hidden = self.hidden.min(count - first);
+                Ok(())
             }
             Err(failed) => {
                 self.hidden = 0;

@@ -1,5 +1,5 @@
 -- What holds of a run from the start rule, turn by turn, and what it ends with.
-use Rattle.std.proofs.Common.{◌≡◌, ℕ, suc, ◌+◌, ◌*◌, ◌≤◌, ◌<◌, ◌-◌, ◌^◌, ◌⊎◌, inl, inr, List, [], ◌∷◌, ◌++◌, length, Bool, true, false, refl, sym, ap, subst, ◌∙◌, arith, drop}
+use Rattle.std.proofs.Common.{◌≡◌, ℕ, zero, suc, ◌+◌, ◌*◌, ◌≤◌, ◌<◌, ◌-◌, ◌⊎◌, inl, inr, List, [], ◌∷◌, ◌++◌, length, Bool, true, false, refl, sym, ap, subst, ◌∙◌, arith, drop}
 use Rattle.std.specs.Prelude.{Option, Some, None, slice_get, option_map}
 use Rattle.pg_pred.specs.Offer.{Offer}
 use Rattle.pg_value.specs.Fits.{Fits}
@@ -20,6 +20,7 @@ use Rattle.pg_machine.specs.Outcomes.{outcome_of, IsDerived, IsOutcome, outcome_
 use Rattle.pg_turns.specs.Shows.{no_frames, stands_parts, Shows, shows_at, shows_succeeded, shows_failed, shows_stuck, shows_endless}
 use Rattle.pg_turns.specs.Tape.{OnFrame, Tape, tape_at, tape_turn, tape_is_last}
 use Rattle.pg_turns.specs.Ready.{IsTapeReady}
+use Rattle.pg_turns.specs.TapeRuns.{IsAfter}
 use Rattle.pg_lists.specs.RunTrees.{RunTrees, no_run_trees}
 use Rattle.pg_turns.specs.Turns.{State, at_node, with_outcome, endless, turn, is_last}
 use Rattle.pg_message_tape.specs.TapeErrors.{Says, says}
@@ -28,7 +29,7 @@ use Rattle.pg_machine.specs.declared.answer.Outcome.TheVariants.{Answered, Steps
 use Rattle.pg_message_tape.specs.declared.message_tape.TapeError.{TapeError}
 use Rattle.pg_message_tape.proofs.Merged.{drop_seam}
 use Rattle.pg_turns.proofs.Hiding.{none_mean, all_kept}
-use Rattle.pg_turns.proofs.Ready.{turn_ready, tape_more}
+use Rattle.pg_turns.proofs.Ready.{turn_ready}
 use Rattle.pg_turns.proofs.Runs.{Run, run_start, run_turn, run_answer, run_shorter, run_endless}
 use Rattle.pg_turns.proofs.Turned.{turn_shown, last_shown}
 
@@ -80,8 +81,12 @@ running_turn offer G T most n x y fits r l f e =
     } in
     subst (λ k. Running offer G T most k y) one (subst (Running offer G T most (suc n)) (sym e) next)
 
-pub running_ready : (offer : Offer) (G : Given) (T : Table) (most n : ℕ) (x : Tape) → Running offer G T most n x → n ≤ 2 ^ 64 - 2 → IsTapeReady offer G.grammar (2 ^ 64 - 1) x
-running_ready offer G T most n x r l = let m : suc n ≤ 2 ^ 64 - 1 = omega arith in tape_more offer G.grammar (suc n) (2 ^ 64 - 1) m x r.ready
+pub running_after : (offer : Offer) (G : Given) (T : Table) (most n : ℕ) (x y : Tape) → Fits offer G.grammar → Running offer G T most 0 x → IsAfter G x n y → n ≤ most → Running offer G T most n y
+running_after offer G T most zero x y fits r h l = subst (Running offer G T most 0) (sym h) r
+running_after offer G T most (suc n) x y fits r h l =
+    let before = running_after offer G T most n x h.0 fits r h.1 (omega arith) in
+    let one : n + 1 ≡ suc n = omega arith in
+    subst (λ k. Running offer G T most k y) one (running_turn offer G T most n h.0 y fits before (omega arith) h.2 h.3)
 
 -- ---- how it ends
 

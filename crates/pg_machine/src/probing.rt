@@ -39,13 +39,11 @@ pub fn probe<'a>(
     let own = table.copy(alloc)?;
     let tables = ClassTables::of(alloc, grammar)?;
     let mut machine = Machine::new(alloc, own);
-    let mut mode = Mode::At(start_of(grammar), 0);
-    let mut steps: u64 = 0;
-    while steps < max_steps && !machine.is_over(&mode) {
-        mode = machine.step(alloc, grammar, &tables, registry, text, reading, mode)?;
-        steps += 1;
-    }
-    ended(alloc, text, machine, mode, steps)
+    let begun = Mode::At(start_of(grammar), 0);
+    let progress = machine.turns(
+        alloc, grammar, &tables, registry, text, reading, begun, max_steps,
+    )?;
+    ended(alloc, text, machine, progress.mode, progress.steps)
 }
 
 /// The body of the start rule.

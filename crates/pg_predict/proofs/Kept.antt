@@ -1,10 +1,10 @@
 -- How conditions are broken, kept one after another up to so many.
-use Rattle.std.proofs.Common.{◌≡◌, ℕ, zero, suc, ◌+◌, ◌-◌, ◌^◌, ◌<◌, ◌≤◌, min, List, [], ◌∷◌, ◌++◌, take, length, append-nil, append_assoc, refl, sym, ap, ◌∙◌, arith}
+use Rattle.std.proofs.Common.{◌≡◌, ℕ, zero, suc, ◌+◌, ◌-◌, ◌^◌, ◌≤◌, min, List, [], ◌∷◌, ◌++◌, take, length, append-nil, append_assoc, refl, sym, ap, ◌∙◌, arith}
 use Rattle.std.proofs.Math.Numerals.{add-one}
 use Rattle.std.proofs.lemmas.List.{map-append, length-append, length-map, take_all, take-append-le}
-use Rattle.pg_predict.specs.Judged.{all_below}
-use Rattle.pg_predict.specs.Violations.{Violation, kinds_of, counted}
-use Rattle.pg_predict.specs.declared.violation.ViolationKind.{ViolationKind}
+use Rattle.pg_judge.specs.Judged.{all_below}
+use Rattle.pg_judge.specs.Violations.{Violation, kinds_of, counted}
+use Rattle.pg_judge.specs.declared.violation.ViolationKind.{ViolationKind}
 
 -- keeping so many of what comes after those that were kept
 take_on : (n : ℕ) (xs ys : List (ViolationKind ℕ)) → take n (take n xs ++ ys) ≡ take n (xs ++ ys)

@@ -4,47 +4,38 @@ use Rattle.std.specs.Prelude.{◌&&◌, nat_lt, if◌then◌else◌}
 use Rattle.std.specs.Option.{option_map_or}
 use Rattle.std.proofs.Math.Numerals.{add-one}
 use Rattle.std.proofs.lemmas.Bool.{and_parts}
-use Rattle.std.proofs.lemmas.Option.{slice_get-get_or, slice_get_within, get_or_from_slice_get}
-use Rattle.pg_form.specs.Forms.{Node, parts_of}
+use Rattle.std.proofs.lemmas.Option.{slice_get_within, get_or_from_slice_get}
+use Rattle.pg_form.specs.Forms.{Node}
 use Rattle.pg_value.specs.Grammar.{Grammar, IsGrammar}
 use Rattle.pg_form.specs.declared.form.Form.TheVariants as form
-use Rattle.pg_value.proofs.Numbers.{parts_are_after}
 use Rattle.pg_sets.specs.Follow.{IsChain}
 use Rattle.pg_sets.specs.Follow as chain
 use Rattle.pg_bit_set.specs.Numbers.{set_at}
 use Rattle.pg_form.specs.declared.used.OperatorBuilders.{OperatorBuilders}
 use Rattle.pg_graph.specs.Marks.{is_marked}
 use Rattle.pg_own_starts.specs.declared.listed.ListedStart.{ListedStart}
-use Rattle.pg_form.proofs.Each.{all-get}
-use Rattle.pg_predict.specs.WithStarts.{Starts, kind_with_starts, start_at}
-use Rattle.pg_predict.specs.Conditions.{NodeFacts, ViolatesBy, AreFirstToMeet, BeginsNothing, BeginsLink, EndsNullable}
-use Rattle.pg_predict.specs.Conditions as violates
+use Rattle.pg_judge.specs.WithStarts.{Starts, kind_with_starts, start_at}
+use Rattle.pg_judge.specs.Conditions.{NodeFacts, ViolatesBy, AreFirstToMeet, BeginsNothing, BeginsLink, EndsNullable}
+use Rattle.pg_judge.specs.Conditions as violates
 use Rattle.pg_predict.specs.Findings.{condition_number}
 use Rattle.pg_form.specs.declared.class.ClassPart.{ClassPart}
 use Rattle.pg_form.specs.declared.form.Leaf.TheVariants as leaf
-use Rattle.pg_predict.proofs.GapMeetings.{operators_first, gaps_first, no_term, gap_some}
-use Rattle.pg_predict.specs.Judged.{noted_at, is_costly, Facts, all_starts, operators_meet, gaps_meet, gap_met, noted_gap, noted_start, noted_operand, noted_end, noted, noted_meeting, all_below, part_at, node_meeting, follow_meeting, link_meeting, empty_alternative, empty_alternatives, meeting_alternatives, meetings_of_alternative, alternatives_that_meet, alternative_and_follow, alternatives_and_follow, ends_nullable, noted_many, noted_chain, noted_form, noted_node}
-use Rattle.pg_predict.specs.Shown.{AreFacts}
-use Rattle.pg_predict.specs.Violations.{Violation}
-use Rattle.pg_predict.specs.declared.violation.ViolationKind.{ViolationKind}
-use Rattle.pg_predict.specs.declared.violation.ViolationKind.TheVariants.{LeftRecursion, EmptyRound, EmptyAlternative, AlternativesMeet, AlternativeMeetsFollow, RoundMeetsFollow, EmptyOperand, OperandMeetsOperators, FollowMeetsOperators, GapMeets, StepCostOver}
-use Rattle.pg_predict.specs.declared.meetings.Meeting.{Meeting}
+use Rattle.pg_judge.proofs.GapMeetings.{operators_first, gaps_first, no_term, gap_some}
+use Rattle.pg_judge.specs.Judged.{noted_at, is_costly, Facts, all_starts, operators_meet, gaps_meet, gap_met, noted_gap, noted_start, noted_operand, noted_end, noted, noted_meeting, all_below, part_at, node_meeting, follow_meeting, link_meeting, empty_alternative, empty_alternatives, meeting_alternatives, meetings_of_alternative, alternatives_that_meet, alternative_and_follow, alternatives_and_follow, ends_nullable, noted_many, noted_chain, noted_form, noted_node}
+use Rattle.pg_judge.specs.Shown.{AreFacts}
+use Rattle.pg_judge.specs.Violations.{Violation}
+use Rattle.pg_judge.specs.declared.violation.ViolationKind.{ViolationKind}
+use Rattle.pg_judge.specs.declared.violation.ViolationKind.TheVariants.{LeftRecursion, EmptyRound, EmptyAlternative, AlternativesMeet, AlternativeMeetsFollow, RoundMeetsFollow, EmptyOperand, OperandMeetsOperators, FollowMeetsOperators, GapMeets, StepCostOver}
+use Rattle.pg_judge.specs.declared.meetings.Meeting.{Meeting}
 use Rattle.pg_predict.proofs.Lists.{In, in_cases, NotedFor, in_all_below, in_noted, NotedMeeting, in_noted_meeting, in_noted_start, Tagged}
-use Rattle.pg_predict.proofs.Meanings.{shows_first, shows_follow, MeetAt, numbers_first, first_there, follow_there, link_there, node_found, follow_found, link_found}
-use Rattle.pg_predict.proofs.Pairs.{pair_is}
+use Rattle.pg_judge.proofs.Meanings.{shows_first, shows_follow, MeetAt, numbers_first, first_there, follow_there, link_there, node_found, follow_found, link_found}
+use Rattle.pg_judge.proofs.Pairs.{pair_is}
+use Rattle.pg_judge.proofs.Parts.{part_inside, parts_below}
 
 -- what is noted of a node is wrong there, and has a number
 pub record IsWrong (g : Grammar) (asked : NodeFacts) (starts : Starts) (p number : ℕ) (b : Violation ℕ) : Type 0 where
   pub tagged : Tagged p number b
   pub violates : ViolatesBy g asked p (kind_with_starts starts b.kind)
-
--- ---- parts
-
-pub part_inside : (parts : List ℕ) (k : ℕ) → k < length parts → slice_get parts k ≡ Some (part_at parts k)
-part_inside parts k below = slice_get-get_or parts k 0 below
-
-pub parts_below : (g : Grammar) (p : ℕ) (n : Node) (k q : ℕ) → IsGrammar g → slice_get g.nodes p ≡ Some n → slice_get (parts_of n) k ≡ Some q → q < length g.nodes
-parts_below g p n k q is at part = (all-get (λ r. (p < r) × (r < length g.nodes)) (parts_of n) k q (parts_are_after g.nodes p n is.preorder at) part).1
 
 below_test : (j k : ℕ) → nat_lt j k ≡ true → j < k
 below_test j k e = grind (arith, e)

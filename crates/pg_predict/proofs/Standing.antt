@@ -13,12 +13,12 @@ use Rattle.pg_value.specs.declared.grammar.Rule.{Rule}
 use Rattle.pg_value.proofs.Numbers.{bodies_are_nodes}
 use Rattle.pg_form.proofs.Each.{all-get}
 use Rattle.pg_own_starts.specs.declared.listed.ListedStart.{ListedStart}
-use Rattle.pg_predict.specs.Conditions as conditions
-use Rattle.pg_predict.specs.Conditions.{Violates}
+use Rattle.pg_judge.specs.Conditions as conditions
+use Rattle.pg_judge.specs.Conditions.{Violates}
 use Rattle.pg_predict.specs.Findings.{Finding, AreFindings, finding_of, rule_of, body_of, name_of, number_in_rule, name_text, placed_text, violation_text}
 use Rattle.pg_predict.specs.Places.{Preorder, nothing, node, StandsAs, SpeaksOf}
-use Rattle.pg_predict.specs.Violations.{Violation}
-use Rattle.pg_predict.specs.declared.violation.ViolationKind.{ViolationKind}
+use Rattle.pg_judge.specs.Violations.{Violation}
+use Rattle.pg_judge.specs.declared.violation.ViolationKind.{ViolationKind}
 
 -- ---- numbers one after another
 

@@ -10,17 +10,18 @@ use Rattle.pg_value.specs.Grammar.{Grammar}
 use Rattle.pg_start.specs.declared.kind.StartKind.TheVariants.{End}
 use Rattle.pg_own_starts.specs.PrintedStarts.{start_text}
 use Rattle.pg_own_starts.specs.declared.listed.ListedStart.{ListedStart}
-use Rattle.pg_predict.specs.Violations.{Violation}
-use Rattle.pg_predict.specs.WithStarts.{Starts, start_at, kind_with_starts, with_starts}
+use Rattle.pg_judge.specs.Violations.{Violation}
+use Rattle.pg_judge.specs.WithStarts.{Starts, start_at, kind_with_starts, with_starts}
 use Rattle.pg_predict.specs.Findings.{rule_of, name_of, name_text, number_in_rule, placed_text, kind_text, violation_text, finding_of, line_of, lines_of}
-use Rattle.pg_predict.specs.Judged.{Facts, all_starts, noted_grammar, findings_noted}
+use Rattle.pg_judge.specs.Judged.{Facts, all_starts, noted_grammar}
+use Rattle.pg_predict.specs.Refusals.{findings_noted}
 use Rattle.pg_predict.specs.Texts.{place_at, name_at, start_text_at, AreTexts, IsSource, line_said, lines_said}
-use Rattle.pg_predict.specs.declared.operator_facts.OperatorFacts.{OperatorFacts}
+use Rattle.pg_judge.specs.declared.operator_facts.OperatorFacts.{OperatorFacts}
 use Rattle.pg_predict.specs.declared.places.Place.{Place}
 use Rattle.pg_predict.specs.declared.source.Source.{Source}
 use Rattle.pg_predict.specs.declared.texts.Texts.{Texts}
-use Rattle.pg_predict.specs.declared.violation.ViolationKind.{ViolationKind}
-use Rattle.pg_predict.specs.declared.violation.ViolationKind.TheVariants.{LeftRecursion, EmptyRound, EmptyAlternative, AlternativesMeet, AlternativeMeetsFollow, RoundMeetsFollow, EmptyOperand, OperandMeetsOperators, FollowMeetsOperators, GapMeets, StepCostOver}
+use Rattle.pg_judge.specs.declared.violation.ViolationKind.{ViolationKind}
+use Rattle.pg_judge.specs.declared.violation.ViolationKind.TheVariants.{LeftRecursion, EmptyRound, EmptyAlternative, AlternativesMeet, AlternativeMeetsFollow, RoundMeetsFollow, EmptyOperand, OperandMeetsOperators, FollowMeetsOperators, GapMeets, StepCostOver}
 
 -- ---- the start of operators
 

@@ -14,17 +14,17 @@ use Rattle.pg_bit_set.specs.Numbers.{set_at}
 use Rattle.pg_form.specs.declared.used.OperatorBuilders.{OperatorBuilders}
 use Rattle.pg_graph.specs.Marks.{is_marked}
 use Rattle.pg_own_starts.specs.declared.listed.ListedStart.{ListedStart}
-use Rattle.pg_predict.specs.WithStarts.{kind_with_starts, with_starts}
-use Rattle.pg_predict.specs.Conditions.{NodeFacts, ViolatesBy, IsFaultlessBy, least_facts}
+use Rattle.pg_judge.specs.WithStarts.{kind_with_starts, with_starts}
+use Rattle.pg_judge.specs.Conditions.{NodeFacts, ViolatesBy, IsFaultlessBy, least_facts}
 use Rattle.pg_predict.specs.Findings.{AreViolationsBy, AreFindings, finding_of}
 use Rattle.pg_form.specs.declared.form.Leaf.TheVariants as leaf
-use Rattle.pg_predict.specs.Judged.{noted_at, is_costly, Facts, all_starts, operators_meet, gaps_meet, gap_met, noted_start, noted_gap, noted_operand, noted_end, noted_expression, noted, noted_meeting, all_below, part_at, node_meeting, follow_meeting, link_meeting, empty_alternative, empty_alternatives, meeting_alternatives, meetings_of_alternative, alternatives_that_meet, alternative_and_follow, alternatives_and_follow, ends_nullable, noted_choice, noted_form, noted_node, noted_grammar, findings_noted}
-use Rattle.pg_predict.specs.Shown.{AreFacts}
-use Rattle.pg_predict.specs.Violations.{Violation}
-use Rattle.pg_predict.specs.declared.violation.ViolationKind.{ViolationKind}
-use Rattle.pg_predict.specs.declared.violation.ViolationKind.TheVariants.{LeftRecursion, EmptyRound, EmptyAlternative, AlternativesMeet, AlternativeMeetsFollow, RoundMeetsFollow, EmptyOperand, OperandMeetsOperators, FollowMeetsOperators, GapMeets, StepCostOver}
-use Rattle.pg_predict.specs.declared.meetings.Meeting.{Meeting}
-use Rattle.pg_predict.specs.Refusals.{IsRefusal, IsRefused, refused_by}
+use Rattle.pg_judge.specs.Judged.{noted_at, is_costly, Facts, all_starts, operators_meet, gaps_meet, gap_met, noted_start, noted_gap, noted_operand, noted_end, noted_expression, noted, noted_meeting, all_below, part_at, node_meeting, follow_meeting, link_meeting, empty_alternative, empty_alternatives, meeting_alternatives, meetings_of_alternative, alternatives_that_meet, alternative_and_follow, alternatives_and_follow, ends_nullable, noted_choice, noted_form, noted_node, noted_grammar}
+use Rattle.pg_judge.specs.Shown.{AreFacts}
+use Rattle.pg_judge.specs.Violations.{Violation}
+use Rattle.pg_judge.specs.declared.violation.ViolationKind.{ViolationKind}
+use Rattle.pg_judge.specs.declared.violation.ViolationKind.TheVariants.{LeftRecursion, EmptyRound, EmptyAlternative, AlternativesMeet, AlternativeMeetsFollow, RoundMeetsFollow, EmptyOperand, OperandMeetsOperators, FollowMeetsOperators, GapMeets, StepCostOver}
+use Rattle.pg_judge.specs.declared.meetings.Meeting.{Meeting}
+use Rattle.pg_predict.specs.Refusals.{IsRefusal, IsRefused, refused_by, findings_noted}
 use Rattle.pg_predict.specs.declared.source.Source.{Source}
 use Rattle.pg_predict.proofs.Complete.{violation_noted}
 use Rattle.pg_predict.proofs.Lists.{In, in_all_below, all_below_has, in_noted, in_noted_meeting, in_noted_start, in_cases, Precedes, Ascends, ascends_append, ascends_below, ascends_noted, ascends_meeting, ascends_start, key_less, key_same, node_precedes, tags_precede, contains_noted, noted_contains, ascends_sorted}

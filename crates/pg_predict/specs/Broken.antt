@@ -1,14 +1,15 @@
 -- The first condition that is broken, and where.
-use Rattle.std.specs.Prelude.{◌≡◌, ◌<◌, ℕ, [], ◌++◌, codes, List, length, Option, Some, None}
+use Rattle.std.specs.Prelude.{◌≡◌, ◌<◌, ℕ, [], ◌∷◌, ◌++◌, codes, List, length, Option, Some, None}
 use Rattle.std.specs.Fmt.{decimal}
+use Rattle.std.specs.Option.{option_map}
 use Rattle.pg_value.specs.Grammar.{Grammar}
 use Rattle.pg_own_starts.specs.declared.listed.ListedStart.{ListedStart}
-use Rattle.pg_predict.specs.Conditions.{NodeFacts, ViolatesBy, IsFaultlessBy}
+use Rattle.pg_judge.specs.Conditions.{NodeFacts, ViolatesBy, IsFaultlessBy}
 use Rattle.pg_predict.specs.Findings.{condition_number, rule_of, name_of, number_in_rule}
-use Rattle.pg_predict.specs.Judged.{Facts, all_below, noted_at, noted_grammar}
-use Rattle.pg_predict.specs.Questions.{first_number}
+use Rattle.pg_judge.specs.Judged.{Facts, all_below, noted_at, noted_grammar}
+use Rattle.pg_judge.specs.Violations.{Violation}
 use Rattle.pg_predict.specs.declared.violation.Broken.{Broken}
-use Rattle.pg_predict.specs.declared.violation.ViolationKind.{ViolationKind}
+use Rattle.pg_judge.specs.declared.violation.ViolationKind.{ViolationKind}
 
 -- ---- by definition
 
@@ -27,6 +28,15 @@ IsFirstBroken g facts None = IsFaultlessBy g facts
 IsFirstBroken g facts (Some broken) = IsTheFirst g facts broken
 
 -- ---- as it is noted
+
+-- the number of the first condition that is broken, if any is
+abbrev pub first_number : List (Violation ℕ) → Option ℕ
+first_number [] = None
+first_number (v ∷ vs) = Some (condition_number v.kind)
+
+-- the number of the condition that is broken in a way, if there is one
+abbrev pub number_of : Option (ViolationKind ℕ) → Option ℕ
+number_of = option_map condition_number
 
 -- nothing is noted before the node, and this is the number of what is noted there first
 pub record IsNotedFirst (g : Grammar) (facts : Facts) (broken : Broken) : Type 0 where

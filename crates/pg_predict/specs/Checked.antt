@@ -3,7 +3,7 @@ use Rattle.std.specs.Prelude.{◌≡◌, ◌≤◌, ℕ}
 use Rattle.pg_value.specs.Grammar.{Grammar}
 use Rattle.pg_sets.specs.Sets.{Sets, AreSets}
 use Rattle.pg_costs.specs.StepCost.{IsStepCost}
-use Rattle.pg_predict.specs.Conditions.{IsFaultless, cost_limit}
+use Rattle.pg_judge.specs.Conditions.{IsFaultless, cost_limit}
 use Rattle.pg_predict.specs.Refusals.{IsRefused}
 use Rattle.pg_predict.specs.declared.checking.CheckFault.{CheckFault}
 use Rattle.pg_predict.specs.declared.checking.CheckFault.TheVariants as fault

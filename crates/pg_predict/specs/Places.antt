@@ -5,9 +5,9 @@ use Rattle.pg_form.specs.Forms.{Node, parts_of}
 use Rattle.pg_value.specs.Grammar.{Grammar, IsGrammar, rule_body}
 use Rattle.pg_value.specs.declared.grammar.Rule.{Rule}
 use Rattle.pg_own_starts.specs.declared.listed.ListedStart.{ListedStart}
-use Rattle.pg_predict.specs.Conditions.{Violates}
+use Rattle.pg_judge.specs.Conditions.{Violates}
 use Rattle.pg_predict.specs.Findings.{Finding, AreFindings, condition_number, name_text, placed_text, violation_text}
-use Rattle.pg_predict.specs.declared.violation.ViolationKind.{ViolationKind}
+use Rattle.pg_judge.specs.declared.violation.ViolationKind.{ViolationKind}
 
 -- some nodes with all that stand in them, in preorder: a node, then what stands in its parts, and then the other nodes
 pub data Preorder (g : Grammar) : List ℕ → List ℕ → Type 0 where

@@ -4,15 +4,15 @@ use Rattle.std.specs.List.{filter}
 use Rattle.pg_value.specs.Grammar.{Grammar}
 use Rattle.pg_sets.specs.Sets.{Sets}
 use Rattle.pg_own_starts.specs.declared.listed.ListedStart.{ListedStart}
-use Rattle.pg_predict.specs.Conditions.{least_facts}
-use Rattle.pg_predict.specs.Findings.{Finding, AreFindings, AreViolations}
-use Rattle.pg_predict.specs.Judged.{all_starts, findings_noted, noted_grammar}
-use Rattle.pg_predict.specs.Shown.{SetsSay}
+use Rattle.pg_judge.specs.Conditions.{least_facts}
+use Rattle.pg_predict.specs.Findings.{Finding, AreFindings, AreViolations, finding_of}
+use Rattle.pg_judge.specs.Judged.{Facts, all_starts, noted_grammar}
+use Rattle.pg_judge.specs.Shown.{SetsSay}
 use Rattle.pg_predict.specs.Texts.{IsSource}
-use Rattle.pg_predict.specs.Violations.{Violation, kinds_of}
-use Rattle.pg_predict.specs.WithStarts.{with_starts}
+use Rattle.pg_judge.specs.Violations.{Violation, kinds_of}
+use Rattle.pg_judge.specs.WithStarts.{with_starts}
 use Rattle.pg_predict.specs.declared.source.Source.{Source}
-use Rattle.pg_predict.specs.declared.violation.ViolationKind.{ViolationKind}
+use Rattle.pg_judge.specs.declared.violation.ViolationKind.{ViolationKind}
 
 -- a grammar with its sets, the start of operators, which needn't be one of theirs, and all that is wrong with it: as it is printed, and
 -- with the numbers of starts
@@ -27,6 +27,10 @@ pub record RefusedGrammar : Type 0 where
 pub record IsRefusal (source : Source) : Type 0 where
   pub is_source : IsSource source
   pub any : 0 < length (noted_grammar source.grammar source.judge)
+
+-- what is said of what is noted of a grammar
+abbrev pub findings_noted : Grammar → Facts → List Finding
+findings_noted g facts = map (finding_of g) (map (with_starts (all_starts facts)) (noted_grammar g facts))
 
 -- what is refused by it
 abbrev pub refused_by : Source → RefusedGrammar

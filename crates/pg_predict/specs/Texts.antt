@@ -5,12 +5,12 @@ use Rattle.std.specs.Option.{option_map_or}
 use Rattle.pg_value.specs.Grammar.{Grammar, IsGrammar}
 use Rattle.pg_value.specs.declared.grammar.Rule.{Rule}
 use Rattle.pg_own_starts.specs.PrintedStarts.{start_text}
-use Rattle.pg_predict.specs.Violations.{Violation}
-use Rattle.pg_predict.specs.WithStarts.{Starts}
+use Rattle.pg_judge.specs.Violations.{Violation}
+use Rattle.pg_judge.specs.WithStarts.{Starts}
 use Rattle.pg_predict.specs.Findings.{rule_of, number_in_rule, name_text, placed_text, kind_text}
-use Rattle.pg_predict.specs.Judged.{all_starts}
-use Rattle.pg_predict.specs.Conditions.{least_facts}
-use Rattle.pg_predict.specs.Shown.{AreFacts}
+use Rattle.pg_judge.specs.Judged.{all_starts}
+use Rattle.pg_judge.specs.Conditions.{least_facts}
+use Rattle.pg_judge.specs.Shown.{AreFacts}
 use Rattle.pg_predict.specs.declared.places.Place.{Place}
 use Rattle.pg_predict.specs.declared.texts.Texts.{Texts}
 use Rattle.pg_predict.specs.declared.source.Source.{Source}

@@ -3,18 +3,16 @@
 //! The questions are asked as when lines are written (`lines.rt`), and no more is kept than is wanted: a choice can break a condition
 //! for each two of its alternatives.
 ghost use Rattle.std.specs.Prelude.{◌≡◌, ◌<◌, ◌≤◌, ◌++◌, ◌∷◌, [], take, Some, slice_get, length, IfOk, OnOk};
-ghost use Rattle.pg_predict.specs.Judged.{is_costly, noted, noted_node, noted_grammar};
-ghost use Rattle.pg_predict.specs.Questions.{node_series, node_questions, asked_node};
+ghost use Rattle.pg_judge.specs.Judged.{is_costly, noted, noted_node, noted_grammar};
+ghost use Rattle.pg_judge.specs.Questions.{node_series, node_questions, asked_node};
 ghost use Rattle.pg_predict.specs.Refusals.{kinds_at};
 ghost use Rattle.pg_predict.specs.Texts.{IsSource};
-ghost use Rattle.pg_predict.specs.Violations.{kinds_of, counted};
-ghost use Rattle.pg_predict.specs.declared.violation.ViolationKind.TheVariants.{StepCostOver};
+ghost use Rattle.pg_judge.specs.Violations.{kinds_of, counted};
+ghost use Rattle.pg_judge.specs.declared.violation.ViolationKind.TheVariants.{StepCostOver};
 
-use crate::judge::Judge;
-use crate::judging::{ask_node, node_questions, series_count};
 use crate::source::Source;
-use crate::violation::ViolationKind;
 use pg_form::{Node, NodeId};
+use pg_judge::{Judge, ViolationKind, ask_node, node_questions, series_count};
 use std::alloc::{AllocError, Global};
 
 /// The first so many that are wrong at a node, with the step cost last.

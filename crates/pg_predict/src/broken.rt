@@ -3,14 +3,14 @@
 //! Nothing is asked of such sets but their form; whether they hold for a grammar is judged elsewhere.
 ghost use Rattle.std.specs.Prelude.{◌≡◌, ◌<◌, [], length, string_bytes, IfOk};
 ghost use Rattle.pg_predict.specs.Broken.{IsFirstBroken, broken_text, condition_text};
-ghost use Rattle.pg_predict.specs.Conditions.{claimed_facts};
+ghost use Rattle.pg_judge.specs.Conditions.{claimed_facts};
 ghost use Rattle.pg_predict.specs.Findings.{name_text, name_of};
-ghost use Rattle.pg_predict.specs.Shown.{AreWellFormed};
+ghost use Rattle.pg_judge.specs.Shown.{AreWellFormed};
 
 use crate::finds::first_noted;
-use crate::judge::Judge;
 use crate::places::place_of;
 use crate::violation::Broken;
+use pg_judge::Judge;
 use pg_sets::Sets;
 use pg_value::{Grammar, Rule};
 use std::alloc::{AllocError, Global};

@@ -1,14 +1,14 @@
 //! The check: a grammar is accepted where it is predictive, and else all that is wrong with it can be said.
 ghost use Rattle.std.specs.Prelude.{◌≡◌, IfOk, IfErr};
 ghost use Rattle.pg_predict.specs.Checked.{IsChecked, IsFaultOf};
-ghost use Rattle.pg_predict.specs.Shown.{AreLeastFacts};
+ghost use Rattle.pg_judge.specs.Shown.{AreLeastFacts};
 
 use crate::checked::Checked;
 use crate::finds::first_noted;
-use crate::judge::Judge;
 use crate::refused::Refused;
 use crate::source::Source;
 use crate::texts::texts_of;
+use pg_judge::Judge;
 use pg_value::Grammar;
 use std::alloc::Global;
 

@@ -3,16 +3,15 @@
 //! The functions take no memory, and look no further than the first that is found.
 ghost use Rattle.std.specs.Prelude.{◌≡◌, ◌<◌, length};
 ghost use Rattle.pg_value.specs.Grammar.{IsGrammar};
-ghost use Rattle.pg_predict.specs.Broken.{IsFirstNoted};
-ghost use Rattle.pg_predict.specs.Judged.{is_costly, noted, noted_at, noted_node, all_below};
-ghost use Rattle.pg_predict.specs.Questions.{first_number, node_questions, asked_node};
-ghost use Rattle.pg_predict.specs.Suspects.{AreSuspects};
-ghost use Rattle.pg_predict.specs.declared.violation.ViolationKind.TheVariants.{StepCostOver};
+ghost use Rattle.pg_predict.specs.Broken.{IsFirstNoted, first_number};
+ghost use Rattle.pg_judge.specs.Judged.{is_costly, noted, noted_at, noted_node, all_below};
+ghost use Rattle.pg_judge.specs.Questions.{node_questions, asked_node};
+ghost use Rattle.pg_judge.specs.Suspects.{AreSuspects};
+ghost use Rattle.pg_judge.specs.declared.violation.ViolationKind.TheVariants.{StepCostOver};
 
-use crate::judge::Judge;
-use crate::judging::{ask_node, node_questions, series_count};
-use crate::violation::{Broken, ViolationKind, condition_number};
+use crate::violation::{Broken, condition_number};
 use pg_form::{Node, NodeId};
+use pg_judge::{Judge, ViolationKind, ask_node, node_questions, series_count};
 use pg_value::Grammar;
 
 /// The first node at which anything is wrong, and the number of the first condition that is broken there.

@@ -6,17 +6,16 @@ ghost use Rattle.std.specs.Prelude.{◌≡◌, ◌<◌, ◌++◌, [], false, Som
 ghost use Rattle.std.specs.Io.KnownBytes.{Appends};
 ghost use Rattle.pg_tree.specs.Bytes.{AppendsPrefix};
 ghost use Rattle.pg_predict.specs.Writing.{Puts, pieces_bytes};
-ghost use Rattle.pg_predict.specs.Judged.{is_costly, noted, noted_at, noted_grammar, noted_node};
-ghost use Rattle.pg_predict.specs.Questions.{node_series, node_questions, asked_node};
-ghost use Rattle.pg_predict.specs.declared.violation.ViolationKind.TheVariants.{StepCostOver};
+ghost use Rattle.pg_judge.specs.Judged.{is_costly, noted, noted_at, noted_grammar, noted_node};
+ghost use Rattle.pg_judge.specs.Questions.{node_series, node_questions, asked_node};
+ghost use Rattle.pg_judge.specs.declared.violation.ViolationKind.TheVariants.{StepCostOver};
 ghost use Rattle.pg_predict.specs.Texts.{IsSource, place_at, name_at, line_said, lines_said};
 
-use crate::judging::{ask_node, node_questions, series_count};
 use crate::output::{Piece, Stopped, put, put_pieces, send};
 use crate::places::{Place, place_of};
 use crate::source::Source;
-use crate::violation::ViolationKind;
 use pg_form::{Node, NodeId};
+use pg_judge::{ViolationKind, ask_node, node_questions, series_count};
 use pg_tree::Meter;
 use std::io::Write;
 

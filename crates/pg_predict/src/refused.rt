@@ -7,13 +7,13 @@ ghost use Rattle.std.specs.Io.KnownBytes.{Appends};
 ghost use Rattle.pg_tree.specs.Bytes.{AppendsPrefix};
 ghost use Rattle.pg_predict.specs.Findings.{lines_of};
 ghost use Rattle.pg_predict.specs.Refusals.{kinds_at};
-ghost use Rattle.pg_predict.specs.Violations.{counted};
+ghost use Rattle.pg_judge.specs.Violations.{counted};
 
 use crate::at_node::{count_kinds, first_kinds};
 use crate::lines::write_lines;
 use crate::source::Source;
-use crate::violation::ViolationKind;
 use pg_form::NodeId;
+use pg_judge::ViolationKind;
 use pg_sets::Sets;
 use pg_tree::{Meter, WriteFault};
 use pg_value::Grammar;

@@ -1,7 +1,7 @@
 //! What the findings of a grammar are written from.
 
-use crate::judge::Judge;
 use crate::texts::Texts;
+use pg_judge::Judge;
 use pg_value::Grammar;
 
 /// A grammar with its facts, and the texts of its names and starts.

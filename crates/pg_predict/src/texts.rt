@@ -3,14 +3,13 @@
 //! The names of rules and the printed starts are made before, so that a line is put together from pieces, and takes no memory.
 ghost use Rattle.std.specs.Prelude.{◌≡◌, ◌++◌, IfOk, map, decimal, string_bytes};
 ghost use Rattle.pg_own_starts.specs.PrintedStarts.{start_text};
-ghost use Rattle.pg_predict.specs.Judged.{all_starts};
+ghost use Rattle.pg_judge.specs.Judged.{all_starts};
 ghost use Rattle.pg_predict.specs.Findings.{name_text, kind_text};
 ghost use Rattle.pg_predict.specs.Texts.{AreTexts, name_at, start_text_at};
 ghost use Rattle.pg_predict.specs.Writing.{pieces_bytes};
 
-use crate::judge::Judge;
 use crate::output::Piece;
-use crate::violation::ViolationKind;
+use pg_judge::{Judge, ViolationKind};
 use pg_own_starts::{ListedStart, printed_start};
 use pg_value::{Grammar, Rule};
 use std::alloc::{AllocError, Global};

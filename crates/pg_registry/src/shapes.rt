@@ -2,7 +2,8 @@
 //!
 //! They are data alone: the functions that make the trees are made of them, each by `built` at its shape.
 
-ghost use Rattle.std.specs.Prelude.{◌≡◌, map, string_bytes, IfOk};
+ghost use Rattle.std.specs.Prelude.{◌≡◌, ◌++◌, ◌∷◌, [], map, string_bytes, IfOk, OnOk};
+ghost use Rattle.pg_pred.specs.Names.{Name};
 ghost use Rattle.pg_registry.specs.Builders.{builder_shapes};
 
 use pg_tree::{Label, Shape};
@@ -13,22 +14,44 @@ pub fn builder_shapes(alloc: Global) -> Result<Vec<(String, Shape)>, AllocError>
     ensures { IfOk result (λ v. map (λ entry. (string_bytes entry.0, entry.1)) v.items ≡ builder_shapes) }
 {
     let mut shapes = Vec::new(alloc);
-    shapes.push(entry(alloc, "node", Shape::Symbol)?)?;
-    shapes.push(entry(alloc, "num", node(alloc, "num")?)?)?;
-    shapes.push(entry(alloc, "name", node(alloc, "name")?)?)?;
-    shapes.push(entry(alloc, "list", node(alloc, "list")?)?)?;
-    shapes.push(entry(alloc, "call", node(alloc, "call")?)?)?;
-    shapes.push(entry(alloc, "flat", Shape::Flat(label(alloc, "list")?))?)?;
-    shapes.push(entry(alloc, "join", Shape::Join)?)?;
+    push_shapes(alloc, &mut shapes)?;
     Ok(shapes)
 }
 
-fn entry(alloc: Global, name: &str, shape: Shape) -> Result<(String, Shape), AllocError>
-    ensures name { IfOk result (λ entry. string_bytes entry.0 ≡ name.now) }
-    ensures shape { IfOk result (λ entry. entry.1 ≡ shape) }
+/// Pushes them.
+fn push_shapes(alloc: Global, shapes: &mut Vec<(String, Shape)>) -> Result<(), AllocError>
+    requires { shapes.old.items ≡ [] }
+    ensures { OnOk result (map (λ entry. (string_bytes entry.0, entry.1)) shapes.new.items ≡ builder_shapes) }
+{
+    push_shape(alloc, shapes, "node", Shape::Symbol)?;
+    push_node(alloc, shapes, "num")?;
+    push_node(alloc, shapes, "name")?;
+    push_node(alloc, shapes, "list")?;
+    push_node(alloc, shapes, "call")?;
+    push_shape(alloc, shapes, "flat", Shape::Flat(label(alloc, "list")?))?;
+    push_shape(alloc, shapes, "join", Shape::Join)
+}
+
+/// Pushes the builder of nodes with its name as their label.
+fn push_node(alloc: Global, shapes: &mut Vec<(String, Shape)>, name: &str) -> Result<(), AllocError>
+    ensures { OnOk result (map {B = Name × _} (λ entry. (string_bytes entry.0, entry.1)) shapes.new.items ≡
+        map (λ entry. (string_bytes entry.0, entry.1)) shapes.old.items ++ (name.now, Shape.Node name.now) ∷ []) }
+{
+    push_shape(alloc, shapes, name, node(alloc, name)?)
+}
+
+fn push_shape(
+    alloc: Global,
+    shapes: &mut Vec<(String, Shape)>,
+    name: &str,
+    shape: Shape,
+) -> Result<(), AllocError>
+    ensures { OnOk result (map {B = Name × _} (λ entry. (string_bytes entry.0, entry.1)) shapes.new.items ≡
+        map (λ entry. (string_bytes entry.0, entry.1)) shapes.old.items ++ (name.now, shape) ∷ []) }
 {
     let name = String::from_str(alloc, name)?;
-    Ok((name, shape))
+    shapes.push((name, shape))?;
+    Ok(())
 }
 
 fn node(alloc: Global, text: &str) -> Result<Shape, AllocError>

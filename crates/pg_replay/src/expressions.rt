@@ -116,12 +116,14 @@ impl<'a> Replayer<'a> {
         self.go_on(&[Task::Node(part)])
     }
 
-    /// The last operand ends the expression.
+    /// The last operand is all of the expression, and ends it.
     pub(crate) fn end_expression(&mut self) -> Result<Option<Halt>, AllocError>
         ensures { IfOk result (λ halt. told halt (state_of self.new) ≡
             on (with_marks (without_newest (reverse self.old.marks.items)) (state_of self.old))) }
     {
-        self.end_operand()?;
+        let trees = self.newest_mark();
+        self.forest.close(trees)?;
+        self.unmark();
         Ok(None)
     }
 

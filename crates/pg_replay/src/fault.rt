@@ -6,7 +6,7 @@ ghost use Rattle.pg_replay.specs.declared.fault.ReplayFault.TheVariants.{Memory}
 use std::alloc::AllocError;
 
 /// Why it stops, of which the first from the left is told (ours).
-#[derive(Clone, Copy, Debug, PartialEq, Eq)]
+#[derive(Clone, Copy, Debug)]
 pub enum Mismatch {
     /// The next item isn't one that the node can take, its operators are those of no tree that fits the table, or a rule is
     /// entered again before anything was taken.
@@ -20,7 +20,7 @@ pub enum Mismatch {
 }
 
 /// Where it stops.
-#[derive(Clone, Copy, Debug, PartialEq, Eq)]
+#[derive(Clone, Copy, Debug)]
 pub struct Stop {
     /// Why.
     pub why: Mismatch,

@@ -145,16 +145,6 @@ impl<'a> Replayer<'a> {
         let _mark = self.marks.pop();
     }
 
-    /// The last operand is all of the expression.
-    pub(crate) fn end_operand(&mut self) -> Result<(), AllocError>
-        ensures { OnOk result (state_of self.new ≡ with_marks (without_newest (reverse self.old.marks.items)) (state_of self.old)) }
-    {
-        let trees = self.newest_mark();
-        self.forest.close(trees)?;
-        self.unmark();
-        Ok(())
-    }
-
     /// How many trees there are before the newest operand.
     #[tactic(auto, using(crate::proofs::Stack::mark_last, crate::proofs::Stack::mark_none))]
     pub(crate) fn newest_mark(&self) -> usize

@@ -113,17 +113,20 @@ fn begin<'a>(
 ) -> Result<Replayer<'a>, AllocError>
     ensures { IfOk result (λ replayer. state_of replayer ≡ first_state grammar.now body table.now trail.now) }
 {
+    let known = vec![in alloc; None; grammar.rules().len()]?;
+    let blank = vec![in alloc; None; grammar.nodes().len()]?;
+    let table = table.copy(alloc)?;
     let mut replayer = Replayer {
         tasks: Vec::new(alloc),
         place: 0,
-        table: table.copy(alloc)?,
+        table,
         forest: ForestTape::new(alloc),
         rest: trail.items(),
         entered: Vec::new(alloc),
         marks: Vec::new(alloc),
         loose: Looseness::Tight,
-        known: vec![in alloc; None; grammar.rules().len()]?,
-        blank: vec![in alloc; None; grammar.nodes().len()]?,
+        known,
+        blank,
     };
     replayer.enter_body(grammar.start_rule())?;
     replayer.push_tasks(&[Task::Node(body)])?;

@@ -1,5 +1,10 @@
 -- The exit status of what a run ends with.
-use Rattle.std.specs.Prelude.{ℕ, Result, Ok, Err}
+use Rattle.std.specs.Prelude.{◌≡◌, ℕ, List, Result, Ok, Err, Option, Some, None}
+use Rattle.pg_pred.specs.Offer.{Offer}
+use Rattle.pg_making.specs.Spells.{SpellsWithinLimits}
+use Rattle.pg_predict.specs.Checked.{GrammarWithSets, IsChecked}
+use Rattle.pg_grammar_bench.specs.Files.{IsFaultOfFile, AreFindingsOf}
+use Rattle.pg_grammar_bench.specs.Faults.{IfFile, IfRefused, IsGrammarRefusal}
 use Rattle.pg_grammar_bench.specs.declared.fault.BenchFault.{BenchFault}
 use Rattle.pg_grammar_bench.specs.declared.fault.BenchFault.TheVariants.{File, Refused, Reader, NotUtf8, TooLong, NotATrail, NotVerified, ParseError, Writer, Memory}
 
@@ -20,3 +25,22 @@ status_of Memory = 3
 abbrev pub status_of_verdict : {T : Type 0} → Result T BenchFault → ℕ
 status_of_verdict (Ok x) = 0
 status_of_verdict (Err fault) = status_of fault
+
+-- the bytes spell a grammar that is accepted
+pub record IsAcceptedFile (offer : Offer) (file : List ℕ) : Type 0 where
+  pub checked : GrammarWithSets
+  pub spelled : SpellsWithinLimits offer file checked.grammar
+  pub accepted : IsChecked checked
+
+-- the status is that of a fault of the file, of what is wrong with its grammar, or of want of memory
+pub record IsRefusedWith (offer : Offer) (file : List ℕ) (status : ℕ) : Type 0 where
+  pub fault : BenchFault
+  pub status_is : status ≡ status_of fault
+  pub grammar : IsGrammarRefusal fault
+  pub of_file : IfFile (IsFaultOfFile offer file) fault
+  pub findings : IfRefused (AreFindingsOf offer file) fault
+
+-- what is answered of a grammar before texts are read by it: none, if it is accepted, or the status of what refuses it
+abbrev pub IsRefusalStatus : Offer → List ℕ → Option ℕ → Type 0
+IsRefusalStatus offer file None = IsAcceptedFile offer file
+IsRefusalStatus offer file (Some status) = IsRefusedWith offer file status

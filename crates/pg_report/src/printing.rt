@@ -1,7 +1,8 @@
 //! What goes to standard error, and what is found of a certificate to standard output, with the exit status that goes with it.
 
 ghost use Rattle.std.specs.Prelude.{◌≡◌, ◌⊎◌, IfOk};
-ghost use Rattle.pg_report.specs.Status.{status_of, status_of_verdict};
+ghost use Rattle.pg_pred.specs.Offer.{offer_of};
+ghost use Rattle.pg_report.specs.Status.{status_of, status_of_verdict, IsRefusalStatus};
 
 use crate::reporting::{Names, status, write_report};
 use pg_grammar_bench::{BenchFault, checked_of};
@@ -41,13 +42,15 @@ pub(crate) fn print_fault<R: AllocGlobal + Eprint>(
     }
 }
 
-/// Prints why the grammar of these bytes isn't accepted, and gives the status; none, if it is.
+/// Prints why the grammar of these bytes isn't accepted, as far as standard error takes it, and gives the status; none, if it is.
 pub fn print_refusal<R: AllocGlobal + Eprint>(
     rt: &R,
     bytes: &[u8],
     grammar: &str,
     registry: &Registry,
-) -> Result<Option<u8>, AllocError> {
+) -> Result<Option<u8>, AllocError>
+    ensures { IfOk result (IsRefusalStatus (offer_of registry.now) bytes.now) }
+{
     match checked_of(rt.alloc(), bytes, registry) {
         Ok(_) => Ok(None),
         Err(fault) => Ok(Some(print_report(rt, fault, Names::of_grammar(grammar))?)),

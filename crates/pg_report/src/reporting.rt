@@ -3,7 +3,7 @@
 //! A fault of a file begins with the file's name as the caller gave it, so that an editor can jump to it. Printing it to
 //! standard error is `printing.rt`'s.
 
-ghost use Rattle.std.specs.Prelude.{◌≡◌, ◌++◌, false, IfOk, OnOk, IsErrOf};
+ghost use Rattle.std.specs.Prelude.{◌≡◌, ◌++◌, true, false, IfOk, OnOk, IsErrOf};
 ghost use Rattle.std.specs.String.{string_bytes};
 ghost use Rattle.std.specs.Io.KnownBytes.{Appends};
 ghost use Rattle.pg_tree.specs.Bytes.{AppendsPrefix};
@@ -55,8 +55,10 @@ pub fn write_report<W: Write>(
 ) -> Result<(), WriteFault>
     requires { writer.old.failed ≡ false }
     ensures ok { OnOk result (Appends (W.contents writer.old.inner) (W.contents writer.new.inner) (report_of fault.now (names_of names.entry))) }
+    ensures stays { OnOk result (writer.new.failed ≡ false) }
     ensures prefix { IsErrOf result WriteFault.Writer →
         AppendsPrefix (W.contents writer.old.inner) (W.contents writer.new.inner) (report_of fault.now (names_of names.entry)) }
+    ensures failed { IsErrOf result WriteFault.Writer → writer.new.failed ≡ true }
     ensures memory { IsErrOf result WriteFault.Memory → writer.new ≡ writer.old }
 {
     match fault {
@@ -82,8 +84,10 @@ fn write_text<W: Write>(
 ) -> Result<(), WriteFault>
     requires { writer.old.failed ≡ false }
     ensures ok { OnOk result (Appends (W.contents writer.old.inner) (W.contents writer.new.inner) (text_of fault.now (names_of names.entry))) }
+    ensures stays { OnOk result (writer.new.failed ≡ false) }
     ensures prefix { IsErrOf result WriteFault.Writer →
         AppendsPrefix (W.contents writer.old.inner) (W.contents writer.new.inner) (text_of fault.now (names_of names.entry)) }
+    ensures failed { IsErrOf result WriteFault.Writer → writer.new.failed ≡ true }
     ensures memory { IsErrOf result WriteFault.Memory → writer.new ≡ writer.old }
 {
     match text(alloc, fault, names) {

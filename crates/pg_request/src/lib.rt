@@ -147,7 +147,8 @@ pub enum Request<'m, 'a> {
 
 /// The program's command line. Its texts call the program `pgw`, whatever its file is called.
 pub fn command<'a>(alloc: Global) -> Result<Command<'a>, AllocError> {
-    with_printing_commands(alloc, with_reading_commands(alloc, program(alloc)?)?)
+    let program = with_reading_commands(alloc, program(alloc));
+    with_printing_commands(alloc, program)
 }
 
 /// The command line but for its commands.
@@ -165,110 +166,109 @@ fn program<'a>(alloc: Global) -> Result<Command<'a>, AllocError> {
 /// Adds what says yes or no of a grammar or a text.
 fn with_reading_commands<'a>(
     alloc: Global,
-    program: Command<'a>,
+    program: Result<Command<'a>, AllocError>,
 ) -> Result<Command<'a>, AllocError> {
-    let program = with_command(program, check_command(alloc))?;
-    let program = with_command(program, explain_command(alloc))?;
-    let program = with_command(program, verify_command(alloc))?;
-    let program = with_command(program, parse_command(alloc))?;
-    let program = with_command(program, probe_command(alloc))?;
+    let program = with_command(program, check_command(alloc));
+    let program = with_command(program, explain_command(alloc));
+    let program = with_command(program, verify_command(alloc));
+    let program = with_command(program, parse_command(alloc));
+    let program = with_command(program, probe_command(alloc));
     with_command(program, replay_command(alloc))
 }
 
 /// Adds what shows a grammar.
 fn with_printing_commands<'a>(
     alloc: Global,
-    program: Command<'a>,
+    program: Result<Command<'a>, AllocError>,
 ) -> Result<Command<'a>, AllocError> {
-    let program = with_command(program, print_command(alloc))?;
+    let program = with_command(program, print_command(alloc));
     with_command(program, sets_command(alloc))
 }
 
-/// Adds a command. One way out for each where they are added keeps the proofs there short.
+/// Adds a command, if there is memory for both. No way out where they are added keeps the proofs there short.
 fn with_command<'a>(
-    program: Command<'a>,
+    program: Result<Command<'a>, AllocError>,
     command: Result<Command<'a>, AllocError>,
 ) -> Result<Command<'a>, AllocError> {
-    program.subcommand(command?)
+    program?.subcommand(command?)
+}
+
+/// Adds a word, if there was memory for what was added before. No way out where words are added keeps the proofs there short.
+fn with_arg<'a>(
+    command: Result<Command<'a>, AllocError>,
+    arg: Arg<'a>,
+) -> Result<Command<'a>, AllocError> {
+    command?.arg(arg)
+}
+
+/// A command with no words yet.
+fn bare<'a>(alloc: Global, name: &'a str, about: &'a str, help: &'a str) -> Command<'a> {
+    Command::new(alloc, name).about(about).after_help(help)
 }
 
 fn check_command<'a>(alloc: Global) -> Result<Command<'a>, AllocError> {
-    Command::new(alloc, "check")
-        .about("Says whether grammars are accepted, or what is wrong with them, a line each")
-        .after_help(HELP_OF_CHECK)
-        .arg(certificate(alloc))?
-        .arg(places(alloc))?
-        .arg(json(alloc)?)?
-        .arg(quiet(alloc))?
-        .arg(files(alloc, "grammar", GRAMMAR))
+    let json = json(alloc)?;
+    let about = "Says whether grammars are accepted, or what is wrong with them, a line each";
+    let command = bare(alloc, "check", about, HELP_OF_CHECK).arg(certificate(alloc));
+    let command = with_arg(command, places(alloc));
+    let command = with_arg(command, json);
+    let command = with_arg(command, quiet(alloc));
+    with_arg(command, files(alloc, "grammar", GRAMMAR))
 }
 
 fn explain_command<'a>(alloc: Global) -> Result<Command<'a>, AllocError> {
-    Command::new(alloc, "explain")
-        .about(
-            "Tells why a grammar is refused: what meets, through which rules, and at which character",
-        )
-        .after_help(HELP_OF_EXPLAIN)
-        .arg(file(alloc, "grammar", GRAMMAR))?
-        .arg(nodes(alloc))
+    let about =
+        "Tells why a grammar is refused: what meets, through which rules, and at which character";
+    let command = bare(alloc, "explain", about, HELP_OF_EXPLAIN).arg(file(
+        alloc, "grammar", GRAMMAR,
+    ));
+    with_arg(command, nodes(alloc))
 }
 
 fn verify_command<'a>(alloc: Global) -> Result<Command<'a>, AllocError> {
-    Command::new(alloc, "verify")
-        .about("Says whether a certificate shows that a grammar is accepted, whoever made it")
-        .after_help(HELP_OF_VERIFY)
-        .arg(quiet(alloc))?
-        .arg(file(alloc, "grammar", GRAMMAR))?
-        .arg(file(
-            alloc,
-            "certificate",
-            "The file with the certificate, as JSON, or - for standard input",
-        ))
+    let about = "Says whether a certificate shows that a grammar is accepted, whoever made it";
+    let certificate = "The file with the certificate, as JSON, or - for standard input";
+    let command = bare(alloc, "verify", about, HELP_OF_VERIFY).arg(quiet(alloc));
+    let command = with_arg(command, file(alloc, "grammar", GRAMMAR));
+    with_arg(command, file(alloc, "certificate", certificate))
 }
 
 fn parse_command<'a>(alloc: Global) -> Result<Command<'a>, AllocError> {
-    Command::new(alloc, "parse")
-        .about("Parses texts by a grammar and prints the trees as JSON, a line each")
-        .after_help(HELP_OF_PARSE)
-        .arg(trail(alloc))?
-        .arg(tree(alloc)?)?
-        .arg(quiet(alloc))?
-        .arg(file(alloc, "grammar", GRAMMAR))?
-        .arg(files(alloc, "text", TEXT))
+    let tree = tree(alloc)?;
+    let about = "Parses texts by a grammar and prints the trees as JSON, a line each";
+    let command = bare(alloc, "parse", about, HELP_OF_PARSE).arg(trail(alloc));
+    let command = with_arg(command, tree);
+    let command = with_arg(command, quiet(alloc));
+    let command = with_arg(command, file(alloc, "grammar", GRAMMAR));
+    with_arg(command, files(alloc, "text", TEXT))
 }
 
 fn probe_command<'a>(alloc: Global) -> Result<Command<'a>, AllocError> {
-    let command = Command::new(alloc, "probe")
-        .about("Runs a grammar's start rule on a text as Parsec would, and prints its answer")
-        .after_help(HELP_OF_PROBE)
-        .arg(steps(alloc))?
-        .arg(report(alloc))?
-        .arg(trace(alloc))?
-        .arg(only(alloc)?)?
-        .arg(quiet(alloc))?;
+    let only = only(alloc)?;
+    let about = "Runs a grammar's start rule on a text as Parsec would, and prints its answer";
+    let command = bare(alloc, "probe", about, HELP_OF_PROBE).arg(steps(alloc));
+    let command = with_arg(command, report(alloc));
+    let command = with_arg(command, trace(alloc));
+    let command = with_arg(command, only);
+    let command = with_arg(command, quiet(alloc));
     with_grammar_and_text(alloc, command)
 }
 
 fn replay_command<'a>(alloc: Global) -> Result<Command<'a>, AllocError> {
-    let command = Command::new(alloc, "replay")
-        .about("Goes along a trail that parse printed, with no search, and prints the trees")
-        .after_help(HELP_OF_REPLAY)
-        .arg(quiet(alloc))?;
-    with_grammar_and_text(alloc, command)?.arg(file(
-        alloc,
-        "trail",
-        "The file with the trail, as JSON, or - for standard input",
-    ))
+    let about = "Goes along a trail that parse printed, with no search, and prints the trees";
+    let trail = "The file with the trail, as JSON, or - for standard input";
+    let command = bare(alloc, "replay", about, HELP_OF_REPLAY).arg(quiet(alloc));
+    let command = with_grammar_and_text(alloc, command);
+    with_arg(command, file(alloc, "trail", trail))
 }
 
 /// Adds the words that name the grammar file and the file with the text.
 fn with_grammar_and_text<'a>(
     alloc: Global,
-    command: Command<'a>,
+    command: Result<Command<'a>, AllocError>,
 ) -> Result<Command<'a>, AllocError> {
-    command
-        .arg(file(alloc, "grammar", GRAMMAR))?
-        .arg(file(alloc, "text", TEXT))
+    let command = with_arg(command, file(alloc, "grammar", GRAMMAR));
+    with_arg(command, file(alloc, "text", TEXT))
 }
 
 /// The word that asks for the places of findings.
@@ -368,17 +368,13 @@ fn only<'a>(alloc: Global) -> Result<Arg<'a>, AllocError> {
 }
 
 fn print_command<'a>(alloc: Global) -> Result<Command<'a>, AllocError> {
-    Command::new(alloc, "print")
-        .about("Prints a grammar file in canonical form")
-        .after_help(HELP_OF_PRINT)
-        .arg(file(alloc, "grammar", GRAMMAR))
+    let about = "Prints a grammar file in canonical form";
+    bare(alloc, "print", about, HELP_OF_PRINT).arg(file(alloc, "grammar", GRAMMAR))
 }
 
 fn sets_command<'a>(alloc: Global) -> Result<Command<'a>, AllocError> {
-    Command::new(alloc, "sets")
-        .about("Prints what can begin and what can follow each form of a grammar")
-        .after_help(HELP_OF_SETS)
-        .arg(file(alloc, "grammar", GRAMMAR))
+    let about = "Prints what can begin and what can follow each form of a grammar";
+    bare(alloc, "sets", about, HELP_OF_SETS).arg(file(alloc, "grammar", GRAMMAR))
 }
 
 /// A word that names a file, and that can't be left out.

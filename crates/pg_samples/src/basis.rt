@@ -32,16 +32,9 @@ impl<'g> Basis<'g> {
         grammar: &'g Grammar,
         sets: &'g Sets,
     ) -> Result<Basis<'g>, AllocError> {
-        let operators = operator_starts(alloc, grammar)?;
         let above = nodes_above(alloc, grammar)?;
-        let plain = plain_costs(alloc, grammar, sets, &above)?;
-        let equations = Equations {
-            grammar,
-            sets,
-            above: &above,
-            front: Front::Some,
-        };
-        let some = solved(alloc, equations, Some(&plain))?;
+        let (plain, some) = costs_of(alloc, grammar, sets, &above)?;
+        let operators = operator_starts(alloc, grammar)?;
         Ok(Basis {
             grammar,
             sets,
@@ -61,6 +54,24 @@ impl<'g> Basis<'g> {
             front: Front::Character(character),
         }
     }
+}
+
+/// The costs of any text and of none, and those of texts with a character. The only error is that memory ran out.
+fn costs_of<'g>(
+    alloc: Global,
+    grammar: &'g Grammar,
+    sets: &'g Sets,
+    above: &'g [Numbers],
+) -> Result<(Plain, Costs), AllocError> {
+    let plain = plain_costs(alloc, grammar, sets, above)?;
+    let equations = Equations {
+        grammar,
+        sets,
+        above,
+        front: Front::Some,
+    };
+    let some = solved(alloc, equations, Some(&plain))?;
+    Ok((plain, some))
 }
 
 /// The costs of any text, and of none. The only error is that memory ran out.

@@ -134,21 +134,16 @@ impl<'g> Draft<'g> {
         }
     }
 
-    /// One more round, where the guide has it.
+    /// One more round, where the guide has it: it is noted in the pick at this place.
     pub(crate) fn more(&mut self, part: NodeId, pick: usize) {
         if self.can(part, Want::Guide) {
-            self.count_round(pick);
+            if let Some(Pick::Rounds(count)) = self.picks.get(pick).copied() {
+                if pick < self.picks.len() {
+                    self.picks[pick] = Pick::Rounds(count.saturating_add(1));
+                }
+            }
             self.to_do(Task::More(part, pick));
             self.want(part, Want::Guide);
-        }
-    }
-
-    /// The pick at this place has a round more.
-    fn count_round(&mut self, pick: usize) {
-        if let Some(Pick::Rounds(count)) = self.picks.get(pick).copied() {
-            if pick < self.picks.len() {
-                self.picks[pick] = Pick::Rounds(count.saturating_add(1));
-            }
         }
     }
 

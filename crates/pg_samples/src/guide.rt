@@ -43,22 +43,12 @@ impl Fronts {
         characters: &[char],
     ) -> Result<(), AllocError> {
         for character in characters {
-            self.ask_one(alloc, basis, *character)?;
+            let character = *character;
+            if self.of(character).is_none() {
+                let costs = solved(alloc, basis.begun_with(character), Some(&basis.plain))?;
+                self.begun.push(Begun { character, costs })?;
+            }
         }
-        Ok(())
-    }
-
-    fn ask_one(
-        &mut self,
-        alloc: Global,
-        basis: &Basis<'_>,
-        character: char,
-    ) -> Result<(), AllocError> {
-        if self.of(character).is_some() {
-            return Ok(());
-        }
-        let costs = solved(alloc, basis.begun_with(character), Some(&basis.plain))?;
-        self.begun.push(Begun { character, costs })?;
         Ok(())
     }
 }

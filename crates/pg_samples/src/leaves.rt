@@ -33,7 +33,13 @@ pub(crate) fn leaf_cost(sets: &Sets, node: NodeId, leaf: &Leaf<WordId>, front: F
             Front::Any | Front::Nothing => 1,
             Front::Some | Front::Character(_) => NONE,
         },
-        Leaf::Declare(_) => cost_of(front, declaration_begins(front), DECLARATION),
+        Leaf::Declare(_) => {
+            let begins = match front {
+                Front::Any | Front::Nothing | Front::Some => true,
+                Front::Character(c) => c == 'i' || c == 'p',
+            };
+            cost_of(front, begins, DECLARATION)
+        }
     }
 }
 
@@ -61,12 +67,5 @@ fn string_begins(text: &Characters, front: Front) -> bool {
     match front {
         Front::Any | Front::Nothing | Front::Some => true,
         Front::Character(c) => text.as_slice().first() == Some(&c),
-    }
-}
-
-fn declaration_begins(front: Front) -> bool {
-    match front {
-        Front::Any | Front::Nothing | Front::Some => true,
-        Front::Character(c) => c == 'i' || c == 'p',
     }
 }

@@ -65,7 +65,8 @@ impl<'g> Draft<'g> {
             self.follow(rest);
         }
         for _ in 0..LONGER {
-            if is_among(reserved, from_place(&self.text, from)) {
+            let (_, word) = self.text.split_at(from.min(self.text.len()));
+            if is_among(reserved, word) {
                 self.one_of(rest, Want::Any);
             }
         }
@@ -79,15 +80,6 @@ impl<'g> Draft<'g> {
                 self.put(c);
             }
         }
-    }
-}
-
-/// The characters from a place on.
-fn from_place(text: &[char], from: usize) -> &[char] {
-    if from <= text.len() {
-        &text[from..]
-    } else {
-        &[]
     }
 }
 

@@ -1,7 +1,7 @@
 //! Numbers that look random, and are the same in each run.
 
 /// Where the numbers come from.
-#[derive(Clone, Copy)]
+#[derive(Drop)]
 pub(crate) struct Random {
     state: u64,
 }

@@ -30,7 +30,12 @@ impl<'g> Draft<'g> {
         match form {
             Form::Seq(parts) => {
                 let (before, behind) = around(parts.as_slice(), below);
-                self.behind(behind, after);
+                match after {
+                    Want::Guide => self.guided_behind(behind),
+                    Want::Any | Want::Nothing | Want::Some | Want::Space => {
+                        self.want_each(behind, after)
+                    }
+                }
                 self.to_do(Task::Step(next));
                 self.want_each(before, Want::Any);
             }
@@ -48,14 +53,6 @@ impl<'g> Draft<'g> {
                 self.to_do(Task::Step(next));
             }
             Form::Rule(_) | Form::Around(_, _) | Form::Leaf(_) => self.to_do(Task::Step(next)),
-        }
-    }
-
-    /// What stands after the way: where something has to follow, that is begun.
-    fn behind(&mut self, parts: &[NodeId], after: Want) {
-        match after {
-            Want::Guide => self.guided_behind(parts),
-            Want::Any | Want::Nothing | Want::Some | Want::Space => self.want_each(parts, after),
         }
     }
 

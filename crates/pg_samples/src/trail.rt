@@ -38,17 +38,11 @@ fn operators_of(
 }
 
 fn applied(alloc: Global, declared: &Decl) -> Result<AppliedOperator, AllocError> {
-    let symbol = Characters::new(Vec::from_slice(alloc, declared.symbol())?);
-    Ok(AppliedOperator {
-        fixity: fixity_of(declared.role()),
-        symbol,
-    })
-}
-
-fn fixity_of(role: Role) -> Fixity {
-    match role {
+    let fixity = match declared.role() {
         Role::InfixLeft | Role::InfixRight | Role::InfixNone => Fixity::Infix,
         Role::Prefix => Fixity::Prefix,
         Role::Postfix => Fixity::Postfix,
-    }
+    };
+    let symbol = Characters::new(Vec::from_slice(alloc, declared.symbol())?);
+    Ok(AppliedOperator { fixity, symbol })
 }

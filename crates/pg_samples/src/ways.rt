@@ -90,22 +90,16 @@ impl Rise {
         let grammar = search.basis.grammar;
         let top = body_of(grammar, grammar.start_rule())?.index();
         for next in 0..self.met.len() {
-            let step = self.met_at(next)?;
+            if next >= self.count {
+                return None;
+            }
+            let step = self.met.get(next).copied()?;
             if step.node == top && !step.waits {
                 return Some(step);
             }
             self.go_up(search, step);
         }
         None
-    }
-
-    /// The step that was met after so many, if there is one.
-    fn met_at(&self, number: usize) -> Option<Step> {
-        if number < self.count {
-            self.met.get(number).copied()
-        } else {
-            None
-        }
     }
 
     /// Meets the steps above one.

@@ -160,7 +160,7 @@ fn turn<'a>(
         tape_turn (given traced.now.reading traced.now.grammar.now traced.now.text.now) (tape_of mode machine.old)) }
 {
     teller.tell(&*machine, &mode)?;
-    let next = machine.step(
+    let progress = machine.turns(
         alloc,
         traced.grammar,
         tables,
@@ -168,9 +168,10 @@ fn turn<'a>(
         traced.text,
         traced.reading,
         mode,
+        1,
     )?;
-    teller.follow(&next);
-    Ok(next)
+    teller.follow(&progress.mode);
+    Ok(progress.mode)
 }
 
 /// Writes the lines if they have more bytes than that, and takes them off; nothing once the writer failed.

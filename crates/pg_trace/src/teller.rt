@@ -166,8 +166,8 @@ impl<'a> Teller<'a> {
                 choice.rest,
                 reply,
             ),
-            Frame::Around { around, start, .. } => {
-                self.give_back(around, *start, reply);
+            Frame::Around(frame) => {
+                self.give_back(frame.around, frame.start, reply);
                 Ok(())
             }
             Frame::Parts(_)

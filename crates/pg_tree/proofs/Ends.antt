@@ -4,9 +4,9 @@ use Rattle.std.proofs.lemmas.List.{append-nil, get_or_at, length-append, take-ap
 use Rattle.pg_tree.specs.declared.entry.Entry.{Entry}
 use Rattle.pg_tree.specs.declared.entry.Entry.TheVariants.{Leaf, Node}
 use Rattle.pg_tree.specs.declared.entry.Extent.{Extent}
-use Rattle.pg_tree.specs.Trees.{Tree, leaf, node}
+use Rattle.pg_tree.specs.Trees.{Tree, leaf, node, kids_of}
 use Rattle.pg_tree.specs.Stored.{IsStored, kid_count, tree_bytes, kids_bytes, tree_entries, kids_entries, entries_of, bytes_of, extent_of, IsEndOf}
-use Rattle.pg_tree.proofs.Stored.{entries_of-append, bytes_of-append}
+use Rattle.pg_tree.proofs.Stored.{entries_of-append, bytes_of-append, stored-append, stored-push_node}
 
 -- the last entry of a tree, and those before it
 abbrev pub top : Tree → Entry
@@ -136,6 +136,27 @@ stored-drop es fs bs cs n ts count end h ends e f = record {
       ∙ drop_at (bytes_of (take count ts)) (bytes_of (drop count ts)) end.bytes (sym ends.bytes_are);
   roots_are = ap (λ m. m - count) h.roots_are ∙ sym (length-drop count ts);
 }
+
+-- a node in place of the trees after the first ones, which become its kids
+pub stored-wrap : (es fs : List Entry) (bs cs label : List ℕ) (n a k b d : ℕ) (ts : List Tree) (count : ℕ) (end : Extent) → IsStored es bs n ts → IsEndOf ts count end
+    → cs ≡ bs ++ label → a ≡ length label → k ≡ n - count → b ≡ length es + 1 - end.entries → d ≡ length cs - end.bytes → fs ≡ es ++ Node a k b d ∷ []
+    → IsStored fs cs (count + 1) (take count ts ++ node label (kids_of (drop count ts)) ∷ [])
+stored-wrap es fs bs cs label n a k b d ts count end h ends e own kids entries bytes f =
+    let first = stored-take es (take end.entries es) bs (take end.bytes bs) n ts count end h ends refl refl in
+    let rest = stored-drop es (drop end.entries es) bs (drop end.bytes bs) n ts count end h ends refl refl in
+    let within = end_entries-le ts count end es ends h.entries_are in
+    let begins = end_bytes-le ts count end bs ends h.bytes_are in
+    let few : b ≡ length (drop end.entries es) + 1 = omega (arith, entries, length-drop end.entries es, within) in
+    let long : d ≡ length (drop end.bytes bs ++ label) =
+    omega (arith, bytes, ap length e, length-append bs label, length-append (drop end.bytes bs) label, length-drop end.bytes bs, begins) in
+    let top = stored-push_node (drop end.entries es) (drop end.entries es ++ Node a (n - count) b d ∷ []) (drop end.bytes bs) (drop end.bytes bs ++ label) label
+    (n - count) a b d (drop count ts) rest refl own few long refl in
+    let all : fs ≡ take end.entries es ++ (drop end.entries es ++ Node a (n - count) b d ∷ []) =
+    f ∙ ap (λ m. es ++ Node a m b d ∷ []) kids ∙ ap (λ xs. xs ++ Node a (n - count) b d ∷ []) (sym (take-append-drop end.entries es))
+    ∙ append_assoc (take end.entries es) (drop end.entries es) (Node a (n - count) b d ∷ []) in
+    let text : cs ≡ take end.bytes bs ++ (drop end.bytes bs ++ label) =
+    e ∙ ap (λ xs. xs ++ label) (sym (take-append-drop end.bytes bs)) ∙ append_assoc (take end.bytes bs) (drop end.bytes bs) label in
+    rw (all, text) (stored-append _ _ _ _ _ _ _ _ first top)
 
 -- an end at an equal count
 pub end_as : (ts : List Tree) (n m : ℕ) (end : Extent) → IsEndOf ts n end → n ≡ m → IsEndOf ts m end

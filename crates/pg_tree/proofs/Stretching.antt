@@ -1,7 +1,7 @@
 -- Stretches of trees: what a stretch more adds, and what is taken from the end of all of them.
 use Rattle.std.proofs.Common.{◌≡◌, ◌≤◌, ◌+◌, ◌-◌, ℕ, List, [], ◌∷◌, ◌++◌, take, drop, length, sym, ap, ◌∙◌, append_assoc, append-nil, length-append, arith}
 use Rattle.std.proofs.Math.Seq.{drop-append-add, take-append-add}
-use Rattle.std.proofs.lemmas.List.{take-append-le}
+use Rattle.std.proofs.lemmas.List.{take-append-le, length-take-le}
 use Rattle.pg_tree.specs.Trees.{Tree}
 use Rattle.pg_tree.specs.Stretches.{joined}
 
@@ -43,3 +43,12 @@ joined_open below top = append-nil (joined (below ++ top ∷ [])) ∙ joined_pus
 
 pub length_both : (lower top : List Tree) → length (lower ++ top) ≡ length lower + length top
 length_both lower top = length-append lower top
+
+-- a node in place of the trees after the cut, and how many trees there are then
+pub wrapped_top : (below top : List Tree) (count : ℕ) (t : Tree) → length below ≤ count →
+    below ++ (take (count - length below) top ++ t ∷ []) ≡ take count (below ++ top) ++ t ∷ []
+wrapped_top below top count t h =
+    sym (append_assoc below (take (count - length below) top) (t ∷ [])) ∙ ap (λ us. us ++ t ∷ []) (sym (take_top below top count h))
+
+pub length_wrapped : (top : List Tree) (count : ℕ) (t : Tree) → count ≤ length top → length (take count top ++ t ∷ []) ≤ length top + 1
+length_wrapped top count t h = omega (arith, h, length-append (take count top) (t ∷ []), length-take-le count top h)

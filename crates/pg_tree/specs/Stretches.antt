@@ -1,7 +1,7 @@
 -- A list of trees that is kept in stretches, each a list of its own.
 use Rattle.std.specs.Prelude.{◌≡◌, ◌<◌, ◌+◌, ◌^◌, List, [], ◌∷◌, ◌++◌, length}
 use Rattle.pg_tree.specs.Trees.{Tree}
-use Rattle.pg_tree.specs.declared.forest_tape.Stretches.{Stretches}
+use Rattle.pg_tree.specs.declared.stretches.Stretches.{Stretches}
 
 -- the trees of all these lists, in order
 abbrev pub joined : List (List Tree) → List Tree

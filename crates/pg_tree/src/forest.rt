@@ -6,7 +6,7 @@
 
 ghost use Rattle.std.specs.Prelude.{◌≡◌, ◌≤◌, ◌<◌, ◌+◌, ◌-◌, [], ◌∷◌, ◌++◌, take, drop, length, get_or, encode_utf8_all, false, IfOk, OnErr, OnOk};
 ghost use Rattle.std.specs.List.{list_any};
-ghost use Rattle.pg_tree.specs.Trees.{leaf, kids_of};
+ghost use Rattle.pg_tree.specs.Trees.{leaf, node, kids_of};
 ghost use Rattle.pg_tree.specs.Built.{with_kids, flattened, kids_text};
 ghost use Rattle.pg_tree.specs.Stored.{has_label, bytes_of, is_node, IsEndOf};
 
@@ -118,6 +118,34 @@ impl Forest {
             bytes,
             roots: 0,
         })
+    }
+
+    /// Makes the trees after the first `count`, which the caller owes to be there, the kids of one node with a copy of this label.
+    /// The kids stay where they lie; going over them finds where they begin. The only error is that memory ran out; all trees then
+    /// stay.
+    pub(crate) fn wrap(&mut self, label: &str, count: usize) -> Result<(), AllocError>
+        requires { count ≤ length self.old }
+        ensures ok { OnOk result (self.new ≡ take count self.old ++ node label.now (kids_of (drop count self.old)) ∷ []) }
+        ensures err { OnErr result (self.new ≡ self.old) }
+    {
+        let begin = self.end_of(count);
+        let before = self.bytes.len();
+        if push_bytes(&mut self.bytes, label.as_bytes()).is_err() {
+            self.bytes.truncate(before);
+            return Err(AllocError);
+        }
+        let entries = self.entries.len() + 1 - begin.entries;
+        let bytes = self.bytes.len() - begin.bytes;
+        let Ok(entry) = Entry::node(label.len(), self.roots - count, entries, bytes) else {
+            self.bytes.truncate(before);
+            return Err(AllocError);
+        };
+        if self.entries.push_back(entry).is_err() {
+            self.bytes.truncate(before);
+            return Err(AllocError);
+        }
+        self.roots = count + 1;
+        Ok(())
     }
 
     /// How many trees there are. It takes no memory.

@@ -18,6 +18,7 @@ mod queue;
 mod quoted;
 mod read;
 mod shape;
+mod stretches;
 #[cfg(test)]
 mod tests;
 mod tree;

@@ -20,6 +20,9 @@ pub(crate) fn join<T: Copy + Drop>(
     ensures emptied { OnOk result (second.new.items ≡ []) }
     ensures err { OnErr result (first.new.items ≡ first.old.items) }
 {
+    if second.is_empty() {
+        return Ok(());
+    }
     if second.len() <= first.len() {
         return first.append(second);
     }

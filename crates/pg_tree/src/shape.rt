@@ -3,7 +3,8 @@
 //! A shape is part of a grammar, beside the builder's name: what a grammar derives is told by it. The functions that
 //! builders store are held to `built`, and so is the function of this name.
 
-ghost use Rattle.std.specs.Prelude.{◌≡◌, ◌↔◌, IfOk, IsTrue};
+ghost use Rattle.std.specs.Prelude.{◌≡◌, ◌↔◌, List, IfOk, IfSome, IsTrue};
+ghost use Rattle.pg_tree.specs.Trees.{Tree as Made, node, kids_of};
 ghost use Rattle.pg_tree.specs.Built.{built};
 
 use crate::forest::Forest;
@@ -35,6 +36,17 @@ impl Shape {
             Shape::Symbol => Ok(Shape::Symbol),
             Shape::Join => Ok(Shape::Join),
             Shape::Flat(label) => Ok(Shape::Flat(label.copy(alloc)?)),
+        }
+    }
+
+    /// The label of the node that the shape makes of the kids as they are, with this symbol, if it makes one.
+    pub fn label<'a>(&'a self, symbol: &'a str) -> Option<&'a str>
+        ensures { IfSome result (λ label. (kids : List Made) → built self.now symbol.now kids ≡ node label.now (kids_of kids)) }
+    {
+        match self {
+            Shape::Node(label) => Some(label.as_str()),
+            Shape::Symbol => Some(symbol),
+            Shape::Join | Shape::Flat(_) => None,
         }
     }
 

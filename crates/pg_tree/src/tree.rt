@@ -65,19 +65,8 @@ impl Tree {
     pub fn node(alloc: Global, label: &str, kids: Forest) -> Result<Tree, AllocError>
         ensures { IfOk result (λ t. t ≡ node label.now (kids_of kids)) }
     {
-        let Forest {
-            mut entries,
-            mut bytes,
-            roots,
-        } = kids;
-        push_bytes(&mut bytes, label.as_bytes())?;
-        let entry = Entry::node(label.len(), roots, entries.len() + 1, bytes.len())?;
-        entries.push_back(entry)?;
-        let forest = Forest {
-            entries,
-            bytes,
-            roots: 1,
-        };
+        let mut forest = kids;
+        forest.wrap(label, 0)?;
         Ok(Tree { forest })
     }
 }

@@ -21,4 +21,5 @@ pub mod LevelsShown
 pub mod LevelsFailed
 pub mod Turned
 pub mod Ready
+pub mod TapeRuns
 pub mod Hiding

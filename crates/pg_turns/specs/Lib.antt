@@ -10,3 +10,4 @@ pub mod Ready
 pub mod ShowsLevels
 pub mod Shows
 pub mod View
+pub mod TapeRuns

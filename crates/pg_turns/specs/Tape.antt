@@ -189,25 +189,35 @@ tape_empty_ok Report k ps i tried n m o j error fs v t x T =
     tape_next_alternative (suc k) ps i (tried_with_empty_ok tried j (drop n v.kept) (hidden_after n v) (drop m t) (tried_kept tried error x)) fs (first_trees n v) (take m t)
     (tried_messages tried error x) (first_operators o T)
 
+-- an alternative failed empty, so that the next one runs
+abbrev pub tape_past_failed : ℕ → List ℕ → ℕ → OnTried → ℕ → ℕ → ℕ → TapeError → List OnFrame → RunTrees → List TrailItem → List TapeMessage → Table → Tape
+tape_past_failed k ps i tried n m o error fs v t x T =
+    tape_next_alternative (suc k) ps i (tried_with_failure tried (tried_kept tried error x)) fs (first_trees n v) (take m t) (tried_messages tried error x)
+    (first_operators o T)
+
 abbrev pub tape_to_choice : Reading → ℕ → List ℕ → ℕ → OnTried → ℕ → ℕ → ℕ → Reply → List OnFrame → RunTrees → List TrailItem →
     List TapeMessage → Table → Tape
 tape_to_choice reading k ps i tried n m o (Succeeded true j error) fs v t x T = tape_settled tried n m o (Succeeded true j error) fs v t x T
 tape_to_choice reading k ps i tried n m o (Succeeded false j error) fs v t x T = tape_empty_ok reading k ps i tried n m o j error fs v t x T
 tape_to_choice reading k ps i tried n m o (Failed true error) fs v t x T = tape_settled tried n m o (Failed true error) fs v t x T
-tape_to_choice reading k ps i tried n m o (Failed false error) fs v t x T =
-    tape_next_alternative (suc k) ps i (tried_with_failure tried (tried_kept tried error x)) fs (first_trees n v) (take m t) (tried_messages tried error x)
-    (first_operators o T)
+tape_to_choice reading k ps i tried n m o (Failed false error) fs v t x T = tape_past_failed k ps i tried n m o error fs v t x T
 tape_to_choice reading k ps i tried n m o EmptyRound fs v t x T = tape_with EmptyRound fs v t x T
 
 -- ---- repetitions
 
+-- a round consumed, so that the next one runs
+abbrev pub tape_next_round : ℕ → ℕ → ℕ → ℕ → ℕ → List OnFrame → RunTrees → List TrailItem → List TapeMessage → Table → Tape
+tape_next_round p k slot l j fs v t x T = tape_at p j (on_rounds p (suc k) true j slot (tree_count v) (length t) (length T.operators) l ∷ fs) v t (take l x) T
+
+-- a round failed empty, so that the repetition ends before it
+abbrev pub tape_rounds_end : ℕ → Bool → ℕ → ℕ → ℕ → ℕ → ℕ → TapeError → List OnFrame → RunTrees → List TrailItem → List TapeMessage → Table → Tape
+tape_rounds_end k c i slot n m o error fs v t x T = tape_with (Succeeded c i error) fs (first_trees n v) (slice_set (take m t) slot (Rounds k)) x (first_operators o T)
+
 abbrev pub tape_to_rounds : ℕ → ℕ → Bool → ℕ → ℕ → ℕ → ℕ → ℕ → ℕ → Reply → List OnFrame → RunTrees → List TrailItem → List TapeMessage → Table → Tape
-tape_to_rounds p k c i slot n m o l (Succeeded true j error) fs v t x T = tape_at p j (on_rounds p (suc k) true j slot (tree_count v)
-    (length t) (length T.operators) l ∷ fs) v t (take l x) T
+tape_to_rounds p k c i slot n m o l (Succeeded true j error) fs v t x T = tape_next_round p k slot l j fs v t x T
 tape_to_rounds p k c i slot n m o l (Succeeded false j error) fs v t x T = tape_with EmptyRound fs v t x T
 tape_to_rounds p k c i slot n m o l (Failed true error) fs v t x T = tape_with (Failed true error) fs v t x T
-tape_to_rounds p k c i slot n m o l (Failed false error) fs v t x T = tape_with (Succeeded c i error) fs (first_trees n v)
-    (slice_set (take m t) slot (Rounds k)) x (first_operators o T)
+tape_to_rounds p k c i slot n m o l (Failed false error) fs v t x T = tape_rounds_end k c i slot n m o error fs v t x T
 tape_to_rounds p k c i slot n m o l EmptyRound fs v t x T = tape_with EmptyRound fs v t x T
 
 -- ---- chains

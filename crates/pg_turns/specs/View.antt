@@ -1,5 +1,5 @@
 -- What the definitions see of the machine's values.
-use Rattle.std.specs.Prelude.{List, [], ◌∷◌, reverse}
+use Rattle.std.specs.Prelude.{◌≡◌, ◌-◌, List, [], ◌∷◌, length, slice_get, reverse, Bool, true, false, IfSome}
 use Rattle.pg_value.specs.declared.trail.TrailItem.{TrailItem}
 use Rattle.pg_table.specs.Tables.{Table}
 use Rattle.pg_message_tape.specs.Messages.{TapeMessage}
@@ -48,8 +48,24 @@ frame_of (frame.First c) = on_first (chain_of c) c.slot c.forest
 frame_of (frame.Separator l) = on_separator (links_of l.value)
 frame_of (frame.Operand l before trees) = on_operand (links_of l.value) before trees
 frame_of frame.Rule = on_rule
-frame_of (frame.Around around start forest operators) = on_around around.now start forest operators
+frame_of (frame.Around f) = on_around f.around.now f.start f.forest f.operators
 frame_of (frame.Expression f) = on_expression (setting_of f.value.setting) (levels_of f.value.levels.items)
+
+abbrev pub is_choice : Frame → Bool
+is_choice (frame.Choice f) = true
+is_choice _ = false
+
+-- whether it is a chain's or an expression's
+abbrev pub is_rare : Frame → Bool
+is_rare (frame.First c) = true
+is_rare (frame.Separator l) = true
+is_rare (frame.Operand l before trees) = true
+is_rare (frame.Expression f) = true
+is_rare _ = false
+
+-- the topmost frame, if there is one, is of these
+abbrev pub IsTopmost : (Frame → Bool) → List Frame → Type 0
+IsTopmost is fs = IfSome (slice_get fs (length fs - 1)) (λ f. is f ≡ true)
 
 -- the topmost frame stands last in the machine
 abbrev pub stack_on : List OnFrame → List Frame → List OnFrame

@@ -2,59 +2,56 @@
 
 ghost use Rattle.std.specs.Prelude.{◌≡◌, ◌∷◌, [], IfOk, OnOk};
 ghost use Rattle.pg_language.specs.Derives.{leaf_of, span};
-ghost use Rattle.pg_language.specs.Reactions.{counted_by};
 ghost use Rattle.pg_pred.specs.Offer.{offer_of};
 ghost use Rattle.pg_turns.specs.Ready.{AroundFits};
 ghost use Rattle.pg_lists.specs.RunTrees.{first_trees, with_trees, without_hiding};
-ghost use Rattle.pg_turns.specs.Tape.{forest_around, forest_in, forest_left, forest_made, labelled_messages, left_table, messages_around, reply_around, table_around, tape_to_around};
+ghost use Rattle.pg_turns.specs.Tape.{forest_around, forest_in, forest_left, forest_made, messages_around, reply_around, table_around, tape_to_around};
 ghost use Rattle.pg_turns.specs.View.{on_lists, tape_of};
 
-use crate::frame::{Mode, Reply};
+use crate::frame::{AroundFrame, Mode, Reply};
 use crate::machine::Machine;
 use pg_form::Around;
-use pg_lists::{RunForest, build_after};
+use pg_lists::{RunForest, begin_build, build_after, end_build};
 use pg_message_tape::MessageTape;
 use pg_pred::Registry;
 use pg_table::Table;
-use pg_text::{Characters, Text};
+use pg_text::Text;
 use std::alloc::{AllocError, Global};
 
 impl<'a> Machine<'a> {
-    /// An answer of the part, which began at the place, with so many trees and operators before it.
+    /// An answer of the part.
     #[inline(always)]
     pub(crate) fn hand_to_around(
         &mut self,
         alloc: Global,
         registry: &Registry,
         text: &Text,
-        around: &'a Around,
-        start: usize,
-        count: usize,
-        operators: usize,
+        frame: AroundFrame<'a>,
         reply: Reply,
     ) -> Result<Mode, AllocError>
-        requires { AroundFits (offer_of registry.now) around.now }
+        requires { AroundFits (offer_of registry.now) frame.around.now }
         ensures { IfOk result (λ mode. tape_of mode self.new ≡
-            on_lists (tape_to_around text.now around.now start count operators reply) self.old) }
+            on_lists (tape_to_around text.now frame.entry.around.now frame.entry.start frame.entry.forest frame.entry.operators reply) self.old) }
     {
+        let around = frame.around;
         make(
             alloc,
             registry,
             text,
             around,
-            start,
-            count,
+            frame.start,
+            frame.forest,
             reply,
             &mut self.lists.forest,
         )?;
         say(&mut self.lists.messages, around, reply)?;
-        leave(&mut self.table, around, operators, reply);
+        leave(&mut self.table, around, frame.operators, reply);
         Ok(Mode::With(answer(around, reply)))
     }
 }
 
-/// What a form that begins does with the trees: one that takes those of its part together opens a stretch of them, and one
-/// that throws them away has none made.
+/// What a form that begins does with the trees: one that takes those of its part off opens a stretch of them, and one that throws
+/// them away has none made.
 #[inline(always)]
 pub(crate) fn begin(
     alloc: Global,
@@ -67,13 +64,13 @@ pub(crate) fn begin(
         Around::Try => Ok(()),
         Around::Text => forest.hide(),
         Around::Skip => forest.hide(),
-        Around::Build(_, _) => forest.open(alloc),
+        Around::Build(used, symbol) => begin_build(alloc, used, symbol.as_str(), forest),
         Around::Label(_) => Ok(()),
         Around::Local => Ok(()),
     }
 }
 
-/// The form's answer.
+/// The form's answer: a failure in `try` doesn't count as consumed.
 #[inline(always)]
 pub(crate) fn answer(around: &Around, reply: Reply) -> Reply
     ensures { result ≡ reply_around around.now reply }
@@ -89,26 +86,22 @@ pub(crate) fn answer(around: &Around, reply: Reply) -> Reply
             error,
         },
         Reply::Failed { consumed, error } => Reply::Failed {
-            consumed: counted(around, consumed),
+            consumed: match around {
+                Around::Try => false,
+                Around::Text
+                | Around::Skip
+                | Around::Build(_, _)
+                | Around::Label(_)
+                | Around::Local => consumed,
+            },
             error,
         },
         Reply::EmptyRound => Reply::EmptyRound,
     }
 }
 
-/// Whether the form's failure counts as consumed, where the part's does so or not.
-#[inline(always)]
-fn counted(around: &Around, consumed: bool) -> bool
-    ensures { result ≡ counted_by around.now consumed }
-{
-    match around {
-        Around::Try => false,
-        Around::Text | Around::Skip | Around::Build(_, _) | Around::Label(_) | Around::Local =>
-            consumed,
-    }
-}
-
-/// What the form says in place of the part.
+/// What the form says in place of the part: the name of a label is what was expected where nothing was consumed, but not in an ok
+/// answer without messages.
 #[inline(always)]
 fn say<'a>(
     messages: &mut MessageTape<'a>,
@@ -117,21 +110,12 @@ fn say<'a>(
 ) -> Result<(), AllocError>
     ensures { OnOk result (messages.new ≡ messages_around around.now reply messages.old) }
 {
-    match around {
-        Around::Label(name) => label(messages, name, reply),
-        Around::Try | Around::Text | Around::Skip | Around::Build(_, _) | Around::Local => Ok(()),
-    }
-}
-
-/// The name is what was expected where nothing was consumed, but not in an ok answer without messages.
-#[inline(always)]
-fn label<'a>(
-    messages: &mut MessageTape<'a>,
-    name: &'a Characters,
-    reply: Reply,
-) -> Result<(), AllocError>
-    ensures { OnOk result (messages.new ≡ labelled_messages name.now reply messages.old) }
-{
+    let name = match around {
+        Around::Label(name) => name,
+        Around::Try | Around::Text | Around::Skip | Around::Build(_, _) | Around::Local => {
+            return Ok(());
+        }
+    };
     match reply {
         Reply::Succeeded {
             consumed,
@@ -194,7 +178,7 @@ fn give_up(around: &Around, count: usize, forest: &mut RunForest) -> Result<(), 
             show_first(count, forest);
             Ok(())
         }
-        Around::Build(_, _) => forest.close(count),
+        Around::Build(used, symbol) => end_build(used, symbol.as_str(), count, forest),
         Around::Label(_) | Around::Local => Ok(()),
     }
 }
@@ -237,24 +221,16 @@ fn remake(
     }
 }
 
-/// What the form leaves of the table, where the part is ok.
+/// What the form leaves of the table: what was declared in `local` ends with it where the part is ok, and the first operators stay.
 #[inline(always)]
 fn leave(table: &mut Table, around: &Around, count: usize, reply: Reply)
     ensures { table.new ≡ table_around around.now count reply table.old }
 {
-    match reply {
-        Reply::Succeeded { .. } => give_back(table, around, count),
-        Reply::Failed { .. } | Reply::EmptyRound => {}
-    }
-}
-
-/// What was declared in `local` ends with it: the first operators stay.
-#[inline(always)]
-fn give_back(table: &mut Table, around: &Around, count: usize)
-    ensures { table.new ≡ left_table around.now count table.old }
-{
     match around {
-        Around::Local => table.cut(count),
+        Around::Local => match reply {
+            Reply::Succeeded { .. } => table.cut(count),
+            Reply::Failed { .. } | Reply::EmptyRound => {}
+        },
         Around::Try | Around::Text | Around::Skip | Around::Build(_, _) | Around::Label(_) => {}
     }
 }
@@ -270,14 +246,8 @@ fn as_text(
     ensures { OnOk result (forest.new ≡ with_trees (leaf_of (span text.now start end) ∷ []) (without_hiding (first_trees count forest.old))) }
 {
     show_first(count, forest);
-    forest.push_leaf(between(text.characters(), start, end))
-}
-
-/// The characters from the one place up to the other.
-fn between(characters: &[char], from: usize, upto: usize) -> &[char]
-    ensures { result.now ≡ span characters.now from upto }
-{
-    let upto = upto.min(characters.len());
-    let from = from.min(upto);
-    &characters[from..upto]
+    let characters = text.characters();
+    let upto = end.min(characters.len());
+    let from = start.min(upto);
+    forest.push_leaf(&characters[from..upto])
 }

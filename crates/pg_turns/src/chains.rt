@@ -4,12 +4,12 @@
 //! From the right a link waits for all after it: the places where its trees begin are kept, and when the chain ends, trees
 //! are made from the last place on.
 
-ghost use Rattle.std.specs.Prelude.{◌≡◌, ◌<◌, ◌+◌, ◌-◌, ◌^◌, true, [], length, take, reverse, IfOk, OnOk, Some};
+ghost use Rattle.std.specs.Prelude.{◌≡◌, ◌<◌, ◌+◌, ◌-◌, ◌^◌, true, length, take, reverse, IfOk, OnOk, Some};
 ghost use Rattle.pg_pred.specs.Offer.{offer_of, builder_shape};
-ghost use Rattle.pg_turns.specs.Tape.{tape_to_first, tape_to_separator, tape_to_operand, tape_ended, tape_linked, all_built, link_forest, link_waiting, link_left, end_tape_error, end_messages, more_links};
-ghost use Rattle.pg_lists.specs.RunTrees.{built_after};
+ghost use Rattle.pg_turns.specs.Tape.{tape_to_first, tape_to_separator, tape_to_operand, tape_ended, tape_linked, all_built, link_forest, link_waiting, link_left, end_tape_error, end_messages};
 ghost use Rattle.pg_turns.specs.View.{chain_of, links_of, on_lists, stack_of, tape_of};
-ghost use Rattle.pg_message_tape.specs.TapeErrors.{tape_error, kept_at, merged_tape_error, merged_messages};
+ghost use Rattle.pg_message_tape.specs.TapeErrors.{kept_at, merged_tape_error, merged_messages};
+ghost use Rattle.pg_turns.specs.declared.frame.Reply.TheVariants.{Succeeded};
 
 use crate::frame::{Before, ChainFrame, Frame, LinksFrame, Marks, Mode, Reply};
 use crate::machine::Machine;
@@ -32,48 +32,79 @@ impl<'a> Machine<'a> {
         ensures { IfOk result (λ mode. tape_of mode self.new ≡
             on_lists (tape_to_first (chain_of chain.entry) chain.entry.slot chain.entry.forest reply) self.old) }
     {
+        let ChainFrame {
+            side,
+            used,
+            operand,
+            separator,
+            slot,
+            forest,
+        } = chain;
         match reply {
             Reply::Succeeded {
                 consumed,
                 end,
                 error,
             } => {
-                let kept = self.lists.messages.kept(error);
-                let marks = self.marks()?;
-                let ChainFrame {
+                let chain = ChainFrame {
                     side,
                     used,
                     operand,
                     separator,
                     slot,
                     forest,
-                } = chain;
-                let links = LinksFrame {
-                    chain: ChainFrame {
-                        side,
-                        used,
-                        operand,
-                        separator,
-                        slot,
-                        forest,
-                    },
-                    count: 0,
-                    consumed,
-                    kept,
-                    waiting: Vec::new(alloc),
-                    left: forest,
-                    start: end,
-                    marks,
                 };
-                let links = boxed(alloc, &mut self.spare_links, links)?;
-                self.enter_part(Frame::Separator(links), separator, end)
+                self.begin_links(alloc, chain, consumed, end, error)
             }
             Reply::Failed { consumed, error } => {
-                self.lists.forest.close(chain.forest)?;
+                self.lists.forest.close(forest)?;
                 Ok(Mode::With(Reply::Failed { consumed, error }))
             }
             Reply::EmptyRound => Ok(Mode::With(Reply::EmptyRound)),
         }
+    }
+
+    /// The first operand was ok, and the first separator runs.
+    #[inline(always)]
+    fn begin_links(
+        &mut self,
+        alloc: Global,
+        chain: ChainFrame<'a>,
+        consumed: bool,
+        end: usize,
+        error: TapeError,
+    ) -> Result<Mode, AllocError>
+        ensures { IfOk result (λ mode. tape_of mode self.new ≡
+            on_lists (tape_to_first (chain_of chain.entry) chain.entry.slot chain.entry.forest (Succeeded consumed end error)) self.old) }
+    {
+        let marks = self.marks()?;
+        let ChainFrame {
+            side,
+            used,
+            operand,
+            separator,
+            slot,
+            forest,
+        } = chain;
+        let links = LinksFrame {
+            chain: ChainFrame {
+                side,
+                used,
+                operand,
+                separator,
+                slot,
+                forest,
+            },
+            count: 0,
+            consumed,
+            kept: self.lists.messages.kept(error),
+            waiting: Vec::new(alloc),
+            left: forest,
+            start: end,
+            marks,
+        };
+        let links = boxed(alloc, &mut self.spare_links, links)?;
+        self.enter_part(Frame::Separator(links), separator, end)
     }
 
     /// An answer of a separator: after an ok one an operand has to come.
@@ -97,7 +128,11 @@ impl<'a> Machine<'a> {
             } => {
                 let kept = self.lists.messages.kept(error);
                 let trees = self.lists.forest.len();
-                open_operand(alloc, links.chain.side, &mut self.lists.forest)?;
+                // From the right the trees of an operand are taken with what comes before them, but only after all that comes after.
+                match links.chain.side {
+                    Side::Left => {}
+                    Side::Right => self.lists.forest.open(alloc)?,
+                }
                 let operand = links.chain.operand;
                 let frame = Frame::Operand(links, Before { consumed, kept }, trees);
                 self.enter_part(frame, operand, end)
@@ -228,16 +263,6 @@ impl<'a> Machine<'a> {
             end: links.start,
             error,
         }))
-    }
-}
-
-/// From the right the trees of an operand are taken with what comes before them, but only after all that comes after.
-fn open_operand(alloc: Global, side: Side, forest: &mut RunForest) -> Result<(), AllocError>
-    ensures { OnOk result (forest.new ≡ forest.old) }
-{
-    match side {
-        Side::Left => Ok(()),
-        Side::Right => forest.open(alloc),
     }
 }
 

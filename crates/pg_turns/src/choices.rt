@@ -2,10 +2,11 @@
 
 ghost use Rattle.std.specs.Prelude.{◌≡◌, ◌<◌, ◌-◌, ◌^◌, ◌++◌, false, drop, take, length, IfOk, OnOk};
 ghost use Rattle.pg_table.specs.Tables.{first_operators};
-ghost use Rattle.pg_turns.specs.Tape.{tape_with, tried_failure, tried_empty_ok, tape_to_choice, tape_next_alternative, tape_settled, tape_empty_ok, tried_kept, tried_messages, tried_with_failure, tried_with_empty_ok};
+ghost use Rattle.pg_turns.specs.Tape.{tape_with, tried_failure, tried_empty_ok, tape_to_choice, tape_next_alternative, tape_past_failed, tape_settled, tape_empty_ok, tried_kept, tried_messages, tried_with_failure, tried_with_empty_ok};
 ghost use Rattle.pg_lists.specs.RunTrees.{first_trees, hidden_after, rejoined};
 ghost use Rattle.pg_turns.specs.View.{tried_of, on_lists, stack_of, tape_of};
-ghost use Rattle.pg_message_tape.specs.TapeErrors.{tape_error, kept_at, merged_tape_error, merged_messages, tape_error_after, messages_after};
+ghost use Rattle.pg_message_tape.specs.TapeErrors.{kept_at, merged_tape_error, merged_messages};
+ghost use Rattle.pg_language.specs.declared.reading.Reading.TheVariants.{Report};
 ghost use Rattle.pg_turns.specs.declared.frame.Reply.TheVariants.{Succeeded};
 
 use crate::frame::{ChoiceFrame, EmptyOk, Frame, Marks, Mode, Reply, Tried};
@@ -44,29 +45,50 @@ impl<'a> Machine<'a> {
                 }
                 match reading {
                     Reading::Library => self.settled(choice.tried, choice.marks, reply),
-                    Reading::Report => {
-                        let kept = tried_error(&mut self.lists.messages, &choice.tried, error)?;
-                        let tried = self.keep_ok(alloc, choice.tried, kept, choice.marks, end)?;
-                        self.next_alternative(
-                            choice.which as usize + 1,
-                            choice.rest,
-                            choice.start,
-                            tried,
-                        )
-                    }
+                    Reading::Report => { self.past_empty_ok(alloc, choice, end, error) }
                 }
             }
             Reply::Failed { consumed, error } => {
                 if consumed {
                     return self.settled(choice.tried, choice.marks, reply);
                 }
-                self.cut(choice.marks);
-                let kept = tried_error(&mut self.lists.messages, &choice.tried, error)?;
-                let tried = keep_failure(choice.tried, kept);
-                self.next_alternative(choice.which as usize + 1, choice.rest, choice.start, tried)
+                self.past_failed(choice, error)
             }
             Reply::EmptyRound => Ok(Mode::With(Reply::EmptyRound)),
         }
+    }
+
+    /// An alternative was ok and empty, and in the report's reading the next one runs.
+    #[inline(always)]
+    fn past_empty_ok(
+        &mut self,
+        alloc: Global,
+        choice: ChoiceFrame<'a>,
+        end: usize,
+        error: TapeError,
+    ) -> Result<Mode, AllocError>
+        requires { choice.which < 2 ^ 64 - 1 }
+        ensures { IfOk result (λ mode. tape_of mode self.new ≡
+            on_lists (tape_empty_ok Report choice.entry.which choice.entry.rest.now choice.entry.start (tried_of choice.entry.tried)
+            choice.entry.marks.forest choice.entry.marks.trail choice.entry.marks.operators end error) self.old) }
+    {
+        let kept = tried_error(&mut self.lists.messages, &choice.tried, error)?;
+        let tried = self.keep_ok(alloc, choice.tried, kept, choice.marks, end)?;
+        self.next_alternative(choice.which as usize + 1, choice.rest, choice.start, tried)
+    }
+
+    /// An alternative failed empty, and the next one runs.
+    #[inline(always)]
+    fn past_failed(&mut self, choice: ChoiceFrame<'a>, error: TapeError) -> Result<Mode, AllocError>
+        requires { choice.which < 2 ^ 64 - 1 }
+        ensures { IfOk result (λ mode. tape_of mode self.new ≡
+            on_lists (tape_past_failed choice.entry.which choice.entry.rest.now choice.entry.start (tried_of choice.entry.tried)
+            choice.entry.marks.forest choice.entry.marks.trail choice.entry.marks.operators error) self.old) }
+    {
+        self.cut(choice.marks);
+        let kept = tried_error(&mut self.lists.messages, &choice.tried, error)?;
+        let tried = keep_failure(choice.tried, kept);
+        self.next_alternative(choice.which as usize + 1, choice.rest, choice.start, tried)
     }
 
     /// The next alternative runs, or the choice fails where none is left.
@@ -91,7 +113,7 @@ impl<'a> Machine<'a> {
                     marks,
                     which: counted(which)?,
                 }))?;
-                self.lists.trail.push(TrailItem::Alt(which))?;
+                self.push_item(TrailItem::Alt(which))?;
                 Ok(Mode::At(*part, start))
             }
             None => {

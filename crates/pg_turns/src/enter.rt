@@ -6,16 +6,16 @@ ghost use Rattle.pg_form.specs.declared.form.Form.TheVariants as form;
 ghost use Rattle.pg_form.specs.declared.form.Leaf.TheVariants as leaf;
 ghost use Rattle.pg_language.specs.Answers.{given};
 ghost use Rattle.pg_language.specs.Leaves.{leaf_outcome};
-ghost use Rattle.pg_turns.specs.Tape.{tape_at, tape_enter_at, tape_enter, tape_seq, tape_many, tape_chain, tape_rule, tape_told, on_around, forest_in};
+ghost use Rattle.pg_turns.specs.Tape.{tape_at, tape_enter_at, tape_enter, no_tried, tape_next_alternative, tape_seq, tape_many, tape_chain, tape_rule, tape_told, on_around, forest_in};
 ghost use Rattle.pg_turns.specs.Spots.{spot_at};
 ghost use Rattle.pg_lists.specs.RunTrees.{tree_count};
 ghost use Rattle.pg_turns.specs.View.{frame_of, on_lists, stack_of, tape_of};
 
 use crate::around::begin;
-use crate::frame::{ChainFrame, Frame, Mode, PartsFrame, Reply, RoundsFrame, Tried};
+use crate::frame::{AroundFrame, ChainFrame, Frame, Mode, PartsFrame, Reply, RoundsFrame, Tried};
 use crate::machine::Machine;
 use pg_class_tables::ClassTables;
-use pg_form::{Around, BuilderUse, Form, Leaf, Node, NodeId, RuleId, Side, WordId, WordItem};
+use pg_form::{Around, BuilderUse, Form, Leaf, Node, NodeId, RuleId, Side, WordId};
 use pg_language::Reading;
 use pg_lists::Given;
 use pg_text::Text;
@@ -39,7 +39,7 @@ impl<'a> Machine<'a> {
         ensures { IfOk result (λ mode. tape_of mode self.new ≡
             on_lists (tape_enter_at (given reading grammar.now text.now) (slice_get grammar.now.nodes node) place) self.old) }
     {
-        match node_at(grammar.nodes(), node.index()) {
+        match item_at(grammar.nodes(), node.index()) {
             Some(form) => {
                 self.enter_form(alloc, grammar, tables, text, reading, node, form, place)
             }
@@ -68,12 +68,7 @@ impl<'a> Machine<'a> {
         match form {
             Form::Leaf(leaf) => self.enter_leaf(alloc, grammar, tables, text, node, leaf, place),
             Form::Seq(parts) => self.enter_parts(parts.as_slice(), place),
-            Form::Choice(parts) => self.next_alternative(
-                1,
-                parts.as_slice(),
-                place,
-                Tried::Nothing,
-            ),
+            Form::Choice(parts) => self.enter_choice(parts.as_slice(), place),
             Form::Many(part) => self.enter_rounds(*part, place),
             Form::Chain(side, used, operand, separator) => {
                 self.enter_chain(alloc, *side, used, *operand, *separator, place)
@@ -135,16 +130,14 @@ impl<'a> Machine<'a> {
             ∷ stack_of self.old.frames.items)
             (forest_in around.now self.old.lists.forest) self.old.lists.trail.items self.old.lists.messages self.old.table) }
     {
-        let (start, forest) = (place, self.lists.forest.len());
-        let operators = self.table.operators().len();
-        begin(alloc, around, &mut self.lists.forest)?;
-        let frame = Frame::Around {
+        let frame = AroundFrame {
             around,
-            start,
-            forest,
-            operators,
+            start: place,
+            forest: self.lists.forest.len(),
+            operators: self.table.operators().len(),
         };
-        self.enter_part(frame, part, place)
+        begin(alloc, around, &mut self.lists.forest)?;
+        self.enter_part(Frame::Around(frame), part, place)
     }
 
     /// A part runs, and the frame waits for it.
@@ -186,6 +179,15 @@ impl<'a> Machine<'a> {
         }
     }
 
+    /// A choice runs its first alternative.
+    #[inline(always)]
+    fn enter_choice(&mut self, parts: &'a [NodeId], place: usize) -> Result<Mode, AllocError>
+        ensures { IfOk result (λ mode. tape_of mode self.new ≡
+            on_lists (tape_next_alternative 1 parts.now place no_tried) self.old) }
+    {
+        self.next_alternative(1, parts, place, Tried::Nothing)
+    }
+
     /// A repetition runs its first round.
     #[inline(always)]
     fn enter_rounds(&mut self, part: NodeId, place: usize) -> Result<Mode, AllocError>
@@ -193,7 +195,7 @@ impl<'a> Machine<'a> {
             on_lists (tape_many part place) self.old) }
     {
         let slot = self.lists.trail.len();
-        self.lists.trail.push(TrailItem::Rounds(0))?;
+        self.push_item(TrailItem::Rounds(0))?;
         let marks = self.marks()?;
         let messages = self.lists.messages.len();
         let rounds = RoundsFrame {
@@ -223,7 +225,7 @@ impl<'a> Machine<'a> {
             on_lists (tape_chain (record { side = side; used = used.now; operand = operand; separator = separator }) place) self.old) }
     {
         let slot = self.lists.trail.len();
-        self.lists.trail.push(TrailItem::Rounds(0))?;
+        self.push_item(TrailItem::Rounds(0))?;
         let chain = ChainFrame {
             side,
             used,
@@ -274,16 +276,9 @@ impl<'a> Machine<'a> {
     }
 }
 
-/// The word item with this number, if there is one.
-fn item_at(items: &[WordItem], number: usize) -> Option<&WordItem>
+/// The item with this number, if there is one.
+fn item_at<T>(items: &[T], number: usize) -> Option<&T>
     ensures { option_copied result ≡ slice_get items.now number }
 {
     items.get(number)
-}
-
-/// The node with this number, if there is one.
-fn node_at(nodes: &[Node], number: usize) -> Option<&Node>
-    ensures { option_copied result ≡ slice_get nodes.now number }
-{
-    nodes.get(number)
 }

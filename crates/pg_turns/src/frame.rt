@@ -153,6 +153,18 @@ pub struct LinksFrame<'a> {
     pub marks: Marks,
 }
 
+/// The part of a form around it runs.
+#[derive(Clone, Copy)]
+pub struct AroundFrame<'a> {
+    pub around: &'a Around,
+    /// The place where the part begins.
+    pub start: usize,
+    /// How many trees there were before it.
+    pub forest: usize,
+    /// How many operators there were before it.
+    pub operators: usize,
+}
+
 /// What a node that was entered waits for.
 #[derive(Drop)]
 pub enum Frame<'a> {
@@ -165,13 +177,7 @@ pub enum Frame<'a> {
     /// An operand runs, after a separator that was ok; so many trees were there before it.
     Operand(Box<LinksFrame<'a>>, Before, usize),
     Rule,
-    /// The part of a form around it runs, from the place on; so many trees and operators were there before it.
-    Around {
-        around: &'a Around,
-        start: usize,
-        forest: usize,
-        operators: usize,
-    },
+    Around(AroundFrame<'a>),
     /// The term of an expression runs.
     Expression(Box<ExpressionFrame<'a>>),
 }

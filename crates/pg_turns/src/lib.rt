@@ -25,3 +25,4 @@ mod turn;
 pub use errors::error_at_end;
 pub use frame::{Frame, Mode, Reply};
 pub use machine::Machine;
+pub use turn::Progress;

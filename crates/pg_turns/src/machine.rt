@@ -1,6 +1,6 @@
 //! The machine's lists and its table, and how frames keep, cut and join what lies on them.
 
-ghost use Rattle.std.specs.Prelude.{◌≡◌, ◌∷◌, [], length, take, IfOk, OnOk};
+ghost use Rattle.std.specs.Prelude.{◌≡◌, ◌∷◌, ◌++◌, [], length, take, IfOk, OnOk};
 ghost use Rattle.pg_table.specs.Tables.{first_operators};
 ghost use Rattle.pg_lists.specs.RunTrees.{no_run_trees, tree_count, first_trees};
 ghost use Rattle.pg_turns.specs.View.{frame_of, stack_of};
@@ -9,6 +9,7 @@ use crate::frame::{Frame, LinksFrame, Marks};
 use pg_lists::Lists;
 use pg_operators::InForce;
 use pg_table::Table;
+use pg_value::TrailItem;
 use std::alloc::{AllocError, Global};
 use std::rc::Rc;
 
@@ -82,7 +83,24 @@ impl<'a> Machine<'a> {
     {
         self.lists.forest.cut(marks.forest);
         self.lists.trail.truncate(marks.trail as usize);
-        self.table.cut(marks.operators as usize);
+        // There are mostly no more.
+        if (marks.operators as usize) < self.table.operators().len() {
+            self.table.cut(marks.operators as usize);
+        }
+    }
+
+    /// Puts an item at the end of the trail.
+    #[inline(always)]
+    pub(crate) fn push_item(&mut self, item: TrailItem) -> Result<(), AllocError>
+        ensures frames { OnOk result (self.new.frames ≡ self.old.frames) }
+        ensures forest { OnOk result (self.new.lists.forest ≡ self.old.lists.forest) }
+        ensures trail { OnOk result (self.new.lists.trail.items ≡ self.old.lists.trail.items ++ item ∷ []) }
+        ensures messages { OnOk result (self.new.lists.messages ≡ self.old.lists.messages) }
+        ensures table { OnOk result (self.new.table ≡ self.old.table) }
+    {
+        self.lists.trail.reserve(1)?;
+        self.lists.trail.push_reserved(item);
+        Ok(())
     }
 }
 

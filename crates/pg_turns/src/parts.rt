@@ -2,7 +2,7 @@
 
 ghost use Rattle.std.specs.Prelude.{◌≡◌, IfOk, OnOk};
 ghost use Rattle.pg_turns.specs.Tape.{tape_to_parts, tape_next_part, joined_consumed, joined_tape_error, joined_messages};
-ghost use Rattle.pg_turns.specs.View.{on_lists, stack_of, tape_of};
+ghost use Rattle.pg_turns.specs.View.{on_lists, tape_of};
 
 use crate::frame::{Before, Frame, Mode, PartsFrame, Reply};
 use crate::machine::Machine;

@@ -1,11 +1,12 @@
 //! Repetitions: rounds of one part, until one fails empty.
 
 ghost use Rattle.std.specs.Prelude.{◌≡◌, ◌<◌, ◌-◌, ◌^◌, IfOk};
-ghost use Rattle.pg_turns.specs.Tape.{tape_to_rounds};
-ghost use Rattle.pg_turns.specs.View.{on_lists, stack_of, tape_of};
+ghost use Rattle.pg_turns.specs.Tape.{tape_next_round, tape_rounds_end, tape_to_rounds};
+ghost use Rattle.pg_turns.specs.View.{on_lists, tape_of};
 
 use crate::frame::{Frame, Mode, Reply, RoundsFrame};
 use crate::machine::Machine;
+use pg_message_tape::TapeError;
 use pg_value::TrailItem;
 use std::alloc::AllocError;
 
@@ -32,33 +33,57 @@ impl<'a> Machine<'a> {
                 if !consumed {
                     return Ok(Mode::With(Reply::EmptyRound));
                 }
-                self.lists.messages.cut(rounds.messages);
-                let marks = self.marks()?;
-                let next = RoundsFrame {
-                    part: rounds.part,
-                    count: rounds.count + 1,
-                    consumed: true,
-                    start: end,
-                    slot: rounds.slot,
-                    marks,
-                    messages: rounds.messages,
-                };
-                self.enter_part(Frame::Rounds(next), rounds.part, end)
+                self.next_round(rounds, end)
             }
             Reply::Failed { consumed, error } => {
                 if consumed {
                     return Ok(Mode::With(Reply::Failed { consumed, error }));
                 }
-                self.cut(rounds.marks);
-                self.lists
-                    .note(rounds.slot, TrailItem::Rounds(rounds.count));
-                Ok(Mode::With(Reply::Succeeded {
-                    consumed: rounds.consumed,
-                    end: rounds.start,
-                    error,
-                }))
+                self.end_rounds(rounds, error)
             }
             Reply::EmptyRound => Ok(Mode::With(Reply::EmptyRound)),
         }
+    }
+
+    /// A round consumed, and the next one runs.
+    #[inline(always)]
+    #[tactic(auto, using(std::proofs::lemmas::List::take_all))]
+    fn next_round(&mut self, rounds: RoundsFrame, end: usize) -> Result<Mode, AllocError>
+        requires { rounds.count < 2 ^ 64 - 1 }
+        ensures { IfOk result (λ mode. tape_of mode self.new ≡
+            on_lists (tape_next_round rounds.part rounds.count rounds.slot rounds.messages end) self.old) }
+    {
+        // There are mostly no more.
+        if rounds.messages < self.lists.messages.len() {
+            self.lists.messages.cut(rounds.messages);
+        }
+        let marks = self.marks()?;
+        let next = RoundsFrame {
+            part: rounds.part,
+            count: rounds.count + 1,
+            consumed: true,
+            start: end,
+            slot: rounds.slot,
+            marks,
+            messages: rounds.messages,
+        };
+        self.enter_part(Frame::Rounds(next), rounds.part, end)
+    }
+
+    /// A round failed empty, and the repetition ends before it.
+    #[inline(always)]
+    fn end_rounds(&mut self, rounds: RoundsFrame, error: TapeError) -> Result<Mode, AllocError>
+        ensures { IfOk result (λ mode. tape_of mode self.new ≡
+            on_lists (tape_rounds_end rounds.count rounds.consumed rounds.start rounds.slot
+            rounds.marks.forest rounds.marks.trail rounds.marks.operators error) self.old) }
+    {
+        self.cut(rounds.marks);
+        self.lists
+            .note(rounds.slot, TrailItem::Rounds(rounds.count));
+        Ok(Mode::With(Reply::Succeeded {
+            consumed: rounds.consumed,
+            end: rounds.start,
+            error,
+        }))
     }
 }

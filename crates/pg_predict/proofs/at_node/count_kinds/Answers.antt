@@ -1,13 +1,13 @@
 use Rattle.std.proofs.Common.{◌≡◌, ◌+◌, ◌-◌, ◌^◌, ◌<◌, ◌++◌, ℕ, min, Bool, true, false, List, length, append-nil, refl, sym, ap, ◌∙◌}
 use Rattle.std.specs.Prelude.{nat_eq}
 use Rattle.std.specs.List.{filter}
-use Rattle.pg_predict.specs.Conditions.{least_facts}
-use Rattle.pg_predict.specs.Judged.{noted, noted_at, noted_node, noted_grammar, is_costly}
+use Rattle.pg_judge.specs.Conditions.{least_facts}
+use Rattle.pg_judge.specs.Judged.{noted, noted_at, noted_node, noted_grammar, is_costly}
 use Rattle.pg_predict.specs.Refusals.{kinds_at}
 use Rattle.pg_predict.specs.Texts.{IsSource}
-use Rattle.pg_predict.specs.Violations.{Violation, counted}
+use Rattle.pg_judge.specs.Violations.{Violation, counted}
 use Rattle.pg_predict.specs.declared.source.Source.{Source}
-use Rattle.pg_predict.specs.declared.violation.ViolationKind.TheVariants.{StepCostOver}
+use Rattle.pg_judge.specs.declared.violation.ViolationKind.TheVariants.{StepCostOver}
 use Rattle.pg_predict.proofs.AtNode.{noted_there}
 use Rattle.pg_predict.proofs.Kept.{counted_both, counted_kinds}
 use Rattle.pg_predict.proofs.at_node.count_kinds.Goals as goal

@@ -1,7 +1,7 @@
 use Rattle.std.proofs.Common.{◌≡◌, ℕ, List, ap, ◌∙◌, arith}
-use Rattle.pg_predict.specs.Judged.{all_below}
-use Rattle.pg_predict.specs.Questions.{asked_node}
-use Rattle.pg_predict.specs.Violations.{Violation, counted}
+use Rattle.pg_judge.specs.Judged.{all_below}
+use Rattle.pg_judge.specs.Questions.{asked_node}
+use Rattle.pg_judge.specs.Violations.{Violation, counted}
 use Rattle.pg_predict.proofs.Kept.{counted_next}
 use Rattle.pg_predict.proofs.Series.{series_asked}
 use Rattle.pg_predict.proofs.at_node.count_series.Goals as goal

@@ -1,9 +1,9 @@
 use Rattle.std.proofs.Common.{◌≡◌, ℕ, List, [], ◌++◌, take, sym, ap, ◌∙◌}
-use Rattle.pg_predict.specs.Conditions.{least_facts}
-use Rattle.pg_predict.specs.Judged.{noted, noted_node, is_costly}
-use Rattle.pg_predict.specs.Violations.{Violation, kinds_of}
-use Rattle.pg_predict.specs.declared.violation.ViolationKind.{ViolationKind}
-use Rattle.pg_predict.specs.declared.violation.ViolationKind.TheVariants.{StepCostOver}
+use Rattle.pg_judge.specs.Conditions.{least_facts}
+use Rattle.pg_judge.specs.Judged.{noted, noted_node, is_costly}
+use Rattle.pg_judge.specs.Violations.{Violation, kinds_of}
+use Rattle.pg_judge.specs.declared.violation.ViolationKind.{ViolationKind}
+use Rattle.pg_judge.specs.declared.violation.ViolationKind.TheVariants.{StepCostOver}
 use Rattle.pg_predict.proofs.AtNode.{noted_there}
 use Rattle.pg_predict.proofs.Kept.{kept_both}
 use Rattle.pg_predict.proofs.at_node.first_kinds.Goals as goal

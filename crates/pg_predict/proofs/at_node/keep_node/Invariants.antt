@@ -1,7 +1,7 @@
 use Rattle.std.proofs.Common.{◌≡◌, ◌≤◌, ◌++◌, take, length}
-use Rattle.pg_predict.specs.Judged.{all_below}
-use Rattle.pg_predict.specs.Questions.{node_series}
-use Rattle.pg_predict.specs.Violations.{kinds_of}
+use Rattle.pg_judge.specs.Judged.{all_below}
+use Rattle.pg_judge.specs.Questions.{node_series}
+use Rattle.pg_judge.specs.Violations.{kinds_of}
 use Rattle.pg_predict.proofs.at_node.keep_node.Given as goal
 
 abbrev pub invariant-loop-series : goal.invariant-loop-series

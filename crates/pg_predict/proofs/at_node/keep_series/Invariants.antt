@@ -1,7 +1,7 @@
 use Rattle.std.proofs.Common.{◌≡◌, ◌≤◌, ◌++◌, take, length}
-use Rattle.pg_predict.specs.Judged.{all_below}
-use Rattle.pg_predict.specs.Questions.{asked_node}
-use Rattle.pg_predict.specs.Violations.{kinds_of}
+use Rattle.pg_judge.specs.Judged.{all_below}
+use Rattle.pg_judge.specs.Questions.{asked_node}
+use Rattle.pg_judge.specs.Violations.{kinds_of}
 use Rattle.pg_predict.proofs.at_node.keep_series.Given as goal
 
 abbrev pub invariant-loop-question : goal.invariant-loop-question

@@ -1,6 +1,7 @@
 use Rattle.std.proofs.Common.{◌<◌, Some, sym, ap, ◌∙◌, subst, ℕ}
 use Rattle.pg_predict.specs.Findings.{condition_number}
-use Rattle.pg_predict.specs.Questions.{first_number, number_of, asked_node}
+use Rattle.pg_predict.specs.Broken.{first_number, number_of}
+use Rattle.pg_judge.specs.Questions.{asked_node}
 use Rattle.pg_predict.proofs.Below.{found_number, first_below}
 use Rattle.pg_predict.proofs.finds.first_in.Goals as goal
 

@@ -1,6 +1,7 @@
 use Rattle.std.proofs.Common.{ℕ, ◌<◌, ◌+◌, ◌≡◌, sym, ap, subst, ◌∙◌, arith}
-use Rattle.pg_predict.specs.Questions.{first_number, node_series, form_series_count}
-use Rattle.pg_predict.specs.Judged.{all_below}
+use Rattle.pg_predict.specs.Broken.{first_number}
+use Rattle.pg_judge.specs.Questions.{node_series, form_series_count}
+use Rattle.pg_judge.specs.Judged.{all_below}
 use Rattle.pg_predict.proofs.Below.{first_below, none_next}
 use Rattle.pg_predict.proofs.Series.{node_noted, series_asked}
 use Rattle.pg_predict.proofs.finds.first_of.Goals as goal

@@ -1,6 +1,6 @@
 use Rattle.std.proofs.Common.{◌≡◌, []}
-use Rattle.pg_predict.specs.Judged.{all_below}
-use Rattle.pg_predict.specs.Questions.{node_series}
+use Rattle.pg_judge.specs.Judged.{all_below}
+use Rattle.pg_judge.specs.Questions.{node_series}
 use Rattle.pg_predict.proofs.finds.first_of.Given as goal
 
 abbrev pub invariant-loop-series : goal.invariant-loop-series

@@ -1,10 +1,10 @@
 use Rattle.std.proofs.Common.{List, [], ℕ, ◌++◌, sym, subst}
 use Rattle.std.proofs.lemmas.Grind.{flat_map-append}
 use Rattle.pg_tree.specs.Bytes.{AppendsPrefix}
-use Rattle.pg_predict.specs.Judged.{noted_at, noted_node, noted, is_costly}
+use Rattle.pg_judge.specs.Judged.{noted_at, noted_node, noted, is_costly}
 use Rattle.pg_predict.specs.Texts.{line_said, lines_said}
 use Rattle.pg_predict.specs.Writing.{Puts}
-use Rattle.pg_predict.specs.declared.violation.ViolationKind.TheVariants.{StepCostOver}
+use Rattle.pg_judge.specs.declared.violation.ViolationKind.TheVariants.{StepCostOver}
 use Rattle.pg_predict.proofs.Puts.{on_err, puts_both, puts_stopped, puts_stopped_within, puts_none}
 use Rattle.pg_predict.proofs.lines.put_all_at.Goals as goal
 

@@ -1,12 +1,12 @@
 use Rattle.std.proofs.Common.{◌≡◌, Bool, true, List, ℕ, ◌++◌, sym, ap, subst, ◌∙◌}
 use Rattle.std.specs.Prelude.{OnOk, OnErr}
 use Rattle.pg_tree.specs.Bytes.{AppendsPrefix}
-use Rattle.pg_predict.specs.Judged.{noted, is_costly}
+use Rattle.pg_judge.specs.Judged.{noted, is_costly}
 use Rattle.pg_predict.specs.Texts.{line_said, lines_said}
 use Rattle.pg_predict.specs.Writing.{Puts}
 use Rattle.pg_predict.specs.declared.places.Place.{Place}
 use Rattle.pg_predict.specs.declared.source.Source.{Source}
-use Rattle.pg_predict.specs.declared.violation.ViolationKind.TheVariants.{StepCostOver}
+use Rattle.pg_judge.specs.declared.violation.ViolationKind.TheVariants.{StepCostOver}
 use Rattle.pg_predict.proofs.Pieces.{flat_one}
 use Rattle.pg_predict.proofs.lines.put_cost.Goals as goal
 

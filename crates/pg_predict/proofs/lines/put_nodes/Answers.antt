@@ -1,6 +1,6 @@
 use Rattle.std.proofs.Common.{ℕ, ◌<◌, ◌++◌, length, subst, ap, rules}
 use Rattle.pg_tree.specs.Bytes.{AppendsPrefix}
-use Rattle.pg_predict.specs.Judged.{noted_at}
+use Rattle.pg_judge.specs.Judged.{noted_at}
 use Rattle.pg_predict.specs.Texts.{line_said, lines_said}
 use Rattle.pg_predict.specs.Writing.{Puts}
 use Rattle.pg_predict.proofs.Below.{next_put, next_stopped}

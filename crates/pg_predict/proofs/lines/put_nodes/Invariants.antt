@@ -1,5 +1,5 @@
 use Rattle.std.proofs.Common.{◌≡◌, false}
-use Rattle.pg_predict.specs.Judged.{all_below, noted_at}
+use Rattle.pg_judge.specs.Judged.{all_below, noted_at}
 use Rattle.pg_predict.specs.Texts.{lines_said}
 use Rattle.pg_predict.specs.Writing.{Puts}
 use Rattle.pg_predict.proofs.lines.put_nodes.Given as goal

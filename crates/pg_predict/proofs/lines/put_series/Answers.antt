@@ -1,7 +1,7 @@
 use Rattle.std.proofs.Common.{ℕ, List, ◌++◌, ◌<◌, ◌≡◌, subst, ap, ◌∙◌, arith, rules}
 use Rattle.pg_tree.specs.Bytes.{AppendsPrefix}
-use Rattle.pg_predict.specs.Judged.{all_below}
-use Rattle.pg_predict.specs.Questions.{asked_node, node_questions}
+use Rattle.pg_judge.specs.Judged.{all_below}
+use Rattle.pg_judge.specs.Questions.{asked_node, node_questions}
 use Rattle.pg_predict.specs.Texts.{line_said, lines_said}
 use Rattle.pg_predict.specs.Writing.{Puts}
 use Rattle.pg_predict.proofs.Below.{next_put, next_stopped}

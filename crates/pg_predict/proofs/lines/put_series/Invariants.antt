@@ -1,6 +1,6 @@
 use Rattle.std.proofs.Common.{◌≡◌, false}
-use Rattle.pg_predict.specs.Judged.{all_below}
-use Rattle.pg_predict.specs.Questions.{asked_node}
+use Rattle.pg_judge.specs.Judged.{all_below}
+use Rattle.pg_judge.specs.Questions.{asked_node}
 use Rattle.pg_predict.specs.Texts.{lines_said}
 use Rattle.pg_predict.specs.Writing.{Puts}
 use Rattle.pg_predict.proofs.lines.put_series.Given as goal

@@ -1,4 +1,4 @@
-use Rattle.pg_predict.specs.Judged.{noted_grammar}
+use Rattle.pg_judge.specs.Judged.{noted_grammar}
 use Rattle.pg_predict.specs.Texts.{lines_said}
 use Rattle.pg_predict.proofs.Puts.{on_err, sent_stopped}
 use Rattle.pg_predict.proofs.lines.write_lines.Goals as goal

@@ -9,14 +9,14 @@ use Rattle.pg_turns.proofs.machine.Machine.enter.Goals as goal
 pub enter_form-requires-clause-node : goal.enter_form-requires-clause-node
 enter_form-requires-clause-node c =
     let there : slice_get c.args.grammar.now.nodes c.args.node ≡ Some c.in-Some.form.now =
-    ap (λ ns. slice_get ns c.args.node) (sym c.nodes.ensures.all) ∙ ap (slice_get c.nodes.result.now) (sym c.index.ensures) ∙ sym c.node_at.ensures ∙ ap option_copied c.in-Some.is in
+    ap (λ ns. slice_get ns c.args.node) (sym c.nodes.ensures.all) ∙ ap (slice_get c.nodes.result.now) (sym c.index.ensures) ∙ sym c.item_at.ensures ∙ ap option_copied c.in-Some.is in
     there
 
 pub returns-in-Some : goal.returns-in-Some
 returns-in-Some c =
     let m = c.args.self.now in
     let there : slice_get c.args.grammar.now.nodes c.args.node ≡ Some c.in-Some.form.now =
-    ap (λ ns. slice_get ns c.args.node) (sym c.nodes.ensures.all) ∙ ap (slice_get c.nodes.result.now) (sym c.index.ensures) ∙ sym c.node_at.ensures ∙ ap option_copied c.in-Some.is in
+    ap (λ ns. slice_get ns c.args.node) (sym c.nodes.ensures.all) ∙ ap (slice_get c.nodes.result.now) (sym c.index.ensures) ∙ sym c.item_at.ensures ∙ ap option_copied c.in-Some.is in
     IfOk-weaker c.enter_form.result _ _
     (λ mode h. h ∙ ap (λ o. tape_enter_at (given c.args.reading c.args.grammar.now c.args.text.now) o c.args.place (stack_of m.frames.items) m.lists.forest m.lists.trail.items m.lists.messages m.table) (sym there)) c.enter_form.ensures
 
@@ -24,5 +24,5 @@ pub returns-in-None : goal.returns-in-None
 returns-in-None c =
     let m = c.args.self.now in
     let none : slice_get c.args.grammar.now.nodes c.args.node ≡ None =
-    ap (λ ns. slice_get ns c.args.node) (sym c.nodes.ensures.all) ∙ ap (slice_get c.nodes.result.now) (sym c.index.ensures) ∙ sym c.node_at.ensures ∙ ap option_copied c.in-None.is in
+    ap (λ ns. slice_get ns c.args.node) (sym c.nodes.ensures.all) ∙ ap (slice_get c.nodes.result.now) (sym c.index.ensures) ∙ sym c.item_at.ensures ∙ ap option_copied c.in-None.is in
     ap (λ o. tape_enter_at (given c.args.reading c.args.grammar.now c.args.text.now) o c.args.place (stack_of m.frames.items) m.lists.forest m.lists.trail.items m.lists.messages m.table) (sym none)

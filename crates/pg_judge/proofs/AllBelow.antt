@@ -1,0 +1,34 @@
+-- What is noted for one number after another.
+use Rattle.std.proofs.Common.{◌≡◌, ℕ, zero, suc, ◌+◌, ◌<◌, List, [], ◌++◌, append-nil, append_assoc, refl, sym, ap, ◌∙◌, arith}
+use Rattle.std.specs.Prelude.{nat_lt, if◌then◌else◌, Bool, false}
+use Rattle.std.proofs.Math.Numerals.{add-one}
+use Rattle.pg_judge.specs.Judged.{Facts, all_below, meeting_alternatives, noted_meeting, node_meeting, part_at}
+use Rattle.pg_judge.specs.declared.violation.ViolationKind.TheVariants.{AlternativesMeet}
+use Rattle.pg_judge.specs.Violations.{Violation}
+
+-- what is noted for the next
+pub all_below_step : (f : ℕ → List (Violation ℕ)) (n : ℕ) (old before after : List (Violation ℕ)) → before ≡ old ++ all_below f n → after ≡ before ++ f n
+    → after ≡ old ++ all_below f (n + 1)
+all_below_step f n old before after e next =
+    next ∙ (ap (λ xs. xs ++ f n) e ∙ (append_assoc old (all_below f n) (f n) ∙ ap (λ m. old ++ all_below f m) (sym (add-one n))))
+
+-- the same, where nothing was noted before
+pub all_below_first : (f : ℕ → List (Violation ℕ)) (n : ℕ) (before after : List (Violation ℕ)) → before ≡ all_below f n → after ≡ before ++ f n → after ≡ all_below f (n + 1)
+all_below_first f n before after e next = next ∙ (ap (λ xs. xs ++ f n) e ∙ ap (all_below f) (sym (add-one n)))
+
+-- nothing is noted for the first
+pub all_below_none : (f : ℕ → List (Violation ℕ)) (n : ℕ) → ((k : ℕ) → k < n → f k ≡ []) → all_below f n ≡ []
+all_below_none f zero none = refl
+all_below_none f (suc n) none = ap (λ xs. xs ++ f n) (all_below_none f n (λ k below. none k (omega arith))) ∙ none n (omega arith)
+
+not_below : (j k : ℕ) → k < j + 1 → nat_lt j k ≡ false
+not_below j k below = grind arith
+
+-- no alternative is judged with itself or one before it
+none_with : (facts : Facts) (p : ℕ) (parts : List ℕ) (j k : ℕ) → k < j + 1 → meeting_alternatives facts p parts j k ≡ []
+none_with facts p parts j k below =
+    ap (λ (b : Bool). if b then noted_meeting (node_meeting facts (part_at parts j) (part_at parts k)) p (AlternativesMeet (j + 1) (k + 1)) else []) (not_below j k below)
+
+pub none_before : (facts : Facts) (p : ℕ) (parts : List ℕ) (j : ℕ) (old : List (Violation ℕ)) → old ≡ old ++ all_below (meeting_alternatives facts p parts j) (j + 1)
+none_before facts p parts j old =
+    sym (ap (λ xs. old ++ xs) (all_below_none (meeting_alternatives facts p parts j) (j + 1) (λ k below. none_with facts p parts j k below)) ∙ append-nil old)

@@ -1,0 +1,14 @@
+pub mod Least
+pub mod FirstMeetings
+pub mod AllBelow
+pub mod MetSets
+pub mod Ends
+pub mod Chains
+pub mod Numbered
+pub mod Pairs
+pub mod Meanings
+pub mod GapMeetings
+pub mod Parts
+pub mod Unsuspected
+pub mod StepCosts
+pub mod Facts

@@ -1,0 +1,56 @@
+-- The bounds of a start: the lowest and the highest of the characters that it can begin with.
+use Rattle.std.specs.Prelude.{◌≡◌, ◌<◌, ◌≤◌, ◌⊎◌, ℕ, true, false, List, Option, Some, None, length, slice_get}
+use Rattle.std.specs.Char.{IsScalar}
+use Rattle.pg_class.specs.Ranges.{has}
+use Rattle.pg_start.specs.declared.kind.StartKind.{StartKind}
+use Rattle.pg_start.specs.declared.kind.StartKind.TheVariants.{Class, Key, Word, End}
+use Rattle.pg_own_starts.specs.declared.listed.ListedStart.{ListedStart}
+use Rattle.pg_judge.specs.declared.bounds.Bounds.{Bounds}
+
+-- a start can begin with a character
+abbrev pub BeginsWith : StartKind → ℕ → Type 0
+BeginsWith (Class class) c = has class c ≡ true
+BeginsWith (Key key excluded) c = slice_get key 0 ≡ Some c
+BeginsWith (Word heads rest reserved) c = has heads c ≡ true
+BeginsWith End c = ⊥
+
+-- the bounds are the lowest and the highest of some numbers
+pub record AreEnds (Among : ℕ → Type 0) (bounds : Bounds) : Type 0 where
+  pub lowest : Among bounds.lowest
+  pub highest : Among bounds.highest
+  pub between : (c : ℕ) → Among c → (bounds.lowest ≤ c) × (c ≤ bounds.highest)
+
+-- the bounds of some numbers; there are none where there is no number
+abbrev pub AreBoundsOf : (ℕ → Type 0) → Option Bounds → Type 0
+AreBoundsOf Among None = (c : ℕ) → Among c → ⊥
+AreBoundsOf Among (Some bounds) = AreEnds Among bounds
+
+-- bounds are called those of a class only where a start begins with any character of a class, and then they are characters
+abbrev pub TellsClass : StartKind → Bounds → Type 0
+TellsClass (Class class) bounds = IsScalar bounds.lowest × IsScalar bounds.highest
+TellsClass (Key key excluded) bounds = bounds.of_class ≡ false
+TellsClass (Word heads rest reserved) bounds = IsScalar bounds.lowest × IsScalar bounds.highest
+TellsClass End bounds = bounds.of_class ≡ false
+
+-- the bounds of a start
+abbrev pub AreStartBounds : StartKind → Option Bounds → Type 0
+AreStartBounds start None = AreBoundsOf (BeginsWith start) None
+AreStartBounds start (Some bounds) = AreEnds (BeginsWith start) bounds × TellsClass start bounds
+
+-- each start of a list has its bounds
+pub record AreBounds (starts : List ListedStart) (bounds : List (Option Bounds)) : Type 0 where
+  pub long : length bounds ≡ length starts
+  pub each : (k : ℕ) (listed : ListedStart) (own : Option Bounds) → slice_get starts k ≡ Some listed → slice_get bounds k ≡ Some own
+      → AreStartBounds listed.start own
+
+-- both are bounds of classes, and begin or end with the same character
+abbrev pub ShareAnEnd : Option Bounds → Option Bounds → Type 0
+ShareAnEnd None other = ⊥
+ShareAnEnd (Some one) None = ⊥
+ShareAnEnd (Some one) (Some other) = (one.of_class ≡ true) × (other.of_class ≡ true) × ((one.lowest ≡ other.lowest) ⊎ (one.highest ≡ other.highest))
+
+-- there are bounds of both, and those of one end before those of the other begin
+abbrev pub DontOverlap : Option Bounds → Option Bounds → Type 0
+DontOverlap None other = ⊥
+DontOverlap (Some one) None = ⊥
+DontOverlap (Some one) (Some other) = (one.highest < other.lowest) ⊎ (other.highest < one.lowest)

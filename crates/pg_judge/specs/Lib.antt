@@ -1,0 +1,9 @@
+pub mod Violations
+pub mod Conditions
+pub mod WithStarts
+pub mod Meetings
+pub mod Judged
+pub mod Suspects
+pub mod Questions
+pub mod Shown
+pub mod Bounds

@@ -1,0 +1,27 @@
+//! Declarations: a gap must not begin like an operator, or like what follows (C9).
+ghost use Rattle.std.specs.Prelude.{◌≡◌};
+ghost use Rattle.pg_judge.specs.Judged.{noted_leaf};
+ghost use Rattle.pg_judge.specs.Questions.{found_at};
+
+use crate::judge::Judge;
+use crate::noting::gap_meets;
+use crate::violation::ViolationKind;
+use pg_form::{Leaf, NodeId, WordId};
+
+/// What is wrong with a leaf.
+pub(crate) fn ask_leaf(
+    judge: &Judge,
+    node: NodeId,
+    leaf: &Leaf<WordId>,
+) -> Option<ViolationKind<usize>>
+    ensures { found_at node result ≡ noted_leaf judge.now node leaf.now }
+{
+    match leaf {
+        Leaf::Declare(_) => gap_meets(judge.gap_met(None, node), node),
+        Leaf::Satisfy(_)
+        | Leaf::String(_)
+        | Leaf::Word(_)
+        | Leaf::NotFollowedBy(_)
+        | Leaf::EndOfText => None,
+    }
+}

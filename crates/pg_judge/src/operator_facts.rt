@@ -1,0 +1,48 @@
+//! What is asked of a grammar's operators: how they begin, and what they and gaps meet.
+ghost use Rattle.std.specs.Prelude.{◌≡◌, IfOk};
+ghost use Rattle.pg_judge.specs.Shown.{AreOperatorFacts};
+
+use crate::met_starts::met_by;
+use pg_bit_set::BitSet;
+use pg_own_starts::{ListedStart, operator_starts};
+use pg_start::apart;
+use pg_value::Grammar;
+use std::alloc::{AllocError, Global};
+
+/// The facts of operators. The sets are of the numbers that starts have in the grammar's sets.
+#[derive(Debug, Drop)]
+pub struct OperatorFacts {
+    /// The operator start.
+    pub operator: ListedStart,
+    /// The starts that operators meet.
+    pub met: BitSet,
+    /// The starts that gaps meet.
+    pub met_by_gap: BitSet,
+    /// Whether gaps meet operators.
+    pub in_gap: bool,
+}
+
+/// The facts of a grammar's operators; none where it has no operators item. The only error is that memory ran out.
+#[tactic(auto, using(crate::proofs::GapMeetings::are_of_operators))]
+pub(crate) fn operator_facts(
+    alloc: Global,
+    grammar: &Grammar,
+    starts: &[ListedStart],
+) -> Result<Option<OperatorFacts>, AllocError>
+    ensures { IfOk result (AreOperatorFacts grammar.now starts.now) }
+{
+    match operator_starts(alloc, grammar)? {
+        Some(both) => {
+            let met = met_by(alloc, starts, &both.operator.start)?;
+            let met_by_gap = met_by(alloc, starts, &both.gap)?;
+            let in_gap = !apart(&both.gap, &both.operator.start);
+            Ok(Some(OperatorFacts {
+                operator: both.operator,
+                met,
+                met_by_gap,
+                in_gap,
+            }))
+        }
+        None => Ok(None),
+    }
+}
