@@ -9,7 +9,7 @@ use pg_class::Class;
 use pg_grammar_bench::{BenchFault, print_bytes};
 use pg_language::Reading;
 use pg_pred::{Builder, Predicate, Registry};
-use pg_tree::{Forest, Meter, Shape, Tree};
+use pg_tree::{Forest, Meter, Shape, Tree, built};
 use std::alloc::{AllocError, Global};
 use std::io;
 use std::io::{ErrorKind, Read, Write};
@@ -252,7 +252,7 @@ fn writes_a_prefix_where_the_writer_fails(rt: HostRuntime) -> Result<(), Fail> {
 }
 
 #[test]
-fn asks_the_predicates_and_builders(rt: HostRuntime) -> Result<(), Fail> {
+fn parses_by_the_predicates_and_builders(rt: HostRuntime) -> Result<(), Fail> {
     let alloc = rt.alloc();
     let test = Box::new(alloc, |c: char| c == 'é' || c == 'x')?;
     let class = Class::from_ranges(alloc, &[('é', 'é'), ('x', 'x')])?;
@@ -304,20 +304,14 @@ fn writes_nothing_where_the_builder_of_an_operator_wants_memory(
             if symbol == "!" {
                 return Err(AllocError);
             }
-            Tree::node(alloc, symbol, kids)
+            built(alloc, &Shape::Join, symbol, kids)
         },
     )?;
-    let unary = Builder::new(String::from_str(alloc, "unary")?, Shape::Symbol, make);
+    let unary = Builder::new(String::from_str(alloc, "unary")?, Shape::Join, make);
     let registry = Registry::new(Vec::new(alloc), vec![in alloc; unary]?)?;
     let grammar =
         b"operators \"+!\" gap \" \"; table infixl 6 \"+\"; table postfix 9 \"!\"; start a; a = expr(unary, unary, unary, satisfy(\"1\"));";
-    for (text, wanted) in [
-        (
-            "1+ 1",
-            "consumed ok\nplace 4\n[{\"kids\":[\"1\",\"1\"],\"node\":\"+\"}]\n",
-        ),
-        ("1+ 1!", ""),
-    ] {
+    for (text, wanted) in [("1+ 1", "consumed ok\nplace 4\n[\"11\"]\n"), ("1+ 1!", "")] {
         let mut reader = Meter::new(text.as_bytes());
         let mut writer = Meter::new(Vec::<u8>::new(alloc));
         let outcome = probe_bytes(
