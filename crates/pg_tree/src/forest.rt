@@ -209,6 +209,13 @@ impl Forest {
         requires { count ≤ length self.now }
         ensures { IsEndOf self.now count result }
     {
+        // So all trees that stand there can be taken, or become kids, without being gone over.
+        if count == 0 {
+            return Extent {
+                entries: 0,
+                bytes: 0,
+            };
+        }
         let mut end = self.end();
         let mut left = self.roots;
         while left > count {
