@@ -73,8 +73,16 @@ fn obey<R: AllocGlobal + Files + Input + Print + Eprint>(
         return Ok(refuse(rt, "pgw: standard input can be given once"));
     }
     match command(rt.alloc())?.try_get_matches_from(words) {
-        Ok(matches) => match_request(rt, &matches),
-        Err(error) => tell(rt, &error),
+        Ok(matches) => {
+            let status = match_request(rt, &matches);
+            drop(matches);
+            status
+        }
+        Err(error) => {
+            let status = tell(rt, &error);
+            drop(error);
+            status
+        }
     }
 }
 

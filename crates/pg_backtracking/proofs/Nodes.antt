@@ -22,17 +22,12 @@ use Rattle.pg_derive.specs.PredictiveLaws.{Predicts}
 use Rattle.pg_derive.proofs.Begins.{still, moves, BeginsNode}
 use Rattle.pg_derive.proofs.Predicted.{spelled}
 use Rattle.pg_bound.proofs.Nodes as nodes
-use Rattle.pg_bound.proofs.Nodes.{IsSpot, bare_of, begins_at, consumes_begun}
+use Rattle.pg_bound.proofs.Nodes.{IsSpot, bare_of, begins_at, consumes_begun, differ}
 use Rattle.pg_bound.proofs.Paid as paid
 use Rattle.pg_bound.proofs.Paid.{End, end_of}
+use Rattle.pg_bound.proofs.Repeats.{not_both}
 use Rattle.pg_backtracking.specs.Events.{Event, leaf_log, lexeme_log, is_lexeme, given_back, try_log, around_log}
 use Rattle.pg_backtracking.proofs.Calm.{Notes, refuses, rests, goes, breaks, stuck, around, and_nothing, noted_as, back_at_end}
-
-apart : {x y : Bool} → true ≡ x → y ≡ false → y ≡ x → ⊥
-apart e f g = absurd cc
-
-differ : {x : Bool} → false ≡ x → x ≡ true → ⊥
-differ e f = absurd cc
 
 -- ---- forms around a part
 
@@ -70,9 +65,6 @@ key_is_lexeme : (list : List Node) (q x y : ℕ) (s : List ℕ) (class : List Cl
     slice_get list y ≡ Some (form.Leaf (leaf.NotFollowedBy class)) → is_at (is_lexeme list) list q ≡ true
 key_is_lexeme list q x y s class e first second =
     node_there (is_lexeme list) list q _ e ∙ ap (λ b. b && is_at is_not_followed_by list y) (node_there is_string list x _ first) ∙ node_there is_not_followed_by list y _ second
-
-not_both : {b : Bool} {X : Type 0} → b ≡ true → b ≡ false → X
-not_both e f = absurd cc
 
 module _ (G : Given) (sets : NodeSets) (h : Predicts G sets) where
   -- what is noted by a run of the node p from the place i

@@ -39,19 +39,16 @@ use Rattle.pg_bound.proofs.Nodes.{IsSpot, bare_of, ends_at_spot}
 use Rattle.pg_bound.proofs.Paid as paid
 use Rattle.pg_bound.proofs.Paid.{End, end_of, joined, returned}
 use Rattle.pg_bound.proofs.Parts.{rest_ends, failure_ends}
-use Rattle.pg_bound.proofs.Repeats.{round_ends, noted_ends, begun_ends, linked_ends}
+use Rattle.pg_bound.proofs.Repeats.{round_ends, noted_ends, begun_ends, linked_ends, not_both}
 use Rattle.pg_bound.proofs.RowEnds.{At, row_ends, operand_ends, operator_ends, applied_operator_ends, non_ends, ambiguous_ends, failure_ends as row_failure_ends, at_failure, at_noted, at_row, at_operand, at_operator, at_applied_operator, at_ambiguous, at_non}
 use Rattle.pg_backtracking.specs.Events.{Event, Consumed}
 use Rattle.pg_backtracking.specs.Logs.{log, form_log, parts_log, after_part_log, alternatives_log, after_alternative_log, rounds_log, after_round_log, chain_log, after_first_log, links_log, after_separator_log, after_operand_log, rows_log, row_operand_log, after_row_log, tail_log, after_right_log, after_left_log, right_log, right_operator_log, right_operand_log, left_log, left_operator_log, left_operand_log, non_log, non_operator_log}
 use Rattle.pg_backtracking.proofs.Calm as calm
-use Rattle.pg_backtracking.proofs.Calm.{Notes, around, and_nothing, noted_as}
+use Rattle.pg_backtracking.proofs.Calm.{around, and_nothing, noted_as}
 use Rattle.pg_backtracking.proofs.Nodes.{NotesNode, by_itself, as_part, any_around}
 use Rattle.pg_backtracking.proofs.Parts.{NotesParts, NotesAlternatives, last_part, failed_part, rest_of_parts, whole_seq, one_alternative, other_alternatives, whole_choice}
 use Rattle.pg_backtracking.proofs.Repeats.{NotesRounds, NotesLink, NotesLinks, failed_round, more_rounds, whole_many, no_separator, one_link, failed_link, more_links, no_operand, whole_chain}
 use Rattle.pg_backtracking.proofs.RowSteps.{Over, NotesOperand, NotesTail, NotesInfix, reads, after_prefix, notes_term, notes_row_operand, notes_ambiguous, notes_stretch, unread, notes_infix, notes_return, notes_stands, notes_else}
-
-not_both : {b : Bool} {X : Type 0} → b ≡ true → b ≡ false → X
-not_both e f = absurd cc
 
 module _ (G : Given) (sets : NodeSets) (h : Predicts G sets) where
   abbrev Is : Spot → Type 0

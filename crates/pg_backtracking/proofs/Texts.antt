@@ -2,16 +2,17 @@
 use Rattle.std.proofs.Common.{◌≡◌, ℕ, List, arith}
 use Rattle.pg_language.specs.Answers.{Given, Answers}
 use Rattle.pg_language.specs.Derives.{Spot}
-use Rattle.pg_language.specs.Outcomes.{Outcome, ok, failed, empty_round}
+use Rattle.pg_language.specs.Outcomes.{Outcome}
 use Rattle.pg_language.proofs.Unique.{same}
 use Rattle.pg_derive.specs.ClosedSets.{NodeSets}
 use Rattle.pg_derive.specs.LeastSets.{node_sets}
-use Rattle.pg_derive.specs.PredictiveLaws.{Predicts, HasAnswer, is_ok, has_failed}
+use Rattle.pg_derive.specs.PredictiveLaws.{Predicts}
 use Rattle.pg_derive.proofs.Predicted.{exist}
-use Rattle.pg_bound.proofs.InTime.{predicts}
+use Rattle.pg_derive.proofs.AcceptedTexts.{predicts}
+use Rattle.pg_bound.proofs.InTime.{never_stuck}
 use Rattle.pg_bound.proofs.Nodes.{IsSpot, is_node}
 use Rattle.pg_bound.proofs.Paid as paid
-use Rattle.pg_bound.proofs.Paid.{End, end_of}
+use Rattle.pg_bound.proofs.Paid.{End}
 use Rattle.pg_backtracking.specs.Events.{Event}
 use Rattle.pg_backtracking.specs.Logs.{log}
 use Rattle.pg_backtracking.specs.Backtracking.{ReadsNothingTwice, PredictiveGrammarsReadNothingTwice, AcceptedGrammarsReadNothingTwice}
@@ -23,18 +24,6 @@ abbrev IsAnswered : End → Type 0
 IsAnswered (paid.ends c j) = Unit {0}
 IsAnswered (paid.stops c) = Unit {0}
 IsAnswered paid.never = ⊥
-
-never_stuck : {G : Given} {p : ℕ} {a : Spot} {o : Outcome} {m : ℕ} → HasAnswer G p a → Answers G p a o m → IsAnswered (end_of o)
-never_stuck {o = ok c b v t e} h d = tt
-never_stuck {o = failed c e} h d = tt
-never_stuck {o = empty_round} (is_ok c b v t e m run) d = apart (same run d).outcome
-  where
-    apart : ok c b v t e ≡ empty_round → ⊥
-    apart h = absurd cc
-never_stuck {o = empty_round} (has_failed c e m run) d = apart (same run d).outcome
-  where
-    apart : failed c e ≡ empty_round → ⊥
-    apart h = absurd cc
 
 twice_nothing : {E B : Type 0} {A : ℕ → Type 0} {i : ℕ} {z : End} {l : List Event} → IsAnswered z → Notes E B A i z l → ReadsNothingTwice l
 twice_nothing is refuses = tt

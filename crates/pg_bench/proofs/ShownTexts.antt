@@ -1,5 +1,5 @@
 -- What showing a text gives and refuses with, by its steps.
-use Rattle.std.proofs.Common.{◌≡◌, ℕ, List, Bool, Option, refl, sym, subst}
+use Rattle.std.proofs.Common.{◌≡◌, ℕ, List, Bool, Option, refl, subst}
 use Rattle.std.specs.Io.KnownBytes.{Consumes, IsAtEnd}
 use Rattle.pg_tree.specs.Meter.{Metered}
 use Rattle.pg_pred.specs.Offer.{Offer}

@@ -110,8 +110,15 @@ pub fn parse_bytes<R: Read, W: Write>(
 {
     match parse_of_files(alloc, grammar, registry, reader) {
         Ok(parse) => match write_parse(alloc, &parse.success, with_trail, writer) {
-            Ok(()) => Ok(parse.done),
-            Err(fault) => Err(fault),
+            Ok(()) => {
+                let done = parse.done;
+                drop(parse);
+                Ok(done)
+            }
+            Err(fault) => {
+                drop(parse);
+                Err(fault)
+            }
         },
         Err(fault) => Err(fault),
     }
@@ -133,7 +140,9 @@ fn parse_of_files<R: Read>(
     ensures asked { reader.new.calls ≤ saturating_sum reader.old.calls (4 * LIMIT + 1) }
 {
     let checked = checked_of(alloc, grammar, registry)?;
-    match parse_of_reader(alloc, &checked, registry, reader) {
+    let parse = parse_of_reader(alloc, &checked, registry, reader);
+    drop(checked);
+    match parse {
         Ok(parse) => Ok(parse),
         Err(fault) => Err(fault),
     }
@@ -210,10 +219,11 @@ fn parse_of_answer(answer: Answer, cost: u64) -> Result<Parse, BenchFault>
         ..
     } = answer;
     match success {
-        Some(success) => Ok(Parse {
-            success,
-            done: Done { steps, cost },
-        }),
+        Some(success) => {
+            drop(error);
+            let done = Done { steps, cost };
+            Ok(Parse { success, done })
+        }
         None => Err(BenchFault::ParseError(error)),
     }
 }

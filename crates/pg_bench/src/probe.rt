@@ -129,7 +129,11 @@ impl ShowsText for Probing<'_> {
             self.max_steps,
             self.reading,
         ) {
-            Ok(outcome) => shown_of_outcome(alloc, &outcome, self.name),
+            Ok(outcome) => {
+                let shown = shown_of_outcome(alloc, &outcome, self.name);
+                drop(outcome);
+                shown
+            }
             Err(_) => Err(BenchFault::Memory),
         }
     }

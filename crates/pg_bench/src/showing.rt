@@ -93,7 +93,9 @@ pub fn shown_of_files<S: ShowsText, R: Read>(
     ensures asked { reader.new.calls ≤ saturating_sum reader.old.calls (4 * LIMIT + 1) }
 {
     let grammar = grammar_of(alloc, grammar, registry)?;
-    match shown_of_reader(alloc, &grammar, registry, shower, reader) {
+    let shown = shown_of_reader(alloc, &grammar, registry, shower, reader);
+    drop(grammar);
+    match shown {
         Ok(shown) => Ok(shown),
         Err(fault) => Err(fault),
     }

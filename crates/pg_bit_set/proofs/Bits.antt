@@ -5,7 +5,7 @@ use Rattle.std.specs.Int.{bit_at}
 use Rattle.std.proofs.lemmas.Bool.{cases_eq, cases_lt, true≢false, eq-eqb, eqb-true}
 use Rattle.std.proofs.lemmas.List.{get_or_past, get_or-replicate, get_or-set_same, get_or-set_other, length-set, length-replicate, ext_get_or}
 use Rattle.std.proofs.lemmas.List.FromFn.{get_or-map-range_with_len, length-map-range_with_len}
-use Rattle.std.proofs.lemmas.Nat.Bits.{bit_at_or, bit_at_and, bit_at-zero, bit_at-lt, shr_and_one, same_from_bits_below, bit_at_set_same, bit_at_set_other}
+use Rattle.std.proofs.lemmas.Nat.Bits.{bit_at_or, bit_at_and, bit_at-zero, bit_at-lt, same_from_bits_below, bit_at_set_same, bit_at_set_other}
 use Rattle.pg_bit_set.specs.Numbers.{contains}
 use Rattle.pg_bit_set.specs.Words.{has_bit, marks_of, HoldsBelow, AddsBit}
 
@@ -25,10 +25,6 @@ reads words limit holds n =
 -- after the last word there is none
 pub no_word : (words : List ℕ) (n : ℕ) → length words ≤ n / 64 → has_bit words n ≡ false
 no_word words n past = ap (λ w. eqb (bit_at w (n % 64)) 1) (get_or_past words (n / 64) 0 past) ∙ ap (λ b. eqb b 1) (bit_at-zero (n % 64))
-
--- the test that the code makes
-pub bit_test : (w k : ℕ) → eqb (bit_and (w / 2 ^ k) 1) 1 ≡ eqb (bit_at w k) 1
-bit_test w k = ap (λ b. eqb b 1) (shr_and_one w k)
 
 pub one_bit : (w k : ℕ) → eqb (bit_at w k) 1 ≡ true → bit_at w k ≡ 1
 one_bit w k e = eqb-true (bit_at w k) 1 e

@@ -1,17 +1,13 @@
 -- The least number whose bit is set.
-use Rattle.std.proofs.Common.{◌≡◌, ℕ, ◌+◌, ◌*◌, ◌/◌, ◌%◌, ◌^◌, ◌<◌, ◌≤◌, Bool, false, inl, inr, List, length, get_or, min, ◌-◌, eqb, sym, ap, subst, ◌∙◌, arith, w64}
+use Rattle.std.proofs.Common.{◌≡◌, ℕ, ◌+◌, ◌*◌, ◌/◌, ◌%◌, ◌^◌, ◌<◌, ◌≤◌, Bool, false, inl, inr, List, get_or, ◌-◌, eqb, sym, ap, subst, ◌∙◌, arith, w64}
 use Rattle.std.specs.Prelude.{bit_and}
 use Rattle.std.specs.Int.{bit_at, trailing_zeros}
-use Rattle.std.proofs.lemmas.Bool.{cases_lt, eq-eqb, and_left, and_right}
+use Rattle.std.proofs.lemmas.Bool.{cases_lt, eq-eqb}
 use Rattle.std.proofs.lemmas.Nat.{shr-shr}
 use Rattle.std.proofs.lemmas.Nat.Bits.{bit_at-trailing_zeros, bit_at-zero, bit_at_above}
 use Rattle.pg_bit_set.specs.Numbers.{IsNext}
 use Rattle.pg_bit_set.specs.Words.{has_bit, both_have_bit}
-use Rattle.pg_bit_set.proofs.Bits.{no_word, and_test, no_bit}
-
--- no bit is set in a word that is 0
-pub zero_word : (words : List ℕ) (n : ℕ) → get_or words (n / 64) 0 ≡ 0 → has_bit words n ≡ false
-zero_word words n e = no_bit (get_or words (n / 64) 0) (n % 64) (ap (λ w. bit_at w (n % 64)) e ∙ bit_at-zero (n % 64))
+use Rattle.pg_bit_set.proofs.Bits.{and_test, no_bit}
 
 -- nor in both of two words that share none
 pub zero_both : (words others : List ℕ) (n : ℕ) → bit_and (get_or words (n / 64) 0) (get_or others (n / 64) 0) ≡ 0 → both_have_bit words others n ≡ false
@@ -58,14 +54,6 @@ one_tells words k i few =
     let word : n / 64 ≡ k = omega arith in
     let bit : n % 64 ≡ i = omega arith in
     ap (λ j. eqb (bit_at (get_or words j 0) (n % 64)) 1) word ∙ ap (λ b. eqb (bit_at (get_or words k 0) b) 1) bit
-
--- after the last word of either there is none
-pub none_in_both : (words others : List ℕ) (n : ℕ) → min (length words) (length others) ≤ n / 64 → both_have_bit words others n ≡ false
-none_in_both words others n past =
-    elim (cases_lt (n / 64) (length words)) [
-      | inr first ↦ and_left (has_bit words n) (has_bit others n) (no_word words n first)
-      | inl below ↦ and_right (has_bit words n) (has_bit others n) (no_word others n (omega arith))
-    ]
 
 -- what a word tells that was shifted
 module _ (words : List ℕ) (from : ℕ) where

@@ -17,16 +17,13 @@ use Rattle.pg_language.specs.Reactions.{counted_by, surrounded}
 use Rattle.pg_derive.specs.ClosedSets.{NodeSets}
 use Rattle.pg_derive.specs.Predictive.{PartIsPredictive, TryIsPredictive, of_part, of_string, of_key, AroundIsPredictive}
 use Rattle.pg_derive.specs.PredictiveLaws.{Predicts}
+use Rattle.pg_derive.proofs.Quiet.{not_counted}
 use Rattle.pg_bound.proofs.Charges.{Charges}
 use Rattle.pg_bound.proofs.Ended.{ended_tried, tried_cost, around_least}
 use Rattle.pg_bound.proofs.Paid as paid
 use Rattle.pg_bound.proofs.Paid.{End, end_of, Fare, Paid, raised}
 use Rattle.pg_bound.proofs.Nodes as nodes
 use Rattle.pg_bound.proofs.Nodes.{bare_of, by_few, IsSpot}
-
-not_counted : (k : Around) → counted_by k false ≡ false
-not_counted kind.Try = refl
-not_counted _ = refl
 
 surround : {f : Fare} {E B : Type 0} {A : ℕ → Type 0} {cost toll i m : ℕ} (k : Around) (text : List ℕ) (a : Spot) (o : Outcome) → Paid f E B A cost toll i (end_of o) m →
     Paid f E B A cost toll i (end_of (surrounded k text a o)) m

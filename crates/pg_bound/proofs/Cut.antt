@@ -1,5 +1,5 @@
 -- An accepted grammar has a step cost, and what is computed of it bounds what is counted of a run: both stop at the greatest number.
-use Rattle.std.proofs.Common.{◌≡◌, ◌≤◌, ◌<◌, ◌+◌, ◌-◌, ◌*◌, ◌^◌, ◌⊎◌, inl, inr, ℕ, refl, length, min, arith, Some, slice_get}
+use Rattle.std.proofs.Common.{◌≡◌, ◌≤◌, ◌<◌, ◌+◌, ◌-◌, ◌*◌, ◌^◌, ◌⊎◌, inl, inr, ℕ, length, min, arith, Some, slice_get}
 use Rattle.std.proofs.lemmas.Nat.{mul-le}
 use Rattle.pg_value.specs.declared.grammar.Rule as declared
 use Rattle.pg_language.specs.Answers.{Answers, AnswersStart}
@@ -9,10 +9,11 @@ use Rattle.pg_derive.specs.PredictiveLaws.{HasAnswer, is_ok, has_failed}
 use Rattle.pg_derive.proofs.Predicted.{exist}
 use Rattle.pg_derive.proofs.Whole.{start_found}
 use Rattle.pg_derive.specs.LeastSets.{node_sets}
+use Rattle.pg_derive.proofs.AcceptedTexts.{predicts}
 use Rattle.pg_predict.proofs.StepCosts.{acyclic}
 use Rattle.pg_bound.specs.Bound.{IsAnswer, AcceptedGrammarsHaveAStepCost, AcceptedStartsComeToAnswers, AcceptedRunsTakeFewSteps}
 use Rattle.pg_costs.proofs.Existing.{step_cost_there}
-use Rattle.pg_bound.proofs.InTime.{accepted_starts, accepted_texts, predicts}
+use Rattle.pg_bound.proofs.InTime.{accepted_starts, accepted_texts}
 
 pub accepted_costs : AcceptedGrammarsHaveAStepCost
 accepted_costs g sets grammar least faultless = step_cost_there g grammar sets least (acyclic g faultless)

@@ -4,13 +4,12 @@ use Rattle.std.specs.List.{Contains, AllByRecursion}
 use Rattle.std.specs.Option.{option_map_or}
 use Rattle.pg_tree.specs.Trees.{Tree}
 use Rattle.pg_form.specs.declared.form.Form.TheVariants as form
-use Rattle.pg_form.specs.declared.form.Leaf.{Leaf}
 use Rattle.pg_form.specs.declared.form.Leaf.TheVariants as leaf
 use Rattle.pg_form.specs.declared.side.Side.{Side}
 use Rattle.pg_form.specs.declared.used.OperatorBuilders.{OperatorBuilders}
 use Rattle.pg_value.specs.declared.grammar.Rule as declared
 use Rattle.pg_value.specs.declared.trail.TrailItem.{TrailItem}
-use Rattle.pg_costs.specs.Steps.{leaf_steps, body_steps}
+use Rattle.pg_costs.specs.Steps.{body_steps}
 use Rattle.pg_language.specs.Answers.{Given}
 use Rattle.pg_language.specs.Derives.{Spot}
 use Rattle.pg_language.specs.Errors.{Error}
@@ -20,21 +19,13 @@ use Rattle.pg_derive.specs.Predictive.{ExpressionIsPredictive, PartIsPredictive,
 use Rattle.pg_derive.specs.PredictiveLaws.{Predicts}
 use Rattle.pg_bound.proofs.Charges.{Charges}
 use Rattle.pg_bound.proofs.Nodes as nodes
-use Rattle.pg_bound.proofs.Nodes.{IsSpot, bare_of, by_few, ends_at_spot}
+use Rattle.pg_bound.proofs.Nodes.{bare_of}
 use Rattle.pg_bound.proofs.Paid.{End, raised}
 use Rattle.pg_bound.proofs.Parts.{PaidParts, PaidAlternatives}
 use Rattle.pg_bound.proofs.RowSteps.{PaidOperand}
 use Rattle.pg_derive.proofs.StartLists.{contains_none, contains_cases}
 use Rattle.pg_form.specs.declared.used.BuilderUse.{BuilderUse}
 use Rattle.pg_bound.proofs.Repeats.{PaidRounds, PaidChain}
-
-pub leaf_least : (l : Leaf ℕ) → 2 ≤ leaf_steps l
-leaf_least (leaf.Satisfy class) = omega arith
-leaf_least (leaf.String text) = omega arith
-leaf_least (leaf.Word word) = omega arith
-leaf_least (leaf.NotFollowedBy class) = omega arith
-leaf_least leaf.EndOfText = omega arith
-leaf_least (leaf.Declare class) = omega arith
 
 pub not_failed : {d : Bool} {b : Spot} {v : List Tree} {t : List TrailItem} {e f : Error} → ok d b v t e ≡ failed true f → ⊥
 not_failed e = absurd cc

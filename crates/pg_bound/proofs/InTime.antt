@@ -16,7 +16,6 @@ use Rattle.pg_language.specs.Outcomes.{Outcome, ok, failed, empty_round}
 use Rattle.pg_language.specs.WholeTexts.{AnswersText, from_start, beginning, nodes_to_end}
 use Rattle.pg_language.specs.declared.reading.Reading.TheVariants.{Library}
 use Rattle.pg_language.proofs.Unique.{same}
-use Rattle.pg_derive.specs.Accepted.{Accepts}
 use Rattle.pg_derive.specs.ClosedSets.{NodeSets}
 use Rattle.pg_derive.specs.LeastSets.{node_sets}
 use Rattle.pg_derive.specs.Predictive.{IsPredictive}
@@ -25,6 +24,7 @@ use Rattle.pg_derive.proofs.Faultless.{accepted}
 use Rattle.pg_derive.proofs.Predicted.{exist}
 use Rattle.pg_derive.proofs.Readings.{readings_agree}
 use Rattle.pg_derive.proofs.Whole.{is_whole}
+use Rattle.pg_derive.proofs.AcceptedTexts.{predicts}
 use Rattle.pg_bound.specs.Bound.{HasClaimedStepCost, PredictiveStartsAreAnsweredInTime, PredictiveTextsAreAnsweredInTime, AcceptedStartsAreAnsweredInTime, AcceptedTextsAreAnsweredInTime}
 use Rattle.pg_bound.proofs.Charges.{Charges}
 use Rattle.pg_bound.proofs.Depths.{depth, depth_falls, depth_into, depth_most}
@@ -102,7 +102,8 @@ within f cost toll share m z first low up two some is (paid.breaks x l) = omega 
 within f cost toll share m z first low up two some is (paid.gives_back x a l) = omega arith
 within f cost toll share m z first low up two some is paid.stuck = absurd is
 
-never_stuck : {G : Given} {p : ℕ} {a : Spot} {o : Outcome} {m : ℕ} → HasAnswer G p a → Answers G p a o m → IsAnswered (end_of o)
+-- a run of an accepted grammar ends with an answer
+pub never_stuck : {G : Given} {p : ℕ} {a : Spot} {o : Outcome} {m : ℕ} → HasAnswer G p a → Answers G p a o m → IsAnswered (end_of o)
 never_stuck {o = ok c b v t e} h d = tt
 never_stuck {o = failed c e} h d = tt
 never_stuck {o = empty_round} (is_ok c b v t e m run) d = apart (same run d).outcome
@@ -155,9 +156,6 @@ predictive_starts G sets h k c = start_within G sets h k c
 
 pub predictive_texts : PredictiveTextsAreAnsweredInTime
 predictive_texts G sets h k c = text_within G sets h k c
-
-pub predicts : (G : Given) (sets : Sets) → Accepts G sets → Predicts G (node_sets G.grammar sets)
-predicts G sets h = record { grammar = h.grammar; predictive = accepted G.grammar sets h.grammar h.least h.faultless; text = h.text }
 
 by_least : (G : Given) (sets : Sets) (k : ℕ) → IsStepCost G.grammar sets.nullable k → HasClaimedStepCost G (node_sets G.grammar sets) k
 by_least G sets k c = record { nullable = sets.nullable; marks = λ p. refl; cost = c }

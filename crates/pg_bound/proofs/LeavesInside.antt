@@ -11,7 +11,6 @@ use Rattle.pg_form.specs.ClassItems.{has_character}
 use Rattle.pg_form.specs.Operators.{Operator}
 use Rattle.pg_form.specs.declared.class.ClassPart.{ClassPart}
 use Rattle.pg_form.specs.declared.decl.Role.{Role}
-use Rattle.pg_form.specs.declared.decl.Role.TheVariants.{InfixLeft, InfixRight, InfixNone, Prefix, Postfix}
 use Rattle.pg_form.specs.declared.form.Leaf.{Leaf}
 use Rattle.pg_form.specs.declared.form.Leaf.TheVariants as leaf
 use Rattle.pg_form.specs.declared.operators_item.OperatorsItem.{OperatorsItem}
@@ -25,7 +24,7 @@ use Rattle.pg_language.specs.Errors.{Error}
 use Rattle.pg_language.specs.Leaves.{matched, satisfy_next, word_read, word_next, not_followed_next, string_outcome, end_outcome, word_outcome, some_word_outcome, some_declare_outcome, leaf_outcome}
 use Rattle.pg_language.specs.Outcomes.{Outcome, ok, failed, empty_round}
 use Rattle.pg_language.specs.Runs.{run_at, keyword}
-use Rattle.pg_language.proofs.DeclarationsDerived.{found, keyword_there}
+use Rattle.pg_language.proofs.DeclarationsDerived.{found, keyword_there, keyword_spelled}
 use Rattle.pg_derive.proofs.Inverted.{first_stands}
 
 -- where the outcome is a failure after consumed input, there is more text
@@ -72,13 +71,6 @@ inside_string text s a =
     inside_if text a.place (matched text s a.place == length s) _ _ tt (inside_matched text a.place (matched text s a.place) _ (omega arith))
 
 -- a declaration whose keyword stands there
-keyword_spelled : (role : Role) → 0 < length (keyword role)
-keyword_spelled InfixLeft = omega arith
-keyword_spelled InfixRight = omega arith
-keyword_spelled InfixNone = omega arith
-keyword_spelled Prefix = omega arith
-keyword_spelled Postfix = omega arith
-
 inside_refused : (text : List ℕ) (d : Operator) (a : Spot) (i j : ℕ) (fault : Option AdmitFault) → a.place < length text → Inside text a.place (unless_refused d a.table i j fault)
 inside_refused text d a i j (Some fault) l = l
 inside_refused text d a i j None l = tt

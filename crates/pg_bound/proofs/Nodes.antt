@@ -34,10 +34,12 @@ IsConsumed (ok c b v t e) = c ≡ true
 IsConsumed (failed c e) = c ≡ true
 IsConsumed empty_round = ⊥
 
-apart : {x y : Bool} → true ≡ x → y ≡ false → y ≡ x → ⊥
+-- a flag that would be two things
+pub apart : {x y : Bool} → true ≡ x → y ≡ false → y ≡ x → ⊥
 apart e f g = absurd cc
 
-differ : {x : Bool} → false ≡ x → x ≡ true → ⊥
+-- false is not true
+pub differ : {x : Bool} → false ≡ x → x ≡ true → ⊥
 differ e f = absurd cc
 
 module _ (G : Given) (sets : NodeSets) (h : Predicts G sets) where

@@ -15,6 +15,7 @@ use Rattle.pg_value.specs.declared.trail.Fixity.TheVariants as fixity
 use Rattle.pg_expand.specs.declared.rows.Row.{Row}
 use Rattle.pg_expand.proofs.RowTrees.{IsRow}
 use Rattle.pg_costs.specs.Steps.{steps_of_all, leaf_steps, row_steps}
+use Rattle.pg_costs.proofs.Sizing.{leaf_positive}
 use Rattle.pg_language.specs.Answers as answers
 use Rattle.pg_language.specs.Answers.{Given, Answers, entered, AnswersForm, nothing, seq, choice, many, rule, AnswersParts, part, AfterPart, part_last, part_failed, part_stuck, part_ok, AnswersAlternatives, no_alternative, alternative, AfterAlternative, alternative_consumed, alternative_stands, alternative_waits, alternative_commits, alternative_failed, alternative_stuck, AnswersRounds, round, AfterRound, round_ended, round_failed, round_empty, round_stuck, round_ok, AnswersChain, first_operand, AfterFirst, first_failed, first_stuck, first_ok, AnswersLinks, link, AfterSeparator, separator_failed, separator_stuck, separator_ok, AfterOperand, operand_failed, operand_stuck, operand_ok, AnswersRows, only_term, loosest_row, AnswersRowOperand, row_operand, AfterRowOperand, row_failed, row_stuck, row_ok, AnswersTail, row_tail, AfterRight, right_stands, right_commits, right_stuck, right_failed, AfterLeft, left_stands, left_commits, left_stuck, left_failed, AnswersRight, right_side, AfterRightOperator, right_unread, right_read, AfterRightOperand, right_operand_failed, right_operand_stuck, right_operand_ok, AnswersLeft, left_side, AfterLeftOperator, left_unread, left_read, AfterLeftOperand, left_operand_failed, left_operand_stuck, left_operand_ok, AnswersNon, neither_side, AfterNonOperator, non_unread, non_read}
 use Rattle.pg_language.specs.Derives.{Spot, applied}
@@ -32,15 +33,15 @@ use Rattle.pg_derive.proofs.Quiet.{IsWhole}
 use Rattle.pg_derive.proofs.Whole.{is_whole}
 use Rattle.pg_derive.proofs.WholeRows.{AreAllLevels, level, all_levels}
 use Rattle.pg_bound.proofs.Around.{any_around}
-use Rattle.pg_bound.proofs.Enters.{leaf_least, not_failed, enters_seq, enters_choice, enters_many, enters_chain, enters_rule, enters_expression}
+use Rattle.pg_bound.proofs.Enters.{not_failed, enters_seq, enters_choice, enters_many, enters_chain, enters_rule, enters_expression}
 use Rattle.pg_bound.proofs.RowEnds.{At, row_ends, operand_ends, operator_ends, applied_operator_ends, non_ends, ambiguous_ends, failure_ends as row_failure_ends, at_failure, at_noted, at_row, at_operand, at_operator, at_applied_operator, at_ambiguous, at_non}
 use Rattle.pg_bound.proofs.RowSteps.{Over, PaidOperand, PaidTail, PaidInfix, reads, after_prefix, paid_term, paid_row_operand, paid_ambiguous, paid_stretch, unread, paid_infix, paid_return, paid_stands, paid_else}
 use Rattle.pg_bound.proofs.Charges.{Charges}
 use Rattle.pg_bound.proofs.LeavesInside.{fails_inside}
 use Rattle.pg_bound.proofs.Nodes as nodes
-use Rattle.pg_bound.proofs.Nodes.{IsSpot, bare_of, by_few, ends_at_spot}
+use Rattle.pg_bound.proofs.Nodes.{IsSpot, by_few, ends_at_spot}
 use Rattle.pg_bound.proofs.Paid as paid
-use Rattle.pg_bound.proofs.Paid.{End, end_of, joined, returned, Fare, Paid, raised}
+use Rattle.pg_bound.proofs.Paid.{End, end_of, joined, returned, Fare, Paid}
 use Rattle.pg_bound.proofs.Parts.{Climbs, climbs_anywhere, climbs_fall, AreLow, PaidParts, PaidAlternatives, spare, spare_most, spare_room, paid_last, paid_failed, paid_rest, paid_alternative, paid_others, rest_ends, failure_ends}
 use Rattle.pg_bound.proofs.Repeats.{PaidRounds, PaidLink, PaidLinks, PaidChain, paid_round_failed, paid_rounds, paid_no_separator, paid_link, paid_link_failed, paid_links, paid_no_operand, paid_chain, round_ends, noted_ends, begun_ends, linked_ends}
 
@@ -93,7 +94,7 @@ module _ (G : Given) (sets : NodeSets) (h : Predicts G sets) (c : Charges G.gram
         PaidNode p a.place (end_of o) (suc m)
     pays_form (answers.leaf {l = l} {a = a} {o = o} x) p e f is small =
         let cost : c.cost p ≡ leaf_steps l = c.costs p _ e in
-        let least = leaf_least l in
+        let least = leaf_positive l in
         by_few G sets h c (entered e (answers.leaf x)) is (omega arith) (fails_inside G.grammar G.text l a o x)
     pays_form nothing p e f is small = let cost : c.cost p ≡ 2 + 0 = c.costs p _ e in by_few G sets h c (entered e nothing) is (omega arith) (λ x same. absurd (not_failed same))
     pays_form (seq {p = q} {m = m} {ps = qs} {a = a} {o = o} d) p e f is small =

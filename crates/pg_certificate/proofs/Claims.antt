@@ -12,6 +12,7 @@ use Rattle.pg_certificate.specs.Claims.{key_count, SaysEach, SaysUnder, SaysFlag
 use Rattle.pg_certificate.specs.Certificates.{claim_rule, SaysClaim, SaysRules, SaysCertificate, IsCertificateText}
 use Rattle.pg_certificate.specs.Readings.{Gives}
 use Rattle.pg_certificate.proofs.Found.{refused_in}
+use Rattle.pg_certificate.proofs.Parts.{same_data}
 
 -- what is said under each key
 abbrev SaysStarts : Grammar → Data → List ClaimedStart → Type 0
@@ -74,9 +75,6 @@ pub not_rules : (g : Grammar) (d : Data) (claims : List RuleClaim) → Gives (Sa
 not_rules g d claims h differ other said = differ (ap (map claim_rule) (sym (h.1 other said.0)) ∙ said.1)
 
 -- ---- texts
-
-same_data : (x y : Data) → Some x ≡ Some y → x ≡ y
-same_data x y e = cc
 
 -- a text whose value is no certificate is that of none
 pub no_text_of : (g : Grammar) (bytes : List ℕ) (d : Data) → read bytes ≡ Some d → ((other : List RuleClaim) → SaysCertificate g d other → ⊥)

@@ -1,5 +1,5 @@
 -- What values consist of, by what `serde_json` answers of them.
-use Rattle.std.proofs.Common.{◌≡◌, ℕ, List, [], ◌∷◌, length, String, Global, Some, None, Ok, Err, Result, refl, ap, sym, ◌∙◌, subst}
+use Rattle.std.proofs.Common.{◌≡◌, ℕ, List, [], ◌∷◌, length, String, Global, Some, Ok, Err, Result, refl, ap, sym, ◌∙◌, subst}
 use Rattle.std.specs.Str.{encode_utf8_all, IsUtf8, chars}
 use Rattle.std.proofs.lemmas.Str.{chars_from_encodes, encodes-chars}
 use Rattle.serde_json.specs.Data.{Data, null, boolean, number, string, array, object, Items, item, no_items, Members}
@@ -60,13 +60,10 @@ list_gives Says bs d (Ok found) is h =
 list_gives Says bs d (Err e) is h =
     refused_in (Each Says) bs (SaysEach Says) d e (λ whole said. (whole, subst (λ ds. Each Says ds whole) (same_list said.0 bs (said.1 ∙ sym is)) said.2)) h
 
--- what is no array says no list
-pub no_array : {A : Type 0} (Says : Data → A → Type 0) (d : Data) → as_array d ≡ None → (other : List A) → SaysEach Says d other → ⊥
-no_array Says d none other said = let some : as_array d ≡ Some (items_of said.0) = ap as_array (sym said.1) in cc
-
 -- ---- objects
 
-same_data : (x y : Data) → Some x ≡ Some y → x ≡ y
+-- data in an option are the same
+pub same_data : (x y : Data) → Some x ≡ Some y → x ≡ y
 same_data x y e = cc
 
 -- what is given for the value under a key is given for the object
@@ -76,10 +73,6 @@ under_gives Says key inner d (Ok found) there h =
     ((inner, there, h.0), λ other said. h.1 other (subst (λ x. Says x other) (same_data _ _ (sym said.1 ∙ there)) said.2))
 under_gives Says key inner d (Err e) there h =
     refused_in Says inner (SaysUnder key Says) d e (λ whole said. (whole, subst (λ x. Says x whole) (same_data _ _ (sym said.1 ∙ there)) said.2)) h
-
--- nothing is said under a key that isn't there
-pub nothing_under : {A : Type 0} (Says : Data → A → Type 0) (key : List ℕ) (d : Data) → get key d ≡ None → (other : A) → SaysUnder key Says d other → ⊥
-nothing_under Says key d none other said = let some : get key d ≡ Some said.0 = said.1 in cc
 
 same_members : (xs ys : Members) → Some xs ≡ Some ys → xs ≡ ys
 same_members xs ys e = cc
@@ -103,7 +96,8 @@ a_string (number n) s has = cc
 a_string (array ds) s has = cc
 a_string (object ms) s has = cc
 
-same_text : (s t : List ℕ) → string s ≡ string t → s ≡ t
+-- a string has one text
+pub same_text : (s t : List ℕ) → string s ≡ string t → s ≡ t
 same_text s t e = cc
 
 -- the characters of a text are the one thing that it says

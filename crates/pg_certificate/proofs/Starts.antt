@@ -15,6 +15,7 @@ use Rattle.pg_certificate.specs.declared.fault.CertificateFault.{CertificateFaul
 use Rattle.pg_certificate.specs.Claims.{key_count, SaysClass, SaysKey, SaysWord, SaysStart}
 use Rattle.pg_certificate.specs.Readings.{Gives}
 use Rattle.pg_certificate.proofs.Found.{refused_in}
+use Rattle.pg_certificate.proofs.Parts.{same_data}
 
 -- ---- an object with one key has no other
 
@@ -47,9 +48,6 @@ one_or_two d one two = cc
 
 no_text : (d : Data) (s : List ℕ) → as_str d ≡ None → d ≡ string s → ⊥
 no_text d s none is = let some : as_str d ≡ Some s = ap as_str is in cc
-
-same_data : (x y : Data) → Some x ≡ Some y → x ≡ y
-same_data x y e = cc
 
 -- ---- classes
 

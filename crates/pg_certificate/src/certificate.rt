@@ -12,7 +12,7 @@ use std::alloc::{AllocError, Global};
 use std::marker::Model;
 
 /// A start that is claimed to be in a set.
-#[derive(Debug, Drop)]
+#[derive(Drop)]
 pub enum ClaimedStart {
     /// A character of the class.
     Class(Class),
@@ -27,7 +27,7 @@ pub enum ClaimedStart {
 }
 
 /// The starts of a set, seen as their list.
-#[derive(Debug, Drop)]
+#[derive(Drop)]
 pub struct ClaimedStarts {
     starts: Vec<ClaimedStart>,
 }
@@ -69,7 +69,7 @@ impl ClaimedStarts {
 }
 
 /// What is claimed of a rule.
-#[derive(Debug, Drop)]
+#[derive(Drop)]
 pub struct RuleClaim {
     /// The name of the rule.
     pub rule: Characters,
@@ -86,7 +86,7 @@ pub struct RuleClaim {
 }
 
 /// What is claimed of the rules of a grammar, seen as the list of the claims (ours).
-#[derive(Debug, Drop)]
+#[derive(Drop)]
 pub struct Certificate {
     claims: Vec<RuleClaim>,
 }

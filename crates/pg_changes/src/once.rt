@@ -105,19 +105,49 @@ fn group(
     is_loose: bool,
 ) -> Result<Vec<Level>, AllocError> {
     let mut group = Vec::new(alloc);
+    let first = first_of_group(alloc, forms, parts, part, grouped, is_loose, &mut group)?;
+    group.insert(0, first)?;
+    Ok(group)
+}
+
+/// An alternative, opened so far that others begin as it does, which are pushed; or as it is, if it comes to none.
+fn first_of_group(
+    alloc: Global,
+    forms: &Forms,
+    parts: &[usize],
+    part: usize,
+    grouped: &mut Met,
+    is_loose: bool,
+    group: &mut Vec<Level>,
+) -> Result<Level, AllocError> {
     let mut level = Level::new(alloc, part)?;
+    if has_likes(alloc, forms, parts, &mut level, grouped, is_loose, group)? {
+        Ok(level)
+    } else {
+        Level::new(alloc, part)
+    }
+}
+
+/// Opens an alternative until others begin as it does, which are pushed. The answer is whether some do.
+fn has_likes(
+    alloc: Global,
+    forms: &Forms,
+    parts: &[usize],
+    level: &mut Level,
+    grouped: &mut Met,
+    is_loose: bool,
+    group: &mut Vec<Level>,
+) -> Result<bool, AllocError> {
     for _ in 0..LEVELS {
-        push_likes(alloc, forms, parts, &level, is_loose, grouped, &mut group)?;
+        push_likes(alloc, forms, parts, level, is_loose, grouped, group)?;
         if !group.is_empty() {
-            group.insert(0, level)?;
-            return Ok(group);
+            return Ok(true);
         }
         if !level.open(forms, is_loose)? {
-            break;
+            return Ok(false);
         }
     }
-    group.push(Level::new(alloc, part)?)?;
-    Ok(group)
+    Ok(false)
 }
 
 /// Pushes the alternatives after the first of a group that begin as it does where it is opened so far, and aren't in one.

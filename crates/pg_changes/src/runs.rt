@@ -32,10 +32,10 @@ struct Run {
 
 /// The run in which a repetition stands.
 fn run_around(forms: &Forms, form: usize) -> Option<Run> {
-    let rest = match forms.parts(form) {
-        [round] => class_in(forms, *round)?,
-        _ => return None,
+    let [round] = forms.parts(form) else {
+        return None;
     };
+    let rest = class_in(forms, *round)?;
     let parent = forms.parent(form)?;
     if forms.is(form, Kind::Many1) && forms.is(parent, Kind::Text) {
         return Some(Run {
@@ -45,18 +45,25 @@ fn run_around(forms: &Forms, form: usize) -> Option<Run> {
         });
     }
     let text = forms.parent(parent)?;
-    match forms.parts(parent) {
-        [head, last]
-            if *last == form
-                && forms.is(form, Kind::Many)
-                && forms.is(parent, Kind::Seq)
-                && forms.is(text, Kind::Text) => {
-            Some(Run {
-                form: text,
-                head: class_in(forms, *head)?,
-                rest,
-            })
-        }
+    let head = head_before(forms, parent, form)?;
+    if forms.is(text, Kind::Text) {
+        Some(Run {
+            form: text,
+            head,
+            rest,
+        })
+    } else {
+        None
+    }
+}
+
+/// The class of the `satisfy` that stands before a `many` in a sequence of these two.
+fn head_before(forms: &Forms, seq: usize, many: usize) -> Option<Span> {
+    if !forms.is(seq, Kind::Seq) || !forms.is(many, Kind::Many) {
+        return None;
+    }
+    match forms.parts(seq) {
+        [head, last] if *last == many => class_in(forms, *head),
         _ => None,
     }
 }

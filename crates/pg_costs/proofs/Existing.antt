@@ -29,7 +29,8 @@ use Rattle.pg_costs.proofs.Levels.{part_falls, rule_falls}
 
 -- ---- what is reached is a part
 
-reached_is : (P : ℕ → Type 0) {g : Grammar} {parts : List ℕ} {q : ℕ} → AllByRecursion P parts → ReachedIn g parts q → P q
+-- a part that is reached is one of the parts
+pub reached_is : (P : ℕ → Type 0) {g : Grammar} {parts : List ℕ} {q : ℕ} → AllByRecursion P parts → ReachedIn g parts q → P q
 reached_is P h way.first = h.0
 reached_is P h (way.later n r) = reached_is P h.1 r
 

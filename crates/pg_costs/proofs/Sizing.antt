@@ -56,7 +56,8 @@ still_sized g costs sizes i n preorder inside at sized p least m known =
 
 -- ---- sizes that stop at the greatest number
 
-leaf_positive : (l : Leaf ℕ) → 2 ≤ leaf_steps l
+-- a leaf takes two steps at least
+pub leaf_positive : (l : Leaf ℕ) → 2 ≤ leaf_steps l
 leaf_positive (leaf.Satisfy class) = omega arith
 leaf_positive (leaf.String text) = omega arith
 leaf_positive (leaf.Word word) = omega arith
@@ -64,7 +65,8 @@ leaf_positive (leaf.NotFollowedBy class) = omega arith
 leaf_positive leaf.EndOfText = omega arith
 leaf_positive (leaf.Declare class) = omega arith
 
-own_positive : (g : Grammar) (f : ℕ → ℕ) (n : Node) → 2 ≤ own_steps g f n
+-- so does each form
+pub own_positive : (g : Grammar) (f : ℕ → ℕ) (n : Node) → 2 ≤ own_steps g f n
 own_positive g f (form.Leaf leaf) = leaf_positive leaf
 own_positive g f (form.Seq parts) = omega arith
 own_positive g f (form.Choice parts) = omega arith
@@ -138,11 +140,13 @@ cut_greatest f h least (rule ∷ rules) same =
     let both : max (cut_off least) (h rule.body) ≡ cut_off (max least (f rule.body)) = omega arith in
     ap (λ m. greatest_size h m rules) both ∙ cut_greatest f h (max least (f rule.body)) rules same
 
-least_greatest : (f : ℕ → ℕ) (least : ℕ) (rules : List Rule) → least ≤ greatest_size f least rules
+-- the greatest is no less than where it begins
+pub least_greatest : (f : ℕ → ℕ) (least : ℕ) (rules : List Rule) → least ≤ greatest_size f least rules
 least_greatest f least [] = omega arith
 least_greatest f least (rule ∷ rules) = let rest = least_greatest f (max least (f rule.body)) rules in omega arith
 
-within : (x : ℕ) → (x ≤ 2 ^ 64 - 1) ⊎ (2 ^ 64 - 1 ≤ x)
+-- a number fits into 64 bits, or is no less than the greatest that does
+pub within : (x : ℕ) → (x ≤ 2 ^ 64 - 1) ⊎ (2 ^ 64 - 1 ≤ x)
 within x = elim (cases_eq (cut_off x) x) [ inl e ↦ inl (omega arith) | inr ne ↦ inr (omega arith) ]
 
 -- a product of a number that is there and one that isn't below the greatest isn't below it either

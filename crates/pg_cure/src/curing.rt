@@ -166,12 +166,7 @@ fn cure_of(
     judged: Judged,
 ) -> Result<Cure, AllocError> {
     let items = changed_items(alloc, changed)?;
-    let mut taken_out = Vec::new(alloc);
-    for body in &draft.taken_out {
-        if let Some(rule) = forms.rule_with(*body) {
-            taken_out.push(utf8(alloc, rule.name)?)?;
-        }
-    }
+    let taken_out = names_of(alloc, forms, &draft.taken_out)?;
     let Judged { accepted, gone } = judged;
     Ok(Cure {
         change: draft.change,
@@ -181,4 +176,15 @@ fn cure_of(
         accepted,
         gone,
     })
+}
+
+/// The names of the rules that have these bodies.
+fn names_of(alloc: Global, forms: &Forms, bodies: &[usize]) -> Result<Vec<String>, AllocError> {
+    let mut names = Vec::new(alloc);
+    for body in bodies {
+        if let Some(rule) = forms.rule_with(*body) {
+            names.push(utf8(alloc, rule.name)?)?;
+        }
+    }
+    Ok(names)
 }

@@ -12,7 +12,7 @@ use std::alloc::{AllocError, Global};
 const MOST: usize = 1_000;
 
 /// A finding that a change takes away: the node, and the number of the condition that is broken there, as in C1 to C11.
-#[derive(Clone, Copy, Debug, PartialEq, Eq)]
+#[derive(Clone, Copy, PartialEq, Eq)]
 pub struct Gone {
     pub node: NodeId,
     pub code: u8,

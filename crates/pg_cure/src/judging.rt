@@ -32,7 +32,10 @@ pub(crate) fn judge(
     let bytes = utf8(alloc, changed.text.as_slice())?;
     match read_placed(alloc, bytes.as_bytes(), registry) {
         Ok(read) => judged_grammar(alloc, read, before, cured, changed),
-        Err(FileError::Fault(_)) => Ok(None),
+        Err(FileError::Fault(fault)) => {
+            drop(fault);
+            Ok(None)
+        }
         Err(FileError::Memory) => Err(AllocError),
     }
 }
@@ -47,24 +50,32 @@ fn judged_grammar(
 ) -> Result<Option<Judged>, AllocError> {
     let PlacedGrammar { grammar, spans } = read;
     match check(alloc, grammar) {
-        Ok(_) => Ok(Some(all_gone(alloc, before)?)),
-        Err(CheckFault::Refused(refused)) => {
-            judged_refused(alloc, &refused, &spans, before, cured, changed)
+        Ok(checked) => {
+            drop(checked);
+            all_gone(alloc, before)
         }
-        Err(CheckFault::Memory(_)) => Err(AllocError),
+        Err(CheckFault::Refused(refused)) => {
+            let judged = judged_refused(alloc, &refused, &spans, before, cured, changed);
+            drop(refused);
+            judged
+        }
+        Err(CheckFault::Memory(grammar)) => {
+            drop(grammar);
+            Err(AllocError)
+        }
     }
 }
 
 /// Nothing is wrong any more.
-fn all_gone(alloc: Global, before: &[Found]) -> Result<Judged, AllocError> {
+fn all_gone(alloc: Global, before: &[Found]) -> Result<Option<Judged>, AllocError> {
     let mut gone = Vec::new(alloc);
     for found in before {
         gone.push(gone_of(found))?;
     }
-    Ok(Judged {
+    Ok(Some(Judged {
         accepted: true,
         gone,
-    })
+    }))
 }
 
 /// The finding, as it is handed out.

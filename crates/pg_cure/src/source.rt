@@ -21,7 +21,7 @@ pub struct Source<'a> {
 }
 
 /// How many changed files may still be read and checked, and how many characters they may have together.
-#[derive(Clone, Copy, Debug)]
+#[derive(Clone, Copy)]
 pub struct Bound {
     pub trials: usize,
     pub characters: usize,

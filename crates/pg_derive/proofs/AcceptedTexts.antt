@@ -8,7 +8,8 @@ use Rattle.pg_derive.proofs.Faultless.{accepted}
 use Rattle.pg_derive.proofs.Predicted.{not_lost, rounds_consume, links_consume}
 use Rattle.pg_derive.proofs.WholeTexts.{all_answered, derived_answered, refused_not_derived, one_derivation}
 
-predicts : (G : Given) (sets : Sets) → Accepts G sets → Predicts G (node_sets G.grammar sets)
+-- a grammar that is accepted is predictive
+pub predicts : (G : Given) (sets : Sets) → Accepts G sets → Predicts G (node_sets G.grammar sets)
 predicts G sets h = record { grammar = h.grammar; predictive = accepted G.grammar sets h.grammar h.least h.faultless; text = h.text }
 
 pub loses_none : AcceptedGrammarsLoseNoAlternative

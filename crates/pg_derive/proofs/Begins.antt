@@ -24,8 +24,8 @@ use Rattle.pg_language.specs.Derives.{Spot, left_by, Link, Derives, at_node, Der
 use Rattle.pg_derive.specs.ClosedSets.{NodeSets, SomeMatches, Covers, AllNullable, BeginsParts}
 use Rattle.pg_derive.specs.Predictive.{ExpressionIsPredictive, IsSomeOperatorAt, PartIsPredictive, TryIsPredictive, of_part, of_string, of_key, AlternativesArePredictive, ManyIsPredictive, ChainIsPredictive, LeafIsPredictive, AroundIsPredictive, IsPredictiveAt}
 use Rattle.pg_language.proofs.DeclarationsDerived.{declaration_moves}
-use Rattle.pg_language.proofs.Onward.{left_still, operator_on}
-use Rattle.pg_derive.proofs.Inverted.{form_at, spans_string, spans_key, first_stands, forward, forward_parts, forward_rounds, forward_links}
+use Rattle.pg_language.proofs.Onward.{left_still, operator_on, rounds_onward, links_onward}
+use Rattle.pg_derive.proofs.Inverted.{form_at, spans_string, spans_key, first_stands, forward, forward_parts}
 
 -- a list covers what is in it
 pub contained_covers : (starts : List StartKind) (s : StartKind) → Contains starts s → Covers starts s
@@ -173,7 +173,7 @@ module _ (g : Grammar) (s : List ℕ) (scalars : all_scalars s ≡ true) (sets :
     begins_form (seq {parts = ps} d) p f = widened f.empty (covered s (BeginsParts sets ps) (sets.first p) scalars f.first) (begins_parts d)
     begins_form (choice {parts = ps} {k = k} {p = q} e d) p f = in_part (alternative_fits sets p ps f k q e) (begins d)
     begins_form (many {p = q} d) p f = begins_rounds d p f
-    begins_form (derives.chain {p = q} {s = r} d ds) p f = a_chain scalars f (forward_links ds) (begins d) (begins_links ds p f)
+    begins_form (derives.chain {p = q} {s = r} d ds) p f = a_chain scalars f (links_onward ds) (begins d) (begins_links ds p f)
     begins_form (rule {named = named} e d) p f = in_part (f.body named e) (begins d)
     begins_form (expression {p = q} {x = x} e fits d) p f = let h = begins_expression d p f e in moves h.0 (λ from. matched (h.1 from fits))
     begins_form (derives.around {k = k} d) p f = begins_around k d (begins d) f
@@ -205,10 +205,10 @@ module _ (g : Grammar) (s : List ℕ) (scalars : all_scalars s ≡ true) (sets :
 
     pub begins_rounds : {q n : ℕ} {a b : Spot} {v : List Tree} {t : List TrailItem} → DerivesRounds g s q n a b v t → (p : ℕ) → ManyIsPredictive sets p q → BeginsNode g sets s p a b
     begins_rounds no_round p f = still refl f.empty
-    begins_rounds (first_round d ds) p f = a_round scalars f (forward_rounds ds) (begins d)
+    begins_rounds (first_round d ds) p f = a_round scalars f (rounds_onward ds) (begins d)
 
     pub begins_links : {q r n : ℕ} {a b : Spot} {links : List Link} {t : List TrailItem} → DerivesLinks g s q r n a b links t → (p : ℕ) → ChainIsPredictive sets p q r →
         (a ≡ b) ⊎ BeginsList g sets s (r ∷ q ∷ []) a b
     begins_links no_link p f = inl refl
     begins_links (first_link {p = q} {s = r} d e ds) p f =
-        inr (longer g sets s (r ∷ q ∷ []) (forward_links ds) f.full (joined g sets s r (q ∷ []) (forward e) (begins d) (joined g sets s q [] (le_refl _) (begins e) (still refl tt))))
+        inr (longer g sets s (r ∷ q ∷ []) (links_onward ds) f.full (joined g sets s r (q ∷ []) (forward e) (begins d) (joined g sets s q [] (le_refl _) (begins e) (still refl tt))))

@@ -1,6 +1,7 @@
 -- A chain answers as its operand followed by `rest`, `choice(seq(separator, operand, rest), seq())`: each run of the one is made
 -- into a run of the other, round by round.
 use Rattle.std.proofs.Common.{◌≡◌, ◌+◌, ◌<◌, ℕ, zero, suc, List, [], ◌∷◌, Bool, true, false, ◌||◌, refl, sym, ◌∙◌, ap, subst, length, Some, slice_get, arith, le_refl}
+use Rattle.std.proofs.lemmas.Bool.{or_parts}
 use Rattle.pg_text.specs.Position.{start}
 use Rattle.pg_tree.specs.Trees.{Tree}
 use Rattle.pg_tree.specs.declared.shape.Shape.{Shape}
@@ -33,11 +34,6 @@ all_consumed : (c d x : Bool) → (c || d) ≡ true → (c || (d || x)) ≡ true
 all_consumed true d x h = refl
 all_consumed false true x h = refl
 all_consumed false false x h = absurd cc
-
-neither : (x y : Bool) → (x || y) ≡ false → (x ≡ false) × (y ≡ false)
-neither false false h = (refl, refl)
-neither false true h = absurd cc
-neither true y h = absurd cc
 
 -- what stands at a node answers as the node does, with a node less
 record AtForm (G : Given) (n : Node) (a : Spot) (o : Outcome) (m : ℕ) : Type 0 where
@@ -257,7 +253,7 @@ module _ (G : Given) (side : Side) (shape : Shape) (p s node : ℕ) (is : IsRest
           let links = shorter (carried side shape left v w) c z l (omega arith) more in
           links_go_on h (copied (sym is.is_separator) one) (copied (sym is.is_operand) two) links.run links.alike after
       go false h =
-          let none = neither x y h in
+          let none = or_parts x y h in
           absurd (no_loop less rest (subst (λ d. Answers G is.first a (ok d b v t e) i) none.0 one) (subst (λ d. Answers G is.second b (ok d c w u f) j) none.1 two) more)
 
   by_operand : {n : ℕ} → Shorter n → {left v : List Tree} {t : List TrailItem} {a b : Spot} {x : Bool} {e : Error} {i j k l m : ℕ} {o y z q : Outcome} → m < suc n → Rest a o m → j + l < m →

@@ -52,7 +52,8 @@ use Rattle.pg_derive.specs.Predictive.{ExpressionIsPredictive, IsSomeOperatorAt,
 use Rattle.pg_derive.proofs.Begins.{Begun, still, moves, BeginsNode, BeginsList, alternative_fits, consumes, begins, begins_parts, begins_links}
 use Rattle.pg_language.proofs.DeclarationsDerived.{declaration_moves}
 use Rattle.pg_language.proofs.Flags.{moved, stayed, both_moved}
-use Rattle.pg_derive.proofs.Inverted.{form_at, spans_string, spans_key, forward, comes_on, forward_parts, forward_rounds, forward_links}
+use Rattle.pg_language.proofs.Onward.{rounds_onward, links_onward}
+use Rattle.pg_derive.proofs.Inverted.{form_at, spans_string, spans_key, forward, comes_on, forward_parts}
 use Rattle.pg_derive.proofs.LeavesAnswered.{StaysOk, satisfy_ok, word_ok, string_ok, not_followed_ok, end_ok, declare_ok}
 use Rattle.pg_derive.proofs.Quiet.{IsWhole, refuses, skips, NoStart, QuietNode, quiet}
 
@@ -374,7 +375,7 @@ module _ (G : Given) (scalars : all_scalars G.text ≡ true) (whole : IsWhole G.
         let there = whole.parts p _ e in
         let operand = complete d from (link_after p q r b c (comes_on d from) f (begins_links G.grammar G.text scalars sets good ds p f) m) in
         let links = complete_links side used.shape ds (comes_on d from) p there.0 there.1.0 f _ m in
-        let r = chained side used.shape q r _ _ _ a b c t u (forward d) (forward_links ds) operand links in
+        let r = chained side used.shape q r _ _ _ a b c t u (forward d) (links_onward ds) operand links in
         record { error = r.error; count = r.count; run = answers.chain r.run }
     complete_form (derives.rule {named = named} x d) from p e f m = let r = complete d from (widen scalars (f.body named x).follow m) in record { error = r.error; count = r.count; run = rule x r.run }
     complete_form (derives.expression {builders = builders} {item = item} {p = q} {x = x} there fits d) from p e f m =
@@ -417,7 +418,7 @@ module _ (G : Given) (scalars : all_scalars G.text ≡ true) (whole : IsWhole G.
         let first = complete d from (round_after p ds (comes_on d from) f m) in
         let rest = complete_rounds ds (comes_on d from) p there f m in
         let l : a.place < b.place = consumes G.grammar sets G.text q f.full (begun d) in
-        let onward = forward_rounds ds in
+        let onward = rounds_onward ds in
         let consumed = subst (λ x. Answers G q a (ok x b v t first.error) first.count) (moved l) first.run in
         ok_moved _ a c (v ++ w) (t ++ u) _ _ (omega arith) (round consumed (round_ok rest.run))
 
@@ -432,4 +433,4 @@ module _ (G : Given) (scalars : all_scalars G.text ≡ true) (whole : IsWhole G.
         let separator = complete d from (operand_after p q r b c z middle f (begun e) onward m) in
         let operand = complete e middle (link_after p q r c z last f onward m) in
         let rest = complete_links side shape ds last p is_q is_r f (carried side shape left v w) m in
-        one_more side shape q r n left v w links a b c z t u o (forward d) (forward e) (forward_links ds) (link_moves p q r a b c f (forward e) (begun d) (begun e)) separator operand rest
+        one_more side shape q r n left v w links a b c z t u o (forward d) (forward e) (links_onward ds) (link_moves p q r a b c f (forward e) (begun d) (begun e)) separator operand rest

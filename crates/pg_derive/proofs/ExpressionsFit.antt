@@ -20,7 +20,7 @@ use Rattle.pg_start.proofs.Meeting.{never_meet, scalar_at}
 use Rattle.pg_heads.specs.Ranks.{Chain}
 use Rattle.pg_heads.specs.Reached as reached
 use Rattle.pg_own_starts.specs.Own as plain
-use Rattle.pg_own_starts.specs.OwnStarts.{IsClassOf, IsOperatorStart, OwnStart, ReservedAs, IsKeyTry}
+use Rattle.pg_own_starts.specs.OwnStarts.{IsOperatorStart, OwnStart, IsKeyTry}
 use Rattle.pg_own_starts.specs.OwnStarts as own
 use Rattle.pg_own_starts.specs.declared.listed.ListedStart.{ListedStart}
 use Rattle.pg_own_starts.proofs.Owned.{one_operator}
@@ -40,8 +40,8 @@ use Rattle.pg_derive.proofs.LeavesFit.{expression_item, same_run, same_reserved,
 use Rattle.pg_derive.proofs.Meetings.{IsListable, Stands, apart_all}
 use Rattle.pg_derive.proofs.OperatorsOfTables.{spelled_in, free_in}
 use Rattle.pg_derive.proofs.PartsFit.{are_parts, in_falls, part_first}
-use Rattle.pg_derive.proofs.Ranked.{one_place}
 use Rattle.pg_predict.proofs.Numbered.{listed_once}
+use Rattle.pg_judge.proofs.Numbered.{same_numbers}
 
 no_key_expression : {g : Grammar} {builders : OperatorBuilders} {term : ℕ} → IsKeyTry g (form.Expression builders term) → ⊥
 no_key_expression h = elim h [ ]
@@ -138,7 +138,7 @@ module _ (g : Grammar) (sets : Sets) (are : AreSets g sets) (acyclic : (r : ℕ)
                   inr (λ h.
                   let start : has_start.listed.start ≡ x.start = has_start.same ∙ one_operator here.is h in
                   let one = listed_once g has_start.listed x (are.start_sets.listed has_start.number has_start.listed has_start.there) (are.start_sets.listed k x at) start in
-                  let place = one_place sets.starts are.start_sets.ordered has_start.number k x (has_start.there ∙ ap Some one) at in
+                  let place = same_numbers sets.starts has_start.number k x are.start_sets.ordered (has_start.there ∙ ap Some one) at in
                   differ place)
             ]
 

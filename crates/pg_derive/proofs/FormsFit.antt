@@ -22,7 +22,8 @@ use Rattle.pg_derive.specs.ClosedSets.{NodeSets}
 use Rattle.pg_derive.specs.LeastSets.{node_sets}
 use Rattle.pg_derive.specs.Predictive.{PartIsPredictive, AlternativesArePredictive, ComesBefore, ManyIsPredictive, ChainIsPredictive}
 use Rattle.pg_derive.proofs.LeastSets.{first_is, follow_is, follow_covers, full, firsts_apart, follow_apart, rounds_apart}
-use Rattle.pg_derive.proofs.PartsFit.{IsPart, AreNodes, are_parts, reached_is, begins_first, first_reached, parts_fall, in_falls, part_first, part_fits}
+use Rattle.pg_derive.proofs.PartsFit.{IsPart, AreNodes, are_parts, begins_first, first_reached, parts_fall, in_falls, part_first, part_fits}
+use Rattle.pg_costs.proofs.Existing.{reached_is}
 
 no_key_choice : {g : Grammar} {parts : List ℕ} → IsKeyTry g (form.Choice parts) → ⊥
 no_key_choice h = elim h [ ]

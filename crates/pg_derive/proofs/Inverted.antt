@@ -8,7 +8,7 @@ use Rattle.pg_form.specs.declared.form.Form.TheVariants as form
 use Rattle.pg_form.specs.declared.form.Leaf.TheVariants as leaf
 use Rattle.pg_value.specs.declared.trail.TrailItem.{TrailItem}
 use Rattle.pg_language.specs.Derives as derives
-use Rattle.pg_language.specs.Derives.{Spot, after, leaf_of, Link, Derives, at_node, DerivesForm, string, not_followed_by, seq, DerivesParts, no_part, first_part, DerivesRounds, no_round, first_round, DerivesLinks, no_link, first_link}
+use Rattle.pg_language.specs.Derives.{Spot, after, leaf_of, Derives, at_node, DerivesForm, string, not_followed_by, seq, DerivesParts, no_part, first_part}
 use Rattle.pg_language.specs.Runs.{HasAt, StandsAt}
 use Rattle.pg_table.specs.Tables.{ComesFrom}
 use Rattle.pg_table.proofs.Added.{still_comes}
@@ -89,11 +89,3 @@ comes_on {g = g} {a = a} {b = b} d from = let on = leads_on d in still_comes g a
 pub forward_parts : {g : Grammar} {text ps : List ℕ} {a b : Spot} {v : List Tree} {t : List TrailItem} → DerivesParts g text ps a b v t → a.place ≤ b.place
 forward_parts no_part = le_refl _
 forward_parts (first_part d ds) = le_trans (forward d) (forward_parts ds)
-
-pub forward_rounds : {g : Grammar} {text : List ℕ} {p n : ℕ} {a b : Spot} {v : List Tree} {t : List TrailItem} → DerivesRounds g text p n a b v t → a.place ≤ b.place
-forward_rounds no_round = le_refl _
-forward_rounds (first_round d ds) = le_trans (forward d) (forward_rounds ds)
-
-pub forward_links : {g : Grammar} {text : List ℕ} {p s n : ℕ} {a b : Spot} {links : List Link} {t : List TrailItem} → DerivesLinks g text p s n a b links t → a.place ≤ b.place
-forward_links no_link = le_refl _
-forward_links (first_link d e ds) = le_trans (forward d) (le_trans (forward e) (forward_links ds))

@@ -20,8 +20,8 @@ use Rattle.pg_derive.specs.LeastSets.{node_sets}
 use Rattle.pg_derive.proofs.Begins.{contained_covers}
 use Rattle.pg_derive.proofs.Least.{Decided, decided_true, decided_as, decided_both, decided_either}
 use Rattle.pg_derive.proofs.Meetings.{IsListable, Stands, apart_all}
-use Rattle.pg_derive.proofs.Ranked.{one_place}
 use Rattle.pg_derive.proofs.StartLists.{start_from_list, list_from_start}
+use Rattle.pg_judge.proofs.Numbered.{same_numbers}
 
 module _ (g : Grammar) (sets : Sets) (are : AreSets g sets) where
   -- ---- starts
@@ -58,7 +58,7 @@ module _ (g : Grammar) (sets : Sets) (are : AreSets g sets) where
       back : HasStart sets.starts set x.start → contains set k ≡ true
       back h =
           let same : h.listed ≡ x = listed_once g h.listed x (are.start_sets.listed h.number h.listed h.there) (are.start_sets.listed k x e) h.same in
-          let place : h.number ≡ k = one_place sets.starts are.start_sets.ordered h.number k x (h.there ∙ ap Some same) e in
+          let place : h.number ≡ k = same_numbers sets.starts h.number k x are.start_sets.ordered (h.there ∙ ap Some same) e in
           subst (λ n. contains set n ≡ true) place h.member
 
   pub stands_at : (set : List Bool) (s : StartKind) → HasStart sets.starts set s → Stands sets.starts s

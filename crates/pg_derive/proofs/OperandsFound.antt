@@ -19,6 +19,7 @@ use Rattle.pg_expand.proofs.Levels.{to_member, from_member}
 use Rattle.pg_expand.proofs.Members.{Among}
 use Rattle.pg_expand.proofs.Ranks.{side_rank, postfixed_operand}
 use Rattle.pg_expand.proofs.RowTrees.{AreThose, IsRow}
+use Rattle.pg_expand.proofs.Symbols.{infix_is_no_prefix}
 use Rattle.pg_language.specs.Answers.{Given, Answers, AnswersRows, AnswersRowOperand, row_operand, AnswersTail, AnswersRight, AnswersLeft, AnswersNon}
 use Rattle.pg_language.specs.Derives.{Spot, at, applied}
 use Rattle.pg_language.specs.Errors.{Error, merge, no_messages_at}
@@ -86,13 +87,6 @@ only_operand operators k side o x h n (inl f) = subst (λ r. IsOperandOf operato
 only_operand operators k side o x h n (inr f) = absurd (n f.0)
 
 -- ---- what an operator's role is not
-
-infix_no_prefix : (role : Role) → IsInfix role → is_prefix role ≡ false
-infix_no_prefix InfixLeft i = refl
-infix_no_prefix InfixRight i = refl
-infix_no_prefix InfixNone i = refl
-infix_no_prefix Prefix i = absurd i
-infix_no_prefix Postfix i = absurd i
 
 infix_no_postfix : (role : Role) → IsInfix role → role ≡ Postfix → ⊥
 infix_no_postfix InfixLeft i e = absurd cc
@@ -233,15 +227,15 @@ module _ (G : Given) (s : Setting) (operators : List Operator) (clear : IsClear 
   -- at an infix operator of the row an operand ends
   pub ends_at : (k : ℕ) (o : Operator) (i j : ℕ) → IsAmong operators o → IsInfix o.role → row operators o ≡ suc k → Stands o i j → OperandEnds k i
   ends_at k o i j m between here h = (
-    stops_below k o i j m (infix_no_prefix o.role between) (omega arith) h,
-    λ p n there e row_is g. (let same = one_there o p i j n m there (infix_no_prefix o.role between ∙ sym (postfix_no_prefix p.role e)) h g in
+    stops_below k o i j m (infix_is_no_prefix o.role between) (omega arith) h,
+    λ p n there e row_is g. (let same = one_there o p i j n m there (infix_is_no_prefix o.role between ∙ sym (postfix_no_prefix p.role e)) h g in
         infix_no_postfix o.role between (ap (λ (q : Operator). q.role) same ∙ e)),
   )
 
   -- where one stands, none of another role does
   pub other_role : (k : ℕ) (o : Operator) (i j : ℕ) (role : Role) → IsAmong operators o → IsInfix o.role → is_prefix role ≡ false → (o.role ≡ role → ⊥) → Stands o i j → NoneOf role (suc k) i
   other_role k o i j role m between side differ h p n there e here g =
-      let same = one_there o p i j n m there (infix_no_prefix o.role between ∙ sym (ap is_prefix e ∙ side)) h g in
+      let same = one_there o p i j n m there (infix_is_no_prefix o.role between ∙ sym (ap is_prefix e ∙ side)) h g in
       differ (ap (λ (q : Operator). q.role) same ∙ e)
 
   pub none_where : (k i : ℕ) (role : Role) → is_prefix role ≡ false → Stops (suc k) i → NoneOf role (suc k) i

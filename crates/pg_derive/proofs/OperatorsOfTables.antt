@@ -8,12 +8,12 @@ use Rattle.pg_form.specs.Operators.{Operator, IsOperator}
 use Rattle.pg_form.specs.declared.operators_item.OperatorsItem.{OperatorsItem}
 use Rattle.pg_table.specs.declared.fault.AdmitFault.{AdmitFault}
 use Rattle.pg_table.specs.declared.fault.AdmitFault.TheVariants.{SymbolTooLong, SymbolReserved, PrefixThere, SymbolThere, TableFull}
-use Rattle.pg_table.specs.Tables.{Table, is_prefix, has_prefix, has_other, with_operator, empty_table, Added, whole, added_unless, added_from, ComesFrom}
+use Rattle.pg_table.specs.Tables.{Table, is_prefix, has_prefix, has_other, with_operator, empty_table, whole, added_from, ComesFrom}
 use Rattle.pg_table.specs.Fitting.{IsAmong}
 use Rattle.pg_table.proofs.Added.{same_table, added_at_end, all_proper}
 use Rattle.pg_expand.proofs.Levels.{to_member}
 use Rattle.pg_expand.proofs.Members.{Among, among_either}
-use Rattle.pg_expand.proofs.Symbols.{told_table}
+use Rattle.pg_expand.proofs.Symbols.{told_table, added_whole}
 use Rattle.pg_derive.proofs.WholeRows.{above}
 use Rattle.pg_derive.proofs.OperandsFound.{IsClear}
 
@@ -45,10 +45,6 @@ not_reserved : (a b c d e : Bool) (first second third fourth fifth : AdmitFault)
 not_reserved true b c d e first second third fourth fifth h = absurd cc
 not_reserved false true c d e first second third fourth fifth h = absurd cc
 not_reserved false false c d e first second third fourth fifth h = refl
-
-added_whole : (fault : Option AdmitFault) (k : ℕ) (others : Added) (u : Table) → added_unless fault k others ≡ whole u → (fault ≡ None) × (others ≡ whole u)
-added_whole None k others u e = (refl, e)
-added_whole (Some fault) k others u e = absurd cc
 
 free_added : (k : ℕ) (t u : Table) (ds : List Operator) → AreFree t.reserved t.operators → added_from k t ds ≡ whole u → AreFree t.reserved u.operators × (u.reserved ≡ t.reserved)
 unfolding AreFree

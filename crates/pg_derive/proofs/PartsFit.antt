@@ -23,6 +23,7 @@ use Rattle.pg_derive.specs.LeastSets.{node_sets}
 use Rattle.pg_derive.specs.Predictive.{PartIsPredictive, SeqIsPredictive}
 use Rattle.pg_derive.proofs.LeastSets.{first_is, first_covers, follow_is, follow_covers}
 use Rattle.pg_costs.proofs.Levels.{part_falls}
+use Rattle.pg_costs.proofs.Existing.{reached_is}
 
 no_key_seq : {g : Grammar} {parts : List ℕ} → IsKeyTry g (form.Seq parts) → ⊥
 no_key_seq h = elim h [ ]
@@ -46,11 +47,6 @@ are_parts g grammar p n e = all_parts g p (parts_of n) (parts_are_after g.nodes 
 pub are_nodes : (g : Grammar) (p : ℕ) (parts : List ℕ) → AllByRecursion (IsPart g p) parts → AreNodes g parts
 are_nodes g p [] h = tt
 are_nodes g p (q ∷ qs) h = (h.0.inside, are_nodes g p qs h.1)
-
--- a part that is reached is one
-pub reached_is : (P : ℕ → Type 0) {g : Grammar} {parts : List ℕ} {q : ℕ} → AllByRecursion P parts → ReachedIn g parts q → P q
-reached_is P h reached.first = h.0
-reached_is P h (reached.later n r) = reached_is P h.1 r
 
 module _ (g : Grammar) (sets : Sets) (are : AreSets g sets) (acyclic : (r : ℕ) → Chain g r r → ⊥) where
   -- ---- several parts

@@ -86,7 +86,7 @@ falls_further sets m n [] l f = tt
 falls_further sets m n (q ∷ qs) l f = let first = f.0 in (omega arith, λ x. falls_further sets m n qs l (f.1 x))
 
 -- where a part consumed nothing, no form around it counts as if it had
-not_counted : (k : Around) → counted_by k false ≡ false
+pub not_counted : (k : Around) → counted_by k false ≡ false
 not_counted kind.Try = refl
 not_counted _ = refl
 

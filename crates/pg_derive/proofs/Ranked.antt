@@ -36,15 +36,3 @@ earlier starts sorted i j x y e f l =
             | inr more ↦ absurd (no_less_itself x (start_order_total.trans x y x l (ordered_at starts sorted j i y x f e more)))
           ]
     ]
-
--- equal starts have one place
-pub one_place : (starts : List ListedStart) → IsStrictlySortedBy start_order starts → (i j : ℕ) (x : ListedStart) → slice_get starts i ≡ Some x → slice_get starts j ≡ Some x → i ≡ j
-one_place starts sorted i j x e f =
-    elim (cases_order i j) [
-      | inl same ↦ same
-      | inr differ ↦
-          elim differ [
-            | inl less ↦ absurd (no_less_itself x (ordered_at starts sorted i j x x e f less))
-            | inr more ↦ absurd (no_less_itself x (ordered_at starts sorted j i x x f e more))
-          ]
-    ]

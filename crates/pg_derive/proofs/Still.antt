@@ -20,7 +20,7 @@ use Rattle.pg_form.specs.declared.operators_item.OperatorsItem.{OperatorsItem}
 use Rattle.pg_table.specs.Tables.{admit_fault}
 use Rattle.pg_table.specs.declared.fault.AdmitFault.{AdmitFault}
 use Rattle.pg_language.specs.Declarations.{Declaration, no_keyword, no_digit, no_symbol, declared, declaration_at, unless_refused, declaration_outcome, declare_outcome}
-use Rattle.pg_language.specs.Derives.{Spot, applied}
+use Rattle.pg_language.specs.Derives.{Spot}
 use Rattle.pg_language.specs.Runs.{run_at}
 use Rattle.pg_language.specs.Answers as answers
 use Rattle.pg_language.specs.Answers.{Given, Answers, entered, AnswersForm, nothing, seq, choice, many, rule, AnswersParts, part, AfterPart, part_last, part_failed, part_stuck, part_ok, AnswersAlternatives, no_alternative, alternative, AfterAlternative, alternative_consumed, alternative_stands, alternative_waits, alternative_commits, alternative_failed, alternative_stuck, AnswersRounds, round, AfterRound, round_ended, round_failed, round_empty, round_stuck, round_ok, AnswersChain, first_operand, AfterFirst, first_failed, first_stuck, first_ok, AnswersLinks, link, AfterSeparator, separator_failed, separator_stuck, separator_ok, AfterOperand, operand_failed, operand_stuck, operand_ok, AnswersRows, only_term, loosest_row, AnswersRowOperand, row_operand, AfterRowOperand, row_failed, row_stuck, row_ok, AnswersTail, row_tail, AfterRight, right_stands, right_commits, right_stuck, right_failed, AfterLeft, left_stands, left_commits, left_stuck, left_failed, AnswersRight, right_side, AfterRightOperator, right_unread, right_read, AnswersLeft, left_side, AfterLeftOperator, left_unread, left_read, AnswersNon, neither_side, AfterNonOperator, non_unread, non_read}
@@ -197,14 +197,6 @@ stays_postfix : (g : Grammar) (text : List ℕ) (s : Setting) (os : List Operato
 stays_postfix g text s os a (ok c b v t e) h = stays_stretch a b c t e _ (by_flag a b c v t e h) (stays_affix text s.builders os v b (read_at g text s.item os b.place))
 stays_postfix g text s os a (failed c e) h = tt
 stays_postfix g text s os a empty_round h = tt
-
-stays_last : (g : Grammar) (text : List ℕ) (s : Setting) (r : Row) (q : Read) (v : List Tree) (a : Spot) (o : Outcome) → Stays a o → Stays a (with_last g text s r q v o)
-stays_last g text s r q v a (ok c b w t e) h =
-    let f : Error = merge (ambiguous_right g text s.item r b.place) (merge (ambiguous_left g text s.item r b.place) (ambiguous_non g text s.item r b.place)) in
-    let x : List Tree = applied s.builders.infix q.operator (v ++ w) in
-    stays_stretch a b c t e (unless_begun false b x f) (by_flag a b c w t e h) (stays_begun false b x f)
-stays_last g text s r q v a (failed c e) h = tt
-stays_last g text s r q v a empty_round h = tt
 
 -- ---- the relation
 

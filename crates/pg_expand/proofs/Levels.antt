@@ -1,6 +1,7 @@
 -- The rows of a table, one over the other.
 use Rattle.std.proofs.Common.{◌≡◌, ◌⊎◌, ◌<◌, ◌≤◌, ◌↔◌, ◌+◌, ◌-◌, ◌==◌, ℕ, zero, suc, Bool, true, false, cond, ◌||◌, List, [], ◌∷◌, filter, map, Some, inl, inr, refl, sym, ap, subst, ◌∙◌, eq-eqb, eqb-true, arith}
 use Rattle.std.specs.List.{AllByRecursion}
+use Rattle.std.proofs.lemmas.Bool.{or_right, cases_order}
 use Rattle.pg_form.specs.Operators.{Operator, IsOperator}
 use Rattle.pg_form.specs.declared.decl.Role.{Role}
 use Rattle.pg_form.specs.declared.decl.Role.TheVariants.{InfixLeft, InfixRight, InfixNone, Prefix, Postfix}
@@ -47,16 +48,13 @@ kept test [] o h t = absurd h
 kept test (p ∷ os) o (inl m) t = subst (λ b. Among o (cond b (p ∷ filter test os) (filter test os))) (sym t ∙ ap test m) (inl m)
 kept test (p ∷ os) o (inr m) t = kept_either o p (filter test os) (test p) (kept test os o m t)
 
-pub either_true : (b c : Bool) → c ≡ true → (b || c) ≡ true
-either_true true c e = refl
-either_true false c e = e
-
 pub held : (os : List Operator) (o : Operator) → Among o os → holds os o.precedence ≡ true
 held [] o h = absurd h
 held (p ∷ os) o (inl e) = ap (λ b. b || holds os o.precedence) (eq-eqb p.precedence o.precedence (ap (λ (q : Operator). q.precedence) (sym e)))
-held (p ∷ os) o (inr h) = either_true (p.precedence == o.precedence) (holds os o.precedence) (held os o h)
+held (p ∷ os) o (inr h) = or_right (p.precedence == o.precedence) (holds os o.precedence) (held os o h)
 
-digit : (os : List Operator) (o : Operator) → AllByRecursion IsOperator os → Among o os → o.precedence ≤ 9
+-- a precedence is a digit
+pub digit : (os : List Operator) (o : Operator) → AllByRecursion IsOperator os → Among o os → o.precedence ≤ 9
 digit [] o all h = absurd h
 digit (p ∷ os) o all (inl e) = subst (λ (q : Operator). q.precedence ≤ 9) (sym e) all.0.digit
 digit (p ∷ os) o all (inr h) = digit os o all.1 h
@@ -87,12 +85,9 @@ descends os p (suc n) h =
 pub tighter : (os : List Operator) (p q : ℕ) → p ≤ q → q ≤ 10 → row_of os q ≤ row_of os p
 tighter os p q l h = let e : p + (q - p) ≡ q = omega arith in subst (λ r. row_of os r ≤ row_of os p) e (descends os p (q - p) (omega arith))
 
-either_way : (p q : ℕ) → (p ≡ q) ⊎ ((p < q) ⊎ (q < p))
-either_way p q = grind arith
-
 -- two precedences that hold an operator are one where their rows are
 pub one_row : (os : List Operator) (p q : ℕ) → p ≤ 9 → q ≤ 9 → holds os p ≡ true → holds os q ≡ true → row_of os p ≡ row_of os q → p ≡ q
-one_row os p q h k s t e = elim (either_way p q) [
+one_row os p q h k s t e = elim (cases_order p q) [
   | inl same ↦ same
   | inr (inl l) ↦ (let up = row_held os p (omega arith) s in let rest = tighter os (suc p) q (omega arith) (omega arith) in absurd (omega arith))
   | inr (inr l) ↦ (let up = row_held os q (omega arith) t in let rest = tighter os (suc q) p (omega arith) (omega arith) in absurd (omega arith))

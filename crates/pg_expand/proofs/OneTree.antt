@@ -38,9 +38,6 @@ sides_before_after o p e = let same = same_side fixity.Prefix fixity.Postfix o p
 sides_before_between : (o p : Operator) → mark fixity.Prefix o ≡ mark fixity.Infix p → ⊥
 sides_before_between o p e = let same = same_side fixity.Prefix fixity.Infix o p e in absurd cc
 
-sides_after_between : (o p : Operator) → mark fixity.Postfix o ≡ mark fixity.Infix p → ⊥
-sides_after_between o p e = let same = same_side fixity.Postfix fixity.Infix o p e in absurd cc
-
 prefix_no_postfix : (operators : List Operator) (o p : Operator) (x y : Expression) → IsFitting operators (prefixed o x) → IsFitting operators (postfixed p y) → marks (prefixed o x) ≡ marks (postfixed p y) → ⊥
 prefix_no_postfix operators o p x y f g e =
     let same : row operators o ≡ row operators p = same_rank operators (prefixed o x) (postfixed p y) f g e in

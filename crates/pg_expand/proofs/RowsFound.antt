@@ -4,6 +4,7 @@ use Rattle.std.specs.Prelude.{unwrap_or, find}
 use Rattle.std.specs.Option.{option_map}
 use Rattle.std.specs.Str.{bytes_eq}
 use Rattle.std.proofs.lemmas.Option.{slice_get-map}
+use Rattle.std.proofs.lemmas.Bool.{and_right, and_left, false_from_ne_true}
 use Rattle.pg_form.specs.Operators.{Operator}
 use Rattle.pg_form.specs.declared.decl.Role.{Role}
 use Rattle.pg_form.specs.declared.decl.Role.TheVariants.{InfixLeft, InfixRight, InfixNone, Prefix, Postfix}
@@ -58,17 +59,6 @@ turned true false = refl
 turned false true = refl
 turned false false = refl
 
-never : (a b : Bool) → b ≡ false → (a && b) ≡ false
-never true b e = e
-never false b e = refl
-
-not_first : (a b : Bool) → a ≡ false → (a && b) ≡ false
-not_first a b e = ap (λ c. c && b) e
-
-not_true : (b : Bool) → (b ≡ true → ⊥) → b ≡ false
-not_true true isnt = absurd (isnt refl)
-not_true false isnt = refl
-
 -- ---- rows
 
 role-by_role : (role : Role) (os : List Operator) → of_role role (by_role os) ≡ filter (λ o. is_role role o.role) os
@@ -103,7 +93,7 @@ module _ (os : List Operator) (k : ℕ) (role : Role) (symbol : List ℕ) where
   of_none e =
       let far = row_past os k e in
       filter-none (λ o. named o && wanted o) os
-      (λ o. never (named o) (wanted o) (not_first (row os o == suc k) (is_role role o.role) (not_true (row os o == suc k)
+      (λ o. and_right (named o) (wanted o) (and_left (row os o == suc k) (is_role role o.role) (false_from_ne_true (row os o == suc k)
       (λ h. let same : row os o ≡ suc k = eqb-true (row os o) (suc k) h in let low = row_low os o.precedence in absurd (omega arith)))))
       ∙ ap (filter named) (sym (role-by_role role []))
 

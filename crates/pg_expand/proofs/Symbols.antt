@@ -6,6 +6,7 @@ use Rattle.std.specs.List.{AllByRecursion, list_any}
 use Rattle.std.specs.Str.{bytes_eq}
 use Rattle.std.proofs.lemmas.Slice.Eq.{bytes_eq-Decides}
 use Rattle.std.proofs.lemmas.List.{map-append}
+use Rattle.std.proofs.lemmas.Bool.{or_right}
 use Rattle.pg_value.specs.Grammar.{Grammar}
 use Rattle.pg_form.specs.Operators.{Operator}
 use Rattle.pg_form.specs.declared.decl.Role.{Role}
@@ -23,7 +24,7 @@ use Rattle.pg_expand.specs.Readings.{Token, a_term, an_operator, reading}
 use Rattle.pg_expand.proofs.Members.{Among, among_either}
 use Rattle.pg_expand.proofs.Ranks.{Mark, blank, mark, marks}
 use Rattle.pg_expand.proofs.OneTree.{one_tree}
-use Rattle.pg_expand.proofs.Levels.{to_member, either_true}
+use Rattle.pg_expand.proofs.Levels.{to_member}
 
 -- ---- symbols in a table
 
@@ -34,7 +35,7 @@ AreTold os = (o p : Operator) → Among o os → Among p os → is_prefix o.role
 any_member : (test : Operator → Bool) (os : List Operator) (o : Operator) → Among o os → test o ≡ true → list_any test os ≡ true
 any_member test [] o h t = absurd h
 any_member test (p ∷ os) o (inl e) t = ap (λ b. b || list_any test os) (sym (ap test e) ∙ t)
-any_member test (p ∷ os) o (inr h) t = either_true (test p) (list_any test os) (any_member test os o h t)
+any_member test (p ∷ os) o (inr h) t = or_right (test p) (list_any test os) (any_member test os o h t)
 
 same_bytes : (a b : List ℕ) → a ≡ b → bytes_eq a b ≡ true
 same_bytes a b e = (bytes_eq-Decides a b).1 e
@@ -52,7 +53,7 @@ true_not_false : (b : Bool) → b ≡ true → b ≡ false → ⊥
 true_not_false b e h = cc
 
 -- an operator that is admitted has another symbol than those on its side
-new_symbol : (table : Table) (d o : Operator) → Admits table d → Among o table.operators → is_prefix o.role ≡ is_prefix d.role → o.symbol ≡ d.symbol → ⊥
+pub new_symbol : (table : Table) (d o : Operator) → Admits table d → Among o table.operators → is_prefix o.role ≡ is_prefix d.role → o.symbol ≡ d.symbol → ⊥
 new_symbol table d o admits among side symbol =
     let neither =
     no_reason (nat_lt 16 (length d.symbol)) (list_any (λ s. bytes_eq s d.symbol) table.reserved) (is_prefix d.role && has_prefix table.operators d.symbol)
@@ -81,7 +82,8 @@ told_with table d told admits o p m n side symbol = by_place (among_either o tab
 
 -- ---- tables of a grammar
 
-added_whole : (fault : Option AdmitFault) (k : ℕ) (others : Added) (u : Table) → added_unless fault k others ≡ whole u → (fault ≡ None) × (others ≡ whole u)
+-- where operators were added, nothing was wrong with the first
+pub added_whole : (fault : Option AdmitFault) (k : ℕ) (others : Added) (u : Table) → added_unless fault k others ≡ whole u → (fault ≡ None) × (others ≡ whole u)
 added_whole None k others u e = (refl, e)
 added_whole (Some fault) k others u e = absurd cc
 
@@ -137,7 +139,8 @@ marks_of os (joined o x y) f = of_both os (marks x) (mark fixity.Infix o ∷ mar
 
 -- ---- marks that look the same
 
-infix_is_no_prefix : (role : Role) → IsInfix role → is_prefix role ≡ false
+-- an infix role is no prefix
+pub infix_is_no_prefix : (role : Role) → IsInfix role → is_prefix role ≡ false
 infix_is_no_prefix InfixLeft i = refl
 infix_is_no_prefix InfixRight i = refl
 infix_is_no_prefix InfixNone i = refl

@@ -87,23 +87,35 @@ pub(crate) fn pairs(known: &Known, node: NodeId, one: usize, other: usize) -> us
 /// Numbers in words: `1`, `1 and 2`, `1, 2 and 3`, or the first of them and how many more there are. The only error is that memory ran out.
 pub(crate) fn numbers_words(alloc: Global, numbers: &[usize]) -> Result<String, AllocError> {
     let mut words = String::new(alloc);
-    let more = numbers.len().saturating_sub(MOST);
+    push_numbers(alloc, &mut words, numbers)?;
+    push_more(alloc, &mut words, numbers.len().saturating_sub(MOST))?;
+    Ok(words)
+}
+
+/// Pushes the first of these numbers in words.
+fn push_numbers(alloc: Global, words: &mut String, numbers: &[usize]) -> Result<(), AllocError> {
     for (at, number) in numbers.iter().enumerate() {
         if at >= MOST {
             break;
         }
-        let is_last = more == 0 && at.saturating_add(1) == numbers.len();
-        let joint = match (at, is_last) {
-            (0, _) => "",
-            (_, true) => " and ",
-            (_, false) => ", ",
+        let joint = if at == 0 {
+            ""
+        } else if at.saturating_add(1) == numbers.len() {
+            " and "
+        } else {
+            ", "
         };
         let word = format!(in alloc; "{joint}{number}")?;
         words.push_str(word.as_str())?;
     }
-    if more > 0 {
-        let word = format!(in alloc; " and {more} more")?;
-        words.push_str(word.as_str())?;
+    Ok(())
+}
+
+/// Pushes how many more there are, if there are any.
+fn push_more(alloc: Global, words: &mut String, more: usize) -> Result<(), AllocError> {
+    if more == 0 {
+        return Ok(());
     }
-    Ok(words)
+    let word = format!(in alloc; " and {more} more")?;
+    words.push_str(word.as_str())
 }

@@ -35,22 +35,47 @@ pub(crate) fn told(
     cause: &Cause,
     head: &str,
 ) -> Result<String, AllocError> {
-    let kind = &cause.kind;
+    let mut page = first_line(alloc, known, node, &cause.kind, head)?;
+    push_told(alloc, &mut page, known, node, cause)?;
+    Ok(page)
+}
+
+/// What is wrong, in a line with its end.
+fn first_line(
+    alloc: Global,
+    known: &Known,
+    node: NodeId,
+    kind: &ViolationKind<usize>,
+    head: &str,
+) -> Result<String, AllocError> {
     let words = headline(alloc, known, node, kind)?;
-    let mut page = format!(in alloc; "{head} {words}\n")?;
+    format!(in alloc; "{head} {words}\n")
+}
+
+/// Pushes the file's line with what is marked in it, and how it comes about.
+fn push_told(
+    alloc: Global,
+    page: &mut String,
+    known: &Known,
+    node: NodeId,
+    cause: &Cause,
+) -> Result<(), AllocError> {
+    push_marked(alloc, page, known, node, &cause.kind)?;
+    push_lines(alloc, page, known, node, &cause.kind)?;
+    push_also(alloc, page, known, &cause.also)
+}
+
+/// Pushes the file's line with what is marked in it.
+fn push_marked(
+    alloc: Global,
+    page: &mut String,
+    known: &Known,
+    node: NodeId,
+    kind: &ViolationKind<usize>,
+) -> Result<(), AllocError> {
     let marks = marks_of(alloc, known, node, kind)?;
     let first = span_of(known, node).first;
-    push_excerpt(
-        alloc,
-        &mut page,
-        known.file.name,
-        known.file.text,
-        first,
-        &marks,
-    )?;
-    push_lines(alloc, &mut page, known, node, kind)?;
-    push_also(alloc, &mut page, known, &cause.also)?;
-    Ok(page)
+    push_excerpt(alloc, page, known.file.name, known.file.text, first, &marks)
 }
 
 /// Pushes how it comes about.
@@ -75,14 +100,12 @@ fn push_lines(
         }
         ViolationKind::AlternativeMeetsFollow(k, one, other) => {
             push_alternative(alloc, page, known, node, *k, *one)?;
-            push_follow(alloc, page, known, node, *other)?;
-            push_both(alloc, page, known, *one, *other)
+            push_follow_met(alloc, page, known, node, *one, *other)
         }
         ViolationKind::RoundMeetsFollow(one, other) => {
             let part = known.round(node, *one);
             push_first(alloc, page, known, "a round", part, *one)?;
-            push_follow(alloc, page, known, node, *other)?;
-            push_both(alloc, page, known, *one, *other)
+            push_follow_met(alloc, page, known, node, *one, *other)
         }
         ViolationKind::OperandMeetsOperators(start) => {
             let term = known.round(node, *start);
@@ -99,6 +122,19 @@ fn push_lines(
             "a parse could take that many steps for each character; no text loses anything",
         ),
     }
+}
+
+/// Pushes what follows, and with what both begin.
+fn push_follow_met(
+    alloc: Global,
+    page: &mut String,
+    known: &Known,
+    node: NodeId,
+    one: usize,
+    other: usize,
+) -> Result<(), AllocError> {
+    push_follow(alloc, page, known, node, other)?;
+    push_both(alloc, page, known, one, other)
 }
 
 /// Pushes how a rule comes back to itself.

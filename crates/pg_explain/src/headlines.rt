@@ -68,16 +68,25 @@ fn alternatives_meet(
 ) -> Result<String, AllocError> {
     let with_one = beginning_with(alloc, known, node, one)?;
     if one == other {
-        let words = numbers_words(alloc, &with_one)?;
-        return format!(in alloc; "alternatives {words} meet");
+        return all_meet(alloc, &with_one);
     }
     let with_other = beginning_with(alloc, known, node, other)?;
-    if let ([j], [k]) = (with_one.as_slice(), with_other.as_slice()) {
-        let words = numbers_words(alloc, &[(*j).min(*k), (*j).max(*k)])?;
-        return format!(in alloc; "alternatives {words} meet");
+    match (with_one.as_slice(), with_other.as_slice()) {
+        ([j], [k]) => all_meet(alloc, &[(*j).min(*k), (*j).max(*k)]),
+        (these, those) => these_meet(alloc, these, those),
     }
-    let these = numbers_words(alloc, &with_one)?;
-    let those = numbers_words(alloc, &with_other)?;
+}
+
+/// That all of these alternatives meet.
+fn all_meet(alloc: Global, numbers: &[usize]) -> Result<String, AllocError> {
+    let words = numbers_words(alloc, numbers)?;
+    format!(in alloc; "alternatives {words} meet")
+}
+
+/// That some alternatives meet others.
+fn these_meet(alloc: Global, these: &[usize], those: &[usize]) -> Result<String, AllocError> {
+    let these = numbers_words(alloc, these)?;
+    let those = numbers_words(alloc, those)?;
     format!(in alloc; "alternatives {these} meet {those}")
 }
 

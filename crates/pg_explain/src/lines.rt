@@ -141,6 +141,18 @@ pub(crate) fn push_also(
         return Ok(());
     }
     let mut words = String::from_str(alloc, "they meet at ")?;
+    push_meetings(alloc, &mut words, known, also)?;
+    words.push_str(" too")?;
+    push_line(page, words.as_str())
+}
+
+/// Pushes the starts at which things meet, the first of them and how many more there are.
+fn push_meetings(
+    alloc: Global,
+    words: &mut String,
+    known: &Known,
+    also: &[Meeting],
+) -> Result<(), AllocError> {
     for (before, met) in also.iter().enumerate() {
         if before > 0 {
             words.push_str("; ")?;
@@ -148,13 +160,11 @@ pub(crate) fn push_also(
         if before >= MOST_STARTS {
             let more = also.len().saturating_sub(before);
             let word = format!(in alloc; "{more} more")?;
-            words.push_str(word.as_str())?;
-            break;
+            return words.push_str(word.as_str());
         }
-        push_meeting(alloc, &mut words, known, met)?;
+        push_meeting(alloc, words, known, met)?;
     }
-    words.push_str(" too")?;
-    push_line(page, words.as_str())
+    Ok(())
 }
 
 /// Pushes the starts at which something meets.

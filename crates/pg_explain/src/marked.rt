@@ -17,37 +17,58 @@ pub(crate) fn marks_of(
     kind: &ViolationKind<usize>,
 ) -> Result<Vec<Mark>, AllocError> {
     let mut marks = Vec::new(alloc);
+    push_marks(alloc, known, node, kind, &mut marks)?;
+    if marks.is_empty() {
+        push_plain(known, node, &mut marks)?;
+    }
+    in_order(alloc, &marks)
+}
+
+/// Pushes the marks for a finding, unless it is about the node itself.
+fn push_marks(
+    alloc: Global,
+    known: &Known,
+    node: NodeId,
+    kind: &ViolationKind<usize>,
+    marks: &mut Vec<Mark>,
+) -> Result<(), AllocError> {
     match kind {
         ViolationKind::LeftRecursion => {
-            let back = coming_back(alloc, known, node)?;
-            marks.push(plain(known, back))?;
+            push_plain(known, coming_back(alloc, known, node)?, marks)
         }
         ViolationKind::EmptyRound | ViolationKind::EmptyOperand => {
-            marks.push(plain(known, known.emptied(node)))?;
+            push_plain(known, known.emptied(node), marks)
         }
         ViolationKind::EmptyAlternative(k) | ViolationKind::AlternativeMeetsFollow(k, _, _) => {
-            push_alternatives(known, node, &[*k], &mut marks)?;
+            push_alternatives(known, node, &[*k], marks)
         }
         ViolationKind::AlternativesMeet(_, _, one, other) => {
-            let with_one = beginning_with(alloc, known, node, *one)?;
-            push_alternatives(known, node, &with_one, &mut marks)?;
-            if one != other {
-                let with_other = beginning_with(alloc, known, node, *other)?;
-                push_alternatives(known, node, &with_other, &mut marks)?;
+            push_beginning(alloc, known, node, *one, marks)?;
+            if one == other {
+                return Ok(());
             }
+            push_beginning(alloc, known, node, *other, marks)
         }
         ViolationKind::OperandMeetsOperators(start) => {
-            marks.push(plain(known, known.round(node, *start)))?;
+            push_plain(known, known.round(node, *start), marks)
         }
         ViolationKind::RoundMeetsFollow(_, _)
         | ViolationKind::FollowMeetsOperators(_)
         | ViolationKind::GapMeets(_)
-        | ViolationKind::StepCostOver => {}
+        | ViolationKind::StepCostOver => Ok(()),
     }
-    if marks.is_empty() {
-        marks.push(plain(known, node))?;
-    }
-    in_order(alloc, &marks)
+}
+
+/// Pushes marks of the alternatives that begin with a start.
+fn push_beginning(
+    alloc: Global,
+    known: &Known,
+    node: NodeId,
+    start: usize,
+    marks: &mut Vec<Mark>,
+) -> Result<(), AllocError> {
+    let numbers = beginning_with(alloc, known, node, start)?;
+    push_alternatives(known, node, &numbers, marks)
 }
 
 /// The use of a rule at the front of this one by which that comes back to itself; the rule's body, if it isn't found.
@@ -64,14 +85,15 @@ fn coming_back(alloc: Global, known: &Known, node: NodeId) -> Result<NodeId, All
     }
 }
 
-/// A plain mark of a node.
-fn plain(known: &Known, node: NodeId) -> Mark {
+/// Pushes a plain mark of a node.
+fn push_plain(known: &Known, node: NodeId, marks: &mut Vec<Mark>) -> Result<(), AllocError> {
     let span = span_of(known, node);
-    Mark {
+    marks.push(Mark {
         first: span.first,
         after: span.after,
         number: None,
-    }
+    })?;
+    Ok(())
 }
 
 /// Pushes marks of the first alternatives with these numbers that were written and aren't marked.

@@ -42,12 +42,26 @@ pub fn explain_findings(
     most: usize,
 ) -> Result<Explanation, AllocError> {
     let known = Known::of(alloc, refused, file)?;
+    let explanation = explain_nodes(alloc, &known, refused, from, to, most);
+    drop(known);
+    explanation
+}
+
+/// The same, by what is known of the grammar.
+fn explain_nodes(
+    alloc: Global,
+    known: &Known,
+    refused: &Refused,
+    from: usize,
+    to: usize,
+    most: usize,
+) -> Result<Explanation, AllocError> {
     let mut sections = Vec::new(alloc);
     let mut untold: usize = 0;
     for number in from..to {
         let found = count_at(refused, number);
         if found > 0 {
-            let told = push_node(alloc, &mut sections, &known, refused, number, most)?;
+            let told = push_node(alloc, &mut sections, known, refused, number, most)?;
             untold = untold.saturating_add(found.saturating_sub(told));
         }
     }

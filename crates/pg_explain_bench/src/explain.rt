@@ -23,7 +23,7 @@ use std::alloc::{AllocError, Global};
 use std::io::Write;
 
 /// What was told of a grammar.
-#[derive(Clone, Copy, Debug, PartialEq, Eq)]
+#[derive(Clone, Copy)]
 pub enum Explained {
     /// That it is accepted.
     Accepted,
@@ -67,9 +67,11 @@ pub fn explain_bytes<W: Write>(
         spans,
     } = placed_of(alloc, grammar, registry)?;
     let Some(nodes) = nodes_asked(&read, asked) else {
+        drop(read);
         return Ok(Explained::NotThere);
     };
     let Ok(text) = characters(alloc, grammar) else {
+        drop(read);
         return Err(BenchFault::Memory);
     };
     let file = GrammarFile {
@@ -107,11 +109,20 @@ fn explain<W: Write>(
     ensures prefix { IsErrOf result BenchFault.Writer → IsPartlyExplained grammar (W.contents writer.old.inner) (W.contents writer.new.inner) }
 {
     match check(alloc, grammar) {
-        Ok(checked) => tell_accepted(alloc, &checked, file, writer),
-        Err(CheckFault::Refused(refused)) => tell_refused(
-            alloc, &refused, file, nodes, registry, writer,
-        ),
-        Err(CheckFault::Memory(_)) => Err(BenchFault::Memory),
+        Ok(checked) => {
+            let told = tell_accepted(alloc, &checked, file, writer);
+            drop(checked);
+            told
+        }
+        Err(CheckFault::Refused(refused)) => {
+            let told = tell_refused(alloc, &refused, file, nodes, registry, writer);
+            drop(refused);
+            told
+        }
+        Err(CheckFault::Memory(grammar)) => {
+            drop(grammar);
+            Err(BenchFault::Memory)
+        }
     }
 }
 

@@ -58,7 +58,9 @@ fn push_sections(
     requires { Fits (offer_of registry.now) refused.now.grammar }
 {
     let cures = cures_of(alloc, refused, file, registry, sections)?;
-    push_with_cures(alloc, page, refused, sections, &cures, registry)
+    let pushed = push_with_cures(alloc, page, refused, sections, &cures, registry);
+    drop(cures);
+    pushed
 }
 
 /// Pushes the sections, whose changes were found.
@@ -73,7 +75,9 @@ fn push_with_cures(
     requires { Fits (offer_of registry.now) refused.now.grammar }
 {
     let seeker = Seeker::of(alloc, refused.grammar(), refused.sets())?;
-    push_with_texts(alloc, page, &seeker, sections, cures, registry)
+    let pushed = push_with_texts(alloc, page, &seeker, sections, cures, registry);
+    drop(seeker);
+    pushed
 }
 
 /// Pushes the sections, for which texts are looked for.
@@ -88,7 +92,11 @@ fn push_with_texts(
     requires { Fits (offer_of registry.now) seeker.now.grammar.now }
 {
     match Table::of(alloc, seeker.grammar) {
-        Ok(table) => push_shown(alloc, page, seeker, &table, registry, sections, cures),
+        Ok(table) => {
+            let pushed = push_shown(alloc, page, seeker, &table, registry, sections, cures);
+            drop(table);
+            pushed
+        }
         // No text is parsed then; no file that is read has such a grammar.
         Err(InitialFault::NotAdmitted { .. }) => push_told(alloc, page, sections, cures),
         Err(InitialFault::Memory) => Err(AllocError),

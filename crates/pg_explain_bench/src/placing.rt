@@ -11,8 +11,10 @@ ghost use Rattle.pg_grammar_bench.specs.Faults.{IfFile, IsFileRefusal};
 use crate::explain::characters;
 use pg_excerpt::positions;
 use pg_grammar_bench::{BenchFault, placed_of};
+use pg_items::Span;
 use pg_making::PlacedGrammar;
 use pg_pred::Registry;
+use pg_text::Pos;
 use std::alloc::{AllocError, Global};
 use std::io;
 use std::io::Write;
@@ -47,7 +49,9 @@ pub fn places_of(
     ensures file { IfErr result (IfFile (IsFaultOfFile (offer_of registry.now) bytes.now)) }
 {
     let placed = placed_of(alloc, bytes, registry)?;
-    match make_places(alloc, name, bytes, &placed, names) {
+    let made = make_places(alloc, name, bytes, &placed, names);
+    drop(placed);
+    match made {
         Ok(places) => Ok(places),
         Err(_) => Err(BenchFault::Memory),
     }
@@ -60,26 +64,53 @@ fn make_places(
     placed: &PlacedGrammar,
     names: bool,
 ) -> Result<Places, AllocError> {
-    let mut places = if names {
-        Places::of_name(alloc, name)?
-    } else {
-        Places::of_name(alloc, "")?
-    };
-    let text = characters(alloc, bytes)?;
-    let positions = positions(alloc, &text)?;
-    for span in &placed.spans {
-        let front = match positions.get(span.first) {
-            Some(position) => {
-                let line = position.line;
-                let column = position.column;
-                format!(in alloc; "{name}:{line}:{column}: ")?
-            }
-            None => String::new(alloc),
-        };
-        places.fronts.push(front)?;
+    let otherwise = front_of_others(alloc, if names { name } else { "" })?;
+    let fronts = fronts_of(alloc, name, bytes, &placed.spans)?;
+    let rules = placed_rules(alloc, placed)?;
+    Ok(Places {
+        rules,
+        fronts,
+        otherwise,
+    })
+}
+
+/// What is put in front of the findings of nodes that have these spans.
+fn fronts_of(
+    alloc: Global,
+    name: &str,
+    bytes: &[u8],
+    spans: &[Span],
+) -> Result<Vec<String>, AllocError> {
+    let positions = positions_of(alloc, bytes)?;
+    let mut fronts = Vec::new(alloc);
+    for span in spans {
+        fronts.push(front_at(alloc, name, positions.get(span.first))?)?;
     }
-    places.rules = placed_rules(alloc, placed)?;
-    Ok(places)
+    Ok(fronts)
+}
+
+/// The position of each place of a file.
+fn positions_of(alloc: Global, bytes: &[u8]) -> Result<Vec<Pos>, AllocError> {
+    let text = characters(alloc, bytes)?;
+    positions(alloc, &text)
+}
+
+/// What is put in front of the findings of a node that stands there; nothing, where it stands nowhere.
+fn front_at(alloc: Global, name: &str, position: Option<&Pos>) -> Result<String, AllocError> {
+    let Some(position) = position else {
+        return Ok(String::new(alloc));
+    };
+    let line = position.line;
+    let column = position.column;
+    format!(in alloc; "{name}:{line}:{column}: ")
+}
+
+/// What is put in front of a line that begins with no node: the file's name, or nothing where that is empty.
+fn front_of_others(alloc: Global, name: &str) -> Result<String, AllocError> {
+    if name.is_empty() {
+        return Ok(String::new(alloc));
+    }
+    format!(in alloc; "{name}: ")
 }
 
 fn placed_rules(alloc: Global, placed: &PlacedGrammar) -> Result<Vec<PlacedRule>, AllocError> {
@@ -96,11 +127,7 @@ fn placed_rules(alloc: Global, placed: &PlacedGrammar) -> Result<Vec<PlacedRule>
 impl Places {
     /// Places of no node, so that a name that isn't empty stands in front of every line. The only error is that memory ran out.
     pub fn of_name(alloc: Global, name: &str) -> Result<Places, AllocError> {
-        let otherwise = if name.is_empty() {
-            String::new(alloc)
-        } else {
-            format!(in alloc; "{name}: ")?
-        };
+        let otherwise = front_of_others(alloc, name)?;
         Ok(Places {
             rules: Vec::new(alloc),
             fronts: Vec::new(alloc),

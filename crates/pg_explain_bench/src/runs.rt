@@ -33,7 +33,11 @@ pub fn outline_bytes<W: Write>(
     requires { writer.old.failed ≡ false }
 {
     match checked_of(alloc, grammar, registry) {
-        Ok(checked) => outline_checked(alloc, &checked, registry, text, writer),
+        Ok(checked) => {
+            let written = outline_checked(alloc, &checked, registry, text, writer);
+            drop(checked);
+            written
+        }
         Err(fault) => unless_memory(fault),
     }
 }
@@ -72,7 +76,7 @@ fn outline_text<W: Write>(
     let Ok(answer) = run(alloc, checked, text, table, registry) else {
         return Err(WriteFault::Memory);
     };
-    match &answer.success {
+    let written = match &answer.success {
         Some(success) => write_outline(
             alloc,
             checked.grammar(),
@@ -83,7 +87,9 @@ fn outline_text<W: Write>(
             writer,
         ),
         None => Ok(()),
-    }
+    };
+    drop(answer);
+    written
 }
 
 /// What is told of a run: of this rule alone, or of all where this is empty; in so many steps at most, in this reading of choice.
@@ -105,7 +111,11 @@ pub fn trace_bytes<W: Write>(
     writer: &mut W,
 ) -> Result<bool, WriteFault> {
     match placed_of(alloc, grammar, registry) {
-        Ok(placed) => trace_grammar(alloc, &placed.grammar, registry, text, tracing, writer),
+        Ok(placed) => {
+            let found = trace_grammar(alloc, &placed.grammar, registry, text, tracing, writer);
+            drop(placed);
+            found
+        }
         Err(fault) => match unless_memory(fault) {
             Ok(()) => Ok(true),
             Err(error) => Err(error),
@@ -170,7 +180,7 @@ fn table_of(alloc: Global, grammar: &Grammar) -> Result<Option<Table>, WriteFaul
 
 /// Of the faults of a grammar, want of memory alone is one here. The fault is let go.
 fn unless_memory(fault: BenchFault) -> Result<(), WriteFault> {
-    match fault {
+    let told = match &fault {
         BenchFault::Memory => Err(WriteFault::Memory),
         BenchFault::File(_)
         | BenchFault::Refused(_)
@@ -181,5 +191,7 @@ fn unless_memory(fault: BenchFault) -> Result<(), WriteFault> {
         | BenchFault::NotVerified(_)
         | BenchFault::ParseError(_)
         | BenchFault::Writer => Ok(()),
-    }
+    };
+    drop(fault);
+    told
 }

@@ -1,15 +1,15 @@
 //! The page on a fault.
 
 use crate::limits::limit_words;
-use crate::names::{Defined, NameKind, PREDICATES, names_defined, names_of};
-use crate::nearest::nearest;
-use crate::shown::{push_line, quoted};
+use crate::names::{Defined, PREDICATES, names_defined};
+use crate::shown::push_line;
 use crate::tokens::Tokens;
 use crate::unexpected::push_unexpected;
-use crate::unknown::push_unknown;
+use crate::unknown::{push_no_such_rule, push_unknown};
 use pg_excerpt::{Mark, positions, push_excerpt};
 use pg_file::{FaultKind, FileFault};
 use pg_table::AdmitFault;
+use pg_text::Pos;
 use pg_tokens::{characters_of, is_word, lex};
 use std::alloc::{AllocError, Global};
 
@@ -28,14 +28,25 @@ pub fn fault_page(
         lexemes: &lexemes,
     };
     let place = place_of(alloc, &text, fault)?;
-    let mut page = String::new(alloc);
+    page_at(alloc, name, &tokens, place, fault.kind)
+}
+
+/// The line of a place, and what is wrong there.
+fn page_at(
+    alloc: Global,
+    name: &str,
+    tokens: &Tokens,
+    place: usize,
+    kind: FaultKind,
+) -> Result<String, AllocError> {
     let mark = Mark {
         first: place,
         after: tokens.end(place),
         number: None,
     };
-    push_excerpt(alloc, &mut page, name, &text, place, &[mark])?;
-    push_words(alloc, &mut page, &tokens, place, fault.kind)?;
+    let mut page = String::new(alloc);
+    push_excerpt(alloc, &mut page, name, tokens.text, place, &[mark])?;
+    push_words(alloc, &mut page, tokens, place, kind)?;
     Ok(page)
 }
 
@@ -144,20 +155,34 @@ fn push_twice(
             "a predicate has this name, and a class can't have it too",
         );
     }
-    let first = match earlier(&names_defined(alloc, tokens)?, tokens.place(number), name) {
+    let there = names_defined(alloc, tokens)?;
+    let first = match earlier(&there, tokens.place(number), name) {
         Some(first) => first,
         None => first_item(tokens, name),
     };
-    let positions = positions(alloc, tokens.text)?;
+    push_first(alloc, page, tokens.text, first)
+}
+
+/// Pushes that the first one stands at this place.
+fn push_first(
+    alloc: Global,
+    page: &mut String,
+    text: &[char],
+    first: usize,
+) -> Result<(), AllocError> {
+    let positions = positions(alloc, text)?;
     match positions.get(first) {
-        Some(position) => {
-            let line = position.line;
-            let column = position.column;
-            let words = format!(in alloc; "the first one stands at {line}:{column}")?;
-            push_line(page, words.as_str())
-        }
+        Some(position) => push_stands(alloc, page, *position),
         None => Ok(()),
     }
+}
+
+/// Pushes that the first one has this position.
+fn push_stands(alloc: Global, page: &mut String, position: Pos) -> Result<(), AllocError> {
+    let line = position.line;
+    let column = position.column;
+    let words = format!(in alloc; "the first one stands at {line}:{column}")?;
+    push_line(page, words.as_str())
 }
 
 /// Where a name before a place was defined, of what the one at the place is defined as.
@@ -194,16 +219,6 @@ fn push_no_start(
             "there is no `start` item: start NAME; names the rule that a text is parsed by",
         );
     };
-    let shown = quoted(alloc, name)?;
-    let words = format!(in alloc; "there is no rule {shown}")?;
-    push_line(page, words.as_str())?;
-    let rules = names_of(alloc, &names_defined(alloc, tokens)?, NameKind::Rule)?;
-    match nearest(alloc, name, &rules)? {
-        Some(found) => {
-            let found = quoted(alloc, found)?;
-            let words = format!(in alloc; "did you mean {found}?")?;
-            push_line(page, words.as_str())
-        }
-        None => Ok(()),
-    }
+    let there = names_defined(alloc, tokens)?;
+    push_no_such_rule(alloc, page, &there, name)
 }

@@ -16,24 +16,47 @@ pub(crate) fn push_unexpected(
     number: usize,
 ) -> Result<(), AllocError> {
     let place = tokens.place(number);
-    let here = shown(alloc, tokens, place)?;
-    let could = if wanted_at(tokens, number) == Wanted::Builder {
-        String::from_str(alloc, "the name of a builder")?
-    } else {
-        expected(alloc, tokens.text, place)?
-    };
-    let words = if could.is_empty() {
-        format!(in alloc; "{here} can't stand here")?
-    } else if place >= tokens.text.len() {
-        format!(in alloc; "the file ends here, and there could be {could}")?
-    } else {
-        format!(in alloc; "{here} can't stand here; there could be {could}")?
-    };
-    push_line(page, words.as_str())?;
+    let could = could_stand(alloc, tokens, number)?;
+    push_found(alloc, page, tokens, place, could.as_str())?;
     if could.starts_with("a name") {
-        return push_taken(alloc, page, tokens, number);
+        push_taken(alloc, page, tokens, number)
+    } else {
+        push_advice(alloc, page, tokens, number)
     }
-    push_advice(alloc, page, tokens, number)
+}
+
+/// What could stand in the place of a token, in words.
+fn could_stand(alloc: Global, tokens: &Tokens, number: usize) -> Result<String, AllocError> {
+    if wanted_at(tokens, number) == Wanted::Builder {
+        String::from_str(alloc, "the name of a builder")
+    } else {
+        expected(alloc, tokens.text, tokens.place(number))
+    }
+}
+
+/// Pushes what can't stand at a place, and what could.
+fn push_found(
+    alloc: Global,
+    page: &mut String,
+    tokens: &Tokens,
+    place: usize,
+    could: &str,
+) -> Result<(), AllocError> {
+    let here = shown(alloc, tokens, place)?;
+    let is_end = place >= tokens.text.len();
+    let words = found_words(alloc, here.as_str(), could, is_end)?;
+    push_line(page, words.as_str())
+}
+
+/// What can't stand where it does, or that the file ends there, and what could stand there.
+fn found_words(alloc: Global, here: &str, could: &str, is_end: bool) -> Result<String, AllocError> {
+    if could.is_empty() {
+        format!(in alloc; "{here} can't stand here")
+    } else if is_end {
+        format!(in alloc; "the file ends here, and there could be {could}")
+    } else {
+        format!(in alloc; "{here} can't stand here; there could be {could}")
+    }
 }
 
 /// Pushes that a name is one that grammar files use themselves, if one stands there.
@@ -81,11 +104,16 @@ fn called<'f>(tokens: &Tokens<'f>, number: usize) -> Option<&'f [char]> {
 /// Pushes that a name is no form, and what to do in its place.
 fn push_no_form(alloc: Global, page: &mut String, name: &[char]) -> Result<(), AllocError> {
     let shown = quoted(alloc, name)?;
-    let words = match in_place_of(name) {
-        Some(instead) => format!(in alloc; "grammar files have no {shown}; {instead}")?,
-        None => format!(in alloc; "{shown} has no parentheses: it is no form that takes any")?,
-    };
+    let words = no_form_words(alloc, name, shown.as_str())?;
     push_line(page, words.as_str())
+}
+
+/// That a name is no form, and what to do in its place.
+fn no_form_words(alloc: Global, name: &[char], shown: &str) -> Result<String, AllocError> {
+    match in_place_of(name) {
+        Some(instead) => format!(in alloc; "grammar files have no {shown}; {instead}"),
+        None => format!(in alloc; "{shown} has no parentheses: it is no form that takes any"),
+    }
 }
 
 /// What is mostly meant by a token that can't stand there.

@@ -22,7 +22,7 @@ pub(crate) fn push_unknown(
     let there = names_defined(alloc, tokens)?;
     let shown = quoted(alloc, name)?;
     match wanted_at(tokens, number) {
-        Wanted::Value => push_no_rule(alloc, page, &there, name, shown.as_str()),
+        Wanted::Value => push_no_value(alloc, page, &there, name, shown.as_str()),
         Wanted::Class => push_no_class(alloc, page, tokens, &there, name, shown.as_str()),
         Wanted::Word => push_no_word(alloc, page, &there, name, shown.as_str()),
         Wanted::Builder => push_no_builder(alloc, page, name, shown.as_str()),
@@ -34,19 +34,35 @@ pub(crate) fn push_unknown(
 }
 
 /// Pushes that a name is that of no rule, and of what it is one, or which rule may be meant.
-fn push_no_rule(
+fn push_no_value(
     alloc: Global,
     page: &mut String,
     there: &[Defined],
     name: &[char],
     shown: &str,
 ) -> Result<(), AllocError> {
-    if let Some(words) = else_words(alloc, there, name, shown)? {
-        return push_line(page, words.as_str());
+    match else_words(alloc, there, name, shown)? {
+        Some(words) => push_line(page, words.as_str()),
+        None => push_no_such_rule(alloc, page, there, name),
     }
+}
+
+/// Pushes that there is no rule of this name, and which may be meant. The only error is that memory ran out.
+pub(crate) fn push_no_such_rule(
+    alloc: Global,
+    page: &mut String,
+    there: &[Defined],
+    name: &[char],
+) -> Result<(), AllocError> {
+    push_no_rule(alloc, page, name)?;
+    push_nearest_of(alloc, page, there, name, NameKind::Rule)
+}
+
+/// Pushes that there is no rule of this name.
+fn push_no_rule(alloc: Global, page: &mut String, name: &[char]) -> Result<(), AllocError> {
+    let shown = quoted(alloc, name)?;
     let words = format!(in alloc; "there is no rule {shown}")?;
-    push_line(page, words.as_str())?;
-    push_nearest(alloc, page, name, &names_of(alloc, there, NameKind::Rule)?)
+    push_line(page, words.as_str())
 }
 
 /// What a name that stands for no value stands for else, and how a value is made of it.
@@ -56,25 +72,31 @@ fn else_words(
     name: &[char],
     shown: &str,
 ) -> Result<Option<String>, AllocError> {
-    let bare = bare(alloc, name)?;
-    let words = if is_one_of(&PREDICATES, name) {
-        format!(in alloc;
-            "{shown} is a predicate, and a value has to be here: satisfy({bare}) reads one such character"
-        )?
+    let (what, form, read) = if is_one_of(&PREDICATES, name) {
+        ("a predicate", "satisfy", "one such character")
     } else if named(there, NameKind::Class, name).is_some() {
-        format!(in alloc;
-            "{shown} is a class, and a value has to be here: satisfy({bare}) reads one such character"
-        )?
+        ("a class", "satisfy", "one such character")
     } else if named(there, NameKind::Word, name).is_some() {
-        format!(in alloc;
-            "{shown} is a word item, and a value has to be here: word({bare}) reads such a word"
-        )?
-    } else if let Some(instead) = in_place_of(name) {
-        format!(in alloc; "grammar files have no {shown}; {instead}")?
+        ("a word item", "word", "such a word")
     } else {
-        return Ok(None);
+        return instead_words(alloc, name, shown);
     };
+    let bare = bare(alloc, name)?;
+    let words = format!(in alloc;
+        "{shown} is {what}, and a value has to be here: {form}({bare}) reads {read}"
+    )?;
     Ok(Some(words))
+}
+
+/// What stands in place of a form that grammar files don't have, if the name is one of those.
+fn instead_words(alloc: Global, name: &[char], shown: &str) -> Result<Option<String>, AllocError> {
+    match in_place_of(name) {
+        Some(instead) => {
+            let words = format!(in alloc; "grammar files have no {shown}; {instead}")?;
+            Ok(Some(words))
+        }
+        None => Ok(None),
+    }
 }
 
 /// Pushes that a name is that of no class above, and of no predicate.
@@ -86,23 +108,55 @@ fn push_no_class(
     name: &[char],
     shown: &str,
 ) -> Result<(), AllocError> {
-    let words = if named(there, NameKind::Class, name).is_some() {
-        format!(in alloc; "the class {shown} is defined below, and has to stand above its use")?
+    push_no_class_words(alloc, page, there, name, shown)?;
+    let names = other_classes(alloc, tokens, there, name)?;
+    push_nearest_or(alloc, page, name, &names, &PREDICATES)
+}
+
+/// Pushes what a name that is no class above is.
+fn push_no_class_words(
+    alloc: Global,
+    page: &mut String,
+    there: &[Defined],
+    name: &[char],
+    shown: &str,
+) -> Result<(), AllocError> {
+    let words = no_class_words(alloc, there, name, shown)?;
+    push_line(page, words.as_str())
+}
+
+/// What a name that is no class above is, in words.
+fn no_class_words(
+    alloc: Global,
+    there: &[Defined],
+    name: &[char],
+    shown: &str,
+) -> Result<String, AllocError> {
+    if named(there, NameKind::Class, name).is_some() {
+        format!(in alloc; "the class {shown} is defined below, and has to stand above its use")
     } else if named(there, NameKind::Rule, name).is_some() {
         format!(in alloc;
             "{shown} is a rule, and a class has to be here, as digit, \"xyz\" or \"a\"..\"z\""
-        )?
+        )
     } else {
-        format!(in alloc; "{shown} is no predicate, and no class that is defined above")?
-    };
-    push_line(page, words.as_str())?;
+        format!(in alloc; "{shown} is no predicate, and no class that is defined above")
+    }
+}
+
+/// The names of the classes of a file that read otherwise than this.
+fn other_classes<'f>(
+    alloc: Global,
+    tokens: &Tokens,
+    there: &[Defined<'f>],
+    name: &[char],
+) -> Result<Vec<&'f [char]>, AllocError> {
     let mut names = Vec::new(alloc);
     for one in there {
         if one.kind == NameKind::Class && one.name != name && one.place < tokens.text.len() {
             names.push(one.name)?;
         }
     }
-    push_nearest_or(alloc, page, name, &names, &PREDICATES)
+    Ok(names)
 }
 
 /// Pushes that a name is that of no word item.
@@ -113,12 +167,22 @@ fn push_no_word(
     name: &[char],
     shown: &str,
 ) -> Result<(), AllocError> {
+    push_word_item(alloc, page, name, shown)?;
+    push_nearest_of(alloc, page, there, name, NameKind::Word)
+}
+
+/// Pushes how a word item of a name is written, that is none.
+fn push_word_item(
+    alloc: Global,
+    page: &mut String,
+    name: &[char],
+    shown: &str,
+) -> Result<(), AllocError> {
     let bare = bare(alloc, name)?;
     let words = format!(in alloc;
         "{shown} is no word item, as: word {bare} head letter rest alphaNum;"
     )?;
-    push_line(page, words.as_str())?;
-    push_nearest(alloc, page, name, &names_of(alloc, there, NameKind::Word)?)
+    push_line(page, words.as_str())
 }
 
 /// Pushes that a name is that of no builder.
@@ -128,14 +192,36 @@ fn push_no_builder(
     name: &[char],
     shown: &str,
 ) -> Result<(), AllocError> {
-    let bare = bare(alloc, name)?;
+    push_builders(alloc, page, shown)?;
+    push_label(alloc, page, name)?;
+    push_nearest_or(alloc, page, name, &[], &BUILDERS)
+}
+
+/// Pushes which builders there are.
+fn push_builders(alloc: Global, page: &mut String, shown: &str) -> Result<(), AllocError> {
     let words = format!(in alloc;
         "{shown} is no builder; those are node, num, name, list, call, flat and join"
     )?;
-    push_line(page, words.as_str())?;
+    push_line(page, words.as_str())
+}
+
+/// Pushes how a name is written as a label.
+fn push_label(alloc: Global, page: &mut String, name: &[char]) -> Result<(), AllocError> {
+    let bare = bare(alloc, name)?;
     let words = format!(in alloc; "a label of your own is a symbol: build(node, \"{bare}\", v)")?;
-    push_line(page, words.as_str())?;
-    push_nearest_or(alloc, page, name, &[], &BUILDERS)
+    push_line(page, words.as_str())
+}
+
+/// Pushes the name of a kind that is nearest, if one is near.
+fn push_nearest_of(
+    alloc: Global,
+    page: &mut String,
+    there: &[Defined],
+    name: &[char],
+    kind: NameKind,
+) -> Result<(), AllocError> {
+    let names = names_of(alloc, there, kind)?;
+    push_nearest(alloc, page, name, &names)
 }
 
 /// Pushes the name that is nearest, if one is near.
@@ -146,13 +232,16 @@ fn push_nearest(
     names: &[&[char]],
 ) -> Result<(), AllocError> {
     match nearest(alloc, name, names)? {
-        Some(found) => {
-            let found = quoted(alloc, found)?;
-            let words = format!(in alloc; "did you mean {found}?")?;
-            push_line(page, words.as_str())
-        }
+        Some(found) => push_meant(alloc, page, found),
         None => Ok(()),
     }
+}
+
+/// Pushes that a name may be meant.
+fn push_meant(alloc: Global, page: &mut String, name: &[char]) -> Result<(), AllocError> {
+    let shown = quoted(alloc, name)?;
+    let words = format!(in alloc; "did you mean {shown}?")?;
+    push_line(page, words.as_str())
 }
 
 /// Pushes the name that is nearest among some and among words of the program, if one is near.
@@ -163,10 +252,7 @@ fn push_nearest_or(
     names: &[&[char]],
     words: &[&str],
 ) -> Result<(), AllocError> {
-    let mut spelled = Vec::new(alloc);
-    for word in words {
-        spelled.push(characters_of(alloc, word)?)?;
-    }
+    let spelled = spelled(alloc, words)?;
     let mut all = Vec::new(alloc);
     for one in names {
         all.push(*one)?;
@@ -175,6 +261,15 @@ fn push_nearest_or(
         all.push(one.as_slice())?;
     }
     push_nearest(alloc, page, name, &all)
+}
+
+/// The characters of words.
+fn spelled(alloc: Global, words: &[&str]) -> Result<Vec<Vec<char>>, AllocError> {
+    let mut spelled = Vec::new(alloc);
+    for word in words {
+        spelled.push(characters_of(alloc, word)?)?;
+    }
+    Ok(spelled)
 }
 
 /// A name as a text.

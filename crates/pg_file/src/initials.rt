@@ -13,7 +13,7 @@ use pg_value::Grammar;
 use std::alloc::{AllocError, Global};
 
 /// An initial operator that isn't admitted by those above it.
-#[derive(Clone, Copy, Debug, PartialEq, Eq)]
+#[derive(Clone, Copy)]
 pub struct RefusedInitial {
     /// Where its symbol stands.
     pub place: usize,
@@ -30,7 +30,9 @@ pub fn first_refused(
 ) -> Result<Option<RefusedInitial>, AllocError> {
     let mut places = Vec::new(alloc);
     let grammar = grammar_of_initials(alloc, reserved, most, items, &mut places)?;
-    match Table::of(alloc, &grammar) {
+    let judged = Table::of(alloc, &grammar);
+    drop(grammar);
+    match judged {
         Ok(_) => Ok(None),
         Err(InitialFault::NotAdmitted { index, fault }) => {
             let reason = fault;

@@ -14,7 +14,7 @@ use pg_text::Characters;
 use std::alloc::{AllocError, Global};
 
 /// What can be wrong with a name or an initial operator.
-#[derive(Clone, Copy, Debug, PartialEq, Eq)]
+#[derive(Clone, Copy)]
 pub enum NameFaultKind {
     /// It stands for nothing.
     Unknown,
@@ -27,7 +27,7 @@ pub enum NameFaultKind {
 }
 
 /// A fault and how many characters stand before it.
-#[derive(Clone, Copy, Debug, PartialEq, Eq)]
+#[derive(Clone, Copy)]
 pub struct NameFault {
     pub kind: NameFaultKind,
     pub place: usize,

@@ -1,6 +1,6 @@
 -- The operators of a tree that fits are taken one after another, and its steps come of it.
 use Rattle.std.proofs.Common.{◌≡◌, ◌<◌, ◌≤◌, ◌⊎◌, ◌==◌, ℕ, Bool, true, false, not, List, [], ◌∷◌, ◌++◌, inl, inr, refl, sym, ap, subst, ◌∙◌, append_assoc, append-nil, arith}
-use Rattle.std.specs.Prelude.{Option, None, Some, is_some, map, option_map, option_and_then, if◌then◌else◌}
+use Rattle.std.specs.Prelude.{Option, None, Some, map, option_map, option_and_then, if◌then◌else◌}
 use Rattle.pg_form.specs.Operators.{Operator}
 use Rattle.pg_form.specs.declared.decl.Role.{Role}
 use Rattle.pg_form.specs.declared.decl.Role.TheVariants.{InfixLeft, InfixRight, InfixNone, Prefix, Postfix}
@@ -9,11 +9,11 @@ use Rattle.pg_value.specs.declared.trail.Fixity.TheVariants as fixity
 use Rattle.pg_table.specs.Tables.{is_prefix}
 use Rattle.pg_table.specs.Fitting.{Expression, term, prefixed, postfixed, joined, row, rank, IsInfix, IsPrefixed, IsUnary, IsJoined, IsFittingSide, IsFitting}
 use Rattle.pg_table.specs.Trails.{applied, operators_read}
-use Rattle.pg_expand.specs.Rows.{is_left, is_right}
-use Rattle.pg_expand.proofs.Ranks.{unary_rank, joined_rank, prefixed_rank, side_rank, postfixed_operand}
-use Rattle.pg_fitting.specs.Steps.{Step, a_term, a_symbol, an_application, steps_of, AreTold}
+use Rattle.pg_expand.specs.Rows.{is_right}
+use Rattle.pg_expand.proofs.Ranks.{unary_rank, joined_rank, prefixed_rank, side_rank}
+use Rattle.pg_fitting.specs.Steps.{Step, a_symbol, an_application, steps_of, AreTold}
 use Rattle.pg_fitting.specs.Judge.{Known, Judge, Closed, is_infix, stands_on, is_unary, goes_under, top_takes, operand_of, closed_until, closed_by, closed_for, waits, follows, placed_if, between_closed, after_closed, known_in, judged, all_applied, finished, beginning, judgement}
-use Rattle.pg_fitting.proofs.Waiting.{Waiting, before, between, closed, read_before, done_before, applied_of, closed-done, known, known_waiting, root, root-closed, applied-waiting, FitsUnder, IsWaiting, FitsTop}
+use Rattle.pg_fitting.proofs.Waiting.{Waiting, before, between, closed, done_before, closed-done, known, known_waiting, root, root-closed, applied-waiting, FitsUnder, IsWaiting, FitsTop}
 use Rattle.pg_fitting.proofs.Places.{if_true, if_false, GoesUnder, under_decides, fits_top, fits_left, fits_postfix}
 use Rattle.pg_fitting.proofs.Found.{table_known}
 

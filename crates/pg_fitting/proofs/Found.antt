@@ -1,6 +1,6 @@
 -- Operators that are looked up by their symbol and side.
-use Rattle.std.proofs.Common.{◌≡◌, ◌⊎◌, ℕ, zero, suc, Bool, true, false, cond, List, [], ◌∷◌, inl, inr, refl, sym, ap, subst, ◌∙◌}
-use Rattle.std.specs.Prelude.{Option, None, Some, map, filter, if◌then◌else◌}
+use Rattle.std.proofs.Common.{◌≡◌, ◌⊎◌, Bool, true, false, List, [], ◌∷◌, inl, inr, refl, sym, ap, ◌∙◌}
+use Rattle.std.specs.Prelude.{Some, map, filter, if◌then◌else◌}
 use Rattle.std.specs.Str.{bytes_eq}
 use Rattle.std.proofs.lemmas.Slice.Eq.{bytes_eq-Decides}
 use Rattle.pg_form.specs.Operators.{Operator}
@@ -12,8 +12,7 @@ use Rattle.pg_value.specs.declared.trail.Fixity.TheVariants as fixity
 use Rattle.pg_table.specs.Tables.{is_prefix}
 use Rattle.pg_table.specs.Fitting.{IsAmong}
 use Rattle.pg_table.specs.Trails.{applied}
-use Rattle.pg_expand.specs.declared.lookup.RowOperator.{RowOperator}
-use Rattle.pg_expand.specs.Lookups.{with_row, with_symbol}
+use Rattle.pg_expand.specs.Lookups.{with_row}
 use Rattle.pg_expand.proofs.Members.{Among}
 use Rattle.pg_expand.proofs.Levels.{to_member, from_member, filtered, kept}
 use Rattle.pg_fitting.specs.Steps.{AreTold}

@@ -10,7 +10,7 @@ use Rattle.pg_value.specs.declared.trail.Fixity.TheVariants as fixity
 use Rattle.pg_table.specs.Tables.{is_prefix}
 use Rattle.pg_table.specs.Fitting.{Expression, term, prefixed, postfixed, joined, row, rank, IsInfix, IsPrefixed, IsUnary, IsJoined, IsFittingSide, IsFitting}
 use Rattle.pg_expand.specs.Rows.{is_left, is_right}
-use Rattle.pg_expand.proofs.Levels.{left_role, right_role, prefix_role}
+use Rattle.pg_expand.proofs.Levels.{left_role, right_role}
 use Rattle.pg_fitting.specs.Judge.{Known, is_unary, goes_under, top_takes, root_row, beside, goes_left, is_prefixed, takes_postfix}
 use Rattle.pg_fitting.proofs.Waiting.{Waiting, before, between, known, known_waiting, root, FitsUnder, IsWaiting, FitsTop}
 
@@ -50,12 +50,6 @@ prefix_is_unary r e = ap is_unary e
 
 postfix_is_unary : (r : Role) → r ≡ Postfix → is_unary r ≡ true
 postfix_is_unary r e = ap is_unary e
-
-not_right : (r s : Role) → r ≡ s → is_right s ≡ false → is_right r ≡ true → ⊥
-not_right r s e h k = let same = ap is_right e in cc
-
-not_left : (r s : Role) → r ≡ s → is_left s ≡ false → is_left r ≡ true → ⊥
-not_left r s e h k = let same = ap is_left e in cc
 
 no_prefix : (r : Role) → r ≡ Prefix → not (is_prefix r) ≡ true → ⊥
 no_prefix r e h = let same = ap (λ q. not (is_prefix q)) e in cc

@@ -1,5 +1,5 @@
 -- What is taken is read of operators that wait and of an operand, all of which fit, so that its end is a tree that fits.
-use Rattle.std.proofs.Common.{◌≡◌, ◌<◌, ◌≤◌, ℕ, Bool, true, false, List, [], ◌∷◌, ◌++◌, inl, inr, refl, sym, ap, subst, ◌∙◌, append_assoc, append-nil, arith}
+use Rattle.std.proofs.Common.{◌≡◌, ◌<◌, ◌≤◌, Bool, true, false, List, [], ◌∷◌, ◌++◌, inl, refl, sym, ap, subst, ◌∙◌, append_assoc, append-nil, arith}
 use Rattle.std.specs.Prelude.{Option, None, Some, is_some, map, option_map, option_and_then, if◌then◌else◌}
 use Rattle.std.specs.List.{AllByRecursion}
 use Rattle.pg_form.specs.Operators.{Operator, IsOperator}
@@ -8,18 +8,15 @@ use Rattle.pg_form.specs.declared.decl.Role.TheVariants.{InfixLeft, InfixRight, 
 use Rattle.pg_value.specs.declared.trail.AppliedOperator.{AppliedOperator}
 use Rattle.pg_value.specs.declared.trail.Fixity.{Fixity}
 use Rattle.pg_value.specs.declared.trail.Fixity.TheVariants as fixity
-use Rattle.pg_table.specs.Tables.{is_prefix}
-use Rattle.pg_table.specs.Rows.{row_of}
-use Rattle.pg_table.specs.Fitting.{Expression, term, prefixed, postfixed, joined, row, rank, IsInfix, IsAmong, IsFittingSide, IsFitting}
+use Rattle.pg_table.specs.Fitting.{Expression, term, prefixed, postfixed, joined, row, IsInfix, IsAmong, IsFittingSide, IsFitting}
 use Rattle.pg_table.specs.Trails.{applied, operators_read}
 use Rattle.pg_expand.specs.Lookups.{Groups, IsLookupOf}
-use Rattle.pg_expand.proofs.Members.{Among}
-use Rattle.pg_expand.proofs.Levels.{to_member, held, row_held, prefix_role, postfix_role}
-use Rattle.pg_fitting.specs.Steps.{Step, a_term, a_symbol, an_application, steps_of, HasTree, HasNoTree, AreTold, IsJudged}
-use Rattle.pg_fitting.specs.Judge.{Known, Judge, Closed, is_infix, stands_on, goes_under, top_takes, goes_left, takes_postfix, operand_of, closed_until, closed_by, closed_for, waits, follows, before as before_of, placed, placed_if, between_closed, after_closed, first_known, known_in, known_by, judged, all_applied, finished, beginning, judgement}
+use Rattle.pg_expand.proofs.Levels.{to_member, held, row_held, prefix_role, postfix_role, digit}
+use Rattle.pg_fitting.specs.Steps.{Step, a_symbol, an_application, steps_of, HasTree, IsJudged}
+use Rattle.pg_fitting.specs.Judge.{Known, Judge, Closed, is_infix, stands_on, goes_under, top_takes, closed_until, closed_by, closed_for, waits, before as before_of, placed, placed_if, between_closed, after_closed, first_known, known_in, known_by, judged, all_applied, finished, beginning, judgement}
 use Rattle.pg_fitting.proofs.Waiting.{Waiting, before, between, closed, read_before, done_before, closed-read, closed-done, known, known_waiting, root, root-closed, applied-waiting, FitsUnder, IsWaiting, FitsTop, AreWaiting, closed_fits}
-use Rattle.pg_fitting.proofs.Places.{if_true, if_false, top_fits, left_fits, postfix_fits}
-use Rattle.pg_fitting.proofs.Found.{IsOfTable, of_table}
+use Rattle.pg_fitting.proofs.Places.{top_fits, left_fits, postfix_fits}
+use Rattle.pg_fitting.proofs.Found.{of_table}
 use Rattle.pg_fitting.proofs.Complete.{judge_at, closed_at, operand_at, applied_at, one_applied, tree_judged}
 
 -- the choice of a test comes to something only where the test holds
@@ -38,11 +35,6 @@ infix_role InfixRight e = tt
 infix_role InfixNone e = tt
 infix_role Prefix e = absurd cc
 infix_role Postfix e = absurd cc
-
-digit : (os : List Operator) (o : Operator) → AllByRecursion IsOperator os → Among o os → o.precedence ≤ 9
-digit [] o all h = absurd h
-digit (p ∷ os) o all (inl e) = subst (λ (q : Operator). q.precedence ≤ 9) (sym e) all.0.digit
-digit (p ∷ os) o all (inr h) = digit os o all.1 h
 
 module _ (operators : List Operator) (digits : AllByRecursion IsOperator operators) where
   -- the rows of operators are numbered from 1

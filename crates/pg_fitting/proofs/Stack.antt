@@ -1,11 +1,11 @@
 -- The newest operator that waits stands last in the code, and so does the last step.
-use Rattle.std.proofs.Common.{◌≡◌, ◌-◌, ◌+◌, ℕ, zero, suc, Bool, true, false, List, [], ◌∷◌, ◌++◌, length, refl, sym, ap, ◌∙◌, arith}
+use Rattle.std.proofs.Common.{◌≡◌, ◌-◌, ◌+◌, Bool, true, false, List, [], ◌∷◌, ◌++◌, length, refl, sym, ap, ◌∙◌, arith}
 use Rattle.std.specs.Prelude.{Option, None, Some, map, option_map, slice_get}
 use Rattle.std.proofs.lemmas.List.{map-append}
 use Rattle.pg_fitting.specs.declared.known.Known as declared
 use Rattle.pg_fitting.specs.declared.step.Step as declared_step
 use Rattle.pg_fitting.specs.Steps.{Step, an_application}
-use Rattle.pg_fitting.specs.Judge.{Known, goes_under, top_takes, closed_until, all_applied, known_of, step_of, waiting_on, waiting_of}
+use Rattle.pg_fitting.specs.Judge.{Known, goes_under, top_takes, closed_until, known_of, step_of, waiting_on, waiting_of}
 use Rattle.pg_fitting.proofs.Places.{if_true, if_false}
 
 pub waiting_pushed : (ws : List declared.Known) (w : declared.Known) → waiting_of (ws ++ w ∷ []) ≡ known_of w ∷ waiting_of ws

@@ -1,16 +1,15 @@
 -- Operators that wait for their last operand, as parts of a tree: what was read before that operand, and what was done.
-use Rattle.std.proofs.Common.{◌≡◌, ◌<◌, ◌≤◌, ◌+◌, ℕ, List, [], ◌∷◌, ◌++◌, refl, sym, ap, ◌∙◌, append_assoc, append-nil}
-use Rattle.std.specs.Prelude.{Option, None, Some, map}
+use Rattle.std.proofs.Common.{◌≡◌, ◌<◌, ◌≤◌, ◌+◌, List, [], ◌∷◌, ◌++◌, refl, ap, ◌∙◌, append_assoc}
+use Rattle.std.specs.Prelude.{Option, None, Some}
 use Rattle.pg_form.specs.Operators.{Operator}
-use Rattle.pg_form.specs.declared.decl.Role.{Role}
-use Rattle.pg_form.specs.declared.decl.Role.TheVariants.{InfixLeft, InfixRight, InfixNone, Prefix, Postfix}
+use Rattle.pg_form.specs.declared.decl.Role.TheVariants.{InfixLeft, InfixRight, Prefix, Postfix}
 use Rattle.pg_value.specs.declared.trail.AppliedOperator.{AppliedOperator}
 use Rattle.pg_value.specs.declared.trail.Fixity.{Fixity}
 use Rattle.pg_value.specs.declared.trail.Fixity.TheVariants as fixity
 use Rattle.pg_table.specs.Fitting.{Expression, term, prefixed, postfixed, joined, row, rank, IsInfix, IsFittingSide, IsAmong, IsFitting}
 use Rattle.pg_table.specs.Trails.{applied, operators_read}
-use Rattle.pg_fitting.specs.Steps.{Step, a_term, a_symbol, an_application, steps_of}
-use Rattle.pg_fitting.specs.Judge.{Known, Closed, Judge}
+use Rattle.pg_fitting.specs.Steps.{Step, a_symbol, an_application, steps_of}
+use Rattle.pg_fitting.specs.Judge.{Known}
 
 -- an operator that waits: a prefix operator, or an infix operator with its left operand
 pub data Waiting : Type 0 where

@@ -4,7 +4,7 @@ use Rattle.std.proofs.lemmas.Bool.{or_parts}
 use Rattle.std.proofs.lemmas.Bool.Decides.{nat_tests}
 use Rattle.std.proofs.lemmas.List.{length-append, length-map, map-append}
 use Rattle.std.specs.Str.{bytes_eq}
-use Rattle.std.specs.Option.{is_some, option_map_or}
+use Rattle.std.specs.Option.{option_map_or}
 use Rattle.std.specs.List.{AllByRecursion, list_any}
 use Rattle.pg_form.specs.Preorder.{roots, parts_from}
 use Rattle.pg_form.specs.Names.{Name, has_name, place_of_name, number_of, name_at, AreDistinct}
@@ -13,10 +13,9 @@ use Rattle.pg_form.specs.Classes.{lacks_item, descends}
 use Rattle.pg_form.specs.ClassItems.{item_name, has_item, NameEarlier}
 use Rattle.pg_form.specs.Contents.{class_parts}
 use Rattle.pg_form.specs.WordItems.{word_name, has_word, word_lacks_item, word_has_bad_literal, AreWords}
-use Rattle.pg_form.specs.Operators.{Operator, IsOperator}
-use Rattle.pg_form.specs.OperatorsItems.{operators_lack_item, operators_have_bad_literal, operators_have_long_text, lacks_operators, AreOperators, operators_pass_limit}
+use Rattle.pg_form.specs.OperatorsItems.{lacks_operators, AreOperators}
 use Rattle.pg_value.specs.Grammar.{Grammar, IsGrammar, rule_name, rule_body, is_misspelled}
-use Rattle.pg_grammar.specs.Made.{Made, IsMade, IsReady, AreNumbers, Says, with_rule, with_class, with_word, with_operators, with_initial, rule_fault, class_fault, word_fault, operators_fault, finish_fault, is_incomplete, made_words, passes_limit, class_passes_limit, word_passes_limit}
+use Rattle.pg_grammar.specs.Made.{Made, IsMade, IsReady, AreNumbers, Says, with_rule, with_class, with_word, rule_fault, class_fault, word_fault, finish_fault, is_incomplete, made_words, passes_limit, class_passes_limit, word_passes_limit}
 use Rattle.pg_grammar.specs.Numbering.{node_of, nodes_with, nodes_from}
 use Rattle.pg_form.specs.declared.class.ClassPart.{ClassPart}
 use Rattle.pg_form.specs.declared.class.ClassPart.TheVariants.{Literal, Range, Union, Complement, Class, Predicate}
@@ -209,48 +208,6 @@ made_with_word made item m e =
       };
       operators = m.operators;
       initials = m.initials;
-      classes_named = m.classes_named;
-      few_rules = m.few_rules;
-      few_nodes = m.few_nodes;
-    }
-
--- a maker may take an operators item that has no fault
-pub made_with_operators : (made : Made) (item : OperatorsItem) → IsMade made → operators_fault made item ≡ None → IsMade (with_operators made item)
-made_with_operators made item m e =
-    let no = no_fault (operators_lack_item (length made.classes) item) (is_some made.operators) (operators_have_bad_literal item)
-    (operators_pass_limit item) _ _ _ _ e in
-    let limits = or_parts (operators_have_long_text item) (nat_lt item.max 1 || nat_lt 64 item.max) no.fourth in
-    let ends = or_parts (nat_lt item.max 1) (nat_lt 64 item.max) limits.1 in
-    let least = ends.0 in
-    let most = ends.1 in
-    record {
-      whole = m.whole;
-      distinct = m.distinct;
-      literals = m.literals;
-      alternatives = m.alternatives;
-      spelled = m.spelled;
-      classes = m.classes;
-      words = m.words;
-      operators = record { known = no.first; literals = no.third; least = grind (arith, nat_tests); most = grind (arith, nat_tests) };
-      initials = m.initials;
-      classes_named = m.classes_named;
-      few_rules = m.few_rules;
-      few_nodes = m.few_nodes;
-    }
-
--- a maker may take an initial declaration
-pub made_with_initial : (made : Made) (operator : Operator) → IsMade made → IsOperator operator → IsMade (with_initial made operator)
-made_with_initial made operator m o =
-    record {
-      whole = m.whole;
-      distinct = m.distinct;
-      literals = m.literals;
-      alternatives = m.alternatives;
-      spelled = m.spelled;
-      classes = m.classes;
-      words = m.words;
-      operators = m.operators;
-      initials = all-push IsOperator made.initials operator m.initials o;
       classes_named = m.classes_named;
       few_rules = m.few_rules;
       few_nodes = m.few_nodes;

@@ -1,6 +1,6 @@
 -- The nodes of whole forms are those forms in preorder, with numbers for parts and names.
-use Rattle.std.proofs.Common.{◌≡◌, ℕ, zero, suc, ◌+◌, Bool, true, false, not, List, [], ◌∷◌, length, map, take, refl, sym, ap}
-use Rattle.std.proofs.lemmas.Bool.{or_parts}
+use Rattle.std.proofs.Common.{◌≡◌, ℕ, zero, suc, ◌+◌, false, List, [], ◌∷◌, length, map, take, refl, sym, ap}
+use Rattle.std.proofs.lemmas.Bool.{or_parts, not-false}
 use Rattle.std.specs.List.{AllByRecursion, list_any}
 use Rattle.pg_form.specs.Preorder.{SpellForms}
 use Rattle.pg_form.specs.Names.{Name, has_name}
@@ -41,31 +41,26 @@ node_parts rules words (form.Chain side used operand separator) after h = two_al
 node_parts rules words (form.Rule name) after h = refl
 node_parts rules words _ after h = first_alone after h
 
--- not false is true
-not-not : (b : Bool) → not b ≡ false → b ≡ true
-not-not true h = refl
-not-not false h = absurd cc
-
 -- the base form of the node of a form is that form
 node_form : (rules words : List Name) (form : BaseForm) (parts : List ℕ) → length parts ≡ part_count form → has_unknown_name rules words form ≡ false
     → form_of rules words (node_of rules words form parts) ≡ form
 node_form rules words (form.Seq n) parts h k = ap form.Seq h
 node_form rules words (form.Choice n) parts h k = ap form.Choice h
 node_form rules words (form.Leaf (leaf.Word name)) parts h k =
-    ap (λ w. form.Leaf (leaf.Word w)) (number_is_found words name (not-not (has_name words name) k)).named
-node_form rules words (form.Rule name) parts h k = ap form.Rule (number_is_found rules name (not-not (has_name rules name) k)).named
+    ap (λ w. form.Leaf (leaf.Word w)) (number_is_found words name (not-false (has_name words name) k)).named
+node_form rules words (form.Rule name) parts h k = ap form.Rule (number_is_found rules name (not-false (has_name rules name) k)).named
 node_form rules words _ parts h k = refl
 
 -- the rule that the node of a form names is there
 node_named : (rules words : List Name) (form : BaseForm) (parts : List ℕ) → has_unknown_name rules words form ≡ false
     → NamesRule (length rules) (node_of rules words form parts)
-node_named rules words (form.Rule name) parts k = (number_is_found rules name (not-not (has_name rules name) k)).below
+node_named rules words (form.Rule name) parts k = (number_is_found rules name (not-false (has_name rules name) k)).below
 node_named rules words _ parts k = tt
 
 -- the word item that the node of a form names is there
 node_word_named : (rules words : List Name) (form : BaseForm) (parts : List ℕ) → has_unknown_name rules words form ≡ false
     → NamesWord (length words) (node_of rules words form parts)
-node_word_named rules words (form.Leaf (leaf.Word name)) parts k = (number_is_found words name (not-not (has_name words name) k)).below
+node_word_named rules words (form.Leaf (leaf.Word name)) parts k = (number_is_found words name (not-false (has_name words name) k)).below
 node_word_named rules words _ parts k = tt
 
 -- ---- all nodes

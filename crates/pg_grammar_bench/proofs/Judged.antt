@@ -6,7 +6,7 @@ use Rattle.pg_value.specs.Grammar.{Grammar}
 use Rattle.pg_predict.specs.Checked.{GrammarWithSets, IsChecked}
 use Rattle.pg_predict.specs.Findings.{lines_of}
 use Rattle.pg_predict.specs.Refusals.{RefusedGrammar, IsRefused}
-use Rattle.pg_grammar_bench.specs.Checking.{IsJudged, is_accepted, is_certified, is_refused, IsTold, IsPartlyTold, WritesCertificate, WritesPartly}
+use Rattle.pg_grammar_bench.specs.Checking.{is_accepted, is_certified, is_refused, IsTold, IsPartlyTold, WritesCertificate, WritesPartly}
 
 module _ (checked : GrammarWithSets) (writer held : Option (List ℕ)) (is : IsChecked checked) where
   pub told_accepted : (accepted : Bool) → accepted ≡ true → Appends writer held (codes "accepted\n") → IsTold checked.grammar false writer held accepted

@@ -1,11 +1,6 @@
 -- What holds of results, whatever they are of.
 use Rattle.std.proofs.Common.{Result, Ok, Err}
-use Rattle.std.specs.Prelude.{IfErr, IfOk, OnErr, OnOk, IsErrOf}
-
--- a fact that needs no error holds of each
-pub if_err_always : {T E : Type 0} (r : Result T E) (P : E → Type 0) → ((e : E) → P e) → IfErr r P
-if_err_always (Ok x) P h = tt
-if_err_always (Err e) P h = h e
+use Rattle.std.specs.Prelude.{IfOk, OnErr, OnOk, IsErrOf}
 
 -- what holds if there is an error holds where this one is
 pub on_this_err : {T E P : Type 0} (r : Result T E) {e : E} → OnErr r P → IsErrOf r e → P

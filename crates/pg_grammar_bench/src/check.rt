@@ -69,9 +69,20 @@ fn tell<W: Write>(
     ensures prefix { IsErrOf result BenchFault.Writer → IsPartlyTold grammar certificate (W.contents writer.old.inner) (W.contents writer.new.inner) }
 {
     match check(alloc, grammar) {
-        Ok(checked) => tell_checked(alloc, &checked, writer, certificate),
-        Err(CheckFault::Refused(refused)) => tell_findings(alloc, &refused, writer),
-        Err(CheckFault::Memory(_)) => Err(BenchFault::Memory),
+        Ok(checked) => {
+            let told = tell_checked(alloc, &checked, writer, certificate);
+            drop(checked);
+            told
+        }
+        Err(CheckFault::Refused(refused)) => {
+            let told = tell_findings(alloc, &refused, writer);
+            drop(refused);
+            told
+        }
+        Err(CheckFault::Memory(grammar)) => {
+            drop(grammar);
+            Err(BenchFault::Memory)
+        }
     }
 }
 

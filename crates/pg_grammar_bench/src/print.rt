@@ -41,7 +41,9 @@ pub fn print_bytes<W: Write>(
         IsPartlyPrinted (offer_of registry.now) grammar.now (W.contents writer.old.inner) (W.contents writer.new.inner) }
 {
     let grammar = grammar_of(alloc, grammar, registry)?;
-    let Ok(bytes) = print(alloc, &grammar) else {
+    let printed = print(alloc, &grammar);
+    drop(grammar);
+    let Ok(bytes) = printed else {
         return Err(BenchFault::Memory);
     };
     write_page(bytes.as_slice(), writer)

@@ -42,7 +42,9 @@ pub fn sets_bytes<W: Write>(
         IsPartlyShownFile (offer_of registry.now) grammar.now (W.contents writer.old.inner) (W.contents writer.new.inner) }
 {
     let grammar = grammar_of(alloc, grammar, registry)?;
-    let Ok(page) = sets_page(alloc, &grammar) else {
+    let page = sets_page(alloc, &grammar);
+    drop(grammar);
+    let Ok(page) = page else {
         return Err(BenchFault::Memory);
     };
     write_page(page.as_slice(), writer)

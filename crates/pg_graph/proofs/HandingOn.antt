@@ -12,19 +12,6 @@ use Rattle.pg_graph.specs.Spread.{IsHandedOn}
 use Rattle.pg_graph.proofs.Growing.{lacks_no_more, lacks_fewer}
 use Rattle.pg_graph.proofs.Lists.{has_push}
 
--- along no edge
-pub hands_none : (from : ℕ) (sets : List (List Bool)) (waits : List Bool) → IsHandedOn [] from sets waits sets waits
-hands_none from sets waits = record {
-  long = refl;
-  marks = refl;
-  limit = λ v. refl;
-  kept = λ v k h. h;
-  given = λ v k none. absurd (true≢false (sym none));
-  only = λ v k h. inl h;
-  still = λ v h. (h, λ k is. is);
-  fewer = (omega arith);
-}
-
 -- along an edge to nowhere
 pub hands_past : (edges : List ℕ) (from to : ℕ) (sets : List (List Bool)) (waits : List Bool) (new : List (List Bool)) (marks : List Bool)
     → IsHandedOn edges from sets waits new marks → length new ≤ to → IsHandedOn (edges ++ to ∷ []) from sets waits new marks

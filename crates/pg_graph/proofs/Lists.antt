@@ -101,15 +101,6 @@ marked_last (m ∷ ms) mark = marked_last ms mark
 
 -- ---- one element more
 
-pub get_before : {X : Type 0} (xs : List X) (y : X) (k : ℕ) → k < length xs → slice_get (xs ++ y ∷ []) k ≡ slice_get xs k
-get_before [] y k below = absurd (omega arith)
-get_before (x ∷ xs) y zero below = cc
-get_before (x ∷ xs) y (suc k) below = get_before xs y k (omega arith)
-
-pub get_last : {X : Type 0} (xs : List X) (y : X) → slice_get (xs ++ y ∷ []) (length xs) ≡ Some y
-get_last [] y = cc
-get_last (x ∷ xs) y = get_last xs y
-
 -- where an element stands in a list with one more: it stood there, or is that one
 pub at_before : {X : Type 0} (xs : List X) (y : X) (k : ℕ) (x : X) → slice_get (xs ++ y ∷ []) k ≡ Some x → (slice_get xs k ≡ Some x) ⊎ ((k ≡ length xs) × (y ≡ x))
 at_before [] y zero x e = let same : y ≡ x = cc in inr (refl, same)

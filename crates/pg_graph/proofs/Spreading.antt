@@ -7,7 +7,7 @@ use Rattle.pg_bit_set.specs.Numbers.{contains, set_at}
 use Rattle.pg_graph.specs.Graphs.{has, numbers_at, IsReached, root, onward, AreSpread}
 use Rattle.pg_graph.specs.Marks.{is_marked}
 use Rattle.pg_graph.specs.Spread.{with_number, with_number_each, vertex_at, IsHandedOn}
-use Rattle.pg_bit_set.proofs.Inside.{contains_below, contains_none}
+use Rattle.pg_bit_set.proofs.Inside.{contains_below}
 use Rattle.pg_graph.proofs.Growing.{set_below}
 use Rattle.pg_graph.proofs.Lists.{has_first, has_after, has_cases}
 
@@ -107,19 +107,6 @@ pub record AreRooted (graph roots : List (List ℕ)) (count : ℕ) (sets : List 
   pub long : length sets ≡ length graph
   pub limit : (v : ℕ) → v < length graph → length (set_at sets v) ≡ length roots
   pub members : (v k : ℕ) → v < length graph → (contains (set_at sets v) k ≡ true) ↔ ((k < count) × (has (numbers_at roots k) v ≡ true))
-
-pub rooted_none : (graph roots : List (List ℕ)) (sets : List (List Bool)) → sets ≡ replicate (length graph) (replicate (length roots) false) → AreRooted graph roots 0 sets
-rooted_none graph roots sets empty =
-    let at : (v : ℕ) → v < length graph → set_at sets v ≡ replicate (length roots) false = λ v below.
-    ap (λ xs. set_at xs v) empty ∙ get_or-replicate (length graph) v (replicate (length roots) false) [] below in
-    record {
-      long = ap length empty ∙ length-replicate {A = List Bool} (length graph) (replicate (length roots) false);
-      limit = λ v below. ap length (at v below) ∙ length-replicate {A = Bool} (length roots) false;
-      members = λ v k below. (
-        λ h. absurd (true≢false (sym h ∙ (ap (λ set. contains set k) (at v below) ∙ contains_none (length roots) k))),
-        λ h. let few = h.0 in absurd (omega arith),
-      );
-    }
 
 pub rooted_more : (graph roots : List (List ℕ)) (n : ℕ) (sets : List (List Bool)) → n < length roots → AreRooted graph roots n sets
     → AreRooted graph roots (n + 1) (with_number_each sets (numbers_at roots n) n)

@@ -9,7 +9,7 @@ use pg_form::Role;
 use pg_text::Characters;
 
 /// A form and where it stands in the file.
-#[derive(Debug, Drop)]
+#[derive(Drop)]
 pub struct PlacedForm {
     pub form: WrittenForm,
     /// From its word to its closing parenthesis, or the rule's name that it is.
@@ -19,7 +19,7 @@ pub struct PlacedForm {
 }
 
 /// A class expression of an item.
-#[derive(Debug, Drop)]
+#[derive(Drop)]
 pub struct PlacedClass {
     pub class: WrittenClass,
     /// Where each name in it stands, from left to right.
@@ -27,7 +27,7 @@ pub struct PlacedClass {
 }
 
 /// An item of a grammar file.
-#[derive(Debug, Drop)]
+#[derive(Drop)]
 pub enum Item {
     /// A class expression and its name.
     Class {

@@ -54,7 +54,7 @@ const RESERVED: [&str; 37] = [
 ];
 
 /// A form of one class expression.
-#[derive(Clone, Copy, Debug, PartialEq, Eq)]
+#[derive(Clone, Copy)]
 pub enum ClassForm {
     /// `satisfy`: one character of the class.
     Satisfy,
@@ -65,7 +65,7 @@ pub enum ClassForm {
 }
 
 /// A form of one value or more.
-#[derive(Clone, Copy, Debug, PartialEq, Eq)]
+#[derive(Clone, Copy)]
 pub enum SomeForm {
     /// `choice`: the first alternative that succeeds.
     Choice,
@@ -76,7 +76,7 @@ pub enum SomeForm {
 }
 
 /// A form of one value.
-#[derive(Clone, Copy, Debug, PartialEq, Eq)]
+#[derive(Clone, Copy)]
 pub enum OneForm {
     /// `many`: the value as often as it succeeds.
     Many,
@@ -91,7 +91,7 @@ pub enum OneForm {
 }
 
 /// A form of a value and a separator.
-#[derive(Clone, Copy, Debug, PartialEq, Eq)]
+#[derive(Clone, Copy)]
 pub enum TwoForm {
     /// `sepBy`: none or more values, with a separator between any two.
     SepBy,
@@ -102,7 +102,7 @@ pub enum TwoForm {
 }
 
 /// A word after which a form's parenthesis opens.
-#[derive(Clone, Copy, Debug, PartialEq, Eq)]
+#[derive(Clone, Copy)]
 pub enum FormWord {
     /// That of a form of a class expression.
     OfClass(ClassForm),

@@ -12,7 +12,7 @@ use pg_text::Characters;
 use std::marker::Model;
 
 /// One atom of a class expression, or a complement or union, of the whole expressions next after it.
-#[derive(Debug, Drop)]
+#[derive(Drop)]
 pub enum WrittenPart {
     /// The characters of a literal.
     Literal(Characters),
@@ -27,7 +27,7 @@ pub enum WrittenPart {
 }
 
 /// A class expression, one whole, seen as the list of its atoms, complements and unions in preorder.
-#[derive(Debug, Drop)]
+#[derive(Drop)]
 pub struct WrittenClass {
     parts: Vec<WrittenPart>,
 }
@@ -72,7 +72,7 @@ impl WrittenClass {
 }
 
 /// A form of a value in preorder, as it is written; its parts are the whole forms that stand next after it.
-#[derive(Debug, Drop)]
+#[derive(Drop)]
 pub enum WrittenForm {
     /// A form of a class expression.
     OfClass(ClassForm, WrittenClass),

@@ -1,5 +1,5 @@
 -- What is written of a grammar is what is listed of it.
-use Rattle.std.proofs.Common.{◌≡◌, ℕ, List, Bool, true, false, Option, sym, subst}
+use Rattle.std.proofs.Common.{◌≡◌, ℕ, List, Bool, false, Option, sym, subst}
 use Rattle.pg_value.specs.Grammar.{Grammar}
 use Rattle.pg_predict.specs.Refusals.{RefusedGrammar, IsRefused}
 use Rattle.pg_json_bench.specs.Listing.{IsListed, IsPartlyListed, WritesPage, WritesPartOfPage}

@@ -92,9 +92,20 @@ fn list<W: Write>(
     ensures prefix { IsErrOf result BenchFault.Writer → IsPartlyListed grammar (W.contents writer.old.inner) (W.contents writer.new.inner) }
 {
     match check(alloc, grammar) {
-        Ok(checked) => Ok(list_nothing(&checked, writer)),
-        Err(CheckFault::Refused(refused)) => list_refused(alloc, &refused, file, writer),
-        Err(CheckFault::Memory(_)) => Err(BenchFault::Memory),
+        Ok(checked) => {
+            let accepted = list_nothing(&checked, writer);
+            drop(checked);
+            Ok(accepted)
+        }
+        Err(CheckFault::Refused(refused)) => {
+            let listed = list_refused(alloc, &refused, file, writer);
+            drop(refused);
+            listed
+        }
+        Err(CheckFault::Memory(grammar)) => {
+            drop(grammar);
+            Err(BenchFault::Memory)
+        }
     }
 }
 

@@ -1,20 +1,9 @@
 -- What is noted for one number after another.
-use Rattle.std.proofs.Common.{◌≡◌, ℕ, zero, suc, ◌+◌, ◌<◌, List, [], ◌++◌, append-nil, append_assoc, refl, sym, ap, ◌∙◌, arith}
+use Rattle.std.proofs.Common.{◌≡◌, ℕ, zero, suc, ◌+◌, ◌<◌, List, [], ◌++◌, append-nil, refl, sym, ap, ◌∙◌, arith}
 use Rattle.std.specs.Prelude.{nat_lt, if◌then◌else◌, Bool, false}
-use Rattle.std.proofs.Math.Numerals.{add-one}
 use Rattle.pg_judge.specs.Judged.{Facts, all_below, meeting_alternatives, noted_meeting, node_meeting, part_at}
 use Rattle.pg_judge.specs.declared.violation.ViolationKind.TheVariants.{AlternativesMeet}
 use Rattle.pg_judge.specs.Violations.{Violation}
-
--- what is noted for the next
-pub all_below_step : (f : ℕ → List (Violation ℕ)) (n : ℕ) (old before after : List (Violation ℕ)) → before ≡ old ++ all_below f n → after ≡ before ++ f n
-    → after ≡ old ++ all_below f (n + 1)
-all_below_step f n old before after e next =
-    next ∙ (ap (λ xs. xs ++ f n) e ∙ (append_assoc old (all_below f n) (f n) ∙ ap (λ m. old ++ all_below f m) (sym (add-one n))))
-
--- the same, where nothing was noted before
-pub all_below_first : (f : ℕ → List (Violation ℕ)) (n : ℕ) (before after : List (Violation ℕ)) → before ≡ all_below f n → after ≡ before ++ f n → after ≡ all_below f (n + 1)
-all_below_first f n before after e next = next ∙ (ap (λ xs. xs ++ f n) e ∙ ap (all_below f) (sym (add-one n)))
 
 -- nothing is noted for the first
 pub all_below_none : (f : ℕ → List (Violation ℕ)) (n : ℕ) → ((k : ℕ) → k < n → f k ≡ []) → all_below f n ≡ []

@@ -1,9 +1,9 @@
 -- Chains of heads, and walks from head to head.
-use Rattle.std.proofs.Common.{◌≡◌, ℕ, ◌<◌, ◌≤◌, ◌+◌, Bool, true, false, List, Option, Some, slice_get, slice_set, length, replicate, sym, ap, subst, ◌∙◌, inl, inr, arith}
+use Rattle.std.proofs.Common.{◌≡◌, ℕ, ◌<◌, ◌≤◌, ◌+◌, Bool, true, List, Option, Some, slice_get, slice_set, length, sym, ap, subst, ◌∙◌, inl, inr, arith}
 use Rattle.std.specs.Prelude.{◌↔◌}
-use Rattle.std.proofs.lemmas.Bool.{cases_eq, true≢false}
+use Rattle.std.proofs.lemmas.Bool.{cases_eq}
 use Rattle.std.proofs.lemmas.Option.{same_Some, slice_get_within}
-use Rattle.std.proofs.lemmas.List.{length-replicate, length-set}
+use Rattle.std.proofs.lemmas.List.{length-set}
 use Rattle.pg_value.specs.Grammar.{Grammar}
 use Rattle.pg_value.specs.declared.grammar.Rule as declared
 use Rattle.pg_graph.specs.Graphs.{numbers_at, IsReached, root, onward}
@@ -12,7 +12,6 @@ use Rattle.pg_heads.specs.Ranks.{Chain, head, heads, AreRanks, on_cycle, rank_at
 use Rattle.pg_heads.specs.Reached.{Heads, AreHeads}
 use Rattle.pg_graph.proofs.Marking.{marked_same, marked_kept, marked_others}
 use Rattle.pg_heads.proofs.RankLaws.{chain_on}
-use Rattle.pg_bit_set.proofs.Inside.{contains_none}
 use Rattle.pg_judge.specs.Conditions.{least_facts}
 use Rattle.pg_judge.specs.Shown.{IsRecursive}
 
@@ -46,12 +45,6 @@ pub record RecursiveBelow (g : Grammar) (count p : ℕ) : Type 0 where
 pub record MarksBelow (g : Grammar) (count : ℕ) (marks : List Bool) : Type 0 where
   pub long : length marks ≡ length g.nodes
   pub right : (p : ℕ) → (is_marked marks p ≡ true) ↔ RecursiveBelow g count p
-
-pub marks_none : (g : Grammar) (marks : List Bool) → marks ≡ replicate (length g.nodes) false → MarksBelow g 0 marks
-marks_none g marks e = record {
-  long = ap length e ∙ length-replicate (length g.nodes) false;
-  right = λ p. (λ h. absurd (true≢false (sym h ∙ (ap (λ ms. is_marked ms p) e ∙ contains_none (length g.nodes) p))), λ is. let below = is.below in absurd (omega arith));
-}
 
 wider : (g : Grammar) (k p : ℕ) → RecursiveBelow g k p → RecursiveBelow g (k + 1) p
 wider g k p is = let below = is.below in record { recursive = is.recursive; below = omega arith }

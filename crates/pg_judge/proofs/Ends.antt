@@ -11,7 +11,7 @@ use Rattle.pg_start.specs.Apart.{Apart, differ, begins_outside}
 use Rattle.pg_start.specs.declared.kind.StartKind.{StartKind}
 use Rattle.pg_start.specs.declared.kind.StartKind.TheVariants.{Class, Key, Word, End}
 use Rattle.pg_own_starts.specs.declared.listed.ListedStart.{ListedStart}
-use Rattle.pg_judge.specs.Bounds.{BeginsWith, AreEnds, AreBoundsOf, TellsClass, AreStartBounds, AreBounds, DontOverlap, ShareAnEnd}
+use Rattle.pg_judge.specs.Bounds.{BeginsWith, AreEnds, TellsClass, AreStartBounds, AreBounds, DontOverlap, ShareAnEnd}
 use Rattle.pg_judge.specs.declared.bounds.Bounds.{Bounds}
 
 -- ---- a class
@@ -163,12 +163,6 @@ pub record BoundsSoFar (starts : List ListedStart) (count : ℕ) (bounds : List 
   pub long : length bounds ≡ count
   pub each : (k : ℕ) (listed : ListedStart) (own : Option Bounds) → slice_get starts k ≡ Some listed → slice_get bounds k ≡ Some own
       → AreStartBounds listed.start own
-
-pub bounds_none : (starts : List ListedStart) (bounds : List (Option Bounds)) → bounds ≡ [] → BoundsSoFar starts 0 bounds
-bounds_none starts bounds e = record {
-  long = ap length e;
-  each = λ k listed own there at. let no : slice_get [] k ≡ Some own = sym (ap (λ l. slice_get l k) e) ∙ at in cc;
-}
 
 read_before : {A : Type 0} (xs : List A) (y z : A) (k : ℕ) → k < length xs → slice_get (xs ++ y ∷ []) k ≡ Some z → slice_get xs k ≡ Some z
 read_before [] y z k below at = absurd (omega arith)

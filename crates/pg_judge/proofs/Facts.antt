@@ -10,7 +10,8 @@ use Rattle.pg_judge.specs.Judged.{Facts, is_costly}
 use Rattle.pg_judge.specs.Shown.{AreWellFormed, SetsSay, MarksRecursive, IsOver, AreBySets, AreFacts, AreLeastFacts}
 use Rattle.pg_judge.proofs.StepCosts.{least_costly, claimed_costly}
 
-both : {A B C : Type 0} → A ↔ B → B ↔ C → A ↔ C
+-- one equivalence behind another
+pub both : {A B C : Type 0} → A ↔ B → B ↔ C → A ↔ C
 both f h = (λ a. h.0 (f.0 a), λ c. f.1 (h.1 c))
 
 -- ---- the least sets

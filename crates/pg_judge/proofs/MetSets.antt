@@ -1,11 +1,9 @@
 -- The set of what a start meets, as it is gathered.
-use Rattle.std.proofs.Common.{◌≡◌, ℕ, zero, suc, ◌+◌, ◌<◌, ◌≤◌, Bool, true, false, List, [], ◌∷◌, ◌++◌, length-append, Some, slice_get, slice_set, length, length-set, replicate, refl, sym, ap, subst, ◌∙◌, inl, inr, arith}
+use Rattle.std.proofs.Common.{◌≡◌, ℕ, zero, suc, ◌+◌, ◌<◌, ◌≤◌, Bool, true, false, List, [], ◌∷◌, ◌++◌, length-append, Some, slice_get, slice_set, length, length-set, refl, sym, ap, subst, ◌∙◌, inl, inr, arith}
 use Rattle.std.specs.Prelude.{◌↔◌}
 use Rattle.std.proofs.lemmas.Bool.{cases_eq, true≢false}
-use Rattle.std.proofs.lemmas.List.{length-replicate}
 use Rattle.std.proofs.lemmas.Option.{same_Some, slice_get_within}
 use Rattle.pg_bit_set.specs.Numbers.{contains, set_at}
-use Rattle.pg_bit_set.proofs.Inside.{contains_none}
 use Rattle.pg_start.specs.Apart.{Apart}
 use Rattle.pg_start.specs.declared.kind.StartKind.{StartKind}
 use Rattle.pg_own_starts.specs.declared.listed.ListedStart.{ListedStart}
@@ -17,13 +15,6 @@ pub record MetSoFar (starts : List ListedStart) (start : StartKind) (count : ℕ
   pub long : length met ≡ length starts
   pub told : (t : ℕ) (other : ListedStart) → t < count → slice_get starts t ≡ Some other → (contains met t ≡ true) ↔ (Apart start other.start → ⊥)
   pub rest : (t : ℕ) → count ≤ t → contains met t ≡ false
-
-pub met_none : (starts : List ListedStart) (start : StartKind) (met : List Bool) → met ≡ replicate (length starts) false → MetSoFar starts start 0 met
-met_none starts start met e = record {
-  long = ap length e ∙ length-replicate (length starts) false;
-  told = λ t other below. absurd (omega arith);
-  rest = λ t more. ap (λ set. contains set t) e ∙ contains_none (length starts) t;
-}
 
 pub met_in : (starts : List ListedStart) (start : StartKind) (k : ℕ) (one : ListedStart) (met : List Bool) → MetSoFar starts start k met → slice_get starts k ≡ Some one
     → (Apart start one.start → ⊥) → MetSoFar starts start (k + 1) (slice_set met k true)
@@ -82,9 +73,6 @@ set_before (x ∷ xs) set (suc k) below = set_before xs set k (omega arith)
 set_last : (sets : List (List Bool)) (set : List Bool) → set_at (sets ++ set ∷ []) (length sets) ≡ set
 set_last [] set = refl
 set_last (x ∷ xs) set = set_last xs set
-
-pub meetings_none : (starts : List ListedStart) (meetings : List (List Bool)) → meetings ≡ [] → MeetingsSoFar starts 0 meetings
-meetings_none starts meetings e = record { long = ap length e; met = λ s listed below. absurd (omega arith) }
 
 pub meetings_more : (starts : List ListedStart) (k : ℕ) (one : ListedStart) (set : List Bool) (meetings : List (List Bool)) → MeetingsSoFar starts k meetings
     → slice_get starts k ≡ Some one → IsMetSet starts one.start set → MeetingsSoFar starts (k + 1) (meetings ++ set ∷ [])

@@ -16,7 +16,8 @@ use Rattle.pg_sets.specs.Sets.{HasStart}
 use Rattle.pg_own_starts.specs.declared.listed.ListedStart.{ListedStart}
 use Rattle.pg_judge.specs.WithStarts.{Starts, start_at}
 
-less_greater : Less ≡ Greater → ⊥
+-- less is not greater
+pub less_greater : Less ≡ Greater → ⊥
 less_greater e = grind (arith, e)
 
 -- no two starts are each below the other
@@ -58,7 +59,8 @@ same_numbers starts s t x sorted at_s at_t =
 
 -- ---- names
 
-numbered_once : (g : Grammar) (start : StartKind) (v w : ℕ) → IsNumbered g start v → IsNumbered g start w → v ≡ w
+-- a start has one number
+pub numbered_once : (g : Grammar) (start : StartKind) (v w : ℕ) → IsNumbered g start v → IsNumbered g start w → v ≡ w
 numbered_once g (Class ranges) v w a b = a ∙ sym b
 numbered_once g (Key text excluded) v w a b = a ∙ sym b
 numbered_once g (Word heads rest reserved) v w a b =

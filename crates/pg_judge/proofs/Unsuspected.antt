@@ -1,8 +1,7 @@
 -- Alternatives that meet none after them.
-use Rattle.std.proofs.Common.{◌≡◌, ℕ, ◌+◌, ◌<◌, ◌≤◌, Bool, true, false, List, [], Option, Some, None, slice_get, length, replicate, refl, sym, ap, subst, ◌∙◌, inl, inr, arith}
+use Rattle.std.proofs.Common.{◌≡◌, ℕ, ◌+◌, ◌<◌, ◌≤◌, Bool, true, false, List, [], Option, Some, None, slice_get, length, refl, sym, ap, subst, ◌∙◌, inl, inr, arith}
 use Rattle.std.specs.Prelude.{◌||◌, nat_lt, is_some, if◌then◌else◌}
 use Rattle.std.proofs.lemmas.Bool.{cases_eq, true≢false, or_left, or_right}
-use Rattle.std.proofs.lemmas.List.{length-replicate}
 use Rattle.std.proofs.lemmas.Option.{same_Some, slice_get_within}
 use Rattle.pg_value.specs.Grammar.{Grammar, IsGrammar}
 use Rattle.pg_form.specs.Forms.{Node}
@@ -80,17 +79,6 @@ pub record HaveLooked (sets : Sets) (meetings : List (List Bool)) (parts : List 
   pub told : (j k : ℕ) → next ≤ j → j < k → k < length parts → is_marked marks (part_at parts j) ≡ false
       → first_meeting meetings (set_at sets.firsts (part_at parts j)) (set_at sets.firsts (part_at parts k)) ≡ None
 
-pub look_none : (sets : Sets) (meetings : List (List Bool)) (parts : List ℕ) (next : ℕ) (marks following : List Bool) → next ≡ length parts
-    → following ≡ replicate (length sets.starts) false → HaveLooked sets meetings parts next marks marks following
-look_none sets meetings parts next marks following last none = record {
-  inside = omega arith;
-  long = refl;
-  limit = ap length none ∙ length-replicate (length sets.starts) false;
-  more = λ p marked. marked;
-  has = λ k t more below. absurd (omega arith);
-  told = λ j k more before below. absurd (omega arith);
-}
-
 -- a set that meets none of a wider set meets none of a set
 none_of_part : (meetings : List (List Bool)) (one other wider : List Bool) → ((t : ℕ) → contains other t ≡ true → contains wider t ≡ true)
     → is_some (first_meeting meetings one wider) ≡ false → first_meeting meetings one other ≡ None
@@ -141,10 +129,6 @@ look_more sets meetings parts next last old marks following after new meets one 
     unmet : {mark : Bool} (b : Bool) → (b ≡ true → mark ≡ true) → mark ≡ false → b ≡ false
     unmet true is_true is_false = absurd (true≢false (sym (is_true refl) ∙ is_false))
     unmet false is_true is_false = refl
-
-pub look_all : (sets : Sets) (meetings : List (List Bool)) (parts : List ℕ) (next : ℕ) (old marks following : List Bool) → HaveLooked sets meetings parts next old marks following → next ≡ 0
-    → MarkSuspects sets meetings parts marks
-look_all sets meetings parts next old marks following are none j k before below unmarked = are.told j k (omega arith) before below unmarked
 
 -- ---- choice by choice
 

@@ -84,8 +84,8 @@ impl Judge {
         ensures { IfOk result (λ judge. AreBySets grammar.now sets recursive.items cost judge) }
     {
         let meetings = met_starts(alloc, sets.starts())?;
-        let operators = operator_facts(alloc, grammar, sets.starts())?;
         let suspects = suspects(alloc, grammar, &sets, meetings.as_slice())?;
+        let operators = operator_facts(alloc, grammar, sets.starts())?;
         let costly = costly_body(grammar, cost);
         Ok(Judge {
             sets,

@@ -1,10 +1,10 @@
 //! What is asked of a grammar's operators: how they begin, and what they and gaps meet.
 ghost use Rattle.std.specs.Prelude.{◌≡◌, IfOk};
-ghost use Rattle.pg_judge.specs.Shown.{AreOperatorFacts};
+ghost use Rattle.pg_judge.specs.Shown.{AreOperatorFacts, IsMetSet};
 
 use crate::met_starts::met_by;
 use pg_bit_set::BitSet;
-use pg_own_starts::{ListedStart, operator_starts};
+use pg_own_starts::{ListedStart, OperatorStarts, operator_starts};
 use pg_start::apart;
 use pg_value::Grammar;
 use std::alloc::{AllocError, Global};
@@ -33,8 +33,7 @@ pub(crate) fn operator_facts(
 {
     match operator_starts(alloc, grammar)? {
         Some(both) => {
-            let met = met_by(alloc, starts, &both.operator.start)?;
-            let met_by_gap = met_by(alloc, starts, &both.gap)?;
+            let (met, met_by_gap) = met_by_both(alloc, starts, &both)?;
             let in_gap = !apart(&both.gap, &both.operator.start);
             Ok(Some(OperatorFacts {
                 operator: both.operator,
@@ -45,4 +44,18 @@ pub(crate) fn operator_facts(
         }
         None => Ok(None),
     }
+}
+
+/// The starts that operators meet, and those that gaps meet. The only error is that memory ran out.
+fn met_by_both(
+    alloc: Global,
+    starts: &[ListedStart],
+    both: &OperatorStarts,
+) -> Result<(BitSet, BitSet), AllocError>
+    ensures operators { IfOk result (λ sets. IsMetSet starts.now both.now.operator.start sets.0) }
+    ensures gaps { IfOk result (λ sets. IsMetSet starts.now both.now.gap sets.1) }
+{
+    let met = met_by(alloc, starts, &both.operator.start)?;
+    let met_by_gap = met_by(alloc, starts, &both.gap)?;
+    Ok((met, met_by_gap))
 }

@@ -2,7 +2,7 @@
 use Rattle.std.proofs.Common.{◌≡◌, ◌==◌, ◌+◌, ◌-◌, ◌<◌, ◌≤◌, ℕ, zero, suc, cond, List, [], ◌∷◌, Bool, true, false, refl, ap, ◌∙◌, sym, length, arith}
 use Rattle.std.specs.Prelude.{Option, Some, None, slice_get, find, not, nat_le, if◌then◌else◌}
 use Rattle.std.specs.Int.{is_in_range}
-use Rattle.std.proofs.lemmas.Bool.{and_parts}
+use Rattle.std.proofs.lemmas.Bool.{and_parts, not-true}
 use Rattle.std.proofs.lemmas.Bool.Decides.{nat_tests}
 use Rattle.std.proofs.lemmas.Slice.Eq.{bytes_eq-Decides}
 use Rattle.pg_value.specs.Grammar.{Grammar}
@@ -29,10 +29,6 @@ found test (y ∷ xs) x e = go (test y) refl (λ h. found test xs x h) e
     go true t rest h = let same : x ≡ y = cc in ap test same ∙ t
     go false t rest h = rest h
 
-not_so : (b : Bool) → not b ≡ true → b ≡ false
-not_so true e = absurd cc
-not_so false e = refl
-
 spelled : (n : ℕ) → (n == 0) ≡ false → 0 < n
 spelled zero e = absurd cc
 spelled (suc n) e = omega arith
@@ -42,7 +38,7 @@ keyword_there g text class i role e =
     let parts = and_parts (stands_at text i (keyword role)) (not (goes_on_with g class (slice_get text (i + length (keyword role))))) e in
     record {
       begins = sym ((bytes_eq-Decides _ _).0 parts.0);
-      ends = λ c there. sym (ap (goes_on_with g class) there) ∙ not_so _ parts.1;
+      ends = λ c there. sym (ap (goes_on_with g class) there) ∙ not-true _ parts.1;
     }
 
 -- a digit that says so much stands there
@@ -106,7 +102,8 @@ module _ (g : Grammar) (text : List ℕ) (item : OperatorsItem) (class : List Cl
   pub declaration_stands : Stands (declaration_at g text item class i)
   declaration_stands = keyword_stands (role_at g text class i) refl
 
-keyword_spelled : (role : Role) → 0 < length (keyword role)
+-- each keyword has a character
+pub keyword_spelled : (role : Role) → 0 < length (keyword role)
 keyword_spelled InfixLeft = omega arith
 keyword_spelled InfixRight = omega arith
 keyword_spelled InfixNone = omega arith

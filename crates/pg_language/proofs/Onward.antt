@@ -182,3 +182,15 @@ mutual
   expression_on {g} {s} {item} (a_postfix {o = o} {j = j} {a = a} {b = b} d is) = joins s a b (at b j) (expression_on d) (operator_on g s item o.symbol b j is)
   expression_on {g} {s} {item} (an_infix {o = o} {j = j} {a = a} {b = b} {c = c} d is e) =
       joins s a b c (expression_on d) (joins s b (at b j) c (operator_on g s item o.symbol b j is) (expression_on e))
+
+-- ---- rounds and links
+
+-- rounds lead on in the text
+pub rounds_onward : {g : Grammar} {text : List ℕ} {p n : ℕ} {a b : Spot} {v : List Tree} {t : List TrailItem} → DerivesRounds g text p n a b v t → a.place ≤ b.place
+rounds_onward derives.no_round = omega arith
+rounds_onward (derives.first_round d ds) = let h = (leads_on d).onward in let k = rounds_onward ds in omega arith
+
+-- and so do the links of a chain
+pub links_onward : {g : Grammar} {text : List ℕ} {p q n : ℕ} {a b : Spot} {links : List Link} {t : List TrailItem} → DerivesLinks g text p q n a b links t → a.place ≤ b.place
+links_onward derives.no_link = omega arith
+links_onward (derives.first_link d e ds) = let h = (leads_on d).onward in let i = (leads_on e).onward in let k = links_onward ds in omega arith

@@ -1,6 +1,6 @@
 -- Claims one after another.
 use Rattle.std.proofs.Common.{◌≡◌, ◌+◌, ◌<◌, ◌≤◌, ℕ, zero, suc, Bool, true, false, List, [], ◌∷◌, ◌++◌, take, drop, get_or, length, Some, refl, ap, sym, ◌∙◌, subst, arith}
-use Rattle.std.proofs.lemmas.List.{append_assoc, drop_more, take_all, take_more}
+use Rattle.std.proofs.lemmas.List.{append_assoc, drop_more, take_more}
 use Rattle.std.proofs.Math.ListN.{drop_of_length-le}
 use Rattle.pg_bit_set.specs.Numbers.{contains}
 use Rattle.pg_certificate.specs.declared.certificate.ClaimedStart.{ClaimedStart}
@@ -77,7 +77,3 @@ least_more g sets costs rules claims i rank rule claim within same before ranked
     let there : rank_at sets.ranks (0 + length (take i rules)) ≡ Some rank = subst (λ a. rank_at sets.ranks a ≡ Some rank) long ranked in
     subst (λ rs. AreLeast g sets costs 0 rs (claims ++ claim ∷ [])) (sym (take_more rules i rule within ∙ ap (λ y. take i rules ++ y ∷ []) (sym same)))
     (least_last g sets costs 0 (take i rules) claims rank rule claim before there is)
-
-pub least_all : (g : Grammar) (sets : Sets) (costs : List ℕ) (rules : List Rule) (claims : List RuleClaim) (n : ℕ) → length rules ≤ n
-    → AreLeast g sets costs 0 (take n rules) claims → AreLeast g sets costs 0 rules claims
-least_all g sets costs rules claims n whole h = subst (λ rs. AreLeast g sets costs 0 rs claims) (take_all n rules whole) h

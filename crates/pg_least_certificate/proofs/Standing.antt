@@ -1,7 +1,6 @@
 -- The claims of listed starts stand for those starts alone.
 use Rattle.std.proofs.Common.{◌≡◌, ◌⊎◌, inl, inr, ◌<◌, ◌≤◌, ◌+◌, ℕ, zero, suc, Bool, true, false, true≢false, if◌then◌else◌, nat_lt, List, [], ◌∷◌, map, Some, slice_get, length, refl, ap, sym, ◌∙◌, subst, arith}
 use Rattle.std.specs.Prelude.{◌↔◌}
-use Rattle.std.proofs.lemmas.Bool.{cases_order}
 use Rattle.std.proofs.lemmas.Bool.Decides.{nat_tests}
 use Rattle.std.proofs.lemmas.Option.{slice_get_within, same_Some}
 use Rattle.pg_bit_set.specs.Numbers.{contains, set_at}
@@ -11,13 +10,12 @@ use Rattle.pg_class.specs.Ranges.{Range}
 use Rattle.pg_form.specs.Forms.{Node}
 use Rattle.pg_form.specs.declared.form.Form.TheVariants as form
 use Rattle.pg_form.specs.declared.form.Leaf.TheVariants as leaf
-use Rattle.pg_form.specs.declared.word_item.WordItem.{WordItem}
 use Rattle.pg_heads.specs.Ranks.{rank_at}
 use Rattle.pg_own_starts.specs.Listed.{IsFirstReader, IsNumbered, IsListed}
 use Rattle.pg_own_starts.specs.OwnStarts as own_by
 use Rattle.pg_own_starts.specs.OwnStarts.{OwnStart, IsOperatorStart, IsClassOf, ReadsWords, ReservedAs, SameTexts}
 use Rattle.pg_own_starts.specs.declared.listed.ListedStart.{ListedStart}
-use Rattle.pg_own_starts.proofs.Owned.{one_operator, reads_like}
+use Rattle.pg_own_starts.proofs.Owned.{one_operator, reads_like, one_reserved}
 use Rattle.pg_own_starts.proofs.Reading.{one_class}
 use Rattle.pg_sets.specs.Sets.{Sets, HasStart, AreSets}
 use Rattle.pg_start.specs.declared.kind.StartKind.{StartKind}
@@ -28,19 +26,9 @@ use Rattle.pg_value.specs.declared.grammar.Rule.{Rule}
 use Rattle.pg_least_certificate.specs.Claimed.{StandsFor, IsClaimedIn, ClaimsTheSets}
 use Rattle.pg_least_certificate.specs.Least.{claimed_kind, claimed_start, claims_from, starts_from, least_claim, AreLeast}
 use Rattle.pg_least_certificate.proofs.Origin.{HasOrigin, first_origin, follow_origin, from_none, reader_of}
+use Rattle.pg_judge.proofs.Facts.{both}
 
 -- ---- words
-
--- the texts are reserved as one list alone
-one_reserved : {g : Grammar} {heads rest : List Range} {texts : List (List ℕ)} (one other : List (List ℕ)) → ReservedAs g heads rest texts one → ReservedAs g heads rest texts other → one ≡ other
-one_reserved {g} one other (own_by.as_item {w = w} reads first) (own_by.as_item {w = v} also before) =
-    elim (cases_order w v) [
-      | inl same ↦ ap (λ (item : WordItem). item.reserved) (same_Some reads.item also.item (sym reads.there ∙ (ap (slice_get g.words) same ∙ also.there)))
-      | inr differ ↦ elim differ [ inl less ↦ absurd (before w less reads) | inr more ↦ absurd (first v more also) ]
-    ]
-one_reserved one other (own_by.as_item {w = w} reads first) (own_by.as_written none) = absurd (none w reads)
-one_reserved one other (own_by.as_written none) (own_by.as_item {w = w} reads first) = absurd (none w reads)
-one_reserved one other (own_by.as_written none) (own_by.as_written also) = refl
 
 -- what some texts are reserved as, the same texts are reserved as, where an item reads the words
 reserved_like : {g : Grammar} {heads rest : List Range} {texts reserved : List (List ℕ)} (w : ℕ) (reads : ReadsWords g heads rest reserved w)
@@ -204,9 +192,6 @@ claims_stand g starts set start listed origin =
 
 -- ---- rules
 
-through : {A B C : Type 0} → A ↔ B → B ↔ C → A ↔ C
-through f h = (λ a. h.0 (f.0 a), λ c. f.1 (h.1 c))
-
 claim_is_so : (g : Grammar) (sets : Sets) (costs : List ℕ) (r rank : ℕ) (rule : Rule) → AreSets g sets → rule.body < length g.nodes → r < length g.rules
     → rank_at sets.ranks r ≡ Some rank → ClaimsTheSets g r rule (least_claim g sets costs rank rule)
 claim_is_so g sets costs r rank rule are inside within ranked =
@@ -214,9 +199,9 @@ claim_is_so g sets costs r rank rule are inside within ranked =
     record {
       nullable = are.nullable rule.body;
       rank = (are.ranks.ranked r rank within).0 ranked;
-      first = λ start. through (claims_stand g sets.starts (set_at sets.firsts rule.body) start so.listed (λ one has. first_origin ((so.first rule.body one inside).0 has)))
+      first = λ start. both (claims_stand g sets.starts (set_at sets.firsts rule.body) start so.listed (λ one has. first_origin ((so.first rule.body one inside).0 has)))
           (so.first rule.body start inside);
-      follow = λ start. through (claims_stand g sets.starts (set_at sets.follows rule.body) start so.listed (λ one has. follow_origin ((so.follow rule.body one inside).0 has)))
+      follow = λ start. both (claims_stand g sets.starts (set_at sets.follows rule.body) start so.listed (λ one has. follow_origin ((so.follow rule.body one inside).0 has)))
           (so.follow rule.body start inside);
     }
 

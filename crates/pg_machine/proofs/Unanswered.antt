@@ -1,5 +1,7 @@
--- An answer that isn't the last one: some frame still waits for it.
-use Rattle.std.proofs.Common.{◌≡◌, List, length, false, sym, subst, refl}
+-- Whether an answer is the last one: whether some frame still waits for it.
+use Rattle.std.proofs.Common.{◌≡◌, List, [], ◌∷◌, ◌∙◌, length, true, false, sym, subst, refl}
+use Rattle.std.proofs.Math.Dec.{eqb-suc-zero}
+use Rattle.std.proofs.lemmas.Bool.{false≢true}
 use Rattle.std.specs.Prelude.{◌==◌, None}
 use Rattle.pg_lists.specs.RunTrees.{RunTrees}
 use Rattle.pg_value.specs.declared.trail.TrailItem.{TrailItem}
@@ -14,3 +16,8 @@ use Rattle.pg_machine.specs.Outcomes.{outcome_on}
 
 pub none_on : (reply : Reply) (fs : List Frame) (v : RunTrees) (t : List TrailItem) (x : List TapeMessage) (T : Table) → (length fs == 0) ≡ false → outcome_on (tape_with reply (stack_of fs) v t x T) ≡ None
 none_on reply fs v t x T h = let r = some_left fs h in subst (λ (gs : List OnFrame). outcome_on (tape_with reply gs v t x T) ≡ None) (sym r.2) refl
+
+pub last_on : (reply : Reply) (fs : List Frame) (v : RunTrees) (t : List TrailItem) (x : List TapeMessage) (T : Table) → (length fs == 0) ≡ true
+    → tape_with reply (stack_of fs) v t x T ≡ tape_with reply [] v t x T
+last_on reply [] v t x T h = refl
+last_on reply (f ∷ fs) v t x T h = absurd (false≢true (sym (eqb-suc-zero (length fs)) ∙ h))

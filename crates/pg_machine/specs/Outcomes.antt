@@ -14,7 +14,9 @@ use Rattle.pg_machine.specs.declared.answer.Answer.{Answer}
 use Rattle.pg_machine.specs.declared.answer.Success.{Success}
 use Rattle.pg_machine.specs.declared.answer.Outcome as ended
 use Rattle.pg_machine.specs.declared.answer.Outcome.TheVariants.{Answered, StepsUsed, EmptyRound}
+use Rattle.pg_turns.specs.declared.frame.Reply.{Reply}
 use Rattle.pg_turns.specs.declared.frame.Reply.TheVariants as reply
+use Rattle.pg_turns.specs.declared.machine.Machine.{Machine}
 
 -- the outcome that an answer stands for, without its error's position
 abbrev pub outcome_with : Bool → Error → Option Success → Outcome
@@ -54,6 +56,10 @@ outcome_on (tape_with (reply.Succeeded c j error) [] v t x T) = Some (outcome.ok
 outcome_on (tape_with (reply.Failed c error) [] v t x T) = Some (outcome.failed c (error_of error.place (drop error.from x)))
 outcome_on (tape_with reply.EmptyRound [] v t x T) = Some outcome.empty_round
 outcome_on tape_endless = None
+
+-- the tape on which a reply lies that no frame waits for
+abbrev pub last_tape : Reply → Machine → Tape
+last_tape r m = tape_with r [] m.lists.forest m.lists.trail.items m.lists.messages m.table
 
 -- the answer is what lies on the tape
 pub record IsAnswerOn (text : List ℕ) (tape : Tape) (taken : ℕ) (a : Answer) : Type 0 where

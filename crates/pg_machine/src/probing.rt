@@ -1,10 +1,10 @@
 //! Runs of a grammar's start rule, on any grammar.
 
-ghost use Rattle.std.specs.Prelude.{◌≡◌, slice_get, option_map, Some, IfOk};
+ghost use Rattle.std.specs.Prelude.{◌≡◌, slice_get, option_map, Some, None, IfOk, IfSome, IfNone};
 ghost use Rattle.pg_value.specs.Grammar.{rule_body};
 ghost use Rattle.pg_pred.specs.Offer.{offer_of};
 ghost use Rattle.pg_value.specs.Fits.{Fits};
-ghost use Rattle.pg_machine.specs.Outcomes.{IsOutcome, Ends};
+ghost use Rattle.pg_machine.specs.Outcomes.{IsOutcome, Ends, last_tape, outcome_on};
 ghost use Rattle.pg_language.specs.Answers.{given};
 ghost use Rattle.pg_turns.specs.View.{tape_of};
 
@@ -12,13 +12,14 @@ use crate::answer::{Answer, Outcome, Success};
 use pg_class_tables::ClassTables;
 use pg_form::NodeId;
 use pg_language::Reading;
-use pg_lists::Lists;
+use pg_lists::RunForest;
 use pg_pred::Registry;
 use pg_table::Table;
 use pg_text::Text;
 use pg_turns::{Machine, Mode, Reply};
 use pg_value::{Grammar, Trail};
 use std::alloc::{AllocError, Global};
+use std::mem::replace;
 
 /// Runs the start rule at the beginning of the text, under the table, in at most so many turns: each enters a node or
 /// hands an answer on, so that `m` nodes take `2m - 1`. The answer has the table in a copy. P5 is answered exactly where
@@ -43,7 +44,9 @@ pub fn probe<'a>(
     let progress = machine.turns(
         alloc, grammar, &tables, registry, text, reading, begun, max_steps,
     )?;
-    ended(alloc, text, machine, progress.mode, progress.steps)
+    let outcome = ended(alloc, text, &mut machine, progress.mode, progress.steps);
+    drop(machine);
+    outcome
 }
 
 /// The body of the start rule.
@@ -54,65 +57,80 @@ pub(crate) fn start_of(grammar: &Grammar) -> NodeId
     grammar.rules()[start].body
 }
 
-/// What a run ends with after so many turns.
+/// What a run ends with after so many turns. What the machine holds then isn't said.
 pub(crate) fn ended(
     alloc: Global,
     text: &Text,
-    machine: Machine<'_>,
+    machine: &mut Machine<'_>,
     mode: Mode,
     steps: u64,
 ) -> Result<Outcome, AllocError>
-    ensures { IfOk result (Ends text.now (tape_of mode machine.entry) steps) }
+    ensures { IfOk result (Ends text.now (tape_of mode machine.old) steps) }
 {
-    match mode {
-        Mode::At(_, _) => Ok(Outcome::StepsUsed),
-        Mode::With(reply) => {
-            if !machine.frames.is_empty() {
-                return Ok(Outcome::StepsUsed);
-            }
-            match reply {
-                Reply::Succeeded {
-                    consumed,
-                    end,
-                    error,
-                } => {
-                    let error = machine.error(alloc, text, error)?;
-                    Ok(Outcome::Answered(Answer {
-                        consumed,
-                        error,
-                        steps,
-                        success: Some(success(machine, end)?),
-                    }))
-                }
-                Reply::Failed { consumed, error } => {
-                    let error = machine.error(alloc, text, error)?;
-                    Ok(Outcome::Answered(Answer {
-                        consumed,
-                        error,
-                        steps,
-                        success: None,
-                    }))
-                }
-                Reply::EmptyRound => Ok(Outcome::EmptyRound),
-            }
+    let Some(reply) = last_reply(machine, mode) else {
+        return Ok(Outcome::StepsUsed);
+    };
+    match reply {
+        Reply::Succeeded {
+            consumed,
+            end,
+            error,
+        } => {
+            let error = machine.error(alloc, text, error)?;
+            let success = Some(success(alloc, machine, end)?);
+            Ok(Outcome::Answered(Answer {
+                consumed,
+                error,
+                steps,
+                success,
+            }))
         }
-        Mode::Endless => Ok(Outcome::StepsUsed),
+        Reply::Failed { consumed, error } => {
+            let error = machine.error(alloc, text, error)?;
+            Ok(Outcome::Answered(Answer {
+                consumed,
+                error,
+                steps,
+                success: None,
+            }))
+        }
+        Reply::EmptyRound => Ok(Outcome::EmptyRound),
     }
 }
 
-/// What an ok answer gives that ends at this place. The only error is that memory ran out.
-fn success(machine: Machine<'_>, end: usize) -> Result<Success, AllocError>
-    ensures place { IfOk result (λ success. success.place ≡ end) }
-    ensures table { IfOk result (λ success. success.table ≡ machine.entry.table) }
-    ensures forest { IfOk result (λ success. success.forest ≡ machine.entry.lists.forest.kept) }
-    ensures trail { IfOk result (λ success. success.trail ≡ machine.entry.lists.trail.items) }
+/// The reply that no frame waits for, if there is one.
+fn last_reply(machine: &Machine<'_>, mode: Mode) -> Option<Reply>
+    ensures some { IfSome result (λ reply. tape_of mode machine.now ≡ last_tape reply machine.now) }
+    ensures none { IfNone result (outcome_on (tape_of mode machine.now) ≡ None) }
 {
-    let Machine { lists, table, .. } = machine;
-    let Lists { forest, trail, .. } = lists;
+    match mode {
+        Mode::At(_, _) => None,
+        Mode::With(reply) => {
+            if machine.frames.is_empty() {
+                Some(reply)
+            } else {
+                None
+            }
+        }
+        Mode::Endless => None,
+    }
+}
+
+/// What an ok answer gives that ends at this place, with the machine's trees and items. The only error is that memory ran out.
+fn success(alloc: Global, machine: &mut Machine<'_>, end: usize) -> Result<Success, AllocError>
+    ensures place { IfOk result (λ success. success.place ≡ end) }
+    ensures table { IfOk result (λ success. success.table ≡ machine.old.table) }
+    ensures forest { IfOk result (λ success. success.forest ≡ machine.old.lists.forest.kept) }
+    ensures trail { IfOk result (λ success. success.trail ≡ machine.old.lists.trail.items) }
+{
+    let table = machine.table.copy(alloc)?;
+    let trees = replace(&mut machine.lists.forest, RunForest::new(alloc));
+    let forest = trees.into_forest()?;
+    let trail = replace(&mut machine.lists.trail, Vec::new(alloc));
     Ok(Success {
         place: end,
         table,
-        forest: forest.into_forest()?,
+        forest,
         trail: Trail::from_items(trail),
     })
 }

@@ -50,7 +50,10 @@ pub fn grammar_of(
     }
     let grammar = match maker.finish() {
         Ok(grammar) => grammar,
-        Err(unfinished) => return Err(unmade(unfinished.fault)),
+        Err(unfinished) => {
+            drop(unfinished.maker);
+            return Err(unmade(unfinished.fault));
+        }
     };
     has_initial_table(alloc, &grammar)?;
     Ok(PlacedGrammar { grammar, spans })

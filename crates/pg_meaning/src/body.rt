@@ -75,8 +75,9 @@ pub fn seq_of(
 ) -> Result<Vec<PlacedBase>, AllocError>
     ensures { IfOk result (λ body. bases_of body.items ≡ meaning.seq_of (all_bases_of bodies.items)) }
 {
-    let form = Form::Seq(bodies.len());
-    before_all(form, span, joined(alloc, bodies)?)
+    let count = bodies.len();
+    let all = joined(alloc, bodies)?;
+    before_all(Form::Seq(count), span, all)
 }
 
 /// One of the bodies.
@@ -87,8 +88,9 @@ fn choice_of(
 ) -> Result<Vec<PlacedBase>, AllocError>
     ensures { IfOk result (λ body. bases_of body.items ≡ meaning.choice_of (all_bases_of bodies.items)) }
 {
-    let form = Form::Choice(bodies.len());
-    before_all(form, span, joined(alloc, bodies)?)
+    let count = bodies.len();
+    let all = joined(alloc, bodies)?;
+    before_all(Form::Choice(count), span, all)
 }
 
 /// One body, or several one after another.

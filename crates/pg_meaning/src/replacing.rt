@@ -97,20 +97,18 @@ fn around(
     before_all(form, span, body)
 }
 
-/// A base form around the first two bodies that wait.
-fn around_two(
+/// The first two bodies that wait, one after the other.
+fn next_two(
     alloc: Global,
-    form: BaseForm,
-    span: Span,
     waiting: &mut VecDeque<Vec<PlacedBase>>,
 ) -> Result<Vec<PlacedBase>, AllocError>
-    ensures body { IfOk result (λ body. bases_of body.items ≡ form ∷ (body_at 0 (all_bases_of waiting.old.items) ++ body_at 1 (all_bases_of waiting.old.items))) }
+    ensures bodies { IfOk result (λ both. bases_of both.items ≡ body_at 0 (all_bases_of waiting.old.items) ++ body_at 1 (all_bases_of waiting.old.items)) }
     ensures rest { OnOk result (waiting.new.items ≡ drop 2 waiting.old.items) }
 {
-    let mut first = next_body(alloc, waiting);
+    let mut both = next_body(alloc, waiting);
     let mut second = next_body(alloc, waiting);
-    first.append(&mut second)?;
-    before_all(form, span, first)
+    both.append(&mut second)?;
+    Ok(both)
 }
 
 /// A `seq` of the first so many bodies that wait.
@@ -236,8 +234,9 @@ fn chain_body(
     ensures refused { IsErrOf result MakingError.Refused → BuilderIsKnown (offer_of registry.now) builder.now → ⊥ }
 {
     let used = builder_named(alloc, registry, builder.as_slice())?;
+    let parts = next_two(alloc, waiting)?;
     let chain = Form::Chain(side, used, NextForm, NextForm);
-    Ok(around_two(alloc, chain, span, waiting)?)
+    Ok(before_all(chain, span, parts)?)
 }
 
 /// Operators around the first body that waits. Refused where one of the names is that of no builder.

@@ -14,6 +14,7 @@ use crate::messages::Messages;
 use pg_text::Pos;
 use std::alloc::{AllocError, Global};
 use std::cmp::Ordering;
+use std::mem::swap;
 
 /// What is known of why a parser failed, or didn't go on.
 #[derive(Debug, Drop)]
@@ -54,20 +55,28 @@ impl ParseError {
     /// later place, or at one place this one with the other's messages after its own, but for texts that are there
     /// already (Text.Parsec.Error keeps these twice, and prints them once). The only error is that memory ran out; the
     /// other is then gone.
-    pub fn merge(&mut self, other: ParseError) -> Result<(), AllocError>
+    pub fn merge(&mut self, mut other: ParseError) -> Result<(), AllocError>
         ensures ok { OnOk result (self.new ≡ merged self.old other) }
+        ensures err { OnErr result (self.new ≡ self.old) }
+    {
+        self.merge_out_of(&mut other)
+    }
+
+    /// The same out of an error that is lent, of which nothing is said afterwards.
+    fn merge_out_of(&mut self, other: &mut ParseError) -> Result<(), AllocError>
+        ensures ok { OnOk result (self.new ≡ merged self.old other.old) }
         ensures err { OnErr result (self.new ≡ self.old) }
     {
         if self.messages.is_empty() != other.messages.is_empty() {
             if self.messages.is_empty() {
-                *self = other;
+                swap(self, other);
             }
             return Ok(());
         }
         match self.place.cmp(&other.place) {
-            Ordering::Less => *self = other,
+            Ordering::Less => swap(self, other),
             Ordering::Greater => {}
-            Ordering::Equal => self.messages.append(other.messages)?,
+            Ordering::Equal => self.messages.append(&mut other.messages)?,
         }
         Ok(())
     }

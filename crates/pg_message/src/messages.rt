@@ -13,6 +13,7 @@ use crate::message_text::MessageText;
 use smallvec::SmallVec;
 use std::alloc::{AllocError, Global};
 use std::marker::Model;
+use std::mem::replace;
 
 /// The texts of one kind.
 type Texts = SmallVec<MessageText, 1>;
@@ -89,19 +90,19 @@ impl Messages {
         Ok(())
     }
 
-    /// Puts the other messages after those of their kinds, but for texts that are there already.
-    pub(crate) fn append(&mut self, other: Messages) -> Result<(), AllocError>
-        ensures ok { OnOk result (self.new ≡ with_messages self.old other) }
+    /// Moves the other messages behind those of their kinds, but for texts that are there already.
+    pub(crate) fn append(&mut self, other: &mut Messages) -> Result<(), AllocError>
+        ensures ok { OnOk result (self.new ≡ with_messages self.old other.old) }
         ensures err { OnErr result (self.new ≡ self.old) }
     {
         make_room(&mut self.system_unexpected, &other.system_unexpected)?;
         make_room(&mut self.unexpected, &other.unexpected)?;
         make_room(&mut self.expected, &other.expected)?;
         make_room(&mut self.plain, &other.plain)?;
-        append_reserved(&mut self.system_unexpected, other.system_unexpected);
-        append_reserved(&mut self.unexpected, other.unexpected);
-        append_reserved(&mut self.expected, other.expected);
-        append_reserved(&mut self.plain, other.plain);
+        append_reserved(&mut self.system_unexpected, &mut other.system_unexpected);
+        append_reserved(&mut self.unexpected, &mut other.unexpected);
+        append_reserved(&mut self.expected, &mut other.expected);
+        append_reserved(&mut self.plain, &mut other.plain);
         Ok(())
     }
 
@@ -123,16 +124,17 @@ fn make_room(texts: &mut Texts, others: &Texts) -> Result<(), AllocError>
     texts.reserve(missing_count(texts.as_slice(), others.as_slice()))
 }
 
-/// Puts those of the other texts at the end that aren't there yet.
-fn append_reserved(texts: &mut Texts, others: Texts)
-    requires { HasRoomFor texts.old (missing_count texts.old.items others.items) }
-    ensures { texts.new.items ≡ with_texts texts.old.items others.items }
+/// Moves those of the other texts to the end that aren't there yet.
+fn append_reserved(texts: &mut Texts, others: &mut Texts)
+    requires { HasRoomFor texts.old (missing_count texts.old.items others.old.items) }
+    ensures { texts.new.items ≡ with_texts texts.old.items others.old.items }
 {
     // Most lists are empty, and walking one by value costs more than this test.
     if others.is_empty() {
         return;
     }
-    for text in others {
+    let moved = replace(others, SmallVec::new(*texts.allocator()));
+    for text in moved {
         if !has_text(texts.as_slice(), &text) {
             texts.push_reserved(text);
         }

@@ -36,9 +36,6 @@ after_all_messages a b (x ∷ xs) = ap (λ m. with_messages_once m xs) (after_me
 pub both_messages : (xs ys : List TapeMessage) → with_messages_once no_messages (xs ++ ys) ≡ with_messages (with_messages_once no_messages xs) (with_messages_once no_messages ys)
 both_messages xs ys = messages_append no_messages xs ys ∙ after_all_messages (with_messages_once no_messages xs) no_messages ys
 
-one_false : (a b c d : Bool) → Bool → Type 0
-one_false a b c d r = (a && b && c && d) ≡ r
-
 message_is_there : (m : Messages) (kind : MessageKind) (text : Text) → is_empty (with_message_once m kind text) ≡ false
 message_is_there m SystemUnexpected text = ap (λ b. b && (length m.unexpected == 0) && (length m.expected == 0) && (length m.plain == 0)) (length-with_text m.system_unexpected text)
 message_is_there m Unexpected text =

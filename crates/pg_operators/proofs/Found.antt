@@ -13,7 +13,7 @@ use Rattle.pg_value.specs.Grammar.{Grammar}
 use Rattle.pg_expand.specs.declared.lookup.RowOperator.{RowOperator}
 use Rattle.pg_expand.specs.Rows.{of_role, row_numbered}
 use Rattle.pg_form.specs.ClassItems.{has_character}
-use Rattle.pg_expand.specs.Lookups.{Groups, found, is_of, with_row, with_symbol, IsLookupOf}
+use Rattle.pg_expand.specs.Lookups.{Groups, found, is_of, with_row, IsLookupOf}
 use Rattle.pg_expand.proofs.RowsFound.{first_agrees}
 use Rattle.pg_language.specs.Runs.{run_at, past_run}
 use Rattle.pg_language.specs.OperatorReads.{Read, read_from, read_run}

@@ -25,7 +25,9 @@ pub(crate) fn places_along(
         made: Beginnings::new(alloc),
         begun: Vec::new(alloc),
     };
-    walk.go_along(alloc, grammar, text, &mut replayer)?;
+    let gone = walk.go_along(alloc, grammar, text, &mut replayer);
+    drop(replayer);
+    gone?;
     let Walk { made, .. } = walk;
     Ok(made.places())
 }

@@ -1,5 +1,5 @@
 -- What the classes on a stack have.
-use Rattle.std.proofs.Common.{◌≡◌, ℕ, zero, suc, ◌≤◌, Bool, true, false, ◌||◌, ◌&&◌, List, [], ◌∷◌, ◌++◌, Some, slice_get, length, map, take, drop, nat_le, refl, sym, ap, ◌∙◌, arith, inl, inr}
+use Rattle.std.proofs.Common.{◌≡◌, ℕ, zero, suc, ◌≤◌, Bool, false, ◌||◌, ◌&&◌, List, [], ◌∷◌, ◌++◌, Some, slice_get, length, map, take, drop, nat_le, refl, sym, ap, ◌∙◌, arith, inl, inr}
 use Rattle.std.specs.Prelude.{◌==◌, All}
 use Rattle.std.specs.List.{list_any}
 use Rattle.std.proofs.Math.Bool.{or_assoc, or-false}
@@ -78,11 +78,6 @@ pub drop_further : {X : Type 0} (k : ℕ) (xs : List X) → drop 1 (drop k xs) �
 drop_further zero xs = refl
 drop_further (suc k) [] = refl
 drop_further (suc k) (x ∷ xs) = drop_further k xs
-
-or_once_more : (a b : Bool) → (a || b || false) ≡ (a || b)
-or_once_more true b = refl
-or_once_more false true = refl
-or_once_more false false = refl
 
 pub one_further : (k : ℕ) (bs : List Bool) → (one_holds (take k bs) || one_holds (take 1 (drop k bs))) ≡ one_holds (take (suc k) bs)
 one_further zero [] = refl

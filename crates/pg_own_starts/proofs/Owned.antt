@@ -1,5 +1,5 @@
 -- Which starts a node gives by itself.
-use Rattle.std.proofs.Common.{◌≡◌, ℕ, ◌<◌, false, inl, inr, List, [], ◌∷◌, Some, None, slice_get, length, refl, sym, ap, subst, ◌∙◌, arith}
+use Rattle.std.proofs.Common.{◌≡◌, ◌↔◌, ℕ, ◌<◌, false, inl, inr, List, [], ◌∷◌, Some, None, slice_get, length, refl, sym, ap, subst, ◌∙◌, arith}
 use Rattle.std.proofs.lemmas.Bool.{cases_order, true≢false}
 use Rattle.std.proofs.lemmas.Option.{slice_get_within, same_Some, none-some}
 use Rattle.pg_class.specs.Ranges.{Range}
@@ -21,13 +21,12 @@ use Rattle.pg_start.specs.declared.kind.StartKind.TheVariants.{Class, Key, Word}
 use Rattle.pg_own_starts.specs.Listed.{IsListed, IsNumbered, IsFirstReader}
 use Rattle.pg_own_starts.specs.Own.{OwnListed, IsPlain, IsAmong, AreOwn, keyword_keys}
 use Rattle.pg_own_starts.specs.Own as plain
-use Rattle.pg_own_starts.specs.OperatorStarts.{IsGapStart, AreBothStarts, gap}
-use Rattle.pg_own_starts.specs.OwnStarts.{OwnStart, IsOperatorStart, IsClassOf, IsExcludedBy, IsKeyed, IsKeyTry, ReadsWords, ReservedAs, SameTexts, role_keyword}
+use Rattle.pg_own_starts.specs.OperatorStarts.{IsGapStart, gap}
+use Rattle.pg_own_starts.specs.OwnStarts.{OwnStart, IsOperatorStart, IsClassOf, IsExcludedBy, IsKeyed, ReadsWords, ReservedAs, SameTexts, role_keyword}
 use Rattle.pg_own_starts.specs.OwnStarts as own
 use Rattle.pg_own_starts.specs.Words.{ListsWords}
 use Rattle.pg_own_starts.specs.Words as words
 use Rattle.pg_own_starts.specs.declared.listed.ListedStart.{ListedStart}
-use Rattle.pg_own_starts.specs.declared.operators.OperatorStarts.{OperatorStarts}
 use Rattle.pg_own_starts.proofs.Reading.{one_class}
 
 pub listed_path : {s t : StartKind} {w v : ℕ} → s ≡ t → w ≡ v → ◌≡◌ {A = ListedStart} (record { start = s; word = w }) (record { start = t; word = v })
@@ -205,7 +204,7 @@ words_reserved {g} {heads} {rest} {texts} listed (words.no_item none) = (
 )
 
 -- the texts are reserved as one list alone
-one_reserved : {g : Grammar} {heads rest : List Range} {texts : List (List ℕ)} (one other : List (List ℕ)) → ReservedAs g heads rest texts one → ReservedAs g heads rest texts other → one ≡ other
+pub one_reserved : {g : Grammar} {heads rest : List Range} {texts : List (List ℕ)} (one other : List (List ℕ)) → ReservedAs g heads rest texts one → ReservedAs g heads rest texts other → one ≡ other
 one_reserved {g} one other (own.as_item {w = w} reads first) (own.as_item {w = v} also before) =
     elim (cases_order w v) [
       | inl same ↦ ap (λ (item : WordItem). item.reserved) (same_Some reads.item also.item (sym reads.there ∙ (ap (slice_get g.words) same ∙ also.there)))
@@ -313,13 +312,14 @@ gap_same : {g : Grammar} (item : OperatorsItem) (class : List Range) → g.opera
 gap_same {g} item class at is s (gap {item = also} {class = other} there belongs) =
     ap Class (one_class is (subst (λ i. IsClassOf g i.gap other) (same_Some also item (sym there ∙ at)) belongs))
 
-pub both_starts : {g : Grammar} (item : OperatorsItem) (op after : List Range) (starts : OperatorStarts) → g.operators ≡ Some item → IsClassOf g item.class op → IsClassOf g item.gap after
-    → ListsWords g op op item.reserved starts.operator → starts.gap ≡ Class after → AreBothStarts g starts
-both_starts {g} item op after starts at is is_gap lists e = record {
-  named = (words_reserved starts.operator lists).3;
-  operator = λ s. (operator_same item op starts.operator at is lists s, λ same. subst (IsOperatorStart g) same (operator_is item op starts.operator at is lists));
-  gap = λ s. (λ h. e ∙ gap_same item after at is_gap s h, λ same. subst (IsGapStart g) (sym e ∙ same) (gap at is_gap));
-}
+pub operator_starts : {g : Grammar} (item : OperatorsItem) (op : List Range) (listed : ListedStart) → g.operators ≡ Some item → IsClassOf g item.class op
+    → ListsWords g op op item.reserved listed → (s : StartKind) → IsOperatorStart g s ↔ (listed.start ≡ s)
+operator_starts {g} item op listed at is lists s =
+    (operator_same item op listed at is lists s, λ same. subst (IsOperatorStart g) same (operator_is item op listed at is lists))
+
+pub gap_starts : {g : Grammar} (item : OperatorsItem) (class : List Range) (start : StartKind) → g.operators ≡ Some item → IsClassOf g item.gap class → start ≡ Class class → (s : StartKind)
+    → IsGapStart g s ↔ (start ≡ s)
+gap_starts {g} item class start at is e s = (λ h. e ∙ gap_same item class at is s h, λ same. subst (IsGapStart g) (sym e ∙ same) (gap at is))
 
 pub no_operator_own : {g : Grammar} {builders : OperatorBuilders} {term : ℕ} → g.operators ≡ None → AreOwn g (form.Expression builders term) []
 no_operator_own {g} {builders} {term} no_item = none_own none (no_plain_expression no_item)

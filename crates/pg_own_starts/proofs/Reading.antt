@@ -1,9 +1,10 @@
 -- Which words are read alike.
-use Rattle.std.proofs.Common.{◌≡◌, ℕ, Bool, true, false, ◌&&◌, inl, inr, List, [], ◌∷◌, refl, sym, ap, subst, ◌∙◌}
+use Rattle.std.proofs.Common.{◌≡◌, ℕ, true, false, ◌&&◌, inl, inr, List, [], ◌∷◌, refl, sym, subst, ◌∙◌}
 use Rattle.std.specs.List.{list_all}
 use Rattle.std.specs.Str.{bytes_eq}
-use Rattle.std.proofs.lemmas.Bool.{true≢false, cases_Bool, both_ways, or_cases, or_left, or_right}
+use Rattle.std.proofs.lemmas.Bool.{true≢false, cases_Bool, both_ways, or_cases, or_left, or_right, and_from}
 use Rattle.std.proofs.lemmas.Slice.Eq.{bytes_eq-Decides}
+use Rattle.std.specs.Cmp.{first_so, second_so}
 use Rattle.pg_class.specs.Ranges.{Range}
 use Rattle.pg_class.proofs.Unique.{same_class}
 use Rattle.pg_value.specs.Grammar.{Grammar}
@@ -17,33 +18,18 @@ one_class {g} {expression} {class} {other} is also = same_class class other is.r
 
 -- ---- texts
 
--- each text is one of the others
-AllReserved : List (List ℕ) → List (List ℕ) → Type 0
-AllReserved texts others = (text : List ℕ) → is_reserved texts text ≡ true → is_reserved others text ≡ true
-
-and_left_of : (a b : Bool) → (a && b) ≡ true → a ≡ true
-and_left_of true b e = refl
-and_left_of false b e = e
-
-and_right_of : (a b : Bool) → (a && b) ≡ true → b ≡ true
-and_right_of true b e = e
-and_right_of false b e = absurd (true≢false (sym e))
-
-and_of : (a b : Bool) → a ≡ true → b ≡ true → (a && b) ≡ true
-and_of a b e h = ap (λ x. x && b) e ∙ h
-
 pub all_reserved : (texts others : List (List ℕ)) → list_all (is_reserved others) texts ≡ true → (text : List ℕ) → is_reserved texts text ≡ true → is_reserved others text ≡ true
 all_reserved [] others all text is = absurd (true≢false (sym is))
 all_reserved (t ∷ ts) others all text is =
     elim (or_cases (bytes_eq t text) (is_reserved ts text) is) [
-      | inl same ↦ subst (λ s. is_reserved others s ≡ true) ((bytes_eq-Decides t text).0 same) (and_left_of (is_reserved others t) (list_all (is_reserved others) ts) all)
-      | inr later ↦ all_reserved ts others (and_right_of (is_reserved others t) (list_all (is_reserved others) ts) all) text later
+      | inl same ↦ subst (λ s. is_reserved others s ≡ true) ((bytes_eq-Decides t text).0 same) (first_so (is_reserved others t) (list_all (is_reserved others) ts) all)
+      | inr later ↦ all_reserved ts others (second_so (is_reserved others t) (list_all (is_reserved others) ts) all) text later
     ]
 
 pub reserved_all : (texts others : List (List ℕ)) → ((text : List ℕ) → is_reserved texts text ≡ true → is_reserved others text ≡ true) → list_all (is_reserved others) texts ≡ true
 reserved_all [] others each = refl
 reserved_all (t ∷ ts) others each =
-    and_of (is_reserved others t) (list_all (is_reserved others) ts) (each t (or_left (bytes_eq t t) (is_reserved ts t) ((bytes_eq-Decides t t).1 refl)))
+    and_from (is_reserved others t) (list_all (is_reserved others) ts) (each t (or_left (bytes_eq t t) (is_reserved ts t) ((bytes_eq-Decides t t).1 refl)))
     (reserved_all ts others (λ text is. each text (or_right (bytes_eq t text) (is_reserved ts text) is)))
 
 pub same_from_both : (texts others : List (List ℕ)) → list_all (is_reserved others) texts ≡ true → list_all (is_reserved texts) others ≡ true → SameTexts texts others

@@ -2,19 +2,24 @@
 //!
 //! Both starts are worked out from the operators item by themselves: no set need hold them, as where a grammar declares
 //! operators and reads none.
-ghost use Rattle.std.specs.Prelude.{◌≡◌, Some, IfOk};
-ghost use Rattle.pg_own_starts.specs.OperatorStarts.{AreBothStarts, AreOperatorStarts};
+ghost use Rattle.std.specs.Prelude.{◌≡◌, ◌↔◌, Some, IfOk};
+ghost use Rattle.pg_start.specs.declared.kind.StartKind.{StartKind};
+ghost use Rattle.pg_own_starts.specs.Listed.{IsListed};
+ghost use Rattle.pg_own_starts.specs.OperatorStarts.{AreBothStarts, AreOperatorStarts, IsGapStart};
+ghost use Rattle.pg_own_starts.specs.OwnStarts.{IsOperatorStart};
+ghost use Rattle.pg_own_starts.specs.Words.{AreClassesOf};
 
 use crate::classes::{class_in_grammar, classes_of_items};
 use crate::listed::ListedStart;
 use crate::words::{classes_of_words, listed_words};
+use pg_class::Class;
 use pg_form::OperatorsItem;
 use pg_start::Start;
 use pg_value::Grammar;
 use std::alloc::{AllocError, Global};
 
 /// The starts of operators and of gaps.
-#[derive(Debug, Drop)]
+#[derive(Drop)]
 pub struct OperatorStarts {
     /// An operator: a run of operator characters that isn't reserved.
     pub operator: ListedStart,
@@ -46,17 +51,47 @@ fn both_starts(
     ensures { IfOk result (AreBothStarts grammar.now) }
 {
     let classes = classes_of_items(alloc, grammar.class_items())?;
-    let words = classes_of_words(alloc, grammar, classes.as_slice())?;
-    let class = class_in_grammar(alloc, grammar, classes.as_slice(), &item.class)?;
-    let operator = listed_words(
+    let operator = operator_start(alloc, grammar, classes.as_slice(), item)?;
+    let gap = gap_start(alloc, grammar, classes.as_slice(), item)?;
+    Ok(OperatorStarts { operator, gap })
+}
+
+/// The operator start by the operators item, these being the classes of the class items. The only error is that memory ran
+/// out.
+fn operator_start(
+    alloc: Global,
+    grammar: &Grammar,
+    classes: &[Class],
+    item: &OperatorsItem,
+) -> Result<ListedStart, AllocError>
+    requires item { grammar.now.operators ≡ Some item.now }
+    requires classes { AreClassesOf grammar.now classes.now }
+    ensures named { IfOk result (IsListed grammar.now) }
+    ensures operator { IfOk result (λ listed. (start : StartKind) → IsOperatorStart grammar.now start ↔ (listed.start ≡ start)) }
+{
+    let words = classes_of_words(alloc, grammar, classes)?;
+    let class = class_in_grammar(alloc, grammar, classes, &item.class)?;
+    listed_words(
         alloc,
         grammar,
         words.as_slice(),
         &class,
         &class,
         &item.reserved,
-    )?;
-    let gap = class_in_grammar(alloc, grammar, classes.as_slice(), &item.gap)?;
-    let gap = Start::class(&gap)?;
-    Ok(OperatorStarts { operator, gap })
+    )
+}
+
+/// The gap start by the operators item, these being the classes of the class items. The only error is that memory ran out.
+fn gap_start(
+    alloc: Global,
+    grammar: &Grammar,
+    classes: &[Class],
+    item: &OperatorsItem,
+) -> Result<Start, AllocError>
+    requires item { grammar.now.operators ≡ Some item.now }
+    requires classes { AreClassesOf grammar.now classes.now }
+    ensures { IfOk result (λ gap. (start : StartKind) → IsGapStart grammar.now start ↔ (gap ≡ start)) }
+{
+    let gap = class_in_grammar(alloc, grammar, classes, &item.gap)?;
+    Start::class(&gap)
 }

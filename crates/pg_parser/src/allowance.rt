@@ -12,7 +12,7 @@ use pg_items::{Item, body_size};
 use std::alloc::{AllocError, Global};
 
 /// The items that there is room for.
-#[derive(Clone, Copy, Debug, PartialEq, Eq)]
+#[derive(Clone, Copy)]
 pub struct Allowance {
     pub classes: usize,
     pub words: usize,

@@ -19,7 +19,7 @@ use pg_tokens::{Lexeme, Mark};
 use std::alloc::Global;
 
 /// A form and its parts, one after another. Its span isn't noted yet.
-#[derive(Debug, Drop)]
+#[derive(Drop)]
 pub struct Form {
     pub form: WrittenForm,
     pub parts: Vec<PlacedForm>,

@@ -26,8 +26,13 @@ fn item_in(
     ensures { Gives (λ x. ((entry_of x.0, x.1), tokens_of x.2.now)) result (turn_at allowance (tokens_of tokens.now)) }
 {
     let (item, end) = item(alloc, tokens)?;
-    let (left, rest) = after_item(alloc, allowance, &item, end)?;
-    Ok((item, left, rest))
+    match after_item(alloc, allowance, &item, end) {
+        Ok((left, rest)) => Ok((item, left, rest)),
+        Err(fault) => {
+            drop(item);
+            Err(fault)
+        }
+    }
 }
 
 /// The room that an item leaves, and what stands after its semicolon, which is the first of these tokens. F8 there where

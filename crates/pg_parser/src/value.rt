@@ -53,8 +53,13 @@ fn closed(
 ) -> Result<(Vec<PlacedForm>, &[Lexeme]), SyntaxError>
     ensures { Gives (λ x. (forms_of x.0.items, tokens_of x.1.now)) result (with_close (body_of form) (tokens_of tokens.now)) }
 {
-    let (after, rest) = expect_close(tokens)?;
-    Ok((placed(form, Span { first, after }, names)?, rest))
+    match expect_close(tokens) {
+        Ok((after, rest)) => Ok((placed(form, Span { first, after }, names)?, rest)),
+        Err(fault) => {
+            drop(form);
+            Err(fault)
+        }
+    }
 }
 
 /// These bodies, one after another. F3 at the tokens after them where there are not so many.

@@ -1,5 +1,5 @@
 -- What is noted first is the first condition that is broken.
-use Rattle.std.proofs.Common.{◌≡◌, ◌<◌, ◌⊎◌, ℕ, true, false, List, [], ◌∷◌, Option, Some, None, length, refl, sym, ap, subst, ◌∙◌, inl, inr, arith, Less, Greater}
+use Rattle.std.proofs.Common.{◌≡◌, ◌<◌, ◌⊎◌, ℕ, true, false, List, [], ◌∷◌, Option, Some, None, length, refl, sym, ap, subst, ◌∙◌, inl, inr, arith}
 use Rattle.std.specs.Prelude.{is_some}
 use Rattle.std.proofs.lemmas.Bool.{false≢true}
 use Rattle.std.proofs.lemmas.Option.{same_Some}
@@ -17,14 +17,12 @@ use Rattle.pg_judge.specs.Violations.{Violation}
 use Rattle.pg_judge.specs.WithStarts.{kind_with_starts}
 use Rattle.pg_predict.specs.declared.violation.Broken.{Broken}
 use Rattle.pg_judge.specs.declared.violation.ViolationKind.{ViolationKind}
+use Rattle.pg_judge.proofs.Numbered.{less_greater}
 use Rattle.pg_predict.proofs.Below.{first_below, some_numbered}
 use Rattle.pg_predict.proofs.Complete.{violation_noted}
 use Rattle.pg_predict.proofs.Lists.{In, Precedes, Ascends, Tagged, tags_precede, same_number, all_below_has}
 use Rattle.pg_predict.proofs.Sound.{at_wrong}
 use Rattle.pg_predict.proofs.Violations.{faultless, at_ascends}
-
-less_greater : Less ≡ Greater → ⊥
-less_greater e = grind (arith, e)
 
 -- no two stand each before the other
 never_both : (b c : Violation ℕ) → Precedes b c → Precedes c b → ⊥

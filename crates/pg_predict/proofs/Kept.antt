@@ -1,7 +1,7 @@
 -- How conditions are broken, kept one after another up to so many.
-use Rattle.std.proofs.Common.{◌≡◌, ℕ, zero, suc, ◌+◌, ◌-◌, ◌^◌, ◌≤◌, min, List, [], ◌∷◌, ◌++◌, take, length, append-nil, append_assoc, refl, sym, ap, ◌∙◌, arith}
+use Rattle.std.proofs.Common.{◌≡◌, ℕ, zero, suc, ◌+◌, ◌-◌, ◌^◌, ◌≤◌, min, List, [], ◌∷◌, ◌++◌, take, length, append_assoc, refl, sym, ap, ◌∙◌, arith}
 use Rattle.std.proofs.Math.Numerals.{add-one}
-use Rattle.std.proofs.lemmas.List.{map-append, length-append, length-map, take_all, take-append-le}
+use Rattle.std.proofs.lemmas.List.{map-append, length-append, length-map}
 use Rattle.pg_judge.specs.Judged.{all_below}
 use Rattle.pg_judge.specs.Violations.{Violation, kinds_of, counted}
 use Rattle.pg_judge.specs.declared.violation.ViolationKind.{ViolationKind}
@@ -24,14 +24,6 @@ pub kept_next : (f : ℕ → List (Violation ℕ)) (k n : ℕ) (old before after
     → after ≡ take n (before ++ kinds_of (f k)) → after ≡ take n (old ++ kinds_of (all_below f (k + 1)))
 kept_next f k n old before after first then =
     kept_both n old before after (all_below f k) (f k) first then ∙ ap (λ (m : ℕ). take n (old ++ kinds_of (all_below f m))) (sym (add-one k))
-
--- nothing comes
-pub kept_none : (n : ℕ) (old : List (ViolationKind ℕ)) → length old ≤ n → old ≡ take n (old ++ [])
-kept_none n old few = sym (ap (take n) (append-nil old) ∙ take_all n old few)
-
--- there are enough
-pub kept_full : (n : ℕ) (old xs : List (ViolationKind ℕ)) → length old ≤ n → n ≤ length old → old ≡ take n (old ++ xs)
-kept_full n old xs few full = sym (take-append-le n old xs full ∙ take_all n old few)
 
 -- ---- how many there are
 

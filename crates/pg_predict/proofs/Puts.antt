@@ -81,11 +81,6 @@ puts_stopped before middle after held kept bytes more one stopped =
     (sym (append_assoc one.sent kept more) ∙ ap (λ bs. bs ++ more) (sym one.same) ∙ append_assoc held bytes more)
     (prefix_after before middle after one.sent (kept ++ more) one.written stopped)
 
--- all that was put is sent
-pub puts_all : (before middle after : Option (List ℕ)) (held kept bytes : List ℕ) → Puts before held middle kept bytes → Appends middle after kept → Appends before after (held ++ bytes)
-puts_all before middle after held kept bytes one h =
-    subst (Appends before after) (sym one.same) (appends_both before middle after one.sent kept one.written h)
-
 -- some parts, a prefix of what is held and of the next, and nothing of those after it
 pub puts_stopped_within : (before middle after : Option (List ℕ)) (held kept bytes more others all : List ℕ) → all ≡ bytes ++ (more ++ others) → Puts before held middle kept bytes
     → AppendsPrefix middle after (kept ++ more) → AppendsPrefix before after (held ++ all)

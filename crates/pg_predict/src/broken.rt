@@ -30,7 +30,9 @@ pub fn first_broken(
     ensures { IfOk result (IsFirstBroken grammar.now (claimed_facts sets cost)) }
 {
     let judge = Judge::by_claims(alloc, grammar, sets, cost)?;
-    Ok(first_noted(&judge, grammar))
+    let broken = first_noted(&judge, grammar);
+    drop(judge);
+    Ok(broken)
 }
 
 /// Which condition is broken and where, as in `C2 rule:5`: with the name of the rule in whose body the node stands, and the

@@ -52,6 +52,9 @@ fn decide(alloc: Global, grammar: Grammar, judge: Judge) -> Result<Checked, Chec
             judge,
             texts,
         }))),
-        Err(_) => Err(CheckFault::Memory(grammar)),
+        Err(_) => {
+            drop(judge);
+            Err(CheckFault::Memory(grammar))
+        }
     }
 }

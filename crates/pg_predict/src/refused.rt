@@ -96,7 +96,14 @@ impl Refused {
         ensures { result ≡ self.grammar }
     {
         let Refused { source } = self;
-        source.grammar
+        let Source {
+            grammar,
+            judge,
+            texts,
+        } = source;
+        drop(judge);
+        drop(texts);
+        grammar
     }
 
     /// Writes a line for each finding, with the rule's name, the node's number in it and the text of what is wrong, in as many

@@ -4,6 +4,7 @@
 ghost use Rattle.std.specs.Prelude.{◌≡◌, ◌++◌, IfOk, map, decimal, string_bytes};
 ghost use Rattle.pg_own_starts.specs.PrintedStarts.{start_text};
 ghost use Rattle.pg_judge.specs.Judged.{all_starts};
+ghost use Rattle.pg_judge.specs.declared.violation.ViolationKind.TheVariants.{AlternativesMeet, AlternativeMeetsFollow, RoundMeetsFollow};
 ghost use Rattle.pg_predict.specs.Findings.{name_text, kind_text};
 ghost use Rattle.pg_predict.specs.Texts.{AreTexts, name_at, start_text_at};
 ghost use Rattle.pg_predict.specs.Writing.{pieces_bytes};
@@ -100,36 +101,13 @@ impl Texts {
             ViolationKind::EmptyAlternative(k) => {
                 numbered("C3 alternative ", *k, " can be empty and is not last")
             }
-            ViolationKind::AlternativesMeet(j, k, one, other) => [
-                Piece::Text("C4 alternatives "),
-                Piece::Number(*j),
-                Piece::Text(" and "),
-                Piece::Number(*k),
-                Piece::Text(" meet at "),
-                Piece::Text(self.start(*one)),
-                Piece::Text(" and "),
-                Piece::Text(self.start(*other)),
-            ],
-            ViolationKind::AlternativeMeetsFollow(k, one, other) => [
-                Piece::Text("C5 alternative "),
-                Piece::Number(*k),
-                Piece::Text(" meets the follow set at "),
-                Piece::Text(self.start(*one)),
-                Piece::Text(" and "),
-                Piece::Text(self.start(*other)),
-                Piece::Text(""),
-                Piece::Text(""),
-            ],
-            ViolationKind::RoundMeetsFollow(one, other) => [
-                Piece::Text("C6 repetition meets its follow set at "),
-                Piece::Text(self.start(*one)),
-                Piece::Text(" and "),
-                Piece::Text(self.start(*other)),
-                Piece::Text(""),
-                Piece::Text(""),
-                Piece::Text(""),
-                Piece::Text(""),
-            ],
+            ViolationKind::AlternativesMeet(j, k, one, other) => {
+                self.alternatives_meet(*j, *k, *one, *other)
+            }
+            ViolationKind::AlternativeMeetsFollow(k, one, other) => {
+                self.alternative_meets_follow(*k, *one, *other)
+            }
+            ViolationKind::RoundMeetsFollow(one, other) => self.round_meets_follow(*one, *other),
             ViolationKind::EmptyOperand => alone("C7 operand can be empty"),
             ViolationKind::OperandMeetsOperators(start) => {
                 ended("C7 operand meets operators at ", self.start(*start))
@@ -140,6 +118,54 @@ impl Texts {
             ViolationKind::GapMeets(start) => ended("C9 gap meets ", self.start(*start)),
             ViolationKind::StepCostOver => alone("C11 step cost over 4294967296"),
         }
+    }
+
+    /// That two alternatives of a choice meet.
+    fn alternatives_meet(&self, j: usize, k: usize, one: usize, other: usize) -> [Piece<'_>; 8]
+        ensures { pieces_bytes result ≡ kind_text (start_text_at self.now) (AlternativesMeet j k one other) }
+    {
+        [
+            Piece::Text("C4 alternatives "),
+            Piece::Number(j),
+            Piece::Text(" and "),
+            Piece::Number(k),
+            Piece::Text(" meet at "),
+            Piece::Text(self.start(one)),
+            Piece::Text(" and "),
+            Piece::Text(self.start(other)),
+        ]
+    }
+
+    /// That an alternative of a choice meets what follows the choice.
+    fn alternative_meets_follow(&self, k: usize, one: usize, other: usize) -> [Piece<'_>; 8]
+        ensures { pieces_bytes result ≡ kind_text (start_text_at self.now) (AlternativeMeetsFollow k one other) }
+    {
+        [
+            Piece::Text("C5 alternative "),
+            Piece::Number(k),
+            Piece::Text(" meets the follow set at "),
+            Piece::Text(self.start(one)),
+            Piece::Text(" and "),
+            Piece::Text(self.start(other)),
+            Piece::Text(""),
+            Piece::Text(""),
+        ]
+    }
+
+    /// That a round of a repetition meets what follows it.
+    fn round_meets_follow(&self, one: usize, other: usize) -> [Piece<'_>; 8]
+        ensures { pieces_bytes result ≡ kind_text (start_text_at self.now) (RoundMeetsFollow one other) }
+    {
+        [
+            Piece::Text("C6 repetition meets its follow set at "),
+            Piece::Text(self.start(one)),
+            Piece::Text(" and "),
+            Piece::Text(self.start(other)),
+            Piece::Text(""),
+            Piece::Text(""),
+            Piece::Text(""),
+            Piece::Text(""),
+        ]
     }
 }
 

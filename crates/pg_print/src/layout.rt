@@ -15,7 +15,7 @@ use std::alloc::{AllocError, Global};
 use std::marker::Model;
 
 /// What a text ends with, as far as the space before the next token depends on it.
-#[derive(Clone, Copy, Debug, PartialEq, Eq)]
+#[derive(Clone, Copy, PartialEq, Eq)]
 pub enum Edge {
     /// Nothing yet, `(`, `..` or the end of a line: no space follows.
     Tight,
@@ -26,7 +26,7 @@ pub enum Edge {
 }
 
 /// What is printed so far, seen as its characters and what they end with.
-#[derive(Debug, Drop)]
+#[derive(Drop)]
 pub struct Layout {
     text: Vec<char>,
     edge: Edge,

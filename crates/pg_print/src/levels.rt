@@ -14,7 +14,7 @@ use std::alloc::{AllocError, Global};
 use std::collections::VecDeque;
 
 /// What a form ends with.
-#[derive(Debug, Drop)]
+#[derive(Drop)]
 pub enum Ending {
     /// Nothing.
     Nothing,
@@ -25,7 +25,7 @@ pub enum Ending {
 }
 
 /// A form that is open.
-#[derive(Debug, Drop)]
+#[derive(Drop)]
 pub struct Level {
     /// How many of its parts come after the one that is being printed.
     pub left: usize,

@@ -6,6 +6,7 @@ use Rattle.pg_tree.specs.Trees.{Tree, Trees, leaf, node, no_trees, tree, kids_of
 use Rattle.pg_tree.specs.Built.{tree_text, kids_text, with_kids, flattened, built}
 use Rattle.pg_tree.specs.declared.shape.Shape.{Shape}
 use Rattle.pg_tree.specs.declared.shape.Shape.TheVariants as shaped
+use Rattle.pg_tree.proofs.Flattening.{with_kids-assoc, with_kids-no_trees}
 use Rattle.pg_form.specs.declared.form.Around.{Around}
 use Rattle.pg_form.specs.declared.form.Around.TheVariants as kind
 use Rattle.pg_form.specs.declared.side.Side.{Side}
@@ -50,10 +51,6 @@ built_text (shaped.Flat label) symbol w = append-nil (kids_text (flattened label
 abbrev pub flat_of : List ℕ → List Tree → Trees
 flat_of label w = flattened label (kids_of w)
 
-kids_after : (ks ts more : Trees) → with_kids (with_kids ks ts) more ≡ with_kids ks (with_kids ts more)
-kids_after no_trees ts more = refl
-kids_after (tree k ks) ts more = ap (λ x. tree k x) (kids_after ks ts more)
-
 flat_append : (label : List ℕ) (v w : List Tree) → flat_of label (v ++ w) ≡ with_kids (flat_of label v) (flat_of label w)
 flat_append label [] w = refl
 flat_append label (leaf t ∷ v) w = ap (λ x. tree (leaf t) x) (flat_append label v w)
@@ -62,7 +59,7 @@ flat_append label (node other kids ∷ v) w = go (bytes_eq other label) (flat_ap
     go : (b : Bool) → flat_of label (v ++ w) ≡ with_kids (flat_of label v) (flat_of label w) →
         (if b then with_kids kids (flat_of label (v ++ w)) else tree (node other kids) (flat_of label (v ++ w)))
         ≡ with_kids (if b then with_kids kids (flat_of label v) else tree (node other kids) (flat_of label v)) (flat_of label w)
-    go true h = ap (λ x. with_kids kids x) h ∙ sym (kids_after kids (flat_of label v) (flat_of label w))
+    go true h = ap (λ x. with_kids kids x) h ∙ sym (with_kids-assoc kids (flat_of label v) (flat_of label w))
     go false h = ap (λ x. tree (node other kids) x) h
 
 -- ---- what is alike
@@ -207,15 +204,11 @@ alike_through loose x y w h k = record { is = is_through loose x y w h.is k.is }
 alike_three : (loose : Looseness) (u v w x y z : List Tree) → Alike loose u x → Alike loose v y → Alike loose w z → Alike loose (u ++ v ++ w) (x ++ y ++ z)
 alike_three loose u v w x y z h k l = alike_both loose (u ++ v) (x ++ y) w z (alike_both loose u x v y h k) l
 
-all_kids : (ks : Trees) → with_kids ks no_trees ≡ ks
-all_kids no_trees = refl
-all_kids (tree k ks) = ap (tree k) (all_kids ks)
-
 own_label : (label : List ℕ) (ks : Trees) → flattened label (tree (node label ks) no_trees) ≡ ks
 own_label label ks = go (bytes_eq label label) ((bytes_eq-Decides label label).1 refl)
   where
     go : (b : Bool) → b ≡ true → (if b then with_kids ks no_trees else tree (node label ks) no_trees) ≡ ks
-    go true e = all_kids ks
+    go true e = with_kids-no_trees ks
     go false e = absurd cc
 
 is_text_twice : (shape : Shape) (z : List Tree) → text_in (built shape [] z ∷ []) ≡ text_in (built shape [] (built shape [] z ∷ []) ∷ [])

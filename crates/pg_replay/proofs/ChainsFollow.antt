@@ -11,7 +11,7 @@ use Rattle.pg_value.specs.declared.trail.TrailItem.{TrailItem}
 use Rattle.pg_value.specs.declared.trail.TrailItem.TheVariants.{Alt, Rounds, Ops}
 use Rattle.pg_language.specs.Derives as derives
 use Rattle.pg_language.specs.Derives.{Spot, Link, folded}
-use Rattle.pg_language.proofs.Onward.{leads_on}
+use Rattle.pg_language.proofs.Onward.{leads_on, links_onward}
 use Rattle.pg_replay.specs.Refusals as refusal
 use Rattle.pg_replay.specs.Refusals.{still_entered, RefusesLinks}
 use Rattle.pg_replay.specs.Tasks.{Chain, RoundStart, OnTask, node, links, operand, linked, settle, fold, Setting, loosened, Looseness, State, on, inside, inside_chain, is_text, is_still, is_unchanged, folded_after, with_links, chain_turn, links_turn, operand_turn, is_steady, is_idle, linked_turn}
@@ -19,7 +19,7 @@ use Rattle.pg_replay.proofs.Alike.{Alike, AreIdle, AreAlike, no_round, one_round
 use Rattle.pg_replay.proofs.AnyTable.{no_items}
 use Rattle.pg_replay.proofs.ChainTrees.{chained, chained_from, chained_on, chained_idle, chained_folded}
 use Rattle.pg_replay.proofs.Items.{positive, no_count_at_end, no_count_for_choice, no_count_for_operators}
-use Rattle.pg_replay.proofs.Leads.{End, Leads, IsIdle, does, refuses, idle, idle_after, does_node, does_links, does_operand, does_linked, does_settle, does_fold, refuses_node, refuses_links, refuses_operand, refuses_after_operand, refuses_linked, spot_of, TaskLeads, Follows, follows_if, still_here, still_none, still_after_item, still_twice, links_onward}
+use Rattle.pg_replay.proofs.Leads.{End, Leads, IsIdle, does, refuses, idle, idle_after, does_node, does_links, does_operand, does_linked, does_settle, does_fold, refuses_node, refuses_links, refuses_operand, refuses_after_operand, refuses_linked, spot_of, TaskLeads, Follows, follows_if, still_here, still_none, still_after_item, still_twice}
 use Rattle.pg_replay.proofs.LeftOut.{no_item_more, both, as_many, as_many_each, left_out}
 use Rattle.pg_replay.proofs.NoText.{no_text}
 

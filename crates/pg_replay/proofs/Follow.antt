@@ -19,7 +19,7 @@ use Rattle.pg_language.specs.Derives.{Spot, leaf_of, Derives, DerivesRounds, tab
 use Rattle.std.proofs.lemmas.Slice.Eq.{bytes_eq-Decides}
 use Rattle.std.proofs.Math.Seq.{take-append_seam, drop-append_seam}
 use Rattle.pg_language.specs.Onward.{LeadsOn}
-use Rattle.pg_language.proofs.Onward.{leads_on}
+use Rattle.pg_language.proofs.Onward.{leads_on, rounds_onward}
 use Rattle.pg_replay.specs.Refusals as refusal
 use Rattle.pg_replay.specs.Refusals.{still_entered, if_no_item, IsEntered, ChoosesNone}
 use Rattle.pg_replay.specs.Tasks.{Looseness, tight, apart, only_text, Known, OnTask, node, parts, rounds, more_rounds, links, operand, linked, settle, fold, marked, operator_symbol, application, unmark, close, leave, Setting, under_marks, loosened, State, Turn, on, stops, ended, part_turn, numbered_turn, choice_turn, many_turn, is_place, is_known_at, is_known, covers, inside_form, is_text, given_by, is_still, is_entered, rule_turn, around_turn, form_turn, node_turn, parts_turn, rounds_turn, is_unchanged, more_turn, closed_table, closed_forest, without_newest, turn}
@@ -32,7 +32,7 @@ use Rattle.pg_replay.proofs.LeftOut.{no_item_more, left_out, both, as_many}
 use Rattle.pg_replay.proofs.ProperTables.{IsProper}
 use Rattle.pg_replay.proofs.ExpressionsFollow.{expression_follows, symbol_follows}
 use Rattle.pg_replay.proofs.ChainsFollow.{chain_follows, links_follow, operand_follows, linked_follows}
-use Rattle.pg_replay.proofs.Leads.{End, entered_after, Does, Leads, AsMany, does, refuses, does_node, does_parts, does_rounds, does_more, over, does_settle, does_fold, does_term, does_application, does_unmark, does_close, does_leave, refuses_node, refuses_parts, refuses_rounds, refuses_more, refuses_term, spot_of, StateLeads, TaskLeads, Follows, follows_if, still_here, still_none, still_after_item, still_twice, parts_onward, rounds_onward}
+use Rattle.pg_replay.proofs.Leads.{End, entered_after, Does, Leads, AsMany, does, refuses, does_node, does_parts, does_rounds, does_more, over, does_settle, does_fold, does_term, does_application, does_unmark, does_close, does_leave, refuses_node, refuses_parts, refuses_rounds, refuses_more, refuses_term, spot_of, StateLeads, TaskLeads, Follows, follows_if, still_here, still_none, still_after_item, still_twice, parts_onward}
 
 abbrev spot_at : ℕ → Table → Spot
 spot_at place table = record { place = place; table = table }

@@ -12,12 +12,13 @@ use Rattle.pg_form.specs.declared.operators_item.OperatorsItem.{OperatorsItem}
 use Rattle.pg_value.specs.declared.trail.AppliedOperator.{AppliedOperator}
 use Rattle.pg_language.specs.Runs.{IsOperatorAt}
 use Rattle.pg_replay.specs.declared.fault.Mismatch.TheVariants.{TextDiffers}
-use Rattle.pg_language.specs.Derives.{Spot, at, Link, Derives, DerivesParts, DerivesRounds, DerivesLinks, no_part, first_part, no_round, first_round, no_link, first_link}
+use Rattle.pg_language.specs.Derives.{Spot, at, Link, Derives, DerivesParts, DerivesRounds, DerivesLinks, no_part, first_part}
 use Rattle.pg_language.proofs.Onward.{leads_on}
 use Rattle.pg_replay.specs.Refusals.{Stop, stop, if_no_item, still_entered, Refuses, RefusesParts, RefusesRounds, RefusesLinks}
 use Rattle.pg_replay.specs.Tasks.{Looseness, tight, apart, only_text, Chain, RoundStart, OnTask, node, parts, rounds, more_rounds, links, operand, linked, settle, fold, marked, operator_symbol, application, unmark, close, leave, Setting, under_marks, loosened, State, Turn, on, stops, ended, is_steady, folded_after, first_mark, marks_after, applied_after, closed_table, closed_forest, without_newest}
 use Rattle.pg_replay.proofs.ChainTrees.{chained, chained_from, chained_on}
 use Rattle.pg_replay.proofs.Alike.{Alike, AreAlike}
+use Rattle.pg_fitting.proofs.Places.{if_true}
 
 -- it comes to the end of the tasks at a spot, with a forest whose trees are so loose, and with items left, or stops
 pub data End : Type 0 where
@@ -137,14 +138,6 @@ Follows g text t s (ended after) = ⊥
 
 -- ---- choices by a test
 
-pub if_true : {X : Type 0} (b : Bool) (x y : X) → b ≡ true → (if b then x else y) ≡ x
-if_true true x y e = refl
-if_true false x y e = absurd cc
-
-pub if_false : {X : Type 0} (b : Bool) (x y : X) → b ≡ false → (if b then x else y) ≡ y
-if_false true x y e = absurd cc
-if_false false x y e = refl
-
 pub follows_if : (g : Grammar) (text : List ℕ) (t : OnTask) (s : State) (b : Bool) (x y : Turn) → (b ≡ true → Follows g text t s x) → (b ≡ false → Follows g text t s y) →
     Follows g text t s (if b then x else y)
 follows_if g text t s true x y h k = h refl
@@ -197,11 +190,3 @@ still_twice a b c x y entered low high = go (a.place == b.place) (b.place == c.p
 pub parts_onward : {g : Grammar} {text : List ℕ} {ps : List ℕ} {a b : Spot} {w : List Tree} {u : List TrailItem} → DerivesParts g text ps a b w u → a.place ≤ b.place
 parts_onward no_part = omega arith
 parts_onward (first_part d ds) = let h = (leads_on d).onward in let k = parts_onward ds in omega arith
-
-pub rounds_onward : {g : Grammar} {text : List ℕ} {p n : ℕ} {a b : Spot} {w : List Tree} {u : List TrailItem} → DerivesRounds g text p n a b w u → a.place ≤ b.place
-rounds_onward no_round = omega arith
-rounds_onward (first_round d ds) = let h = (leads_on d).onward in let k = rounds_onward ds in omega arith
-
-pub links_onward : {g : Grammar} {text : List ℕ} {p q n : ℕ} {a b : Spot} {ls : List Link} {u : List TrailItem} → DerivesLinks g text p q n a b ls u → a.place ≤ b.place
-links_onward no_link = omega arith
-links_onward (first_link d e ds) = let h = (leads_on d).onward in let i = (leads_on e).onward in let k = links_onward ds in omega arith

@@ -1,10 +1,7 @@
 -- In every table that a replay comes to, each operator can be declared, and its symbol and side tell it.
-use Rattle.std.proofs.Common.{◌≡◌, ◌⊎◌, ◌==◌, ℕ, zero, suc, Bool, true, false, not, ◌&&◌, ◌||◌, List, [], ◌∷◌, ◌++◌, length, take, inl, inr, refl, sym, ap, ◌∙◌, if◌then◌else◌}
-use Rattle.std.specs.Prelude.{Option, None, Some, slice_get, nat_lt, nat_le}
-use Rattle.std.specs.Cmp.Derive.{both_true}
-use Rattle.std.specs.List.{AllByRecursion, list_any}
-use Rattle.std.specs.Str.{bytes_eq}
-use Rattle.std.proofs.lemmas.Slice.Eq.{bytes_eq-Decides}
+use Rattle.std.proofs.Common.{◌≡◌, ◌⊎◌, ◌==◌, ℕ, zero, suc, Bool, true, false, ◌&&◌, ◌||◌, List, [], ◌∷◌, ◌++◌, take, inl, inr, refl, sym, ap, ◌∙◌, if◌then◌else◌}
+use Rattle.std.specs.Prelude.{Option, None, Some, slice_get}
+use Rattle.std.specs.List.{AllByRecursion}
 use Rattle.pg_form.specs.Operators.{Operator, IsOperator}
 use Rattle.pg_form.specs.Forms.{Node}
 use Rattle.pg_form.specs.declared.class.ClassPart.{ClassPart}
@@ -23,12 +20,11 @@ use Rattle.pg_value.specs.declared.trail.AppliedOperator.{AppliedOperator}
 use Rattle.pg_value.specs.declared.trail.TrailItem.{TrailItem}
 use Rattle.pg_value.specs.declared.trail.TrailItem.TheVariants.{Alt, Rounds, Ops}
 use Rattle.pg_table.specs.Fitting.{IsAmong}
-use Rattle.pg_table.specs.Tables.{Table, IsTable, is_prefix, has_prefix, has_other, admit_fault, Admits, with_operator, first_operators, ComesFrom}
+use Rattle.pg_table.specs.Tables.{Table, IsTable, is_prefix, admit_fault, Admits, with_operator, first_operators, ComesFrom}
 use Rattle.pg_table.specs.declared.fault.AdmitFault.{AdmitFault}
-use Rattle.pg_table.specs.declared.fault.AdmitFault.TheVariants.{SymbolTooLong, SymbolReserved, PrefixThere, SymbolThere, TableFull}
 use Rattle.pg_expand.proofs.Members.{Among, among_either}
 use Rattle.pg_expand.proofs.Levels.{to_member, from_member}
-use Rattle.pg_expand.proofs.Symbols.{told_table}
+use Rattle.pg_expand.proofs.Symbols.{told_table, new_symbol}
 use Rattle.pg_fitting.specs.Steps.{Step, AreTold}
 use Rattle.pg_fitting.specs.Judge.{known_in, judgement}
 use Rattle.pg_language.specs.Declarations.{Declaration, no_keyword, no_digit, no_symbol, declared, declaration_at}
@@ -49,44 +45,6 @@ proper_table g table comes is = record {
 }
 
 -- ---- an operator more
-
-any_member : (test : Operator → Bool) (os : List Operator) (o : Operator) → Among o os → test o ≡ true → list_any test os ≡ true
-any_member test [] o h t = absurd h
-any_member test (p ∷ os) o (inl e) t = ap (λ b. b || list_any test os) (sym (ap test e) ∙ t)
-any_member test (p ∷ os) o (inr h) t = either_true (test p) (list_any test os) (any_member test os o h t)
-  where
-    either_true : (b c : Bool) → c ≡ true → (b || c) ≡ true
-    either_true true c e = refl
-    either_true false c e = e
-
--- of five reasons none holds, so neither the third does nor the fourth
-no_reason : (a b c d e : Bool) (first second third fourth fifth : AdmitFault) →
-    (if a then Some first else if b then Some second else if c then Some third else if d then Some fourth else if e then Some fifth else None) ≡ None → (c ≡ false) × (d ≡ false)
-no_reason true b c d e first second third fourth fifth h = absurd cc
-no_reason false true c d e first second third fourth fifth h = absurd cc
-no_reason false false true d e first second third fourth fifth h = absurd cc
-no_reason false false false true e first second third fourth fifth h = absurd cc
-no_reason false false false false e first second third fourth fifth h = (refl, refl)
-
-true_not_false : (b : Bool) → b ≡ true → b ≡ false → ⊥
-true_not_false b e h = cc
-
--- an operator that is admitted has another symbol than those on its side
-new_symbol : (table : Table) (d o : Operator) → Admits table d → Among o table.operators → is_prefix o.role ≡ is_prefix d.role → o.symbol ≡ d.symbol → ⊥
-new_symbol table d o admits among side symbol =
-    let neither =
-    no_reason (nat_lt 16 (length d.symbol)) (list_any (λ s. bytes_eq s d.symbol) table.reserved) (is_prefix d.role && has_prefix table.operators d.symbol)
-    (not (is_prefix d.role) && has_other table.operators d.symbol) (nat_le table.most (length table.operators)) SymbolTooLong SymbolReserved PrefixThere SymbolThere TableFull admits in
-    by_side (is_prefix d.role) refl neither.0 neither.1
-  where
-    same : bytes_eq o.symbol d.symbol ≡ true
-    same = (bytes_eq-Decides o.symbol d.symbol).1 symbol
-
-    by_side : (b : Bool) → is_prefix d.role ≡ b → (is_prefix d.role && has_prefix table.operators d.symbol) ≡ false → (not (is_prefix d.role) && has_other table.operators d.symbol) ≡ false → ⊥
-    by_side true e p q =
-        true_not_false _ (both_true e (any_member (λ o. is_prefix o.role && bytes_eq o.symbol d.symbol) table.operators o among (both_true (side ∙ e) same))) p
-    by_side false e p q =
-        true_not_false _ (both_true (ap not e) (any_member (λ o. not (is_prefix o.role) && bytes_eq o.symbol d.symbol) table.operators o among (both_true (ap not (side ∙ e)) same))) q
 
 told_with : (table : Table) (d : Operator) → AreTold table.operators → Admits table d → AreTold (table.operators ++ d ∷ [])
 told_with table d told admits o p m n side symbol =

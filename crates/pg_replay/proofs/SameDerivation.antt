@@ -1,7 +1,6 @@
 -- Along one trail there is one derivation: where two take the items of one trail from one spot, they end at one spot, with one
 -- forest, the same items and the same size.
 use Rattle.std.proofs.Common.{◌≡◌, ◌+◌, ℕ, suc, List, [], ◌∷◌, ◌++◌, length, refl, sym, ap, subst, ◌∙◌, append_assoc}
-use Rattle.std.specs.Prelude.{Some}
 use Rattle.std.specs.List.{AllByRecursion}
 use Rattle.pg_tree.specs.Trees.{Tree}
 use Rattle.pg_form.specs.Operators.{Operator, IsOperator}
@@ -13,13 +12,10 @@ use Rattle.pg_value.specs.declared.grammar.Rule as declared
 use Rattle.pg_value.specs.declared.trail.TrailItem.{TrailItem}
 use Rattle.pg_table.specs.Fitting.{Expression, IsFitting}
 use Rattle.pg_table.specs.Trails.{operators_read}
-use Rattle.pg_table.specs.Tables.{Table, whole, added_unless, added_from, admit_fault, with_operator}
-use Rattle.pg_table.specs.declared.fault.AdmitFault.{AdmitFault}
-use Rattle.std.specs.Prelude.{Option, None}
+use Rattle.pg_table.specs.Tables.{Table, whole, added_from, admit_fault, with_operator}
 use Rattle.pg_expand.proofs.Levels.{from_member}
-use Rattle.pg_expand.proofs.Symbols.{one_reading}
+use Rattle.pg_expand.proofs.Symbols.{one_reading, added_whole}
 use Rattle.pg_expand.proofs.OperatorsRead.{told_reading}
-use Rattle.pg_table.specs.Tables.{Added}
 use Rattle.pg_language.specs.Runs.{past_run, IsOperatorAt}
 use Rattle.pg_language.specs.Derives.{Spot, at, Link, folded, applied, made_by, left_by}
 use Rattle.pg_language.specs.Onward.{LeadsOn}
@@ -62,14 +58,10 @@ joined_forests v x w y e h = ap (λ z. z ++ x) e ∙ ap (λ z. w ++ z) h
 
 -- ---- tables
 
-added_here : (fault : Option AdmitFault) (k : ℕ) (others : Added) (u : Table) → added_unless fault k others ≡ whole u → (fault ≡ None) × (others ≡ whole u)
-added_here None k others u e = (refl, e)
-added_here (Some fault) k others u e = absurd cc
-
 proper_added : (k : ℕ) (t u : Table) (ds : List Operator) → IsProper t → AllByRecursion IsOperator ds → added_from k t ds ≡ whole u → IsProper u
 proper_added k t u [] h all e = subst IsProper (let same : t ≡ u = cc in same) h
 proper_added k t u (d ∷ ds) h all e =
-    let step = added_here (admit_fault t d) k (added_from (suc k) (with_operator t d) ds) u e in
+    let step = added_whole (admit_fault t d) k (added_from (suc k) (with_operator t d) ds) u e in
     proper_added (suc k) (with_operator t d) u ds (proper_with t d h step.0 all.0) all.1 step.1
 
 pub proper_on : (text : List ℕ) (a b : Spot) → LeadsOn text a b → IsProper a.table → IsProper b.table

@@ -18,7 +18,9 @@ pub fn print_explained_fault<R: AllocGlobal + Eprint>(
 ) -> Result<u8, AllocError>
     ensures { IfOk result (λ status. status ≡ status_of fault) }
 {
-    explained_fault(rt, &fault, bytes, grammar)
+    let printed = explained_fault(rt, &fault, bytes, grammar);
+    drop(fault);
+    printed
 }
 
 /// The same of a fault that is lent.

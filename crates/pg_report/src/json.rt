@@ -19,7 +19,9 @@ pub fn print_json_fault<R: AllocGlobal + Print + Eprint>(
 ) -> Result<u8, AllocError>
     ensures { IfOk result (λ status. status ≡ status_of fault) }
 {
-    json_fault(rt, &fault, grammar)
+    let printed = json_fault(rt, &fault, grammar);
+    drop(fault);
+    printed
 }
 
 /// The same of a fault that is lent.

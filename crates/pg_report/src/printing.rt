@@ -24,7 +24,9 @@ pub fn print_report<R: AllocGlobal + Eprint>(
 ) -> Result<u8, AllocError>
     ensures { IfOk result (λ status. status ≡ status_of fault) }
 {
-    print_fault(rt, &fault, names)
+    let printed = print_fault(rt, &fault, names);
+    drop(fault);
+    printed
 }
 
 /// The same of a fault that is lent.
@@ -52,7 +54,10 @@ pub fn print_refusal<R: AllocGlobal + Eprint>(
     ensures { IfOk result (IsRefusalStatus (offer_of registry.now) bytes.now) }
 {
     match checked_of(rt.alloc(), bytes, registry) {
-        Ok(_) => Ok(None),
+        Ok(checked) => {
+            drop(checked);
+            Ok(None)
+        }
         Err(fault) => Ok(Some(print_report(rt, fault, Names::of_grammar(grammar))?)),
     }
 }
@@ -67,7 +72,11 @@ pub fn print_verdict<R: AllocGlobal + Print + Eprint>(
 {
     match verdict {
         Ok(()) => print_page(rt, "accepted\n"),
-        Err(fault) => print_refuted(rt, &fault, names),
+        Err(fault) => {
+            let printed = print_refuted(rt, &fault, names);
+            drop(fault);
+            printed
+        }
     }
 }
 

@@ -403,23 +403,13 @@ pub fn request_of<'m, 'a>(matches: &'m ArgMatches<'a>) -> Option<Request<'m, 'a>
     let (name, found) = matches.subcommand()?;
     match name {
         "check" => check_request(found),
-        "explain" => Some(Request::Explain {
-            grammar: found.get_str("grammar")?,
-            asked: found.get_str("nodes").unwrap_or(""),
-        }),
-        "verify" => Some(Request::Verify {
-            grammar: found.get_str("grammar")?,
-            certificate: found.get_str("certificate")?,
-        }),
+        "explain" => explain_request(found),
+        "verify" => verify_request(found),
         "parse" => parse_request(found),
         "probe" => probe_request(found),
         "replay" => replay_request(found),
-        "print" => Some(Request::Print {
-            grammar: found.get_str("grammar")?,
-        }),
-        "sets" => Some(Request::Sets {
-            grammar: found.get_str("grammar")?,
-        }),
+        "print" => print_request(found),
+        "sets" => sets_request(found),
         _ => None,
     }
 }
@@ -436,6 +426,20 @@ fn check_request<'m, 'a>(found: &'m ArgMatches<'a>) -> Option<Request<'m, 'a>> {
         grammars: found.get_strs("grammar")?,
         certificate: found.get_flag("certificate"),
         findings,
+    })
+}
+
+fn explain_request<'m, 'a>(found: &'m ArgMatches<'a>) -> Option<Request<'m, 'a>> {
+    Some(Request::Explain {
+        grammar: found.get_str("grammar")?,
+        asked: found.get_str("nodes").unwrap_or(""),
+    })
+}
+
+fn verify_request<'m, 'a>(found: &'m ArgMatches<'a>) -> Option<Request<'m, 'a>> {
+    Some(Request::Verify {
+        grammar: found.get_str("grammar")?,
+        certificate: found.get_str("certificate")?,
     })
 }
 
@@ -470,5 +474,17 @@ fn replay_request<'m, 'a>(found: &'m ArgMatches<'a>) -> Option<Request<'m, 'a>> 
         grammar: found.get_str("grammar")?,
         text: found.get_str("text")?,
         trail: found.get_str("trail")?,
+    })
+}
+
+fn print_request<'m, 'a>(found: &'m ArgMatches<'a>) -> Option<Request<'m, 'a>> {
+    Some(Request::Print {
+        grammar: found.get_str("grammar")?,
+    })
+}
+
+fn sets_request<'m, 'a>(found: &'m ArgMatches<'a>) -> Option<Request<'m, 'a>> {
+    Some(Request::Sets {
+        grammar: found.get_str("grammar")?,
     })
 }

@@ -14,7 +14,7 @@ use Rattle.pg_start.specs.declared.kind.StartKind.{StartKind}
 use Rattle.pg_sets.specs.First.{IsFirst, IsFirstOf}
 use Rattle.pg_sets.specs.First as first_of
 use Rattle.pg_sets.specs.Flows.{Flow, follow_of, flows_of_all, flows_of_some, flows_of_next, flows_after_parts, flows_of_alternatives, flows_of_chain, flows_of_only, around_flows, node_flows, with_flows, all_flows}
-use Rattle.pg_sets.specs.Follow.{StandsBefore, IsChain, HasOnly, IsFollow}
+use Rattle.pg_sets.specs.Follow.{StandsBefore, IsChain, IsFollow}
 use Rattle.pg_sets.specs.Follow as follow
 use Rattle.pg_graph.specs.Marks.{is_marked}
 use Rattle.pg_heads.specs.Nullable.{Nullable, AllNullable}

@@ -25,13 +25,15 @@ use Rattle.pg_heads.proofs.Heading.{MarksNullable}
 
 -- ---- lists in two parts
 
-taken_at : (sets : List (List Bool)) (count k : ℕ) → k < count → set_at (take count sets) k ≡ set_at sets k
+-- of the first sets each is what it was
+pub taken_at : (sets : List (List Bool)) (count k : ℕ) → k < count → set_at (take count sets) k ≡ set_at sets k
 taken_at sets zero k below = absurd (omega arith)
 taken_at [] (suc count) k below = refl
 taken_at (l ∷ ls) (suc count) zero below = refl
 taken_at (l ∷ ls) (suc count) (suc k) below = taken_at ls count k (omega arith)
 
-dropped_at : (sets : List (List Bool)) (count k : ℕ) → set_at (drop count sets) k ≡ set_at sets (count + k)
+-- of the sets behind the first each is what it was
+pub dropped_at : (sets : List (List Bool)) (count k : ℕ) → set_at (drop count sets) k ≡ set_at sets (count + k)
 dropped_at sets zero k = let same : k ≡ 0 + k = omega arith in ap (set_at sets) same
 dropped_at [] (suc count) k = cc
 dropped_at (l ∷ ls) (suc count) k = let next : suc (count + k) ≡ suc count + k = omega arith in dropped_at ls count k ∙ ap (set_at (l ∷ ls)) next

@@ -1,6 +1,6 @@
 -- What the tests of the characters ahead of a place tell of a start there.
-use Rattle.std.proofs.Common.{◌≡◌, ℕ, ◌-◌, Bool, true, false, not, List, length, take, drop, arith, refl, ◌∙◌, sym, subst}
-use Rattle.std.proofs.lemmas.Bool.{false≢true}
+use Rattle.std.proofs.Common.{◌≡◌, ℕ, ◌-◌, Bool, true, false, not, List, length, take, drop, arith, ◌∙◌, sym, subst}
+use Rattle.std.proofs.lemmas.Bool.{false≢true, not-true, not_from_false}
 use Rattle.std.proofs.lemmas.List.{take_all, length-drop}
 use Rattle.pg_class.specs.Ranges.{Range}
 use Rattle.pg_start.specs.Prefixes.{begins_in, IsPrefix, word_prefix, is_reserved}
@@ -36,22 +36,14 @@ key_tested start text i key excluded k ahead r e is f g told =
       λ h. here.1 (h.there, ends_from_key text i key excluded h.ends),
     )
 
-not_true : (r : Bool) → not r ≡ true → r ≡ false
-not_true true e = absurd (false≢true e)
-not_true false e = refl
-
-not_false : (r : Bool) → r ≡ false → not r ≡ true
-not_false true e = absurd (false≢true (sym e))
-not_false false e = refl
-
 -- where the text goes on with a head
 pub word_tested : (start : StartKind) (text : List ℕ) (i : ℕ) (heads rest : List Range) (reserved : List (List ℕ)) (r : Bool)
     → start ≡ Word heads rest reserved → begins_in heads (drop i text) ≡ true → r ≡ is_reserved reserved (word_prefix rest (drop i text))
     → (not r ≡ true → MatchesAt start text i) × (MatchesAt start text i → not r ≡ true)
 word_tested start text i heads rest reserved r e begins is =
     subst (λ (s : StartKind). (not r ≡ true → MatchesAt s text i) × (MatchesAt s text i → not r ≡ true)) (sym e) (
-      λ t. word_from_ahead text i heads rest reserved begins (sym is ∙ not_true r t),
-      λ w. not_false r (is ∙ free_of_word text i heads rest reserved w),
+      λ t. word_from_ahead text i heads rest reserved begins (sym is ∙ not-true r t),
+      λ w. not_from_false r (is ∙ free_of_word text i heads rest reserved w),
     )
 
 -- and where it doesn't

@@ -9,6 +9,7 @@
 mod choices;
 mod lines;
 mod quoted;
+mod replies;
 mod run;
 mod stretch;
 mod teller;

@@ -3,9 +3,10 @@
 use crate::choices::number_of;
 use crate::lines::{push_answer, push_characters, push_error, push_front, push_lost, push_stop};
 use crate::quoted::push_taken;
+use crate::replies::{gives_back, has_taken, loses, rule_used};
 use crate::stretch::{between, failing};
 use pg_excerpt::positions;
-use pg_form::{Around, Form, Node, NodeId, RuleId};
+use pg_form::{Around, NodeId, RuleId};
 use pg_message_tape::MessageTape;
 use pg_text::{Pos, Text};
 use pg_turns::{Frame, Machine, Mode, Reply};
@@ -365,48 +366,5 @@ impl<'a> Teller<'a> {
             Some(position) => *position,
             None => Pos { line: 1, column: 1 },
         }
-    }
-}
-
-/// Whether what an answer says depends on the text that was taken.
-fn has_taken(reply: Reply) -> bool {
-    match reply {
-        Reply::Succeeded { consumed, .. } | Reply::Failed { consumed, .. } => consumed,
-        Reply::EmptyRound => false,
-    }
-}
-
-/// Whether a form gives back what its part took, where that failed.
-fn gives_back(around: &Around) -> bool {
-    match around {
-        Around::Try => true,
-        Around::Text | Around::Skip | Around::Build(_, _) | Around::Label(_) | Around::Local => {
-            false
-        }
-    }
-}
-
-/// Whether a choice tries no alternative after one with this answer, which failed.
-fn loses(reply: Reply) -> bool {
-    match reply {
-        Reply::Failed { consumed, .. } => consumed,
-        Reply::Succeeded { .. } | Reply::EmptyRound => false,
-    }
-}
-
-/// The rule that a node names, if it does.
-fn rule_used(form: Option<&Node>) -> Option<RuleId> {
-    match form {
-        Some(Form::Rule(rule)) => Some(*rule),
-        Some(
-            Form::Leaf(_)
-            | Form::Seq(_)
-            | Form::Choice(_)
-            | Form::Many(_)
-            | Form::Chain(_, _, _, _)
-            | Form::Expression(_, _)
-            | Form::Around(_, _),
-        )
-        | None => None,
     }
 }

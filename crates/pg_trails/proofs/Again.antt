@@ -1,5 +1,5 @@
 -- The text of a trail is read as the trail's value.
-use Rattle.std.proofs.Common.{◌≡◌, ◌≤◌, ◌<◌, ◌+◌, ◌-◌, ◌^◌, ℕ, take, drop, get_or, List, [], ◌∷◌, ◌++◌, Bool, true, false, map, codes, max, Option, Some, option_map, option_and_then, decimal, length, refl, ap, ap₂, sym, ◌∙◌, subst, arith, append-nil}
+use Rattle.std.proofs.Common.{◌≡◌, ◌≤◌, ◌<◌, ◌+◌, ◌-◌, ◌^◌, ℕ, take, drop, get_or, List, [], ◌∷◌, ◌++◌, Bool, true, false, map, codes, Option, Some, option_map, option_and_then, length, refl, ap, sym, ◌∙◌, subst, arith, append-nil}
 use Rattle.std.specs.Str.{encode_utf8_all, IsUtf8}
 use Rattle.std.proofs.lemmas.Str.{IsUtf8-append, IsUtf8-nil, IsUtf8-from_ascii}
 use Rattle.std.proofs.lemmas.List.{take_more, take_all}
@@ -7,15 +7,15 @@ use Rattle.std.proofs.lemmas.Fmt.{IsAscii-decimal}
 use Rattle.json.specs.Json as json
 use Rattle.json.specs.Lex.{tokens}
 use Rattle.json.specs.Token.{Token}
-use Rattle.json.specs.Print.{print, quoted, IsNumber}
+use Rattle.json.specs.Print.{quoted}
 use Rattle.json.specs.Tree as tree
 use Rattle.json.proofs.Printed.Trees.{value-json_tokens, ArePrintable-json_tokens}
 use Rattle.json.proofs.Printed.Tokens.{tokens-print}
 use Rattle.json.proofs.Printed.Decimals.{IsNumber-decimal}
 use Rattle.json.proofs.Printed.Utf8.{IsUtf8-quoted, IsUtf8-are_ascii, are_ascii}
-use Rattle.serde_json.specs.Data.{Data, unsigned, number, string, array, object, Items, item, no_items, member, no_members}
+use Rattle.serde_json.specs.Data.{Data, array, Items, item}
 use Rattle.serde_json.specs.View.{items_of}
-use Rattle.serde_json.specs.Read.{read, of_json, of_items, number_of, max_depth}
+use Rattle.serde_json.specs.Read.{read, of_json, of_items, max_depth}
 use Rattle.serde_json.specs.Written.{compact_text, items_text, comma_if, outline, items_outline}
 use Rattle.serde_json.proofs.Texts.{print-outline}
 use Rattle.serde_json.proofs.Numbers.{number_of-decimal}

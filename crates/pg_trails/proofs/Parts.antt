@@ -1,16 +1,15 @@
 -- What values consist of, by what `serde_json` answers of them.
-use Rattle.std.proofs.Common.{◌≡◌, ℕ, zero, suc, List, [], ◌∷◌, length, map, String, Global, string_bytes, Some, None, Ok, Err, Result, refl, ap, sym, ◌∙◌, subst, arith}
+use Rattle.std.proofs.Common.{◌≡◌, ℕ, List, [], ◌∷◌, length, map, String, Global, string_bytes, Some, Ok, Err, Result, refl, ap, sym, ◌∙◌, subst, arith}
 use Rattle.std.specs.List.{slice_get}
 use Rattle.std.specs.Str.{encode_utf8_all, IsUtf8, chars}
 use Rattle.std.proofs.lemmas.Str.{chars_from_encodes, encodes-chars}
-use Rattle.serde_json.specs.Data.{Data, null, boolean, number, string, array, object, Items, item, no_items, Members, member, no_members}
+use Rattle.serde_json.specs.Data.{Data, null, boolean, number, string, array, object, Items, item, no_items, Members, member}
 use Rattle.serde_json.specs.Events.{items_len, members_len}
 use Rattle.serde_json.specs.Find.{as_array, as_object}
 use Rattle.serde_json.specs.View.{view, items_of, items_view, members_view}
 use Rattle.serde_json.specs.declared.value.Value.{Value}
 use Rattle.serde_json.proofs.Views.{items_len-items_view, members_len-members_view}
 use Rattle.pg_trails.specs.declared.fault.TrailFault.{TrailFault}
-use Rattle.pg_trails.specs.declared.fault.TrailFault.TheVariants.{NotATrail, Memory}
 use Rattle.pg_trails.specs.Readings.{Gives}
 use Rattle.pg_trails.specs.TrailJson.{two_texts, lone}
 use Rattle.pg_trails.proofs.Found.{refused_in}

@@ -45,9 +45,6 @@ joined_nil t u =
     ap (λ (os : List AppliedOperator). Ops (operators_of t ++ os) ∷ (items_of t ++ (items_of u ++ []))) (append-nil (operators_of u))
     ∙ ap (λ (is : List TrailItem). Ops (operators_of t ++ operators_of u) ∷ (items_of t ++ is)) (append-nil (items_of u))
 
-pub nil_joined : (t : List TrailItem) → opened (joined_trail [] t) ≡ opened t
-nil_joined t = refl
-
 -- an operator is noted after those that were read
 pub opened_noted : (t u : List TrailItem) (side : Fixity) (o : Operator) →
     noted_read (length t) (trails.applied side o) (t ++ opened u) ≡ t ++ opened (joined_trail u (noted_operator side o))
@@ -82,14 +79,6 @@ or_true true = refl
 pub or_false : (c : Bool) → (c || false) ≡ c
 or_false false = refl
 or_false true = refl
-
-extends_true : {T U : Table} (c : Bool) → Extends c T U → Extends (c || true) T U
-extends_true false h = extends_any h
-extends_true true h = h
-
-extends_same : {T U : Table} (c : Bool) → Extends c T U → Extends (c || false) T U
-extends_same false h = h
-extends_same true h = h
 
 module _ {gs : List OnFrame} {v : List Tree} {t u : List TrailItem} {y : List TapeMessage} {U W : Table} where
   -- one error more is said

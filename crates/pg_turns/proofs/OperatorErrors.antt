@@ -12,6 +12,7 @@ use Rattle.pg_language.specs.OperatorReads.{Read, read_at, unread, told_ambiguou
 use Rattle.pg_language.specs.Outcomes.{ok}
 use Rattle.pg_language.specs.RowReactions.{Setting, no_affix, ambiguous_right, ambiguous_left, ambiguous_non}
 use Rattle.std.proofs.lemmas.Slice.Eq.{bytes_eq-Decides}
+use Rattle.std.specs.Cmp.{first_so}
 use Rattle.pg_message.specs.Messages.{Text, Messages, is_empty, with_texts, with_messages}
 use Rattle.pg_message.specs.declared.error.ParseError.{ParseError}
 use Rattle.pg_message.specs.declared.answer.AnswerKind.TheVariants.{EmptyOk}
@@ -83,10 +84,6 @@ talks_told : (side text : List ℕ) (operators : List Operator) (i : ℕ) (q : O
 talks_told side text operators i None = talks_unread text operators i
 talks_told side text operators i (Some q) = λ h. cc
 
-first_true : (a b : Bool) → (a && b) ≡ true → a ≡ true
-first_true true b h = refl
-first_true false b h = h
-
 both_true : (a b c d : Bool) → (a ≡ true → c ≡ true) → (b ≡ true → d ≡ true) → (a && b) ≡ true → (c && d) ≡ true
 both_true true true c d f g h = ap (λ (k : Bool). k && d) (f refl) ∙ g refl
 both_true true false c d f g h = absurd cc
@@ -96,7 +93,7 @@ both_true false b c d f g h = absurd cc
 empty_first : (m n : Messages) → is_empty (with_messages m n) ≡ true → is_empty m ≡ true
 empty_first m n is =
     let none : (xs ys : List Text) → (length (with_texts xs ys) == 0) ≡ true → (length xs == 0) ≡ true =
-    λ xs ys h. first_true (length xs == 0) (length ys == 0) (sym (is_empty-with_texts xs ys) ∙ h) in
+    λ xs ys h. first_so (length xs == 0) (length ys == 0) (sym (is_empty-with_texts xs ys) ∙ h) in
     both_true _ _ _ _ (both_true _ _ _ _ (both_true _ _ _ _ (none m.system_unexpected n.system_unexpected) (none m.unexpected n.unexpected)) (none m.expected n.expected)) (none m.plain n.plain) is
 
 talks_merge : (i : ℕ) (e f : Error) → Talks i e → Talks i f → Talks i (merge e f)

@@ -15,8 +15,3 @@ pub all-but-next : {X : Type 0} (P : X → Type 0) (xs : List X) (n : ℕ) (x : 
 all-but-next P xs n x within is here all =
     let both = both-after P xs n x within is in
     ((λ h. all.0 (both.1 (here, h))), (λ h. (both.0 (all.1 h)).1))
-
--- of the element after the first n, if it does of all
-pub here-of-all : {X : Type 0} (P : X → Type 0) (xs : List X) (n : ℕ) (x : X) → n < length xs → x ≡ get_or xs n x
-    → (AllByRecursion P (drop n xs) ↔ AllByRecursion P xs) → AllByRecursion P xs → P x
-here-of-all P xs n x within is all h = ((both-after P xs n x within is).0 (all.1 h)).0

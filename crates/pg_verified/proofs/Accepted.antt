@@ -16,7 +16,7 @@ use Rattle.pg_own_starts.specs.OperatorStarts as gaps
 use Rattle.pg_own_starts.specs.OwnStarts.{IsOperatorStart, IsClassOf}
 use Rattle.pg_own_starts.specs.declared.listed.ListedStart.{ListedStart}
 use Rattle.pg_form.specs.declared.operators_item.OperatorsItem.{OperatorsItem}
-use Rattle.pg_predict.specs.Conditions.{Meet, AreFirstToMeet, NoneMeet, IsFirstToMeetGap, BeginsNothing, BeginsLink, EndsNullable, HasStepCost, NodeFacts, ViolatesBy, IsFaultlessBy, IsFaultless, cost_limit, claimed_facts, least_facts}
+use Rattle.pg_predict.specs.Conditions.{AreFirstToMeet, NoneMeet, IsFirstToMeetGap, BeginsNothing, BeginsLink, EndsNullable, HasStepCost, NodeFacts, IsFaultless, cost_limit, claimed_facts, least_facts}
 use Rattle.pg_predict.specs.Conditions as wrong
 use Rattle.pg_sets.specs.First.{IsFirst}
 use Rattle.pg_sets.specs.First as first_by

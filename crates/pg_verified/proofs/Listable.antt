@@ -9,7 +9,7 @@ use Rattle.pg_sets.specs.Sets.{HasStart}
 use Rattle.pg_value.specs.Grammar.{Grammar}
 use Rattle.pg_derive.proofs.Least.{Decided, decided_true, decided_as, decided_either, decided_both}
 use Rattle.pg_derive.proofs.Meetings.{IsListable}
-use Rattle.pg_derive.proofs.Ranked.{one_place}
+use Rattle.pg_judge.proofs.Numbered.{same_numbers}
 
 module _ (g : Grammar) (starts : List ListedStart) (sorted : IsStrictlySortedBy start_order starts)
     (named : (k : ℕ) (x : ListedStart) → slice_get starts k ≡ Some x → IsListed g x) where
@@ -19,7 +19,7 @@ module _ (g : Grammar) (starts : List ListedStart) (sorted : IsStrictlySortedBy 
       back : HasStart starts set x.start → contains set k ≡ true
       back h =
           let same : h.listed ≡ x = listed_once g h.listed x (named h.number h.listed h.there) (named k x e) h.same in
-          let place : h.number ≡ k = one_place starts sorted h.number k x (h.there ∙ ap Some same) e in
+          let place : h.number ≡ k = same_numbers starts h.number k x sorted (h.there ∙ ap Some same) e in
           subst (λ n. contains set n ≡ true) place h.member
 
   pub set_listable : (set : List Bool) → IsListable starts (HasStart starts set)

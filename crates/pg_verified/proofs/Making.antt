@@ -1,10 +1,11 @@
 -- Lists that are there: numbers of nodes that are found by those of their parts, and sets of the numbers of which something is so.
-use Rattle.std.proofs.Common.{◌≡◌, ◌<◌, ◌≤◌, ◌+◌, inl, inr, ℕ, zero, suc, Bool, true, false, true≢false, List, [], ◌∷◌, slice_set, length, map, replicate, refl, sym, ◌∙◌, arith}
+use Rattle.std.proofs.Common.{◌≡◌, ◌<◌, ◌≤◌, ◌+◌, inl, inr, ℕ, zero, suc, Bool, true, false, true≢false, List, ◌∷◌, slice_set, length, map, replicate, refl, sym, ◌∙◌, arith}
 use Rattle.std.specs.List.{range_with_len, slice_index_or}
 use Rattle.std.proofs.lemmas.List.{length-map, length-replicate, length-set}
 use Rattle.std.proofs.lemmas.List.FromFn.{length-range_with_len, get_or-map-range_with_len}
 use Rattle.std.proofs.lemmas.Option.{slice_get_within}
 use Rattle.pg_bit_set.specs.Numbers.{contains}
+use Rattle.pg_bit_set.proofs.Inside.{contains_below}
 use Rattle.pg_derive.proofs.Least.{Decided}
 use Rattle.pg_derive.proofs.Quiet.{found}
 use Rattle.pg_form.specs.Forms.{Node}
@@ -72,12 +73,6 @@ unfolding yes_or_no
 is_yes (inl a) h = refl
 is_yes (inr n) h = absurd (n h)
 
--- no number that isn't below the length of a set is in it
-pub contained_inside : (set : List Bool) (k : ℕ) → contains set k ≡ true → k < length set
-contained_inside [] k is = cc
-contained_inside (b ∷ bs) zero is = omega arith
-contained_inside (b ∷ bs) (suc k) is = let rest = contained_inside bs k is in omega (arith, rest)
-
 module _ (P : ℕ → Type 0) (decide : (k : ℕ) → Decided (P k)) (count : ℕ) where
   -- the numbers below the count of which it is so
   pub set_of : List Bool
@@ -90,7 +85,7 @@ module _ (P : ℕ → Type 0) (decide : (k : ℕ) → Decided (P k)) (count : �
   pub so_in : (k : ℕ) → contains set_of k ≡ true → P k
   unfolding set_of
   so_in k is =
-      let inside = contained_inside set_of k is in
+      let inside = contains_below set_of k is in
       let long = set_long in
       yes (decide k) (sym (listed_at (λ j. yes_or_no (decide j)) count k false (omega (arith, inside, long))) ∙ is)
 

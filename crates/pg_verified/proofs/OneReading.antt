@@ -1,10 +1,10 @@
 -- The bytes of a certificate are read in one way: no other claims are those of the same text.
-use Rattle.std.proofs.Common.{◌≡◌, ℕ, suc, List, [], ◌∷◌, length, map, codes, Some, None, Ok, refl, sym, ap, ap₂, ◌∙◌, subst}
+use Rattle.std.proofs.Common.{◌≡◌, ℕ, suc, List, [], ◌∷◌, length, map, codes, None, Ok, refl, sym, ap, ap₂, ◌∙◌, subst}
 use Rattle.std.proofs.lemmas.Str.{encodes_same}
 use Rattle.serde_json.specs.Data.{Data, string, array, object, null, boolean, number}
 use Rattle.serde_json.specs.Find.{as_str}
 use Rattle.pg_certificate.proofs.Claims.{claim_given}
-use Rattle.pg_certificate.proofs.Parts.{same_list}
+use Rattle.pg_certificate.proofs.Parts.{same_list, same_data, same_text}
 use Rattle.pg_certificate.proofs.Starts.{class_start, key_start, word_start}
 use Rattle.pg_certificate.proofs.Words.{word_found}
 use Rattle.pg_certificate.specs.Certificates.{SaysClaim, SaysRules, SaysCertificate, IsCertificateText}
@@ -39,9 +39,6 @@ list_once : {A : Type 0} (Says : Data → A → Type 0) → IsOnce Says → IsOn
 list_once Says once d one other said also =
     each_once Says once said.0 one other said.2 (subst (λ ds. Each Says ds other) (sym (same_list said.0 also.0 (said.1 ∙ sym also.1))) also.2)
 
-same_data : (x y : Data) → Some x ≡ Some y → x ≡ y
-same_data x y e = cc
-
 under_once : {A : Type 0} (key : List ℕ) (Says : Data → A → Type 0) → IsOnce Says → IsOnce (SaysUnder key Says)
 under_once key Says once d one other said also =
     once said.0 one other said.2 (subst (λ x. Says x other) (sym (same_data said.0 also.0 (sym said.1 ∙ also.1))) also.2)
@@ -56,9 +53,6 @@ number_once d one other said also = let both = sym said ∙ also in cc
 
 rank_once : IsOnce SaysRank
 rank_once d one other said also = number_once d one other said.0 also.0
-
-same_text : (s t : List ℕ) → string s ≡ string t → s ≡ t
-same_text s t e = cc
 
 text_once : IsOnce SaysText
 text_once d one other said also = encodes_same one other (same_text _ _ (sym said ∙ also))

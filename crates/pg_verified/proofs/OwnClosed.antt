@@ -21,7 +21,7 @@ use Rattle.pg_verify.specs.Claimed.{claimed_first, claimed_follow}
 use Rattle.pg_verify.specs.Closed.{IsCoveredBy, IsFirstClosed, IsFollowClosed}
 use Rattle.pg_verify.specs.First.{IsFirstBy}
 use Rattle.pg_verify.specs.First as by_first
-use Rattle.pg_verify.specs.Follow.{IsFollowBy, IsBehind}
+use Rattle.pg_verify.specs.Follow.{IsFollowBy}
 use Rattle.pg_verify.specs.Follow as by_follow
 use Rattle.pg_verify.specs.Nullable.{AreNullableBy}
 use Rattle.pg_verify.specs.Standing.{IsClaimedAs}

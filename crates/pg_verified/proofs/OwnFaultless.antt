@@ -1,8 +1,8 @@
 -- What a grammar's own claims say is what is so, and where nothing is wrong by that, nothing is broken by the claims.
-use Rattle.std.proofs.Common.{◌≡◌, ◌<◌, ℕ, zero, suc, Bool, true, List, [], ◌∷◌, length, refl, ◌∙◌, subst, arith}
+use Rattle.std.proofs.Common.{◌≡◌, ◌<◌, ℕ, Bool, List, ◌∷◌, length, refl, ◌∙◌, subst, arith}
 use Rattle.std.specs.List.{AllByRecursion}
 use Rattle.std.proofs.lemmas.Option.{slice_get_within}
-use Rattle.pg_bit_set.specs.Numbers.{contains, set_at}
+use Rattle.pg_bit_set.specs.Numbers.{set_at}
 use Rattle.pg_certificate.specs.Fitting.{FitsClaim}
 use Rattle.pg_certificate.specs.declared.certificate.RuleClaim.{RuleClaim}
 use Rattle.pg_costs.proofs.Sizing.{cut_step_cost}
@@ -30,12 +30,7 @@ use Rattle.pg_verified.proofs.OwnClaims.{AreExact, nullable_so, marked, first_so
 use Rattle.pg_verified.proofs.OwnCosts.{cost_there, cheap}
 use Rattle.pg_verified.proofs.OwnHolds.{bodies_of, exact, own_hold}
 use Rattle.pg_verified.proofs.SameFacts.{AreOne, HasAbove, SayTheSame, violates_there}
-
--- a set that isn't there has no number
-pub set_inside : (sets : List (List Bool)) (p n : ℕ) → contains (set_at sets p) n ≡ true → p < length sets
-set_inside [] p n is = cc
-set_inside (s ∷ ss) zero n is = omega arith
-set_inside (s ∷ ss) (suc p) n is = let rest = set_inside ss p n is in omega (arith, rest)
+use Rattle.pg_graph.proofs.Growing.{set_below}
 
 pub first_inside : {g : Grammar} {start : StartKind} {p : ℕ} → IsFirst g start p → p < length g.nodes
 first_inside {g} (first_by.own {p} {n} at owns) = slice_get_within g.nodes p n at
@@ -88,7 +83,7 @@ module _ (g : Grammar) (claims : List RuleClaim) (said : Said) (grammar : IsGram
       where
         there : HasStart sets.starts (set_at sets.firsts p) listed.start → IsFirst g listed.start p
         there h =
-            let low = set_inside sets.firsts p h.number h.member in
+            let low = set_below sets.firsts p h.number h.member in
             let long = are.long in
             let by = (are.first p h.listed (omega (arith, low, long))).0 (listed_of (set_at sets.firsts p) listed.start h) in
             subst (λ start. IsFirst g start p) h.same (first_so g grammar claims all said.nullable said_so.nullable by)

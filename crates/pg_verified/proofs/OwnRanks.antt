@@ -6,7 +6,8 @@ use Rattle.std.proofs.lemmas.List.{get_or_past}
 use Rattle.std.proofs.lemmas.Option.{none-some, slice_get_cases}
 use Rattle.pg_certificate.specs.declared.certificate.RuleClaim.{RuleClaim}
 use Rattle.pg_costs.specs.Steps.{number_at}
-use Rattle.pg_derive.proofs.PartsFit.{IsPart, are_parts, reached_is}
+use Rattle.pg_costs.proofs.Existing.{reached_is}
+use Rattle.pg_derive.proofs.PartsFit.{IsPart, are_parts}
 use Rattle.pg_form.proofs.Each.{all-get}
 use Rattle.pg_form.specs.Forms.{Node, parts_of}
 use Rattle.pg_form.specs.declared.form.Form.TheVariants as form
@@ -18,6 +19,7 @@ use Rattle.pg_heads.specs.Ranks.{IsRank, RankUpTo}
 use Rattle.pg_heads.specs.Ranks as ranks
 use Rattle.pg_heads.specs.Reached.{ReachedIn, ReachedPart, ReachesUse, Heads}
 use Rattle.pg_heads.specs.Reached as way
+use Rattle.pg_heads.proofs.Heading.{again_shown}
 use Rattle.pg_value.specs.Grammar.{Grammar, IsGrammar}
 use Rattle.pg_verify.specs.Claimed.{claimed_rank}
 use Rattle.pg_verify.specs.Holding.{RankHolds}
@@ -46,11 +48,6 @@ each_up_to f most (p ∷ ps) each =
     let rest = each_up_to f most ps (λ k q at. each (suc k) q at) in
     omega (arith, first, rest)
 
-twice : {g : Grammar} {o s q : ℕ} → ReachedIn g (o ∷ s ∷ []) q → ReachedIn g (o ∷ s ∷ o ∷ []) q
-twice way.first = way.first
-twice (way.later null way.first) = way.later null way.first
-twice (way.later null (way.later other none)) = elim none [ ]
-
 -- a part that is reached stands after its node
 reached_part : {g : Grammar} {p q : ℕ} {n : Node} → AllByRecursion (IsPart g p) (parts_of n) → ReachedPart g n q → IsPart g p q
 reached_part {g} {p} h (way.seq r) = reached_is (IsPart g p) h r
@@ -69,7 +66,7 @@ module _ (g : Grammar) (grammar : IsGrammar g) (claims : List RuleClaim) (all : 
   asks_up_to f most (form.Choice qs) parts used = each_up_to f most qs (λ k q at. parts q (way.choice k at))
   asks_up_to f most (form.Many q) parts used = parts q way.many
   asks_up_to f most (form.Chain side builder o s) parts used =
-      reached_up_to marks f most (nullable_so g grammar claims all marks are) (o ∷ s ∷ []) (λ q reached. parts q (way.chain (twice reached)))
+      reached_up_to marks f most (nullable_so g grammar claims all marks are) (o ∷ s ∷ []) (λ q reached. parts q (way.chain (again_shown reached)))
   asks_up_to f most (form.Rule r) parts used = let less = used r refl in omega (arith, less)
   asks_up_to f most (form.Expression builders q) parts used = parts q way.expression
   asks_up_to f most (form.Around around q) parts used = parts q way.around

@@ -23,7 +23,6 @@ use Rattle.pg_own_starts.specs.Listed.{IsListed}
 use Rattle.pg_own_starts.specs.declared.listed.ListedStart.{ListedStart}
 use Rattle.pg_predict.proofs.Numbered.{listed_once}
 use Rattle.pg_sets.specs.First.{IsFirst}
-use Rattle.pg_sets.specs.Follow.{IsFollow}
 use Rattle.pg_sets.specs.Follow as follow_by
 use Rattle.pg_sets.specs.Sets.{HasStart}
 use Rattle.pg_start.specs.declared.kind.StartKind.{StartKind}

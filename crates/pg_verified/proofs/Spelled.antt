@@ -1,6 +1,7 @@
 -- The keys among a grammar's least starts are of characters, where its strings are.
-use Rattle.std.proofs.Common.{◌≡◌, ℕ, Bool, true, false, not, List, Some, slice_get, refl}
+use Rattle.std.proofs.Common.{◌≡◌, ℕ, true, List, Some, slice_get, refl}
 use Rattle.std.specs.Str.{all_scalars}
+use Rattle.std.proofs.lemmas.Bool.{not-false}
 use Rattle.pg_form.proofs.Each.{none-get}
 use Rattle.pg_form.specs.Forms.{Node, form_of}
 use Rattle.pg_form.specs.declared.form.Form.TheVariants as form
@@ -25,13 +26,9 @@ use Rattle.pg_class.specs.Ranges.{Range}
 abbrev pub SpellsCharacters : Grammar → Type 0
 SpellsCharacters g = (p : ℕ) (characters : List ℕ) → slice_get g.nodes p ≡ Some (form.Leaf (leaf.String characters)) → all_scalars characters ≡ true
 
-not_not : (b : Bool) → not b ≡ false → b ≡ true
-not_not true h = refl
-not_not false h = absurd cc
-
 pub strings_spelled : (g : Grammar) → IsGrammar g → SpellsCharacters g
 strings_spelled g grammar p characters at =
-    not_not (all_scalars characters) (none-get is_misspelled (form_of (rule_names g) (word_names g)) g.nodes p (form.Leaf (leaf.String characters)) grammar.spelled at)
+    not-false (all_scalars characters) (none-get is_misspelled (form_of (rule_names g) (word_names g)) g.nodes p (form.Leaf (leaf.String characters)) grammar.spelled at)
 
 keyword_spelled : (role : Role) (excluded : List Range) → IsSpelled (Key (role_keyword role) excluded)
 keyword_spelled InfixLeft excluded = refl

@@ -31,9 +31,9 @@ use Rattle.pg_verify.specs.declared.fault.NotClosed.{NotClosed}
 use Rattle.pg_verify.specs.declared.fault.VerifyFault.TheVariants as fault
 use Rattle.pg_verified.specs.Verified.{VerifiedBytesAreNotRefuted}
 use Rattle.pg_verified.proofs.OneReading.{one_reading}
-use Rattle.pg_verified.proofs.OwnFaultless.{set_inside}
 use Rattle.pg_verified.proofs.OwnMade.{size_by, size_local}
 use Rattle.pg_verified.proofs.SameFacts.{SayTheSame, violates_there}
+use Rattle.pg_graph.proofs.Growing.{set_below}
 
 -- ---- lists that are found by parts alone
 
@@ -106,7 +106,7 @@ module _ (g : Grammar) (grammar : IsGrammar g) (claims : List RuleClaim) where
     first_there : (one other : SetsBy) → AreSetsBy g claims said.nullable one → AreSetsBy g claims said.nullable other → (p : ℕ) (listed : ListedStart) → IsListed g listed
         → HasStart one.starts (set_at one.firsts p) listed.start → HasStart other.starts (set_at other.firsts p) listed.start
     first_there one other are also p listed named h =
-        let low = set_inside one.firsts p h.number h.member in
+        let low = set_below one.firsts p h.number h.member in
         let long = are.long in
         let inside : p < length g.nodes = omega (arith, low, long) in
         let by = (are.first p listed inside).0 (listed_of one are (set_at one.firsts p) listed named h) in

@@ -1,18 +1,14 @@
 -- Covered sets of numbers, one number at a time, and what they say of claims.
-use Rattle.std.proofs.Common.{◌≡◌, ◌⊎◌, inl, inr, ◌<◌, ◌≤◌, ◌+◌, ◌*◌, ℕ, zero, suc, Bool, true, List, [], ◌∷◌, Some, None, slice_get, length, refl, sym, ap, subst, ◌∙◌, arith, Less}
+use Rattle.std.proofs.Common.{◌≡◌, ◌⊎◌, inl, inr, ◌<◌, ◌≤◌, ◌+◌, ◌*◌, ℕ, Bool, true, List, ◌∷◌, Some, None, slice_get, length, refl, sym, ap, subst, ◌∙◌, arith}
 use Rattle.std.specs.Prelude.{◌↔◌}
 use Rattle.std.specs.List.Sorted.{IsStrictlySortedBy}
 use Rattle.std.proofs.lemmas.Bool.{cases_eq}
-use Rattle.std.proofs.lemmas.Cmp.{tied_itself}
-use Rattle.std.proofs.lemmas.Map.Keys.{sorted_head, sorted_tail}
 use Rattle.std.proofs.lemmas.Option.{slice_get_within, same_Some, none-some}
 use Rattle.pg_bit_set.specs.Numbers.{contains, set_at}
 use Rattle.pg_certificate.specs.declared.certificate.ClaimedStart.{ClaimedStart}
 use Rattle.pg_certificate.specs.declared.certificate.RuleClaim.{RuleClaim}
-use Rattle.pg_form.proofs.Each.{all-get}
-use Rattle.pg_own_starts.specs.Listed.{start_order, start_order_total}
+use Rattle.pg_own_starts.specs.Listed.{start_order}
 use Rattle.pg_own_starts.specs.declared.listed.ListedStart.{ListedStart}
-use Rattle.pg_own_starts.proofs.Ordered.{less-equal}
 use Rattle.pg_value.specs.Grammar.{Grammar}
 use Rattle.pg_value.specs.declared.grammar.Rule.{Rule}
 use Rattle.pg_verify.specs.Claimed.{claimed_first, claimed_follow}
@@ -23,6 +19,7 @@ use Rattle.pg_verify.specs.Follow.{IsBehind}
 use Rattle.pg_verify.specs.Edges.{of_first, of_follow, of_behind}
 use Rattle.pg_verify.specs.SetsBy.{HasListed, AreSetsBy, SetsBy, set_of_rule}
 use Rattle.pg_verify.specs.Standing.{IsClaimedAs}
+use Rattle.pg_judge.proofs.Numbered.{same_numbers}
 
 -- ---- numbers
 
@@ -74,20 +71,6 @@ one_wider starts claimed listed one i at member wider = (one, record { number = 
 
 -- ---- a start has one number
 
-pub one_place : (starts : List ListedStart) (k m : ℕ) (listed : ListedStart) → IsStrictlySortedBy start_order starts → slice_get starts k ≡ Some listed → slice_get starts m ≡ Some listed → k ≡ m
-one_place [] zero m listed sorted at also = absurd cc
-one_place [] (suc k) m listed sorted at also = absurd cc
-one_place (s ∷ ss) zero zero listed sorted at also = refl
-one_place (s ∷ ss) zero (suc m) listed sorted at also =
-    let same : s ≡ listed = cc in
-    let below = all-get (λ y. start_order s y ≡ Less) ss m listed (sorted_head start_order s ss sorted) also in
-    absurd (less-equal (sym below ∙ (ap (start_order s) (sym same) ∙ tied_itself start_order_total s)))
-one_place (s ∷ ss) (suc k) zero listed sorted at also =
-    let same : s ≡ listed = cc in
-    let below = all-get (λ y. start_order s y ≡ Less) ss k listed (sorted_head start_order s ss sorted) at in
-    absurd (less-equal (sym below ∙ (ap (start_order s) (sym same) ∙ tied_itself start_order_total s)))
-one_place (s ∷ ss) (suc k) (suc m) listed sorted at also = ap suc (one_place ss k m listed (sorted_tail start_order s ss sorted) at also)
-
 -- ---- sets of claims
 
 -- one set is covered by another, of which is known what they hold
@@ -107,7 +90,7 @@ covered_is g starts claimed set claims Held sorted claimed_is set_is = (
         | inl wider ↦ inr (found.0, (claimed_is found.0).1 found.1, wider)
         | inr same ↦
             let h = (claimed_is listed).1 (subst (IsClaimedAs g claims) same found.1) in
-            inl (subst (λ m. contains claimed m ≡ true) (one_place starts h.number k listed sorted h.there at) h.member)
+            inl (subst (λ m. contains claimed m ≡ true) (same_numbers starts h.number k listed sorted h.there at) h.member)
       ],
 )
 

@@ -13,7 +13,7 @@ use Rattle.pg_graph.specs.Graphs.{has, numbers_at}
 use Rattle.pg_own_starts.specs.Listed.{IsListed, start_order}
 use Rattle.pg_own_starts.specs.Own.{IsAmong}
 use Rattle.pg_own_starts.specs.declared.listed.ListedStart.{ListedStart}
-use Rattle.pg_sets.specs.Origins.{Origins, sets_of, HoldsIt, IsThere, SourceAt, SourceBelow, AreSoManyOrigins}
+use Rattle.pg_sets.specs.Origins.{Origins, sets_of, HoldsIt, IsThere, SourceAt, AreSoManyOrigins}
 use Rattle.pg_sets.specs.Origins as origin
 use Rattle.pg_sets.proofs.InOrder.{place_of, value_at, some_if_held}
 use Rattle.pg_start.specs.declared.kind.StartKind.TheVariants.{End}

@@ -2,14 +2,14 @@
 use Rattle.std.proofs.Common.{◌≡◌, ◌⊎◌, inl, inr, ◌≤◌, ◌<◌, ◌*◌, ℕ, zero, suc, max, List, [], ◌∷◌, Option, Some, None, slice_get, refl, sym, ◌∙◌, arith}
 use Rattle.std.specs.Prelude.{◌-◌, ◌^◌}
 use Rattle.std.specs.Option.{option_map_or}
-use Rattle.std.proofs.lemmas.Bool.{cases_eq}
 use Rattle.std.proofs.lemmas.List.{get_or_past}
 use Rattle.std.proofs.lemmas.Nat.{mul-le}
 use Rattle.std.proofs.lemmas.Option.{none-some, slice_get_cases}
 use Rattle.pg_costs.specs.FoundCost.{IsCostByCosts}
 use Rattle.pg_costs.specs.Rounds.{AreCutSizes}
 use Rattle.pg_costs.specs.StepCost.{own_steps, AreSizes, greatest_size, grammar_levels}
-use Rattle.pg_costs.specs.Steps.{number_at, cut_off, steps_of_all, body_steps, leaf_steps, row_steps}
+use Rattle.pg_costs.specs.Steps.{number_at, cut_off, steps_of_all, body_steps, row_steps}
+use Rattle.pg_costs.proofs.Sizing.{own_positive, least_greatest, within}
 use Rattle.pg_form.specs.Forms.{Node, parts_of}
 use Rattle.pg_form.specs.declared.form.Form.TheVariants as form
 use Rattle.pg_form.specs.declared.form.Leaf.{Leaf}
@@ -18,24 +18,6 @@ use Rattle.pg_value.specs.Grammar.{Grammar}
 use Rattle.pg_value.specs.declared.grammar.Rule.{Rule}
 
 -- ---- what a node takes beside its parts
-
-leaf_positive : (l : Leaf ℕ) → 2 ≤ leaf_steps l
-leaf_positive (leaf.Satisfy class) = omega arith
-leaf_positive (leaf.String text) = omega arith
-leaf_positive (leaf.Word word) = omega arith
-leaf_positive (leaf.NotFollowedBy class) = omega arith
-leaf_positive leaf.EndOfText = omega arith
-leaf_positive (leaf.Declare class) = omega arith
-
-own_positive : (g : Grammar) (f : ℕ → ℕ) (n : Node) → 2 ≤ own_steps g f n
-own_positive g f (form.Leaf leaf) = leaf_positive leaf
-own_positive g f (form.Seq parts) = omega arith
-own_positive g f (form.Choice parts) = omega arith
-own_positive g f (form.Many part) = omega arith
-own_positive g f (form.Chain side used operand separator) = omega arith
-own_positive g f (form.Rule rule) = omega arith
-own_positive g f (form.Expression builders term) = omega arith
-own_positive g f (form.Around around part) = omega arith
 
 body_dearer : (f h : ℕ → ℕ) (rules : List Rule) (r : ℕ) → ((q : ℕ) → cut_off (f q) ≤ h q) → cut_off (body_steps rules f r) ≤ body_steps rules h r
 body_dearer f h rules r less = go (slice_get rules r)
@@ -98,14 +80,7 @@ greatest_dearer f h least more (rule ∷ rules) less begins =
     let here = less rule.body in
     greatest_dearer f h (max least (f rule.body)) (max more (h rule.body)) rules less (omega arith)
 
-least_greatest : (f : ℕ → ℕ) (least : ℕ) (rules : List Rule) → least ≤ greatest_size f least rules
-least_greatest f least [] = omega arith
-least_greatest f least (rule ∷ rules) = let rest = least_greatest f (max least (f rule.body)) rules in omega arith
-
 -- ---- the product
-
-within : (x : ℕ) → (x ≤ 2 ^ 64 - 1) ⊎ (2 ^ 64 - 1 ≤ x)
-within x = elim (cases_eq (cut_off x) x) [ inl e ↦ inl (omega arith) | inr ne ↦ inr (omega arith) ]
 
 -- no product is above that of the greatest number and one that is there
 product_dearer : (a b y : ℕ) → 1 ≤ a → 1 ≤ b → cut_off b ≤ y → cut_off (a * b) ≤ cut_off (cut_off a * y)

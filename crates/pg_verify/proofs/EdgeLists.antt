@@ -1,6 +1,6 @@
 -- Edges in lists: what is told of parts, and of each of some things.
 use Rattle.std.proofs.Common.{◌≡◌, ◌⊎◌, inl, inr, ℕ, zero, suc, ◌+◌, ◌<◌, ◌≤◌, Bool, true, false, cond, List, [], ◌∷◌, ◌++◌, Some, slice_get, get_or, length, drop, refl, sym, ap, subst, ◌∙◌, arith}
-use Rattle.std.proofs.lemmas.List.{drop_more, drop_all}
+use Rattle.std.proofs.lemmas.List.{drop_more}
 use Rattle.std.proofs.Math.Numerals.{add-one}
 use Rattle.pg_graph.specs.Graphs.{has}
 use Rattle.pg_graph.specs.Marks.{is_marked}
@@ -162,9 +162,3 @@ each_step flows graph new total k xs x inside is added known =
     ∙ (ap (λ gr. with_flows gr (flows_of_each flows (suc k) (drop (k + 1) xs))) added
     ∙ (sym (with_flows-append graph (flows k x) (flows_of_each flows (suc k) (drop (k + 1) xs)))
     ∙ (ap (λ ys. with_flows graph (flows_of_each flows k ys)) (sym rest) ∙ known)))
-
-pub each_done : {A : Type 0} (flows : ℕ → A → List Flow) (graph total : List (List ℕ)) (k : ℕ) (xs : List A) → length xs ≤ k
-    → with_flows graph (flows_of_each flows k (drop k xs)) ≡ total → graph ≡ total
-each_done flows graph total k xs whole known =
-    let nothing : drop k xs ≡ [] = drop_all k xs whole in
-    ap (λ ys. with_flows graph (flows_of_each flows k ys)) (sym nothing) ∙ known

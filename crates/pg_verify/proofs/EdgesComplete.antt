@@ -22,6 +22,7 @@ use Rattle.pg_sets.specs.Flows.{Flow, follow_of, flows_of_all, flows_of_some, fl
 use Rattle.pg_sets.specs.Follow.{StandsBefore, IsChain, HasOnly}
 use Rattle.pg_sets.specs.Follow as follow
 use Rattle.pg_sets.proofs.Flowing.{IsIn, here, further, in_left, in_right, in_cases, with_flows-append, edge_cases, edge_new, flows_length}
+use Rattle.pg_sets.proofs.FlowSound.{follow_is}
 use Rattle.pg_value.specs.Follows.{PartsFollow}
 use Rattle.pg_value.specs.Grammar.{Grammar, IsGrammar}
 use Rattle.pg_value.specs.declared.grammar.Rule.{Rule}
@@ -36,7 +37,7 @@ use Rattle.pg_verify.specs.SetsBy as source
 use Rattle.pg_verify.specs.SetsBy.{IsSourceBy}
 use Rattle.pg_verify.specs.Standing.{IsClaimedAs}
 use Rattle.pg_verify.proofs.EdgeLists.{told_each, in_each, in_some, in_after, over_next, alternative_first, alternative_follow}
-use Rattle.pg_verify.proofs.EdgesSound.{Holds, follow_is, set_is, member_below, to_first, to_follow, to_first_claim, to_follow_claim, to_behind, node_sound, body_sound}
+use Rattle.pg_verify.proofs.EdgesSound.{Holds, set_is, member_below, to_first, to_follow, to_first_claim, to_follow_claim, to_behind, node_sound, body_sound}
 
 -- ---- the graph as one list of edges
 

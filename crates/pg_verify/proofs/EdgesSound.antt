@@ -15,9 +15,10 @@ use Rattle.pg_heads.specs.Parts.{up_to_unmarked, reached_parts}
 use Rattle.pg_own_starts.specs.OwnStarts.{IsKeyTry, MarksKeys}
 use Rattle.pg_own_starts.specs.declared.listed.ListedStart.{ListedStart}
 use Rattle.pg_sets.specs.Flows.{Flow, follow_of, flows_of_all, flows_of_some, flows_after_parts, flows_of_only, flows_of_use, around_flows, node_flows}
-use Rattle.pg_sets.specs.Follow.{StandsBefore, IsChain, HasOnly}
+use Rattle.pg_sets.specs.Follow.{StandsBefore, IsChain}
 use Rattle.pg_sets.specs.Follow as follow
 use Rattle.pg_sets.proofs.Flowing.{IsIn, here, further, in_cases}
+use Rattle.pg_sets.proofs.FlowSound.{follow_is}
 use Rattle.pg_value.specs.Follows.{PartsFollow}
 use Rattle.pg_value.specs.Grammar.{Grammar, IsGrammar}
 use Rattle.pg_value.specs.declared.grammar.Rule.{Rule}
@@ -33,9 +34,6 @@ use Rattle.pg_verify.proofs.EdgeLists.{some_is, IsNext, last, next, over, after_
 use Rattle.pg_verify.proofs.ReachedParts.{reached_after}
 
 -- ---- numbers of sets
-
-pub follow_is : (count p : ℕ) → p < count → follow_of count p ≡ count + p
-follow_is count p below = ap (λ b. cond b (count + p) (count + count)) (lt-ltb p count below)
 
 pub no_follow_is : (count p : ℕ) → count < p + 1 → follow_of count p ≡ count + count
 no_follow_is count p past = ap (λ b. cond b (count + p) (count + count)) (le-ltb p count (omega arith))

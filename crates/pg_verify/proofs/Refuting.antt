@@ -1,5 +1,5 @@
 -- What is found of claims that don't hold refutes the certificate.
-use Rattle.std.proofs.Common.{◌≡◌, ◌<◌, ℕ, List, Result, Err, length}
+use Rattle.std.proofs.Common.{◌≡◌, ◌<◌, ℕ, List, Result}
 use Rattle.std.specs.Prelude.{IsErrOf}
 use Rattle.std.proofs.lemmas.Option.{slice_get_within}
 use Rattle.serde_json.specs.Data.{Data}

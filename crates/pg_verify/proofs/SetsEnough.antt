@@ -16,7 +16,7 @@ use Rattle.pg_own_starts.specs.declared.listed.ListedStart.{ListedStart}
 use Rattle.pg_sets.specs.First as first_by
 use Rattle.pg_sets.specs.First.{IsFirst, IsFirstOf}
 use Rattle.pg_sets.specs.Follow as follow_by
-use Rattle.pg_sets.specs.Follow.{StandsBefore, IsChain, HasOnly, IsFollow}
+use Rattle.pg_sets.specs.Follow.{StandsBefore, IsFollow}
 use Rattle.pg_sets.proofs.InOrder.{own_numbered, operator_numbered}
 use Rattle.pg_sets.proofs.Placing.{stands_next}
 use Rattle.pg_start.specs.declared.kind.StartKind.{StartKind}

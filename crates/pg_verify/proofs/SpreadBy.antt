@@ -1,5 +1,5 @@
 -- What is spread along the edges of the claims is the sets by the claims.
-use Rattle.std.proofs.Common.{◌≡◌, ℕ, zero, suc, ◌+◌, ◌*◌, ◌<◌, Bool, List, [], ◌∷◌, Some, slice_get, length, take, drop, refl, sym, ap, subst, ◌∙◌, arith}
+use Rattle.std.proofs.Common.{◌≡◌, ℕ, zero, suc, ◌+◌, ◌*◌, ◌<◌, Bool, List, ◌∷◌, Some, slice_get, length, take, drop, refl, sym, ap, subst, ◌∙◌, arith}
 use Rattle.std.specs.Prelude.{◌↔◌}
 use Rattle.std.proofs.lemmas.List.{length-take, length-drop}
 use Rattle.std.proofs.lemmas.Option.{slice_get_within}
@@ -12,6 +12,8 @@ use Rattle.pg_graph.specs.Graphs.{numbers_at, AreSpread, IsReached}
 use Rattle.pg_own_starts.specs.OwnStarts.{MarksKeys}
 use Rattle.pg_own_starts.specs.declared.listed.ListedStart.{ListedStart}
 use Rattle.pg_sets.specs.Flows.{follow_of, with_flows}
+use Rattle.pg_sets.proofs.StartSets.{taken_at, dropped_at}
+use Rattle.pg_sets.proofs.FlowSound.{follow_is}
 use Rattle.pg_value.specs.Grammar.{Grammar, IsGrammar}
 use Rattle.pg_verify.specs.Claimed.{claimed_first, claimed_follow}
 use Rattle.pg_verify.specs.Edges.{rule_set, of_first, of_follow, of_behind, claim_graph}
@@ -20,23 +22,12 @@ use Rattle.pg_verify.specs.First.{IsFirstBy}
 use Rattle.pg_verify.specs.Follow as by_follow
 use Rattle.pg_verify.specs.Follow.{IsFollowBy, IsBehind}
 use Rattle.pg_verify.specs.SetsBy as source
-use Rattle.pg_verify.specs.SetsBy.{IsSourceBy, StandsThere, AreListedBy, HasListed, set_of_rule, AreSetsBy}
+use Rattle.pg_verify.specs.SetsBy.{IsSourceBy, StandsThere, AreListedBy, HasListed, AreSetsBy}
 use Rattle.pg_verify.specs.Standing.{IsClaimedAs}
-use Rattle.pg_verify.proofs.EdgesSound.{Holds, follow_is, set_is}
+use Rattle.pg_verify.proofs.EdgesSound.{Holds, set_is}
 use Rattle.pg_verify.proofs.EdgesComplete.{NoEdges, ClaimFlows, graph_is, graph_size, reached_holds, first_met, follow_met, first_claim_met, follow_claim_met, behind_met}
 
 -- ---- lists in parts
-
-taken_at : (sets : List (List Bool)) (count k : ℕ) → k < count → set_at (take count sets) k ≡ set_at sets k
-taken_at sets zero k below = absurd (omega arith)
-taken_at [] (suc count) k below = refl
-taken_at (l ∷ ls) (suc count) zero below = refl
-taken_at (l ∷ ls) (suc count) (suc k) below = taken_at ls count k (omega arith)
-
-dropped_at : (sets : List (List Bool)) (count k : ℕ) → set_at (drop count sets) k ≡ set_at sets (count + k)
-dropped_at sets zero k = let same : k ≡ 0 + k = omega arith in ap (set_at sets) same
-dropped_at [] (suc count) k = cc
-dropped_at (l ∷ ls) (suc count) k = let next : suc (count + k) ≡ suc count + k = omega arith in dropped_at ls count k ∙ ap (set_at (l ∷ ls)) next
 
 -- ---- where the starts of sets come from
 

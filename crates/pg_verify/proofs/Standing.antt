@@ -2,17 +2,17 @@
 use Rattle.std.proofs.Common.{◌≡◌, ◌<◌, ◌⊎◌, ℕ, List, [], ◌∷◌, ◌++◌, None, length, inl, inr, refl, sym, subst, ◌∙◌, arith}
 use Rattle.std.specs.Prelude.{◌↔◌, IsSome}
 use Rattle.std.proofs.lemmas.Option.{slice_get_within}
-use Rattle.std.proofs.lemmas.Bool.{cases_order, true≢false}
+use Rattle.std.proofs.lemmas.Bool.{true≢false}
 use Rattle.pg_certificate.specs.declared.certificate.ClaimedStart.{ClaimedStart}
 use Rattle.pg_certificate.specs.declared.certificate.ClaimedStart.TheVariants as claimed
 use Rattle.pg_class.specs.Ranges.{Range}
 use Rattle.pg_form.specs.declared.form.Form.TheVariants as form
 use Rattle.pg_form.specs.declared.form.Leaf.TheVariants as leaf
-use Rattle.pg_own_starts.specs.Listed.{IsNumbered, IsFirstReader}
+use Rattle.pg_own_starts.specs.Listed.{IsNumbered}
 use Rattle.pg_own_starts.specs.OperatorStarts.{AreBothStarts}
 use Rattle.pg_own_starts.specs.Own.{IsAmong, AreOwn}
 use Rattle.pg_own_starts.specs.OwnStarts as own
-use Rattle.pg_own_starts.specs.OwnStarts.{OwnStart, IsOperatorStart}
+use Rattle.pg_own_starts.specs.OwnStarts.{OwnStart}
 use Rattle.pg_own_starts.specs.declared.listed.ListedStart.{ListedStart}
 use Rattle.pg_own_starts.specs.declared.operators.OperatorStarts.{OperatorStarts}
 use Rattle.pg_own_starts.proofs.Owned.{listed_path}
@@ -20,6 +20,8 @@ use Rattle.pg_start.specs.declared.kind.StartKind.{StartKind}
 use Rattle.pg_start.specs.declared.kind.StartKind.TheVariants.{Class, Key, Word, End}
 use Rattle.pg_value.specs.Grammar.{Grammar}
 use Rattle.pg_verify.specs.Standing.{StandsAs, IsClaimedAs}
+use Rattle.pg_judge.proofs.Numbered.{numbered_once}
+use Rattle.pg_least_certificate.proofs.Origin.{operators_there}
 
 -- ---- lists
 
@@ -94,34 +96,14 @@ word_stands g w starts are listed = (
 
 -- ---- the operators
 
-one_reader : {g : Grammar} {heads rest : List Range} {reserved : List (List ℕ)} (w v : ℕ) → IsFirstReader g heads rest reserved w → IsFirstReader g heads rest reserved v → w ≡ v
-one_reader {g} w v one other =
-    elim (cases_order w v) [
-      | inl same ↦ same
-      | inr differ ↦
-          elim differ [
-            | inl less ↦ let bound = other.bound in absurd (other.none_before w less (one.reads (omega arith)))
-            | inr more ↦ let bound = one.bound in absurd (one.none_before v more (other.reads (omega arith)))
-          ]
-    ]
-
-one_number : (g : Grammar) (start : StartKind) (w v : ℕ) → IsNumbered g start w → IsNumbered g start v → w ≡ v
-one_number g (Class ranges) w v one other = one ∙ sym other
-one_number g (Key text excluded) w v one other = one ∙ sym other
-one_number g (Word heads rest reserved) w v one other = one_reader w v one other
-one_number g End w v one other = one ∙ sym other
-
-item_there : {g : Grammar} {start : StartKind} → IsOperatorStart g start → IsSome g.operators
-item_there {g} (own.operator {item} there class reserved) = subst IsSome (sym there) refl
-
 pub operator_stands : (g : Grammar) (both : OperatorStarts) → AreBothStarts g both → (listed : ListedStart)
     → IsAmong (both.operator ∷ []) listed ↔ StandsAs g claimed.Operator listed
 operator_stands g both are listed =
     let is = (are.operator both.operator.start).1 refl in (
-      λ h. subst (StandsAs g claimed.Operator) (only_one both.operator listed h) (record { fits = item_there is; stands = is; named = are.named }),
+      λ h. subst (StandsAs g claimed.Operator) (only_one both.operator listed h) (record { fits = operators_there is; stands = is; named = are.named }),
       λ s.
           let same = (are.operator listed.start).0 s.stands in
-          inl (listed_path same (one_number g listed.start both.operator.word listed.word (subst (λ k. IsNumbered g k both.operator.word) same are.named) s.named)),
+          inl (listed_path same (numbered_once g listed.start both.operator.word listed.word (subst (λ k. IsNumbered g k both.operator.word) same are.named) s.named)),
     )
 
 pub no_operator_stands : (g : Grammar) → g.operators ≡ None → (listed : ListedStart) → IsAmong [] listed ↔ StandsAs g claimed.Operator listed

@@ -41,24 +41,49 @@ pub(crate) fn claim_origins(
 {
     let classes = classes_of_items(alloc, grammar.class_items())?;
     let words = classes_of_words(alloc, grammar, classes.as_slice())?;
-    let operators = operator_starts(alloc, grammar)?;
-    let mut origins = origins_of_nodes(alloc, grammar, classes.as_slice(), words.as_slice())?;
-    add_claims(
-        alloc,
-        grammar,
-        classes.as_slice(),
-        words.as_slice(),
-        &operators,
-        claims,
-        &mut origins,
-    )?;
+    list_origins(alloc, grammar, classes.as_slice(), words.as_slice(), claims)
+}
+
+/// The same, where these are the classes of the class items and of the word items.
+fn list_origins(
+    alloc: Global,
+    grammar: &Grammar,
+    classes: &[Class],
+    words: &[WordClasses],
+    claims: &[RuleClaim],
+) -> Result<Listing, AllocError>
+    requires classes { AreClassesOf grammar.now classes.now }
+    requires words { AreWordClasses grammar.now words.now }
+    ensures { IfOk result (λ listing. AreListedBy grammar.now claims.now listing.starts.items listing.origins.items) }
+{
+    let mut origins = origins_of_nodes(alloc, grammar, classes, words)?;
+    add_claims(alloc, grammar, classes, words, claims, &mut origins)?;
     add_end(alloc, grammar, &mut origins)?;
     listed(alloc, origins)
 }
 
 /// Adds what is claimed of each rule. The only error is that memory ran out.
-#[tactic(auto, using(crate::proofs::Coming::no_rules_yet, crate::proofs::Coming::rule_more, crate::proofs::Coming::there_more))]
 fn add_claims(
+    alloc: Global,
+    grammar: &Grammar,
+    classes: &[Class],
+    words: &[WordClasses],
+    claims: &[RuleClaim],
+    origins: &mut BTreeMap<ListedStart, Numbers>,
+) -> Result<(), AllocError>
+    requires classes { AreClassesOf grammar.now classes.now }
+    requires words { AreWordClasses grammar.now words.now }
+    ensures held { OnOk result ((other : ListedStart) (v : ℕ) →
+        HoldsIt origins.new other v ↔ (HoldsIt origins.old other v ⊎ ClaimsBelow grammar.now claims.now (length grammar.now.rules) other v)) }
+    ensures there { OnOk result ((other : ListedStart) → IsThere origins.new other → IsThere origins.old other ⊎ IsListed grammar.now other) }
+{
+    let operators = operator_starts(alloc, grammar)?;
+    add_rules(alloc, grammar, classes, words, &operators, claims, origins)
+}
+
+/// The same, with the starts of operators.
+#[tactic(auto, using(crate::proofs::Coming::no_rules_yet, crate::proofs::Coming::rule_more, crate::proofs::Coming::there_more))]
+fn add_rules(
     alloc: Global,
     grammar: &Grammar,
     classes: &[Class],

@@ -3,7 +3,7 @@
 //! All starts of the grammar and of the claims stand in one list, each once and in their order. Sets are handed on along the edges
 //! (`edges`), from where starts come from (`origins`).
 
-ghost use Rattle.std.specs.Prelude.{IfOk};
+ghost use Rattle.std.specs.Prelude.{◌≡◌, ◌≤◌, ◌+◌, length, take, drop, IfOk};
 ghost use Rattle.pg_verify.specs.Lists.{lists_of};
 ghost use Rattle.pg_verify.specs.SetsBy.{AreSetsBy};
 
@@ -17,7 +17,7 @@ use pg_value::Grammar;
 use std::alloc::{AllocError, Global};
 
 /// The starts of a grammar and of claims, and the sets of their numbers.
-#[derive(Debug, Drop)]
+#[derive(Drop)]
 pub struct ClaimedSets {
     /// The starts in their order.
     pub starts: Vec<ListedStart>,
@@ -42,13 +42,27 @@ pub fn sets_by_claims(
     let graph = claim_graph(alloc, grammar, nullable, keys.as_slice())?;
     let listing = claim_origins(alloc, grammar, certificate.claims())?;
     let count = grammar.nodes().len();
-    let mut firsts = spread(alloc, graph.as_slice(), listing.origins.as_slice())?;
+    let sets = spread(alloc, graph.as_slice(), listing.origins.as_slice())?;
+    divided(count, listing.starts, sets)
+}
+
+/// The starts with the sets of their numbers: the first sets of so many nodes, their follow sets, and those of the rules. The only
+/// error is that memory ran out.
+fn divided(
+    count: usize,
+    starts: Vec<ListedStart>,
+    sets: Vec<BitSet>,
+) -> Result<ClaimedSets, AllocError>
+    requires { count + count ≤ length sets.items }
+    ensures { IfOk result (λ divided. lists_of divided ≡ record { starts = starts.items; firsts = take count sets.items; follows = take count (drop count sets.items); of_rules = drop count (drop count sets.items) }) }
+{
+    let mut firsts = sets;
     prove!(count <= firsts.len());
     let mut follows = firsts.split_off(count)?;
     prove!(count <= follows.len());
     let of_rules = follows.split_off(count)?;
     Ok(ClaimedSets {
-        starts: listing.starts,
+        starts,
         firsts,
         follows,
         of_rules,

@@ -7,11 +7,12 @@ ghost use Rattle.pg_own_starts.specs.OperatorStarts.{AreBothStarts, AreOperatorS
 ghost use Rattle.pg_own_starts.specs.Own.{IsAmong};
 ghost use Rattle.pg_own_starts.specs.Words.{AreClassesOf, AreWordClasses};
 ghost use Rattle.pg_own_starts.specs.declared.listed.ListedStart.{ListedStart};
+ghost use Rattle.pg_start.specs.declared.kind.StartKind.{StartKind};
 ghost use Rattle.pg_verify.specs.Standing.{StandsAs, ListsClaims};
 
 use pg_certificate::ClaimedStart;
 use pg_class::Class;
-use pg_form::{Form, Leaf};
+use pg_form::{Form, Leaf, WordId};
 use pg_own_starts::{ListedStart, OperatorStarts, WordClasses, own_starts};
 use pg_start::Start;
 use pg_text::Characters;
@@ -41,7 +42,7 @@ pub(crate) fn starts_of_claims(
 }
 
 /// The starts for which a claimed one stands: one or none. The only error is that memory ran out.
-#[tactic(auto, using(crate::proofs::Standing::class_stands, crate::proofs::Standing::word_stands, crate::proofs::Standing::end_stands))]
+#[tactic(auto, using(crate::proofs::Standing::class_stands, crate::proofs::Standing::end_stands))]
 fn starts_of_claim(
     alloc: Global,
     grammar: &Grammar,
@@ -56,20 +57,39 @@ fn starts_of_claim(
     ensures { IfOk result (λ starts. (listed : ListedStart) → IsAmong starts.items listed ↔ StandsAs grammar.now claimed.now listed) }
 {
     match claimed {
-        ClaimedStart::Class(class) => plain(alloc, Start::class(class)?),
+        ClaimedStart::Class(class) => class_start(alloc, class),
         ClaimedStart::Key(key, excluded) => key_starts(alloc, grammar, key, excluded),
-        ClaimedStart::Word(word) => {
-            own_starts(
-                alloc,
-                grammar,
-                classes,
-                words,
-                &Form::Leaf(Leaf::Word(*word)),
-            )
-        }
+        ClaimedStart::Word(word) => word_starts(alloc, grammar, classes, words, *word),
         ClaimedStart::Operator => claimed_operators(alloc, grammar, operators),
         ClaimedStart::End => plain(alloc, Start::end()),
     }
+}
+
+/// The start of a class.
+fn class_start(alloc: Global, class: &Class) -> Result<Vec<ListedStart>, AllocError>
+    ensures { IfOk result (λ starts. starts.items ≡ record { start = StartKind.Class class.now; word = 0 } ∷ []) }
+{
+    let start = Start::class(class)?;
+    plain(alloc, start)
+}
+
+/// The starts of the words of a word item.
+#[tactic(auto, using(crate::proofs::Standing::word_stands))]
+fn word_starts(
+    alloc: Global,
+    grammar: &Grammar,
+    classes: &[Class],
+    words: &[WordClasses],
+    word: WordId,
+) -> Result<Vec<ListedStart>, AllocError>
+    requires classes { AreClassesOf grammar.now classes.now }
+    requires words { AreWordClasses grammar.now words.now }
+    ensures { IfOk result (λ starts. (listed : ListedStart) → IsAmong starts.items listed ↔ StandsAs grammar.now (ClaimedStart.Word word) listed) }
+{
+    let leaf = Form::Leaf(Leaf::Word(word));
+    let starts = own_starts(alloc, grammar, classes, words, &leaf);
+    drop(leaf);
+    starts
 }
 
 /// The start of a key; none where it has no character.

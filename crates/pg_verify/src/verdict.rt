@@ -23,7 +23,7 @@ use pg_value::{Grammar, Rule};
 use std::alloc::{AllocError, Global};
 
 /// What the claims say of nodes.
-#[derive(Debug, Drop)]
+#[derive(Drop)]
 pub struct ClaimedFacts {
     /// For each node whether it is nullable.
     pub nullable: Vec<bool>,

@@ -2,7 +2,7 @@
 //!
 //! First what it claims has to hold (`verify_claims`); then the conditions of accepted grammars are judged by its sets and its cost.
 
-ghost use Rattle.std.specs.Prelude.{OnOk, IfErr};
+ghost use Rattle.std.specs.Prelude.{◌≡◌, [], IfOk, OnOk, IfErr};
 ghost use Rattle.pg_verify.specs.Judged.{said_by};
 ghost use Rattle.pg_verify.specs.Lists.{lists_of};
 ghost use Rattle.pg_verify.specs.Refuted.{IsVerified, IsRefuted, FitsFault};
@@ -16,7 +16,7 @@ use pg_costs::cost_by_costs;
 use pg_predict::first_broken;
 use pg_sets::Sets;
 use pg_value::Grammar;
-use std::alloc::Global;
+use std::alloc::{AllocError, Global};
 
 /// More starts than any grammar within the limits has of its own: which of them meet takes a bit for each two.
 const MOST_STARTS: usize = 65536;
@@ -49,9 +49,21 @@ fn judge(
     ensures fits { IfErr result (FitsFault grammar.now) }
 {
     if facts.sets.starts.len() > MOST_STARTS {
+        drop(facts);
         return Err(VerifyFault::Memory);
     }
     let cost = cost_by_costs(alloc, grammar, facts.costs.as_slice())?;
+    let sets = sets_of(alloc, facts)?;
+    match first_broken(alloc, grammar, sets, cost)? {
+        Some(broken) => Err(VerifyFault::Broken(broken)),
+        None => Ok(()),
+    }
+}
+
+/// The sets by the claims, as conditions are judged by them. The only error is that memory ran out.
+fn sets_of(alloc: Global, facts: ClaimedFacts) -> Result<Sets, AllocError>
+    ensures { IfOk result (λ sets. sets ≡ record { nullable = facts.nullable.items; starts = facts.sets.starts.items; firsts = facts.sets.firsts.items; follows = facts.sets.follows.items; heads = []; ranks = [] }) }
+{
     let ClaimedFacts {
         nullable,
         ranks: _,
@@ -64,9 +76,5 @@ fn judge(
         follows,
         of_rules: _,
     } = sets;
-    let sets = Sets::of(alloc, nullable, starts, firsts, follows)?;
-    match first_broken(alloc, grammar, sets, cost)? {
-        Some(broken) => Err(VerifyFault::Broken(broken)),
-        None => Ok(()),
-    }
+    Sets::of(alloc, nullable, starts, firsts, follows)
 }

@@ -4,7 +4,6 @@ use Rattle.std.proofs.lemmas.List.{append-nil, length-map, length-take-le, map-a
 use Rattle.std.specs.List.{AllByRecursion}
 use Rattle.pg_pred.specs.Offer.{Offer}
 use Rattle.pg_form.specs.Names as names
-use Rattle.pg_form.specs.Names.{name_at}
 use Rattle.pg_form.specs.Preorder.{SpellForms}
 use Rattle.pg_form.specs.Classes.{member_count, IsProperUnion, IsExpression}
 use Rattle.pg_form.specs.declared.class.ClassPart.{ClassPart}

@@ -50,10 +50,6 @@ module _ (P Q : ℕ → Type 0) (leads : (place : ℕ) → P place → Q place) 
   error_leads unread.Memory h = h
   error_leads (unread.Fault kind place) h = kind_leads place kind h
 
--- where no token is bad, any may be
-pub error_without_bad : (Q : ℕ → Type 0) (e : ReadError) → IsErrorAt (λ place. ⊥) e → IsErrorAt Q e
-error_without_bad Q e h = error_leads (λ place. ⊥) Q (λ place h. absurd h) e h
-
 -- ---- what is shown
 
 -- what is no fault is want of memory

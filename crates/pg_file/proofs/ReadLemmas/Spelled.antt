@@ -9,14 +9,10 @@ use Rattle.pg_items.specs.Heads.{entry_of_item}
 use Rattle.pg_items.specs.Entries.{Entry}
 use Rattle.pg_parser.specs.Items.{AreItems, OnlyItems}
 use Rattle.pg_making.specs.Spells.{SpelledWithinDepth, SpellsWithinLimits}
-use Rattle.pg_making.specs.Making.{AreProperEntries, IsGrammarOfEntries}
+use Rattle.pg_making.specs.Making.{IsGrammarOfEntries}
 use Rattle.pg_making.proofs.MakingLemmas.Entries.{grammar_of_entries, grammar_of_items}
 use Rattle.pg_file.proofs.ReadLemmas.Good.{file_good}
 use Rattle.pg_file.proofs.ReadLemmas.Few.{keep_within}
-
--- the entries of items are those of items as a file may have them
-pub proper_entries : (tokens : List Token) (entries : List Entry) → AreItems tokens entries → AreProperEntries entries
-proper_entries tokens entries h = record { items = h.items; proper = h.proper; meant = h.meant }
 
 -- what is read is what the characters spell, and nests no deeper than it may
 pub is_spelled : (offer : Offer) (cs : List ℕ) (tokens : List Token) (entries : List Entry) (g : Grammar) → SpelledIfGood cs tokens → AreItems tokens entries

@@ -6,7 +6,7 @@ use Rattle.pg_items.specs.declared.written.WrittenForm.{WrittenForm}
 use Rattle.pg_items.specs.Tree.{Class, Value, Item, Class_item, Word_item, Operators, Table, Start, Rule_item}
 use Rattle.pg_items.specs.Proper.{IsFreeName, IsFilled, IsProperClass, IsProper, IsMost, IsProperItem}
 use Rattle.pg_items.specs.Heads.{class_parts, heads, most_of, entry_of_item}
-use Rattle.pg_items.specs.Entries.{class, word, operators, start, rule}
+use Rattle.pg_items.specs.Entries.{class, word, operators, rule}
 use Rattle.pg_making.specs.Spells.{max_meant}
 use Rattle.pg_making.specs.Making.{IsProperEntry}
 
@@ -101,17 +101,6 @@ of_operators parts gap reserved most h = go h.item h.proper h.meant
         }
     go (Table role precedence symbol) p e = absurd cc
     go (Start t) p e = absurd cc
-    go (Rule_item t v) p e = absurd cc
-
-pub of_start : (s : List ℕ) → IsProperEntry (start s) → IsFreeName s
-of_start s h = go h.item h.proper h.meant
-  where
-    go : (item : Item) → IsProperItem item → start s ≡ entry_of_item item → IsFreeName s
-    go (Class_item t c) p e = absurd cc
-    go (Word_item t first after texts) p e = absurd cc
-    go (Operators c between texts number) p e = absurd cc
-    go (Table role precedence symbol) p e = absurd cc
-    go (Start t) p e = let same : t ≡ s = cc in subst IsFreeName same p
     go (Rule_item t v) p e = absurd cc
 
 pub record OfRule (s : List ℕ) (forms : List WrittenForm) : Type 0 where

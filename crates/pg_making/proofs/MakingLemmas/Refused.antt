@@ -16,7 +16,6 @@ use Rattle.pg_form.specs.Forms.{BaseForm, has_unknown_class, IsBody}
 use Rattle.pg_value.specs.Grammar.{Grammar}
 use Rattle.pg_grammar.specs.Made.{Made, Says, made_words, class_fault, word_fault, operators_fault, rule_fault}
 use Rattle.pg_form.specs.declared.class.ClassPart.{ClassPart}
-use Rattle.pg_form.specs.declared.operators_item.OperatorsItem.{OperatorsItem}
 use Rattle.pg_form.specs.declared.word_item.WordItem.{WordItem}
 use Rattle.pg_grammar.specs.declared.fault.MakerFault.{MakerFault}
 use Rattle.pg_grammar.specs.declared.fault.MakerFault.TheVariants.{Memory}
@@ -180,13 +179,6 @@ class_is_new made s parts none = any-map (λ other. bytes_eq other s) item_name 
 
 pub word_is_new : (made : Made) (item : WordItem) → word_fault made item ≡ None → has_name (made_words made) item.name ≡ false
 word_is_new made item none = any-map (λ other. bytes_eq other item.name) word_name made.words ∙ second_fails _ (has_word made.words item.name) _ _ _ none
-
-pub operators_are_new : (made : Made) (item : OperatorsItem) → operators_fault made item ≡ None → made.operators ≡ None
-operators_are_new made item none = go made.operators (second_fails _ (is_some made.operators) _ _ _ none)
-  where
-    go : (o : Option OperatorsItem) → is_some o ≡ false → o ≡ None
-    go None h = refl
-    go (Some x) h = absurd cc
 
 pub rule_is_new : (made : Made) (s : Name) (body : List BaseForm) → rule_fault made s body ≡ None → has_name made.names s ≡ false
 rule_is_new made s body none = second_fails _ (has_name made.names s) _ _ _ none

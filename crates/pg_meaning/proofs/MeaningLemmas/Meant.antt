@@ -2,26 +2,17 @@
 use Rattle.std.proofs.Common.{◌≡◌, List, ◌∷◌, ◌++◌, length}
 use Rattle.pg_pred.specs.Offer.{Offer}
 use Rattle.pg_form.specs.Names as names
-use Rattle.pg_items.specs.declared.written.WrittenForm.{WrittenForm}
-use Rattle.pg_items.specs.Tree.{Class, Value, Values}
-use Rattle.pg_items.specs.Heads.{class_parts, heads, all_heads}
-use Rattle.pg_meaning.specs.Meaning.{class_meant, meant, all_meant}
-use Rattle.pg_meaning.specs.Bodies.{parts_meant, bodies, body_meant}
+use Rattle.pg_items.specs.Tree.{Class, Value}
+use Rattle.pg_items.specs.Heads.{class_parts, heads}
+use Rattle.pg_meaning.specs.Meaning.{class_meant, meant}
+use Rattle.pg_meaning.specs.Bodies.{parts_meant, body_meant}
 use Rattle.pg_items.specs.Sizes.{body_size}
 use Rattle.pg_meaning.proofs.MeaningLemmas.Classes.{class_is}
-use Rattle.pg_meaning.proofs.MeaningLemmas.Bodies.{value_in_front, values_in_front, value_alone}
+use Rattle.pg_meaning.proofs.MeaningLemmas.Bodies.{value_alone}
 use Rattle.pg_meaning.proofs.MeaningLemmas.Sizes.{value_size}
 
 pub class_parts_meant : (offer : Offer) (classes : List names.Name) (c : Class) → parts_meant offer classes (class_parts c) ≡ class_meant offer classes c
 class_parts_meant offer classes c = class_is offer classes c
-
-pub heads_in_front : (offer : Offer) (classes : List names.Name) (v : Value) (rest : List WrittenForm)
-    → bodies offer classes (heads v ++ rest) ≡ meant offer classes v ∷ bodies offer classes rest
-heads_in_front offer classes v rest = value_in_front offer classes v rest
-
-pub all_heads_in_front : (offer : Offer) (classes : List names.Name) (vs : Values) (rest : List WrittenForm)
-    → bodies offer classes (all_heads vs ++ rest) ≡ all_meant offer classes vs ++ bodies offer classes rest
-all_heads_in_front offer classes vs rest = values_in_front offer classes vs rest
 
 pub heads_meant : (offer : Offer) (classes : List names.Name) (v : Value) → body_meant offer classes (heads v) ≡ meant offer classes v
 heads_meant offer classes v = value_alone offer classes v

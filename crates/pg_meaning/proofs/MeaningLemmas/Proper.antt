@@ -11,7 +11,7 @@ use Rattle.pg_items.specs.Written.{IsClass}
 use Rattle.pg_items.specs.Proper.{IsProperClass, IsProper}
 use Rattle.pg_meaning.specs.Meaning.{class_meant, meant}
 use Rattle.pg_meaning.specs.Bodies.{parts_meant}
-use Rattle.pg_meaning.proofs.MeaningLemmas.ProperClasses.{expression_of_parts, expression_of_class, ascending, short, known}
+use Rattle.pg_meaning.proofs.MeaningLemmas.ProperClasses.{expression_of_parts, ascending, short, known}
 use Rattle.pg_meaning.proofs.MeaningLemmas.Sound.{sound_value}
 use Rattle.pg_meaning.proofs.MeaningLemmas.Faultless.{faultless_value}
 
@@ -19,9 +19,6 @@ use Rattle.pg_meaning.proofs.MeaningLemmas.Faultless.{faultless_value}
 
 pub parts_are_expression : (offer : Offer) (classes : List names.Name) (parts : List WrittenPart) → IsClass parts → IsExpression (parts_meant offer classes parts)
 parts_are_expression offer classes parts h = expression_of_parts offer classes parts h
-
-pub class_is_expression : (offer : Offer) (classes : List names.Name) (c : Class) → IsExpression (class_meant offer classes c)
-class_is_expression offer classes c = expression_of_class offer classes c
 
 pub class_ascends : (offer : Offer) (classes : List names.Name) (c : Class) → IsProperClass c → list_any descends (class_meant offer classes c) ≡ false
 class_ascends offer classes c h = ascending offer classes c h

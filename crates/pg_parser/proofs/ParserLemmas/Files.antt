@@ -262,11 +262,6 @@ none_before : (read : Option (List Entry)) → with_before [] read ≡ read
 none_before (Some es) = refl
 none_before None = refl
 
-pub all_left : (ts : List Token) → ItemsLeft full_allowance ts [] (file_at ts)
-all_left ts =
-    let enough : length ts ≤ length ts = omega arith in
-    record { most = length ts; enough = enough; so_far = none_before (items_at (length ts) full_allowance ts) }
-
 regroup : (front : List Entry) (e : Entry) (read : Option (List Entry)) → with_before front (read >>= λ es. Some (e ∷ es)) ≡ with_before (front ++ e ∷ []) read
 regroup front e (Some es) = ap (λ (l : List Entry). Some l) (simp append_assoc)
 regroup front e None = refl

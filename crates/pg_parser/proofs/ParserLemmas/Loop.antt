@@ -11,9 +11,9 @@ use Rattle.pg_tokens.specs.declared.token.Mark.{Mark}
 use Rattle.pg_parser.specs.declared.error.SyntaxError.{SyntaxError}
 use Rattle.pg_parser.specs.declared.error.SyntaxError.TheVariants.{Memory, Fault}
 use Rattle.pg_tokens.specs.Tokens.{Token}
-use Rattle.pg_tokens.specs.View.{token_of, tokens_of}
+use Rattle.pg_tokens.specs.View.{tokens_of}
 use Rattle.pg_items.specs.Entries.{forms_of}
-use Rattle.pg_parser.specs.Given.{IsFault, Fails, bodies_of, classes_of}
+use Rattle.pg_parser.specs.Given.{Fails, bodies_of, classes_of}
 use Rattle.pg_items.specs.Joined.{joined}
 use Rattle.pg_items.proofs.ItemLemmas.Joined.{joined_push}
 use Rattle.pg_parser.specs.Reading.{◌>>=◌, Body, ClassParts, Reader, mark_at, word_at, plain_at, atom_at, with_first, more_at, class_at, form_at, value_with, value_at}
@@ -30,11 +30,6 @@ pub value_nested : (d : ℕ) (ts : List Token) → 0 < d → value_at d ts ≡ v
 unfolding value_at
 value_nested zero ts h = absurd (omega (arith, h))
 value_nested (suc d) ts h = let q : suc d - 1 ≡ d = omega arith in rw q refl
-
--- a fault, where nothing can be read
-pub fault_fails : {Y : Type 0} (e : SyntaxError) (read : Option Y) → IsFault e → read ≡ None → Fails e read
-fault_fails Memory read h q = absurd h
-fault_fails (Fault kind place) read h q = q
 
 -- what was read before, and what is still read
 abbrev pub with_front : {A : Type 0} → List A → Option (List A × List Token) → Option (List A × List Token)
@@ -118,14 +113,6 @@ not_read group front (t ∷ ts) rest total b h =
     let same : ts ≡ rest = some_is ts rest g.1 in
     let one : with_front front (atom_at group (t ∷ ts)) ≡ with_front (front ++ part.Complement ∷ []) (atom_at group ts) = rw g.0 (regroup front part.Complement (atom_at group ts)) in
     subst (λ (us : List Token). with_front (front ++ part.Complement ∷ []) (atom_at group us) ≡ total) same (sym one ∙ h)
-
--- fewer tokens stand after it
-pub not_shorter : (ts : List Lexeme) (rest : List Lexeme) → not_at (tokens_of ts) ≡ Some (tokens_of rest) → length rest < length ts
-not_shorter [] rest b = absurd cc
-not_shorter (t ∷ ts) rest b =
-    let g = guard_some (is_word (codes "not") (token_of t.token)) (Some (tokens_of ts)) (tokens_of rest) b in
-    let same : length (tokens_of ts) ≡ length (tokens_of rest) = ap length (some_is (tokens_of ts) (tokens_of rest) g.1) in
-    omega (arith, same, tokens_len ts, tokens_len rest)
 
 -- where no `not` stands, a plain atom does
 pub plain_read : (group : Reader ClassParts) (ts : List Token) → not_at ts ≡ None → atom_at group ts ≡ plain_at group ts

@@ -1,17 +1,14 @@
 -- Reading literals next to one another, as a loop does.
-use Rattle.std.proofs.Common.{◌≡◌, ℕ, ◌<◌, true, false, List, [], ◌∷◌, ◌++◌, suc, length, Option, Some, None, refl, sym, ap, ◌∙◌, arith}
+use Rattle.std.proofs.Common.{◌≡◌, ℕ, ◌<◌, true, false, List, [], ◌∷◌, ◌++◌, Option, Some, None, refl, sym, ap, ◌∙◌}
 use Rattle.std.proofs.lemmas.List.{append-nil}
-use Rattle.pg_tokens.specs.declared.token.Lexeme.{Lexeme}
 use Rattle.pg_parser.specs.declared.error.SyntaxError.{SyntaxError}
 use Rattle.pg_parser.specs.declared.error.SyntaxError.TheVariants.{Memory, Fault}
 use Rattle.pg_tokens.specs.Tokens.{Token, name, number, literal, mark, wrong, bad}
-use Rattle.pg_tokens.specs.View.{tokens_of}
 use Rattle.pg_parser.specs.Given.{Fails}
 use Rattle.pg_parser.specs.Reading.{has_literal, ◌>>=◌, filled_text, with_first}
 use Rattle.pg_parser.specs.ItemReading.{filled_at, literals_at}
 use Rattle.pg_parser.proofs.ParserLemmas.Steps.{bind_some, some_is}
-use Rattle.pg_parser.proofs.ParserLemmas.Loop.{tokens_len, with_front, regroup}
-use Rattle.pg_parser.proofs.ParserLemmas.Items.{filled_at_is}
+use Rattle.pg_parser.proofs.ParserLemmas.Loop.{with_front, regroup}
 
 literal_first : (ts : List Token) (text : List ℕ) (rest : List Token) → filled_at ts ≡ Some (text, rest) → literals_at ts ≡ with_first text (literals_at rest)
 unfolding literals_at
@@ -60,10 +57,3 @@ literals_end front (literal s ∷ ts) total l h = absurd cc
 literals_end front (mark m ∷ ts) total l h = sym h ∙ ap (λ (xs : List (List ℕ)). Some (xs, mark m ∷ ts)) (append-nil front)
 literals_end front (wrong ∷ ts) total l h = absurd cc
 literals_end front (bad ∷ ts) total l h = sym h ∙ ap (λ (xs : List (List ℕ)). Some (xs, bad ∷ ts)) (append-nil front)
-
--- fewer tokens stand after a literal
-pub literal_shorter : (ts rest : List Lexeme) (text : List ℕ) → filled_at (tokens_of ts) ≡ Some (text, tokens_of rest) → length rest < length ts
-literal_shorter ts rest text e =
-    let t = filled_at_is (tokens_of ts) (text, tokens_of rest) e in
-    let same : length (tokens_of ts) ≡ suc (length (tokens_of rest)) = ap length t.0 in
-    omega (arith, same, tokens_len ts, tokens_len rest)

@@ -127,7 +127,3 @@ root_is levels others h e = h ∙ ap (λ (ls : List Level). record { left = 0; s
 pub some_needed : (levels : List Level) → 0 < length levels → 0 < needed levels
 some_needed [] h = absurd (omega (arith, h))
 some_needed (level ∷ levels) h = omega arith
-
-pub none_needed : (levels : List Level) → length levels ≡ 0 → needed levels ≡ 0
-none_needed [] h = refl
-none_needed (level ∷ levels) h = absurd (omega (arith, h))

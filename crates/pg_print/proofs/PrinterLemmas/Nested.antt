@@ -120,8 +120,3 @@ drop_needed k separator end (level ∷ levels) v parts h =
     let e = entered_needed k separator end (level ∷ levels) h in
     let same : needed (entered k separator end (level ∷ levels)) ≡ k + (level.left + owed levels) = omega (arith, e) in
     ap (λ (n : ℕ). drop n parts) same ∙ sym (drop-drop (level.left + owed levels) k parts)
-
--- nothing comes where no level is left, or no part
-pub nothing_comes : {A : Type 0} (writes : Writer A) (levels : List Level) (parts : List A) → needed levels ≡ 0 → coming writes levels parts ≡ []
-nothing_comes writes [] parts h = refl
-nothing_comes writes (level ∷ levels) parts h = absurd (omega (arith, h))

@@ -10,7 +10,7 @@ use Rattle.std.specs.Prelude.{nat_le}
 use Rattle.pg_tokens.specs.declared.token.Mark.TheVariants.{Open, Close, Comma, Semicolon, Equals, Bar, Dots}
 use Rattle.pg_tokens.specs.Tokens.{Token, name, number, literal, mark}
 use Rattle.pg_tokens.specs.Lexical.{is_blank, isnt_line_feed, goes_in_name, is_hex, is_scalar, is_code, is_name, is_number, short_escape, passes, stops, Escape, short, unicode, Literal, closed, plain, escaped, Spelled, ends, blank, comment, a_mark, a_name, a_number, a_literal}
-use Rattle.pg_tokens.specs.Lexing.{escape_at, Quoted, text, with_char, after_escape, literal_at, Prefix, token, literal_prefix, name_at, number_at, mark_at, prefix_at, after, lex_of}
+use Rattle.pg_tokens.specs.Lexing.{escape_at, text, with_char, after_escape, literal_at, token, literal_prefix, name_at, number_at, mark_at, prefix_at, after, lex_of}
 use Rattle.pg_tokens.specs.Lexing as lexing
 use Rattle.pg_tokens.proofs.LexerLemmas.Turns.{literal_at_cons}
 use Rattle.pg_tokens.proofs.LexerLemmas.Prefixes.{lex_turn}

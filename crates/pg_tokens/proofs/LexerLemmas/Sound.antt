@@ -5,7 +5,7 @@ use Rattle.std.specs.Char.{is_ascii_alphabetic, is_ascii_digit}
 use Rattle.std.specs.Str.Parse.{digits_value}
 use Rattle.pg_tokens.specs.declared.token.Mark.{Mark}
 use Rattle.pg_tokens.specs.Tokens.{Token, name, number, mark, IsGood, AreGood}
-use Rattle.pg_tokens.specs.Lexical.{is_blank, isnt_line_feed, goes_in_name, is_hex, is_code, is_plain, is_name, is_number, short_escape, passes, starts, stops, mark_text, Escape, short, unicode, Literal, closed, plain, escaped, Spelled, ends, comment, a_mark, a_name, a_number, a_literal}
+use Rattle.pg_tokens.specs.Lexical.{is_blank, isnt_line_feed, goes_in_name, is_hex, is_code, is_plain, is_name, is_number, short_escape, mark_text, Escape, short, unicode, Literal, closed, plain, escaped, Spelled, ends, comment, a_mark, a_name, a_number, a_literal}
 use Rattle.pg_tokens.specs.Lexical as lexical
 use Rattle.pg_tokens.specs.Lexing.{with_rest, code_point, brace_at, unicode_at, escape_at, Quoted, text, spoilt, unclosed, with_char, without_text, after_escape, literal_turn, literal_within, literal_at, Prefix, nothing, blank, token, broken, literal_prefix, after_line, name_at, number_at, dots_at, mark_at, mark_prefix, prefix_at, after, lex_within, lex_of}
 use Rattle.pg_tokens.proofs.LexerLemmas.Turns.{After-shorter, cond_when}

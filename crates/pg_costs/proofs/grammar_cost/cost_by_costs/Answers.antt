@@ -1,5 +1,4 @@
-use Rattle.std.proofs.Common.{◌≡◌, ◌*◌, ap, subst, ◌∙◌}
-use Rattle.pg_costs.specs.Rounds.{AreCutSizes}
+use Rattle.std.proofs.Common.{◌≡◌, ◌*◌, ap, ◌∙◌}
 use Rattle.pg_costs.specs.Steps.{number_at, cut_off, row_steps}
 use Rattle.pg_costs.specs.StepCost.{greatest_size, grammar_levels}
 use Rattle.pg_costs.proofs.grammar_cost.cost_by_costs.Goals as goal

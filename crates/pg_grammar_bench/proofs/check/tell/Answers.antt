@@ -10,14 +10,14 @@ returns-in-Err-Refused-clause-ok g c =
     let contents = g.W.Write.contents in
     let fault = subst (λ r. IfErr r (IsFaultOf c.args.grammar)) c.in-Err-Refused.is c.check.ensures.refused in
     let refused = subst (IsFaultOf c.args.grammar) c.in-Err-Refused.field-0-is fault in
-    if_ok_with c.tell_findings.result _ _
+    if_ok_with c.tell_findings-told.result _ _
     (λ accepted so written.
-    told_refused c.args.grammar c.in-Err-Refused.refused c.args.certificate (contents c.args.writer.now.inner) (contents c.tell_findings.new.writer.inner) refused accepted so written)
-    c.tell_findings.ensures.no c.tell_findings.ensures.ok
+    told_refused c.args.grammar c.in-Err-Refused.refused c.args.certificate (contents c.args.writer.now.inner) (contents c.tell_findings-told.new.writer.inner) refused accepted so written)
+    c.tell_findings-told.ensures.no c.tell_findings-told.ensures.ok
 
 pub returns-in-Err-Refused-clause-prefix : goal.returns-in-Err-Refused-clause-prefix
 returns-in-Err-Refused-clause-prefix g c is =
     let contents = g.W.Write.contents in
     let fault = subst (λ r. IfErr r (IsFaultOf c.args.grammar)) c.in-Err-Refused.is c.check.ensures.refused in
     let refused = subst (IsFaultOf c.args.grammar) c.in-Err-Refused.field-0-is fault in
-    partly_refused c.args.grammar c.in-Err-Refused.refused c.args.certificate (contents c.args.writer.now.inner) (contents c.tell_findings.new.writer.inner) refused (c.tell_findings.ensures.prefix is)
+    partly_refused c.args.grammar c.in-Err-Refused.refused c.args.certificate (contents c.args.writer.now.inner) (contents c.tell_findings-told.new.writer.inner) refused (c.tell_findings-told.ensures.prefix is)

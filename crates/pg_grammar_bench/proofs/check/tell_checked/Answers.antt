@@ -1,5 +1,5 @@
 use Rattle.std.proofs.Common.{subst, sym}
-use Rattle.std.specs.Prelude.{IfOk, IsErrOf}
+use Rattle.std.specs.Prelude.{IfOk}
 use Rattle.pg_grammar_bench.specs.Checking.{IsTold, IsPartlyTold}
 use Rattle.pg_grammar_bench.proofs.Judged.{told_accepted, partly_accepted, told_certificate, partly_certified}
 use Rattle.pg_grammar_bench.proofs.Results.{if_ok_with, on_this_err}

@@ -23,5 +23,5 @@ returns g c =
     let progress = c.in_ok-progress.progress in
     let run = running_after (offer_of c.args.registry.now) (given c.args.reading c.args.grammar.now c.args.text.now) c.args.table.now c.args.max_steps progress.steps _ _
     c.requires begins c.in_ok-progress.ensures.after c.in_ok-progress.ensures.within in
-    IfOk-weaker c.ended.result _ _
-    (λ o e. running_ends (offer_of c.args.registry.now) (given c.args.reading c.args.grammar.now c.args.text.now) c.args.table.now c.args.max_steps progress.steps _ o run e c.in_ok-progress.ensures.last) c.ended.ensures
+    IfOk-weaker c.ended-outcome.result _ _
+    (λ o e. running_ends (offer_of c.args.registry.now) (given c.args.reading c.args.grammar.now c.args.text.now) c.args.table.now c.args.max_steps progress.steps _ o run e c.in_ok-progress.ensures.last) c.ended-outcome.ensures

@@ -1,4 +1,4 @@
-use Rattle.std.proofs.Common.{◌≡◌, ◌∙◌, length, ap, ap₂, arith, string_bytes}
+use Rattle.std.proofs.Common.{◌≡◌, ◌∙◌, length, ap, arith}
 use Rattle.serde_json.specs.View.{view}
 use Rattle.pg_trails.specs.TrailJson.{lone}
 use Rattle.pg_trails.proofs.Parts.{one_long, the_member}

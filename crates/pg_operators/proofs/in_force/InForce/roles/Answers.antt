@@ -1,4 +1,4 @@
-use Rattle.std.proofs.Common.{◌≡◌, suc, ap, sym, ◌∙◌, arith}
+use Rattle.std.proofs.Common.{◌≡◌, suc, ap, ◌∙◌, arith}
 use Rattle.pg_expand.specs.Rows.{row_numbered}
 use Rattle.pg_operators.specs.RowRoles.{roles_of}
 use Rattle.pg_operators.proofs.Roles.{roles_numbered}

@@ -3,7 +3,7 @@ use Rattle.std.specs.BTreeMap.{keys}
 use Rattle.std.proofs.lemmas.Result.{IfOk-weaker}
 use Rattle.pg_verify.specs.SetsBy.{AreListedBy}
 use Rattle.pg_verify.proofs.Coming.{are_listed_by}
-use Rattle.pg_verify.proofs.origins.claim_origins.Goals as goal
+use Rattle.pg_verify.proofs.origins.list_origins.Goals as goal
 
 pub returns : goal.returns
 returns c =

@@ -4,7 +4,7 @@ use Rattle.pg_own_starts.specs.Listed.{IsListed}
 use Rattle.pg_own_starts.specs.declared.listed.ListedStart.{ListedStart}
 use Rattle.pg_sets.specs.Origins.{HoldsIt, IsThere}
 use Rattle.pg_verify.specs.SetsBy.{ClaimsBelow}
-use Rattle.pg_verify.proofs.origins.add_claims.Given as goal
+use Rattle.pg_verify.proofs.origins.add_rules.Given as goal
 
 abbrev pub invariant-loop-rule : goal.invariant-loop-rule
 invariant-loop-rule l = record {
