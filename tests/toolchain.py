@@ -18,15 +18,21 @@ MOST_JOBS = 4
 LIBRARIES_A_JOB = 5
 
 
-def command():
-    """The command rt as a module."""
-    loader = importlib.machinery.SourceFileLoader("rt_command", os.path.realpath(shutil.which("rt")))
-    module = importlib.util.module_from_spec(importlib.util.spec_from_loader("rt_command", loader))
-    loader.exec_module(module)
-    return module
+def loaded(name, path):
+    """A script without an ending as a module."""
+    loader = importlib.machinery.SourceFileLoader(name, path)
+    found = importlib.util.module_from_spec(importlib.util.spec_from_loader(name, loader))
+    sys.modules[name] = found
+    loader.exec_module(found)
+    return found
 
 
-rt = command()
+def module(name):
+    """A script beside this one as a module."""
+    return loaded(name, f"{TESTS}/{name}")
+
+
+rt = loaded("rt_command", os.path.realpath(shutil.which("rt")))
 
 
 def crates_of(root):

@@ -1,0 +1,30 @@
+"""The suites that are handed a program, and how much of each is tried."""
+
+import os
+
+from sums import python
+
+HERE = os.path.dirname(os.path.realpath(__file__))
+# Each suite, with the words that make a sample of one that searches: the seeds of its random grammars.
+SUITES = {
+    "run": [],
+    "faults": [],
+    "prints": [],
+    "documents": [],
+    "sets": [],
+    "checks": ["0", "200"],
+    "listings": ["0", "200"],
+    "code_pages": [],
+    "certificates": ["0", "200"],
+    "answers": [],
+    "short_texts": [],
+    "replays": ["0", "100"],
+    "outlines": ["0", "200"],
+    "explanations": ["0", "400"],
+}
+
+
+def run_suites(sums, program, is_sample):
+    """Runs each suite over the program: samples, or all that the gate searches."""
+    for name, sample in SUITES.items():
+        sums.run(f"tests/{name} {os.path.basename(program)}", python(f"{HERE}/{name}", program, *(sample if is_sample else [])))
