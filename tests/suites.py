@@ -21,10 +21,15 @@ SUITES = {
     "replays": ["0", "100"],
     "outlines": ["0", "200"],
     "explanations": ["0", "400"],
+    "level": [],
 }
 
 
+LEVEL = f"{os.path.dirname(HERE)}/bench/level"
+
+
 def run_suites(sums, program, is_sample):
-    """Runs each suite over the program: samples, or all that the gate searches."""
+    """Runs each suite over the program, and the search for what isn't level: samples, or all that the gate searches."""
     for name, sample in SUITES.items():
         sums.run(f"tests/{name} {os.path.basename(program)}", python(f"{HERE}/{name}", program, *(sample if is_sample else [])))
+    sums.run(f"bench/level {os.path.basename(program)}", python(LEVEL, program, "--sample", "60" if is_sample else "400"))

@@ -9,7 +9,7 @@ use pg_class::Class;
 use pg_grammar_bench::{BenchFault, print_bytes};
 use pg_language::Reading;
 use pg_pred::{Builder, Predicate, Registry};
-use pg_tree::{Forest, Meter, Shape, Tree, built};
+use pg_tree::{Forest, Meter, Shape, Tree};
 use std::alloc::{AllocError, Global};
 use std::io;
 use std::io::{ErrorKind, Read, Write};
@@ -275,62 +275,50 @@ fn parses_by_the_predicates_and_builders(rt: HostRuntime) -> Result<(), Fail> {
     Ok(())
 }
 
-#[test]
-fn writes_nothing_where_a_builder_wants_memory(rt: HostRuntime) -> Result<(), Fail> {
-    let alloc = rt.alloc();
+/// A registry with one builder that joins, whose function always fails: a run makes its trees by the shape.
+fn joining(alloc: Global) -> Result<Registry, Fail> {
     let make = Box::new(
         alloc,
         |_: Global, _: &str, _: Forest| -> Result<Tree, AllocError> { Err(AllocError) },
     )?;
-    let none = Builder::new(String::from_str(alloc, "none")?, Shape::Join, make);
-    let registry = Registry::new(Vec::new(alloc), vec![in alloc; none]?)?;
-    let grammar = b"start a; a = build(none, string(\"x\"));";
-    let mut reader = Meter::new(b"x".as_slice());
+    let never = Builder::new(String::from_str(alloc, "never")?, Shape::Join, make);
+    Ok(Registry::new(Vec::new(alloc), vec![in alloc; never]?)?)
+}
+
+#[test]
+fn makes_trees_without_a_call_of_their_builder(rt: HostRuntime) -> Result<(), Fail> {
+    let alloc = rt.alloc();
+    let registry = joining(alloc)?;
+    let grammar = b"start a; a = build(never, seq(string(\"x\"), string(\"y\")));";
+    let mut reader = Meter::new(b"xy".as_slice());
     let mut writer = Meter::new(Vec::<u8>::new(alloc));
     let outcome = parse_bytes(alloc, grammar, &registry, &mut reader, &mut writer, false);
-    assert!(rt; matches!(outcome, Err(BenchFault::Memory)));
-    assert!(rt; writer.into_inner().is_empty());
+    assert!(rt; outcome.is_ok());
+    assert!(rt; writer.into_inner().as_slice() == b"[\"xy\"]\n".as_slice());
     Ok(())
 }
 
 #[test]
-fn writes_nothing_where_the_builder_of_an_operator_wants_memory(
-    rt: HostRuntime,
-) -> Result<(), Fail> {
+fn applies_operators_without_a_call_of_their_builder(rt: HostRuntime) -> Result<(), Fail> {
     let alloc = rt.alloc();
-    let make = Box::new(
-        alloc,
-        |alloc: Global, symbol: &str, kids: Forest| -> Result<Tree, AllocError> {
-            if symbol == "!" {
-                return Err(AllocError);
-            }
-            built(alloc, &Shape::Join, symbol, kids)
-        },
-    )?;
-    let unary = Builder::new(String::from_str(alloc, "unary")?, Shape::Join, make);
-    let registry = Registry::new(Vec::new(alloc), vec![in alloc; unary]?)?;
+    let registry = joining(alloc)?;
     let grammar =
-        b"operators \"+!\" gap \" \"; table infixl 6 \"+\"; table postfix 9 \"!\"; start a; a = expr(unary, unary, unary, satisfy(\"1\"));";
-    for (text, wanted) in [("1+ 1", "consumed ok\nplace 4\n[\"11\"]\n"), ("1+ 1!", "")] {
-        let mut reader = Meter::new(text.as_bytes());
-        let mut writer = Meter::new(Vec::<u8>::new(alloc));
-        let outcome = probe_bytes(
-            alloc,
-            grammar,
-            &registry,
-            "t",
-            &mut reader,
-            &mut writer,
-            1000,
-            Reading::Library,
-        );
-        assert_eq!(rt; matches!(outcome, Ok(true)), !wanted.is_empty());
-        assert_eq!(rt;
-            matches!(outcome, Err(BenchFault::Memory)),
-            wanted.is_empty()
-        );
-        assert!(rt; writer.into_inner().as_slice() == wanted.as_bytes());
-    }
+        b"operators \"+!\" gap \" \"; table infixl 6 \"+\"; table postfix 9 \"!\"; start a; a = expr(never, never, never, satisfy(\"1\"));";
+    let mut reader = Meter::new(b"1+ 1!".as_slice());
+    let mut writer = Meter::new(Vec::<u8>::new(alloc));
+    let outcome = probe_bytes(
+        alloc,
+        grammar,
+        &registry,
+        "t",
+        &mut reader,
+        &mut writer,
+        1000,
+        Reading::Library,
+    );
+    assert!(rt; matches!(outcome, Ok(true)));
+    let wanted = b"consumed ok\nplace 5\n[\"11\"]\n".as_slice();
+    assert!(rt; writer.into_inner().as_slice() == wanted);
     Ok(())
 }
 

@@ -1,3 +1,2 @@
 pub mod Keywords
-pub mod Gaps
 pub mod Proper

@@ -2,14 +2,15 @@
 
 ghost use Rattle.std.specs.Prelude.{◌≡◌, ◌<◌, ◌≤◌, ◌+◌, length, slice_get, Some, IfSome};
 ghost use Rattle.pg_form.specs.declared.decl.Role.{Role};
-ghost use Rattle.pg_value.specs.Fits.{IsClassIn};
+ghost use Rattle.pg_value.specs.Sites.{class_at};
 ghost use Rattle.pg_language.specs.Runs.{keyword};
 ghost use Rattle.pg_language.specs.Declarations.{declaration_at, digit_read, digit_value, keyword_read, symbol_read};
 ghost use Rattle.pg_declarations.specs.Views.{declaration_of, IsProper};
 
 use crate::keyword::{keyword, role_at};
-use crate::run::{past_run, run_at};
-use pg_form::{ClassExpression, OperatorsItem, Role};
+use crate::run::{past_gap, run_at};
+use pg_character_sets::ClassSite;
+use pg_form::{OperatorsItem, Role};
 use pg_text::Text;
 use pg_value::Grammar;
 
@@ -40,24 +41,23 @@ pub enum Declaration<'a> {
     Declared(Declared<'a>),
 }
 
-/// What stands at the place of the text, where no character of the class may follow the keyword. The caller owes that the
-/// operators item and the class are the grammar's. It takes no memory.
-#[tactic(auto, using(crate::proofs::Gaps::gap_in, crate::proofs::Proper::is_proper))]
+/// What stands at the place of the text, where no character of the class expression may follow the keyword. The caller owes that
+/// the operators item is the grammar's. It takes no memory.
+#[tactic(auto, using(crate::proofs::Proper::is_proper))]
 pub fn declaration_at<'a>(
     grammar: &Grammar,
     text: &'a Text,
     item: &OperatorsItem,
-    class: &ClassExpression,
+    class: ClassSite,
     place: usize,
 ) -> Declaration<'a>
-    requires item { grammar.now.operators ≡ Some item.now }
-    requires class { IsClassIn grammar.now class.now }
-    ensures value { declaration_of result ≡ declaration_at grammar.now text.now item.now class.now place }
+    requires { grammar.now.operators ≡ Some item.now }
+    ensures value { declaration_of result ≡ declaration_at grammar.now text.now item.now (class_at grammar.now class) place }
     ensures proper { IsProper (declaration_of result) }
 {
     match role_at(grammar, text, class, place) {
         Some(role) => {
-            let digit = past_run(grammar, text, &item.gap, place + keyword(role).len());
+            let digit = past_gap(grammar, text, item, place + keyword(role).len());
             from_digit(grammar, text, item, role, digit)
         }
         None => Declaration::NoKeyword,
@@ -65,7 +65,6 @@ pub fn declaration_at<'a>(
 }
 
 /// What stands from the place of the digit on.
-#[tactic(auto, using(crate::proofs::Gaps::gap_in))]
 fn from_digit<'a>(
     grammar: &Grammar,
     text: &'a Text,
@@ -78,7 +77,7 @@ fn from_digit<'a>(
 {
     match digit_at(text, place) {
         Some(precedence) => {
-            let symbol = past_run(grammar, text, &item.gap, place + 1);
+            let symbol = past_gap(grammar, text, item, place + 1);
             from_symbol(grammar, text, item, role, precedence, symbol)
         }
         None => Declaration::NoDigit(place),
@@ -86,7 +85,6 @@ fn from_digit<'a>(
 }
 
 /// What stands from the place of the symbol on.
-#[tactic(auto, using(crate::proofs::Gaps::gap_in, crate::proofs::Gaps::class_in))]
 fn from_symbol<'a>(
     grammar: &Grammar,
     text: &'a Text,
@@ -99,11 +97,11 @@ fn from_symbol<'a>(
     requires place { place ≤ length text.now }
     ensures { declaration_of result ≡ symbol_read grammar.now text.now item.now role precedence place }
 {
-    let symbol = run_at(grammar, text, &item.class, place);
+    let symbol = run_at(grammar, text, item, place);
     if symbol.is_empty() {
         return Declaration::NoSymbol(place);
     }
-    let end = past_run(grammar, text, &item.gap, place + symbol.len());
+    let end = past_gap(grammar, text, item, place + symbol.len());
     Declaration::Declared(Declared {
         role,
         precedence,

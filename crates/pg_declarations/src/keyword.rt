@@ -1,12 +1,13 @@
 //! The keywords with which declarations begin.
 
 ghost use Rattle.std.specs.Prelude.{◌≡◌, ◌<◌, ◌≤◌, ◌+◌, true, length, IfSome};
-ghost use Rattle.pg_value.specs.Fits.{IsClassIn};
+ghost use Rattle.pg_value.specs.Sites.{class_at};
 ghost use Rattle.pg_language.specs.Runs.{keyword, stands_at};
 ghost use Rattle.pg_language.specs.Declarations.{goes_on_with, has_keyword, role_at};
 
 use crate::run::after;
-use pg_form::{ClassExpression, Role};
+use pg_character_sets::ClassSite;
+use pg_form::Role;
 use pg_text::Text;
 use pg_value::Grammar;
 
@@ -15,11 +16,10 @@ use pg_value::Grammar;
 pub(crate) fn role_at(
     grammar: &Grammar,
     text: &Text,
-    class: &ClassExpression,
+    class: ClassSite,
     place: usize,
 ) -> Option<Role>
-    requires { IsClassIn grammar.now class.now }
-    ensures value { result ≡ role_at grammar.now text.now class.now place }
+    ensures value { result ≡ role_at grammar.now text.now (class_at grammar.now class) place }
     ensures within { IfSome result (λ role. place + length (keyword role) ≤ length text.now) }
     ensures limit { length text.now ≤ 1048576 }
 {
@@ -38,15 +38,8 @@ pub(crate) fn role_at(
 }
 
 /// Whether the keyword of the role stands there, and nothing that goes on with it.
-fn has_keyword(
-    grammar: &Grammar,
-    text: &Text,
-    class: &ClassExpression,
-    place: usize,
-    role: Role,
-) -> bool
-    requires { IsClassIn grammar.now class.now }
-    ensures { result ≡ has_keyword grammar.now text.now class.now place role }
+fn has_keyword(grammar: &Grammar, text: &Text, class: ClassSite, place: usize, role: Role) -> bool
+    ensures { result ≡ has_keyword grammar.now text.now (class_at grammar.now class) place role }
 {
     let word = keyword(role);
     stands_at(text, place, word) && !goes_on_with(grammar, class, text.char_at(place + word.len()))
@@ -63,12 +56,11 @@ fn stands_at(text: &Text, place: usize, word: &[char]) -> bool
 }
 
 /// Whether what comes next goes on with a keyword.
-fn goes_on_with(grammar: &Grammar, class: &ClassExpression, next: Option<char>) -> bool
-    requires { IsClassIn grammar.now class.now }
-    ensures { result ≡ goes_on_with grammar.now class.now next }
+fn goes_on_with(grammar: &Grammar, class: ClassSite, next: Option<char>) -> bool
+    ensures { result ≡ goes_on_with grammar.now (class_at grammar.now class) next }
 {
     match next {
-        Some(c) => grammar.has(class, c) || ('a'..='z').contains(&c),
+        Some(c) => grammar.contains(class, c) || ('a'..='z').contains(&c),
         None => false,
     }
 }

@@ -11,4 +11,4 @@ mod operator;
 mod run;
 
 pub use declaration::{Declaration, Declared, declaration_at};
-pub use run::{past_run, run_at};
+pub use run::{past_gap, run_at, run_of};

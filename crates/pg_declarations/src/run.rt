@@ -1,41 +1,54 @@
 //! Runs of characters of a class.
 
-ghost use Rattle.std.specs.Prelude.{◌≡◌, ◌≤◌, ◌+◌, drop, length};
+ghost use Rattle.std.specs.Prelude.{◌≡◌, ◌≤◌, ◌+◌, drop, length, Some};
 ghost use Rattle.std.specs.List.{take_while};
 ghost use Rattle.pg_form.specs.ClassItems.{has_character};
-ghost use Rattle.pg_value.specs.Fits.{IsClassIn};
+ghost use Rattle.pg_value.specs.Sites.{class_at};
 ghost use Rattle.pg_language.specs.Runs.{run_at, past_run};
 
-use pg_form::ClassExpression;
+use pg_character_sets::ClassSite;
+use pg_form::OperatorsItem;
 use pg_text::Text;
 use pg_value::Grammar;
 
-/// The characters of the class that stand at the place, one after another.
+/// The operator characters that stand at the place, one after another. The caller owes that the operators item is the grammar's.
+#[tactic(auto, using(pg_value::proofs::Sites::class_at_operators))]
 pub fn run_at<'a>(
     grammar: &Grammar,
     text: &'a Text,
-    class: &ClassExpression,
+    item: &OperatorsItem,
     place: usize,
 ) -> &'a [char]
-    requires class { IsClassIn grammar.now class.now }
+    requires item { grammar.now.operators ≡ Some item.now }
     requires place { place ≤ length text.now }
-    ensures value { result.now ≡ run_at grammar.now text.now class.now place }
+    ensures value { result.now ≡ run_at grammar.now text.now item.now.class place }
+    ensures within { place + length result.now ≤ length text.now }
+    ensures limit { length text.now ≤ 1048576 }
+{
+    run_of(grammar, text, ClassSite::Operators, place)
+}
+
+/// The place after the gap that stands at the place. The caller owes that the operators item is the grammar's.
+#[tactic(auto, using(pg_value::proofs::Sites::class_at_gap))]
+pub fn past_gap(grammar: &Grammar, text: &Text, item: &OperatorsItem, place: usize) -> usize
+    requires item { grammar.now.operators ≡ Some item.now }
+    requires place { place ≤ length text.now }
+    ensures value { result ≡ past_run grammar.now text.now item.now.gap place }
+    ensures within { result ≤ length text.now }
+    ensures limit { length text.now ≤ 1048576 }
+{
+    place + run_of(grammar, text, ClassSite::Gap, place).len()
+}
+
+/// The characters of a class expression that stand at the place, one after another.
+pub fn run_of<'a>(grammar: &Grammar, text: &'a Text, class: ClassSite, place: usize) -> &'a [char]
+    requires { place ≤ length text.now }
+    ensures value { result.now ≡ run_at grammar.now text.now (class_at grammar.now class) place }
     ensures within { place + length result.now ≤ length text.now }
     ensures limit { length text.now ≤ 1048576 }
 {
     let rest = after(text.characters(), place);
     &rest[..run_length(grammar, class, rest)]
-}
-
-/// The place after them.
-pub fn past_run(grammar: &Grammar, text: &Text, class: &ClassExpression, place: usize) -> usize
-    requires class { IsClassIn grammar.now class.now }
-    requires place { place ≤ length text.now }
-    ensures value { result ≡ past_run grammar.now text.now class.now place }
-    ensures within { result ≤ length text.now }
-    ensures limit { length text.now ≤ 1048576 }
-{
-    place + run_length(grammar, class, after(text.characters(), place))
 }
 
 /// The characters from the place on.
@@ -46,13 +59,12 @@ pub(crate) fn after(characters: &[char], place: usize) -> &[char]
 }
 
 /// How many characters of the class there are before any other.
-fn run_length(grammar: &Grammar, class: &ClassExpression, characters: &[char]) -> usize
-    requires { IsClassIn grammar.now class.now }
-    ensures value { result ≡ length (take_while (has_character grammar.now.classes class.now) characters.now) }
+fn run_length(grammar: &Grammar, class: ClassSite, characters: &[char]) -> usize
+    ensures value { result ≡ length (take_while (has_character grammar.now.classes (class_at grammar.now class)) characters.now) }
     ensures within { result ≤ length characters.now }
 {
     characters
         .iter()
-        .take_while(|c| grammar.has(class, **c))
+        .take_while(|c| grammar.contains(class, **c))
         .count()
 }

@@ -48,7 +48,7 @@ pub fn is_shown(c: char) -> bool {
 }
 
 /// Pushes a character, or another that stands for a control character, unless it is a tab. The only error is that memory ran out.
-pub(crate) fn push_shown(page: &mut String, c: char) -> Result<(), AllocError> {
+pub fn push_shown(page: &mut String, c: char) -> Result<(), AllocError> {
     if is_shown(c) || c == '\t' {
         page.push(c)
     } else {

@@ -12,7 +12,7 @@ mod places;
 mod rows;
 mod windows;
 
-pub use columns::is_shown;
+pub use columns::{is_shown, push_shown};
 pub use excerpt::push_excerpt;
 pub use marks::Mark;
 pub use places::positions;

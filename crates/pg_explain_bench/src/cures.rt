@@ -1,6 +1,7 @@
 //! Changes that take findings away, in words.
 
 use pg_cure::{Bound, Cure, Source, find_cure, findings};
+use pg_excerpt::push_shown;
 use pg_explain::{GrammarFile, Section};
 use pg_pred::Registry;
 use pg_predict::Refused;
@@ -107,8 +108,16 @@ fn push_help(alloc: Global, page: &mut String, cure: &Cure) -> Result<(), AllocE
 fn push_item(page: &mut String, item: &str) -> Result<(), AllocError> {
     for line in item.lines() {
         page.push_str("      ")?;
-        page.push_str(line)?;
+        push_line(page, line)?;
         page.push_str("\n")?;
+    }
+    Ok(())
+}
+
+/// Pushes a line as an excerpt shows it, so that no control character of the file comes to a terminal.
+fn push_line(page: &mut String, line: &str) -> Result<(), AllocError> {
+    for c in line.chars() {
+        push_shown(page, c)?;
     }
     Ok(())
 }

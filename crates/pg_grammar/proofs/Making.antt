@@ -14,7 +14,8 @@ use Rattle.pg_form.specs.ClassItems.{item_name, has_item, NameEarlier}
 use Rattle.pg_form.specs.Contents.{class_parts}
 use Rattle.pg_form.specs.WordItems.{word_name, has_word, word_lacks_item, word_has_bad_literal, AreWords}
 use Rattle.pg_form.specs.OperatorsItems.{lacks_operators, AreOperators}
-use Rattle.pg_value.specs.Grammar.{Grammar, IsGrammar, rule_name, rule_body, is_misspelled}
+use Rattle.pg_value.specs.Grammar.{Grammar, IsGrammar, rule_name, rule_body, rule_names, word_names, is_misspelled}
+use Rattle.pg_value.proofs.Sites.{nodes_classes}
 use Rattle.pg_grammar.specs.Made.{Made, IsMade, IsReady, AreNumbers, Says, with_rule, with_class, with_word, rule_fault, class_fault, word_fault, finish_fault, is_incomplete, made_words, passes_limit, class_passes_limit, word_passes_limit}
 use Rattle.pg_grammar.specs.Numbering.{node_of, nodes_with, nodes_from}
 use Rattle.pg_form.specs.declared.class.ClassPart.{ClassPart}
@@ -327,6 +328,13 @@ says_made made nodes rules start m n =
       names = sym n.names;
       forms = rw (n.names, n.of_forms) (sym forms);
     }
+
+-- its nodes have the class expressions of the forms
+pub classes_of_nodes : (made : Made) (nodes : List Node) (rules : List Rule) (start : ℕ) → IsMade made → IsNumbered made nodes rules start
+    → map class_parts made.forms ≡ map class_parts nodes
+classes_of_nodes made nodes rules start m n =
+    let g = grammar_with made nodes rules start in
+    ap (map class_parts) (says_made made nodes rules start m n).forms ∙ nodes_classes (rule_names g) (word_names g) nodes
 
 -- ---- the start
 

@@ -5,7 +5,7 @@
 //! the maker as it was. Faults have the labels of the grammar file; of several that a call could answer, it answers the
 //! one with the lowest number.
 
-ghost use Rattle.std.specs.Prelude.{◌≡◌, ◌<◌, ◌≤◌, ◌↔◌, length, option_and_then, Err, MatchOption, IsOk, IsOkUnless, IsSome, IsNone, IfOk, IfErr, OnOk, OnErr, IsErrOf, IsErrAnd};
+ghost use Rattle.std.specs.Prelude.{◌≡◌, ◌<◌, ◌≤◌, ◌↔◌, length, map, option_and_then, Err, MatchOption, IsOk, IsOkUnless, IsSome, IsNone, IfOk, IfErr, OnOk, OnErr, IsErrOf, IsErrAnd};
 ghost use Rattle.pg_form.specs.Names.{place_of_name};
 ghost use Rattle.pg_form.specs.ClassItems.{has_item};
 
@@ -15,13 +15,14 @@ use crate::names::{has_name, has_word, place_of_name};
 use crate::nodes::{nodes_of, rules_of};
 use crate::numbering::{Numbers, numbers_of};
 use crate::spelled::go_through_strings;
+use pg_character_sets::ContentSets;
 use pg_form::{
     BaseForm, CLASS_LIMIT, ClassExpression, ClassId, ClassItem, Decl, LITERAL_LIMIT, NAME_LIMIT,
     NODE_LIMIT, OperatorsItem, RULE_LIMIT, RuleId, Texts, WORD_LIMIT, WordId, WordItem,
 };
 use pg_text::Characters;
 use pg_value::Grammar;
-use std::alloc::Global;
+use std::alloc::{AllocError, Global};
 use std::marker::Model;
 
 /// A grammar in the making, seen as what it was given so far: each rule's body is one whole form, the rules have
@@ -52,6 +53,8 @@ impl Maker {
     ghost use Rattle.pg_form.specs.Forms.{IsBody};
     ghost use Rattle.pg_grammar.specs.Made.{nothing_made, with_start, with_class, with_word, with_operators, with_initial, with_rule, class_fault, word_fault, operators_fault, initial_fault, rule_fault, word_passes_limit, passes_limit, is_incomplete, finish_fault, IsReady, AreNumbers, Says};
     ghost use Rattle.pg_grammar.specs.Capacity.{HasCapacity};
+    ghost use Rattle.pg_form.specs.Contents.{class_parts};
+    ghost use Rattle.pg_character_sets.specs.Contents.{AreContentSets};
 
     /// A maker that was given nothing yet. It takes no memory until it is.
     pub fn new(alloc: Global) -> Maker
@@ -211,8 +214,8 @@ impl Maker {
         ensures refused { MatchOption (finish_fault self) (IfErr result (λ e. e.fault ≡ MakerFault.Memory)) (λ fault. IsErrAnd result (λ e. e.fault ≡ fault)) }
         ensures err { IfErr result (λ e. e.maker ≡ self) }
     {
-        match self.numbers() {
-            Ok((start, numbers)) => Ok(self.grammar(start, numbers)),
+        match self.ready() {
+            Ok((start, numbers, sets)) => Ok(self.grammar(start, numbers, sets)),
             Err(fault) => Err(Unfinished { maker: self, fault }),
         }
     }
@@ -324,9 +327,37 @@ impl Maker {
         }
     }
 
-    /// The grammar of all that was given, with these numbers. What was given is moved into it.
-    fn grammar(self, start: RuleId, numbers: Numbers) -> Grammar
+    /// What the class expressions contain that were given. The only error is that memory ran out.
+    fn sets(&self) -> Result<ContentSets, AllocError>
+        ensures { IfOk result (AreContentSets self.now.classes self.now.words self.now.operators (map class_parts self.now.forms)) }
+    {
+        ContentSets::of(
+            *self.names.allocator(),
+            self.classes.as_slice(),
+            self.words.as_slice(),
+            self.operators.as_ref(),
+            self.forms.as_slice(),
+        )
+    }
+
+    /// All that a grammar is made of beside what was given, with the maker kept.
+    fn ready(&self) -> Result<(RuleId, Numbers, ContentSets), MakerFault>
+        ensures ok { IfOk result (λ x. AreNumbers self.now x.1.parts.items x.1.bodies.items x.0) }
+        ensures room { IfOk result (λ x. HasCapacity self.now x.1) }
+        ensures sets { IfOk result (λ x. AreContentSets self.now.classes self.now.words self.now.operators (map class_parts self.now.forms) x.2) }
+        ensures refused { MatchOption (finish_fault self.now) (IsOkUnless result MakerFault.Memory) (λ fault. result ≡ Err fault) }
+    {
+        let (start, numbers) = self.numbers()?;
+        match self.sets() {
+            Ok(sets) => Ok((start, numbers, sets)),
+            Err(_) => Err(MakerFault::Memory),
+        }
+    }
+
+    /// The grammar of all that was given, with these numbers and sets. What was given is moved into it.
+    fn grammar(self, start: RuleId, numbers: Numbers, sets: ContentSets) -> Grammar
         requires numbers { AreNumbers self numbers.parts.items numbers.bodies.items start }
+        requires sets { AreContentSets self.classes self.words self.operators (map class_parts self.forms) sets }
         requires room { HasCapacity self numbers }
         ensures { Says self result }
     {
@@ -347,7 +378,9 @@ impl Maker {
         } = numbers;
         let nodes = nodes_of(nodes, names.as_slice(), words.as_slice(), forms, parts);
         let rules = rules_of(rules, names, bodies);
-        Grammar::new(classes, words, operators, initials, nodes, rules, start)
+        Grammar::new(
+            classes, words, operators, initials, nodes, rules, start, sets,
+        )
     }
 
     /// Whether a rule or a word item that is named, or the operators item where operators are used, isn't there.

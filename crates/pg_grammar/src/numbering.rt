@@ -14,6 +14,7 @@ use std::alloc::{AllocError, Global};
 use std::collections::VecDeque;
 
 /// The numbers of some forms, and empty lists with room for their nodes and for the rules.
+#[derive(Drop)]
 pub(crate) struct Numbers {
     /// For each form those of its parts.
     pub parts: VecDeque<Parts>,

@@ -2,11 +2,12 @@
 
 use crate::contained::contained_sets;
 use crate::grammar_file::GrammarFile;
+use pg_character_sets::classes_of_items;
 use pg_class::Class;
 use pg_excerpt::positions;
 use pg_form::{Form, Node, NodeId};
 use pg_graph::Numbers;
-use pg_own_starts::{ListedStart, OperatorStarts, classes_of_items, operator_starts};
+use pg_own_starts::{ListedStart, OperatorStarts, operator_starts};
 use pg_predict::Refused;
 use pg_sets::Sets;
 use pg_text::Pos;

@@ -1,12 +1,12 @@
--- The innermost level stands last in the code.
+-- The innermost levels stand last in the code.
 use Rattle.std.proofs.Common.{◌≡◌, List, [], ◌∷◌, ◌++◌, refl}
 use Rattle.pg_lists.specs.TapeLevels.{OnLevel}
-use Rattle.pg_lists.specs.ViewLevels.{level_of, levels_on, levels_of}
-use Rattle.pg_lists.specs.declared.level.Level.{Level}
+use Rattle.pg_lists.specs.ViewLevels.{stored_on, levels_on, levels_of}
+use Rattle.pg_lists.specs.declared.levels.Stored.{Stored}
 
-pub level_pushed : (ls : List Level) (l : Level) → levels_of (ls ++ l ∷ []) ≡ level_of l ∷ levels_of ls
-level_pushed ls l = go ls []
+pub level_stored : (ls : List Stored) (l : Stored) → levels_of (ls ++ l ∷ []) ≡ stored_on l (levels_of ls)
+level_stored ls l = go ls []
   where
-    go : (ls : List Level) (below : List OnLevel) → levels_on below (ls ++ l ∷ []) ≡ level_of l ∷ levels_on below ls
+    go : (ls : List Stored) (below : List OnLevel) → levels_on below (ls ++ l ∷ []) ≡ stored_on l (levels_on below ls)
     go [] below = refl
-    go (x ∷ ls) below = go ls (level_of x ∷ below)
+    go (x ∷ ls) below = go ls (stored_on x below)

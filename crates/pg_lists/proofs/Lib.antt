@@ -2,3 +2,4 @@ pub mod SaidRead
 pub mod LevelStack
 pub mod LevelSteps
 pub mod RowSteps
+pub mod TogetherRows

@@ -1,5 +1,5 @@
 -- What the definitions see of the values that the code has while an expression runs.
-use Rattle.std.specs.Prelude.{ℕ, Bool, true, false, Option, Some, None, List, [], ◌∷◌, ◌++◌, codes}
+use Rattle.std.specs.Prelude.{ℕ, zero, suc, ◌-◌, Bool, true, false, Option, Some, None, List, [], ◌∷◌, ◌++◌, codes}
 use Rattle.std.specs.Option.{option_copied}
 use Rattle.pg_language.specs.Answers as language
 use Rattle.pg_language.specs.Answers.{given}
@@ -8,6 +8,7 @@ use Rattle.pg_message_tape.specs.Messages.{TapeMessage, tape_message_of}
 use Rattle.pg_message_tape.specs.declared.message.Message.{Message}
 use Rattle.pg_message_tape.specs.declared.message.Sided.{Sided}
 use Rattle.pg_message_tape.specs.declared.message.Sided.TheVariants as sided
+use Rattle.pg_message_tape.specs.TapeErrors.{tape_error, kept_at}
 use Rattle.pg_operators.specs.Standings.{Stands}
 use Rattle.pg_lists.specs.TapeLevels as on
 use Rattle.pg_lists.specs.TapeLevels.{OnOperator, OnPreceding, on_nothing, on_right, on_left, on_non, OnLevel, on_row, on_right_side, OnSetting, OnStretch, Lists, OnFollowed, on_hands, on_runs, OnClimbed, on_ended, on_again, OnFailure, saw, wanted}
@@ -18,6 +19,9 @@ use Rattle.pg_lists.specs.declared.level.Preceding.TheVariants as preceding
 use Rattle.pg_lists.specs.declared.level.RowLevel.{RowLevel}
 use Rattle.pg_lists.specs.declared.level.Level.{Level}
 use Rattle.pg_lists.specs.declared.level.Level.TheVariants as level
+use Rattle.pg_lists.specs.declared.together.Together.{Together}
+use Rattle.pg_lists.specs.declared.levels.Stored.{Stored}
+use Rattle.pg_lists.specs.declared.levels.Stored.TheVariants as stored
 use Rattle.pg_lists.specs.declared.level.Setting.{Setting}
 use Rattle.pg_lists.specs.declared.level.Stretch.{Stretch}
 use Rattle.pg_lists.specs.declared.level.Begun.{Begun}
@@ -60,13 +64,37 @@ abbrev pub level_of : Level → OnLevel
 level_of (level.Row l) = row_level_of l
 level_of (level.RightSide q) = on_right_side (operator_of q)
 
--- the innermost level stands last in the code
-abbrev pub levels_on : List OnLevel → List Level → List OnLevel
-levels_on levels [] = levels
-levels_on levels (l ∷ more) = levels_on (level_of l ∷ levels) more
+-- the tightest of rows that began together
+abbrev pub tightest_on : Together → OnLevel
+tightest_on r = on_row (r.loosest - r.looser) None (kept_at r.upto (tape_error r.place r.from)) r.forest r.from on_nothing
 
-abbrev pub levels_of : List Level → List OnLevel
-levels_of levels = levels_on [] levels
+-- over these levels, rows that began together but for the tightest, by the number of the loosest, their place, their trees, the
+-- messages before and after the tightest, and how many rows are looser than it: of each as much was said
+abbrev pub fewer_on : (loosest place forest from upto looser : ℕ) → List OnLevel → List OnLevel
+fewer_on l i n m k zero levels = levels
+fewer_on l i n m k (suc j) levels =
+    on_row (l - j) None (kept_at m (tape_error i (m - (k - m)))) n (m - (k - m)) on_nothing ∷ fewer_on l i n (m - (k - m)) m j levels
+
+-- over these levels, all of them
+abbrev pub together_on : Together → List OnLevel → List OnLevel
+together_on r levels = tightest_on r ∷ fewer_on r.loosest r.place r.forest r.from r.upto r.looser levels
+
+abbrev pub all_on : Option Together → List OnLevel → List OnLevel
+all_on None levels = levels
+all_on (Some r) levels = together_on r levels
+
+abbrev pub stored_on : Stored → List OnLevel → List OnLevel
+stored_on (stored.Row l) levels = row_level_of l ∷ levels
+stored_on (stored.RightSide q) levels = on_right_side (operator_of q) ∷ levels
+stored_on (stored.Rows r) levels = together_on r levels
+
+-- the innermost levels stand last in the code
+abbrev pub levels_on : List OnLevel → List Stored → List OnLevel
+levels_on levels [] = levels
+levels_on levels (s ∷ more) = levels_on (stored_on s levels) more
+
+abbrev pub levels_of : List Stored → List OnLevel
+levels_of stored = levels_on [] stored
 
 -- what waits for the right side of an operator, if one stands between
 abbrev pub between_of : Option InfixRead → List OnLevel
@@ -88,14 +116,14 @@ abbrev pub followed_of : Followed → run.Lists → OnFollowed
 followed_of (followed.Hands z) m = on_hands (stretch_of z m)
 followed_of (followed.Runs r) m = on_runs r.tighter r.place (preceding_of r.before) (between_of r.between) (lists_of m)
 
-abbrev pub down_of : ℕ → List Level → run.Lists → on.Down
-down_of place levels m = record { place = place; levels = levels_of levels; lists = lists_of m }
+abbrev pub down_of : ℕ → List OnLevel → run.Lists → on.Down
+down_of place levels m = record { place = place; levels = levels; lists = lists_of m }
 
 -- a row that has begun stands over these levels
 abbrev pub down_on : on.Begun → List OnLevel → on.Down
 down_on b levels = record { place = b.place; levels = b.level ∷ levels; lists = b.lists }
 
-abbrev pub climbed_of : Climbed → List Level → run.Lists → OnClimbed
+abbrev pub climbed_of : Climbed → List OnLevel → run.Lists → OnClimbed
 climbed_of (climbed.Ended z) levels m = on_ended (stretch_of z m)
 climbed_of (climbed.Again place) levels m = on_again (down_of place levels m)
 

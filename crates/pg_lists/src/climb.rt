@@ -6,10 +6,11 @@ ghost use Rattle.pg_form.specs.Contents.{all_builders};
 ghost use Rattle.pg_pred.specs.Offer.{offer_of};
 ghost use Rattle.pg_value.specs.Fits.{BuildersFit};
 ghost use Rattle.pg_lists.specs.TapeLevels.{failed_after, failed_before, level_failed, on_climb, on_failed, was_read};
-ghost use Rattle.pg_lists.specs.ViewLevels.{climbed_of, failure_of, given_of, level_of, levels_of, preceding_of, setting_of, stretch_of};
+ghost use Rattle.pg_lists.specs.ViewLevels.{climbed_of, failure_of, given_of, level_of, preceding_of, setting_of, stretch_of};
 
 use crate::descend::{look_at, look_on};
 use crate::level::{Climbed, Failure, Followed, Given, Level, Preceding, Setting, Stretch};
+use crate::levels::Levels;
 use crate::lists::Lists;
 use pg_message_tape::KeptError;
 use pg_pred::Registry;
@@ -22,20 +23,20 @@ impl<'a> Lists<'a> {
     /// operator only such ones of the row are read, after a left-associative one only left-associative ones, and an operator that may
     /// not follow is told as an ambiguous use, without consumption. The caller owes that the operators item is the grammar's, and
     /// that the registry offers the builders. The only error is that memory ran out.
-    #[tactic(auto, using(crate::proofs::LevelStack::level_pushed, crate::proofs::LevelSteps::climb_hands, crate::proofs::LevelSteps::climb_runs))]
+    #[tactic(auto, using(crate::proofs::LevelSteps::climb_hands, crate::proofs::LevelSteps::climb_runs))]
     pub fn climb(
         &mut self,
         alloc: Global,
         registry: &Registry,
         given: Given<'a>,
         setting: &Setting<'a>,
-        levels: &mut Vec<Level<'a>>,
+        levels: &mut Levels<'a>,
         stretch: Stretch,
     ) -> Result<Climbed, AllocError>
         requires item { given.grammar.now.operators ≡ Some setting.now.item.now }
         requires offered { BuildersFit (offer_of registry.now) (all_builders setting.now.builders.now) }
-        ensures climbed { IfOk result (λ climbed. climbed_of climbed levels.new.items self.new ≡
-            on_climb (given_of given.entry) (setting_of setting.now) (levels_of levels.old.items) (stretch_of stretch self.old)) }
+        ensures climbed { IfOk result (λ climbed. climbed_of climbed levels.new self.new ≡
+            on_climb (given_of given.entry) (setting_of setting.now) levels.old (stretch_of stretch self.old)) }
     {
         let mut stretch = stretch;
         let mut look = look_at(given, setting, stretch.place);
@@ -55,13 +56,12 @@ impl<'a> Lists<'a> {
     /// What the levels make of a failure of the term, the innermost first. Whatever fails after a prefix or an infix operator has
     /// consumed; the error of what had not is merged with the one from before. Trees and operators stay as they are. The only
     /// error is that memory ran out.
-    #[tactic(auto, using(crate::proofs::LevelStack::level_pushed))]
     pub fn fail_levels(
         &mut self,
-        levels: &mut Vec<Level<'a>>,
+        levels: &mut Levels<'a>,
         failure: Failure,
     ) -> Result<Failure, AllocError>
-        ensures failure { IfOk result (λ after. failure_of after self.new ≡ on_failed (levels_of levels.old.items) (failure_of failure self.old)) }
+        ensures failure { IfOk result (λ after. failure_of after self.new ≡ on_failed levels.old (failure_of failure self.old)) }
         ensures forest { OnOk result (self.new.forest ≡ self.old.forest) }
         ensures trail { OnOk result (self.new.trail ≡ self.old.trail) }
     {

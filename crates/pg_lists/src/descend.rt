@@ -6,9 +6,10 @@ ghost use Rattle.pg_expand.specs.Rows.{of_role, row_numbered};
 ghost use Rattle.pg_language.specs.OperatorReads.{read_at};
 ghost use Rattle.pg_operators.specs.Standings.{read_of};
 ghost use Rattle.pg_lists.specs.TapeLevels.{begun, row_begun, down, operand_down};
-ghost use Rattle.pg_lists.specs.ViewLevels.{begun_of, between_of, down_of, down_on, given_of, levels_of, lists_of, preceding_of, setting_of, IsLook};
+ghost use Rattle.pg_lists.specs.ViewLevels.{begun_of, between_of, down_of, down_on, given_of, lists_of, preceding_of, setting_of, IsLook};
 
 use crate::level::{Begun, Given, InfixRead, Level, Look, Preceding, RowLevel, Runs, Setting};
+use crate::levels::Levels;
 use crate::lists::Lists;
 use crate::said::{no_affix_said, push_said};
 use crate::stretch::note_read;
@@ -28,19 +29,20 @@ impl<'a> Lists<'a> {
         alloc: Global,
         given: Given<'a>,
         setting: &Setting<'a>,
-        levels: &mut Vec<Level<'a>>,
+        levels: &mut Levels<'a>,
         rows: usize,
         place: usize,
     ) -> Result<usize, AllocError>
         requires { given.grammar.now.operators ≡ Some setting.now.item.now }
-        ensures down { IfOk result (λ next. down_of next levels.new.items self.new ≡
-            down (given_of given.entry) (setting_of setting.now) rows place (levels_of levels.old.items) (lists_of self.old)) }
+        ensures down { IfOk result (λ next. down_of next levels.new self.new ≡
+            down (given_of given.entry) (setting_of setting.now) rows place levels.old (lists_of self.old)) }
     {
         let mut place = place;
         let mut row = rows;
+        let mut look = look_at(given, setting, place);
         while row > 0 {
-            let before = Preceding::Nothing;
-            place = self.begin_row(alloc, given, setting, levels, row, place, before)?;
+            look = look_on(look, place);
+            place = self.begin_row(alloc, look, levels, row, Preceding::Nothing)?;
             row -= 1;
         }
         Ok(place)
@@ -53,39 +55,36 @@ impl<'a> Lists<'a> {
         alloc: Global,
         given: Given<'a>,
         setting: &Setting<'a>,
-        levels: &mut Vec<Level<'a>>,
+        levels: &mut Levels<'a>,
         runs: Runs<'a>,
     ) -> Result<usize, AllocError>
         requires { given.grammar.now.operators ≡ Some setting.now.item.now }
-        ensures down { IfOk result (λ next. down_of next levels.new.items self.new ≡
+        ensures down { IfOk result (λ next. down_of next levels.new self.new ≡
             operand_down (given_of given.entry) (setting_of setting.now) runs.entry.tighter runs.entry.place (preceding_of runs.entry.before)
-            (between_of runs.entry.between ++ levels_of levels.old.items) (lists_of self.old)) }
+            (between_of runs.entry.between ++ levels.old) (lists_of self.old)) }
     {
         push_between(levels, runs.between)?;
         let row = runs.tighter.checked_add(1).ok_or(AllocError)?;
-        let place = self.begin_row(alloc, given, setting, levels, row, runs.place, runs.before)?;
+        let look = look_at(given, setting, runs.place);
+        let place = self.begin_row(alloc, look, levels, row, runs.before)?;
         self.down(alloc, given, setting, levels, runs.tighter, place)
     }
 
     /// A row begins, after what precedes its operand, over these levels: the place after its prefix.
-    #[tactic(auto, using(crate::proofs::LevelStack::level_pushed))]
     fn begin_row(
         &mut self,
         alloc: Global,
-        given: Given<'a>,
-        setting: &Setting<'a>,
-        levels: &mut Vec<Level<'a>>,
+        look: Look<'_, 'a>,
+        levels: &mut Levels<'a>,
         row: usize,
-        place: usize,
         before: Preceding<'a>,
     ) -> Result<usize, AllocError>
-        requires item { given.grammar.now.operators ≡ Some setting.now.item.now }
+        requires look { IsLook look }
         requires row { 0 < row }
-        ensures begun { IfOk result (λ next. down_of next levels.new.items self.new ≡
-            down_on (row_begun (given_of given.entry) (setting_of setting.now) row place (preceding_of before.entry) (lists_of self.old))
-            (levels_of levels.old.items)) }
+        ensures begun { IfOk result (λ next. down_of next levels.new self.new ≡
+            down_on (row_begun (given_of look.entry.given) (setting_of look.entry.setting.now) row look.entry.place (preceding_of before.entry) (lists_of self.old))
+            levels.old) }
     {
-        let look = look_at(given, setting, place);
         let begun = self.row_begun(alloc, look, row, before)?;
         levels.push(begun.level)?;
         Ok(begun.place)
@@ -235,12 +234,11 @@ pub(crate) fn look_on<'o, 'a>(look: Look<'o, 'a>, place: usize) -> Look<'o, 'a>
 }
 
 /// What waits for the right side of an operator, if one stands between.
-#[tactic(auto, using(crate::proofs::LevelStack::level_pushed))]
 fn push_between<'a>(
-    levels: &mut Vec<Level<'a>>,
+    levels: &mut Levels<'a>,
     between: Option<InfixRead<'a>>,
 ) -> Result<(), AllocError>
-    ensures { OnOk result (levels_of levels.new.items ≡ between_of between.entry ++ levels_of levels.old.items) }
+    ensures { OnOk result (levels.new ≡ between_of between.entry ++ levels.old) }
 {
     if let Some(operator) = between {
         levels.push(Level::RightSide(operator))?;

@@ -212,8 +212,7 @@ impl<'a> Lists<'a> {
         }
     }
 
-    /// An operand runs after an infix operator that was read after a stretch: it is noted, and so many messages are left. The
-    /// operand's trees begin a stretch of the forest, so that none moves when they are taken.
+    /// An operand runs after an infix operator that was read after a stretch: it is noted, and so many messages are left.
     fn run_after(
         &mut self,
         alloc: Global,
@@ -232,7 +231,6 @@ impl<'a> Lists<'a> {
     {
         note_read(alloc, &mut self.trail, slot, Fixity::Infix, read.symbol)?;
         self.messages.cut(messages);
-        self.forest.open(alloc)?;
         let after = KeptError {
             place: read.end,
             from: messages,

@@ -5,6 +5,7 @@
 //! on the lists, so that a level keeps only how long these were; its symbols lie in the text. Places are counted in
 //! characters.
 
+use crate::levels::Levels;
 use pg_form::{NodeId, OperatorBuilders, OperatorsItem};
 use pg_language::Reading;
 use pg_message_tape::{KeptError, TapeError};
@@ -78,11 +79,11 @@ pub struct Setting<'a> {
     pub forest: usize,
 }
 
-/// The term of an expression runs, over these levels, the innermost last: that is the one of the tightest row that has begun.
+/// The term of an expression runs, over these levels, of which the innermost is that of the tightest row that has begun.
 #[derive(Drop)]
 pub struct ExpressionFrame<'a> {
     pub setting: Setting<'a>,
-    pub levels: Vec<Level<'a>>,
+    pub levels: Levels<'a>,
 }
 
 /// A stretch of an expression that was ok: whether it consumed, the place after it, and its error. Its trees and messages lie

@@ -12,13 +12,16 @@ mod descend;
 mod ends;
 mod follow;
 mod level;
+mod levels;
 mod lists;
 mod operand;
 mod run_forest;
 mod said;
 mod stretch;
+mod together;
 
-pub use build::{begin_build, build_after, build_stretch, end_build};
+pub use build::build_after;
 pub use level::{Climbed, ExpressionFrame, Failure, Given, Level, Setting, Stretch};
+pub use levels::Levels;
 pub use lists::Lists;
 pub use run_forest::RunForest;

@@ -1,12 +1,11 @@
 //! The lists of a run, and what is cut from them and changed on them.
 
-ghost use Rattle.std.specs.Prelude.{◌≡◌, [], length, drop, slice_set, IfOk, OnOk};
+ghost use Rattle.std.specs.Prelude.{◌≡◌, [], length, slice_set, IfOk, OnOk};
 ghost use Rattle.pg_message_tape.specs.TapeErrors.{tape_error, tape_error_after, messages_after};
 ghost use Rattle.pg_lists.specs.RunTrees.{no_run_trees, first_trees};
 
 use crate::run_forest::RunForest;
 use pg_message_tape::{KeptError, MessageTape, TapeError};
-use pg_tree::Forest;
 use pg_value::TrailItem;
 use std::alloc::{AllocError, Global};
 
@@ -40,18 +39,6 @@ impl<'a> Lists<'a> {
         ensures messages { self.new.messages ≡ self.old.messages }
     {
         self.forest.cut(count);
-    }
-
-    /// The trees after the first `count` leave the forest; those that are only counted are dropped. The only error is that memory
-    /// ran out.
-    pub fn forest_after(&mut self, alloc: Global, count: usize) -> Result<Forest, AllocError>
-        ensures after { IfOk result (λ after. after ≡ drop count self.old.forest.kept) }
-        ensures forest { OnOk result (self.new.forest ≡ first_trees count self.old.forest) }
-        ensures trail { OnOk result (self.new.trail ≡ self.old.trail) }
-        ensures messages { OnOk result (self.new.messages ≡ self.old.messages) }
-    {
-        let after = self.forest.split_off(alloc, count)?;
-        Ok(after)
     }
 
     /// The error without messages at the place, in characters.

@@ -1,15 +1,15 @@
 //! The trees of a run, which come at the end and are taken from there.
 //!
 //! Under a form that throws its part's trees away none is made, and no builder is called: the trees are only counted, so
-//! that each has the same place whether it is kept or not. So a text within a text is never copied; the machine of turns
-//! relies on it, whose texts may stand deep in one another.
+//! that each has the same place whether it is kept or not. So a text within a text is never copied. Elsewhere trees are made
+//! where they lie. The machine of turns relies on both, whose texts and trees may stand deep in one another.
 
 ghost use Rattle.std.specs.Prelude.{◌≡◌, ◌∷◌, [], ◌<◌, ◌==◌, ◌^◌, drop, length, IfOk, OnOk};
-ghost use Rattle.pg_tree.specs.Trees.{node, kids_of};
+ghost use Rattle.pg_tree.specs.Built.{built};
 ghost use Rattle.pg_language.specs.Derives.{leaf_of};
 ghost use Rattle.pg_lists.specs.RunTrees.{no_run_trees, tree_count, with_trees, first_trees, hidden_after, rejoined, with_hiding, without_hiding};
 
-use pg_tree::{Forest, ForestTape, Tree};
+use pg_tree::{Forest, Shape, Tree};
 use std::alloc::{AllocError, Global};
 use std::marker::Model;
 
@@ -17,7 +17,7 @@ use std::marker::Model;
 #[derive(Drop)]
 pub struct RunForest {
     /// The trees that are kept.
-    tape: ForestTape,
+    tape: Forest,
     /// How many trees after them are only counted.
     hidden: usize,
     /// How many forms are open that throw away the trees of their part.
@@ -43,7 +43,7 @@ impl RunForest {
         ensures { result ≡ no_run_trees }
     {
         RunForest {
-            tape: ForestTape::new(alloc),
+            tape: Forest::new(alloc),
             hidden: 0,
             hiding: 0,
         }
@@ -119,34 +119,6 @@ impl RunForest {
         self.tape.append(other)
     }
 
-    /// Opens a stretch: what comes from here on can be taken off without moving it. The only error is that memory ran out.
-    pub fn open(&mut self, alloc: Global) -> Result<(), AllocError>
-        ensures { OnOk result (self.new ≡ self.old) }
-    {
-        if self.hiding > 0 {
-            return Ok(());
-        }
-        self.tape.open(alloc)
-    }
-
-    /// Joins the stretches that were opened after the first `count` trees, and the one that was opened there, to what stands
-    /// before. The only error is that memory ran out.
-    pub fn close(&mut self, count: usize) -> Result<(), AllocError>
-        ensures { OnOk result (self.new ≡ self.old) }
-    {
-        if self.hiding > 0 {
-            return Ok(());
-        }
-        match self.tape.close(count) {
-            Ok(()) => Ok(()),
-            Err(failed) => {
-                self.hidden = 0;
-                bounded(&self.tape);
-                Err(failed)
-            }
-        }
-    }
-
     /// Drops the trees after the first, if there are more. It takes no memory.
     #[inline(always)]
     pub fn cut(&mut self, count: usize)
@@ -169,8 +141,8 @@ impl RunForest {
             .saturating_sub(count.saturating_sub(self.tape.len()))
     }
 
-    /// Moves the trees after the first that are kept into a forest of their own, and drops those that are only counted: without
-    /// going through them where a stretch was opened there. The only error is that memory ran out.
+    /// Moves the trees after the first that are kept into a forest of their own, and drops those that are only counted. The only
+    /// error is that memory ran out.
     pub fn split_off(&mut self, alloc: Global, count: usize) -> Result<Forest, AllocError>
         ensures ok { OnOk result (self.new ≡ first_trees count self.old) }
         ensures rest { IfOk result (λ forest. forest ≡ drop count self.old.kept) }
@@ -190,17 +162,17 @@ impl RunForest {
         }
     }
 
-    /// Makes the trees after the first that are kept the kids of one node with a copy of this label, and drops those that are only
-    /// counted. The kids stay where they lie. The only error is that memory ran out.
-    pub fn wrap(&mut self, label: &str, count: usize) -> Result<(), AllocError>
-        ensures { OnOk result (self.new ≡ rejoined (node label.now (kids_of (drop count self.old.kept)) ∷ []) 0 (first_trees count self.old)) }
+    /// Makes the trees after the first that are kept into one, as the shape says with the symbol, and drops those that are only
+    /// counted. What lies below them stays where it lies. The only error is that memory ran out, or that there is too much.
+    pub fn build(&mut self, shape: &Shape, symbol: &str, count: usize) -> Result<(), AllocError>
+        ensures { OnOk result (self.new ≡ rejoined (built shape.now symbol.now (drop count self.old.kept) ∷ []) 0 (first_trees count self.old)) }
     {
         if self.len() == usize::MAX {
             return Err(AllocError);
         }
         let kept = self.tape.len();
         let first = count.min(kept);
-        match self.tape.wrap(label, first) {
+        match self.tape.build(shape, symbol, first) {
             Ok(()) => {
                 self.hidden = self.hidden.min(count - first);
                 Ok(())
@@ -228,17 +200,17 @@ impl RunForest {
         self.hiding = self.hiding.saturating_sub(1);
     }
 
-    /// The trees that are kept, as one forest. The only error is that memory ran out.
+    /// The trees that are kept, as one forest. It takes no memory.
     pub fn into_forest(self) -> Result<Forest, AllocError>
         ensures { IfOk result (λ forest. forest ≡ self.kept) }
     {
         let RunForest { tape, .. } = self;
-        tape.into_forest()
+        Ok(tape)
     }
 }
 
 /// How many trees a tape has fits into 64 bits, as its count says.
-fn bounded(tape: &ForestTape)
+fn bounded(tape: &Forest)
     ensures { length tape.now < 2 ^ 64 }
 {
     let _count = tape.len();

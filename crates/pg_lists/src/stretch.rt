@@ -8,7 +8,7 @@ ghost use Rattle.pg_value.specs.declared.trail.TrailItem.TheVariants.{Ops};
 ghost use Rattle.pg_lists.specs.TapeLevels.{said_after, after_kept, noted_read, with_read};
 ghost use Rattle.pg_lists.specs.ViewLevels.{said_of, stretch_of};
 
-use crate::build::build_stretch;
+use crate::build::build_after;
 use crate::level::Stretch;
 use crate::lists::Lists;
 use crate::run_forest::RunForest;
@@ -122,5 +122,5 @@ pub(crate) fn apply(
         return forest.count_as_one(count);
     }
     let symbol = utf8(alloc, symbol)?;
-    build_stretch(alloc, registry, used, symbol.as_str(), count, forest)
+    build_after(registry, used, symbol.as_str(), count, forest)
 }

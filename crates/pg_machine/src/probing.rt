@@ -9,7 +9,6 @@ ghost use Rattle.pg_language.specs.Answers.{given};
 ghost use Rattle.pg_turns.specs.View.{tape_of};
 
 use crate::answer::{Answer, Outcome, Success};
-use pg_class_tables::ClassTables;
 use pg_form::NodeId;
 use pg_language::Reading;
 use pg_lists::RunForest;
@@ -38,12 +37,9 @@ pub fn probe<'a>(
     ensures { IfOk result (IsOutcome (given reading grammar.now text.now) table.now max_steps) }
 {
     let own = table.copy(alloc)?;
-    let tables = ClassTables::of(alloc, grammar)?;
     let mut machine = Machine::new(alloc, own);
     let begun = Mode::At(start_of(grammar), 0);
-    let progress = machine.turns(
-        alloc, grammar, &tables, registry, text, reading, begun, max_steps,
-    )?;
+    let progress = machine.turns(alloc, grammar, registry, text, reading, begun, max_steps)?;
     let outcome = ended(alloc, text, &mut machine, progress.mode, progress.steps);
     drop(machine);
     outcome

@@ -6,7 +6,7 @@ ghost use Rattle.pg_form.specs.Operators.{Operator};
 ghost use Rattle.pg_expand.specs.Lookups.{IsLookupOf};
 ghost use Rattle.pg_operators.specs.Standings.{read_of, reads, Stands};
 
-use pg_declarations::{past_run, run_at};
+use pg_declarations::{past_gap, run_at};
 use pg_expand::{Lookup, RowOperator};
 use pg_form::{Decl, OperatorsItem, Role};
 use pg_text::Text;
@@ -47,7 +47,7 @@ pub fn standing_at<'o, 't>(
     if text.len() < place {
         return nothing(place);
     }
-    let run = run_at(grammar, text, &item.class, place);
+    let run = run_at(grammar, text, item, place);
     if run.is_empty() {
         return nothing(place);
     }
@@ -55,7 +55,7 @@ pub fn standing_at<'o, 't>(
     if found.is_empty() {
         return nothing(place);
     }
-    let end = past_run(grammar, text, &item.gap, place + run.len());
+    let end = past_gap(grammar, text, item, place + run.len());
     Standing { found, run, end }
 }
 

@@ -2,7 +2,7 @@
 
 ghost use Rattle.std.specs.Prelude.{◌≡◌, Some};
 
-use pg_declarations::past_run;
+use pg_declarations::past_gap;
 use pg_form::OperatorsItem;
 use pg_text::Text;
 use pg_value::Grammar;
@@ -11,8 +11,8 @@ use pg_value::Grammar;
 pub(crate) fn parts_of_declaration(grammar: &Grammar, text: &Text, place: usize) -> (usize, usize) {
     match grammar.operators_item() {
         Some(item) => {
-            let digit = past_gap(grammar, text, item, past_keyword(text, place));
-            let symbol = past_gap(grammar, text, item, digit.saturating_add(1));
+            let digit = after_gap(grammar, text, item, past_keyword(text, place));
+            let symbol = after_gap(grammar, text, item, digit.saturating_add(1));
             (digit, symbol)
         }
         None => (place, place),
@@ -28,9 +28,8 @@ fn past_keyword(text: &Text, place: usize) -> usize {
 }
 
 /// The place after the characters of the gap.
-#[tactic(auto, using(pg_declarations::proofs::Gaps::gap_in))]
-fn past_gap(grammar: &Grammar, text: &Text, item: &OperatorsItem, place: usize) -> usize
+fn after_gap(grammar: &Grammar, text: &Text, item: &OperatorsItem, place: usize) -> usize
     requires { grammar.now.operators ≡ Some item.now }
 {
-    past_run(grammar, text, &item.gap, place.min(text.len()))
+    past_gap(grammar, text, item, place.min(text.len()))
 }

@@ -210,24 +210,23 @@ impl<'a> Walk<'a> {
             .build(&used.shape, symbol, trees.saturating_sub(1), place)
     }
 
-    /// A form made what it makes of its part.
+    /// A form made what it makes of its part: nothing, where there are no more trees than before it.
     fn close(&mut self, closing: &Closing<'a>, trees: usize) -> Result<(), AllocError> {
-        let is_made = trees > closing.trees;
+        if trees <= closing.trees {
+            self.made.cut(closing.trees);
+            return Ok(());
+        }
         match closing.around {
-            Around::Text if is_made => {
+            Around::Text => {
                 self.made.cut(closing.trees);
                 self.made.push_leaf(closing.place)
             }
-            Around::Build(used, symbol) if is_made => {
+            Around::Build(used, symbol) => {
                 let symbol = Name::of_text(symbol.as_str());
                 self.made
                     .build(&used.shape, symbol, closing.trees, closing.place)
             }
-            Around::Skip | Around::Text | Around::Build(_, _) => {
-                self.made.cut(closing.trees);
-                Ok(())
-            }
-            Around::Try | Around::Label(_) | Around::Local => Ok(()),
+            Around::Try | Around::Skip | Around::Label(_) | Around::Local => Ok(()),
         }
     }
 }

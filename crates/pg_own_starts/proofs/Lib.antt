@@ -1,4 +1,3 @@
-pub mod ClassStack
 pub mod Reading
 pub mod Ordered
 pub mod Owned

@@ -1,5 +1,4 @@
 pub mod OwnStarts
-pub mod Classes
 pub mod Listed
 pub mod Words
 pub mod Own

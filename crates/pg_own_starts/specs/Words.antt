@@ -1,19 +1,17 @@
 -- Which word item a word start stands under.
 use Rattle.std.specs.Prelude.{◌≡◌, ◌<◌, ℕ, List, Some, slice_get, length}
-use Rattle.std.specs.Char.{IsScalar}
 use Rattle.pg_class.specs.Ranges.{Range}
-use Rattle.pg_form.specs.ClassItems.{item_answers}
+use Rattle.pg_character_sets.specs.Sets.{AreItemSets}
 use Rattle.pg_value.specs.Grammar.{Grammar}
 use Rattle.pg_form.specs.declared.word_item.WordItem.{WordItem}
 use Rattle.pg_start.specs.declared.kind.StartKind.TheVariants.{Word}
-use Rattle.pg_own_starts.specs.Classes.{answers_of}
 use Rattle.pg_own_starts.specs.OwnStarts.{IsClassOf, ReadsWords}
 use Rattle.pg_own_starts.specs.declared.listed.ListedStart.{ListedStart}
 use Rattle.pg_own_starts.specs.declared.words.WordClasses.{WordClasses}
 
 -- these are the classes of the class items
 abbrev pub AreClassesOf : Grammar → List (List Range) → Type 0
-AreClassesOf g classes = (c : ℕ) → IsScalar c → answers_of classes c ≡ item_answers g.classes c
+AreClassesOf g classes = AreItemSets g.classes classes
 
 -- these are the classes of the word items
 pub record AreWordClasses (g : Grammar) (words : List WordClasses) : Type 0 where

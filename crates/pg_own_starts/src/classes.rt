@@ -1,51 +1,13 @@
-//! The classes of class expressions.
-//!
-//! An expression is gone through from its last part to its first, with a stack of the classes of the whole expressions
-//! that stand after: a union takes its members from it, a complement the expression that it is of.
-ghost use Rattle.std.specs.Prelude.{◌≡◌, ◌≤◌, ◌==◌, ◌&&◌, ◌∷◌, ℕ, nat_le, take, drop, length, All, IfOk, OnOk};
-ghost use Rattle.std.specs.Char.{IsScalar};
-ghost use Rattle.std.specs.List.{list_any};
-ghost use Rattle.pg_class.specs.Ranges.{IsClass, has};
-ghost use Rattle.pg_form.specs.ClassItems.{item_answers};
-ghost use Rattle.pg_form.specs.Classes.{is_member, one_holds, first_negated, answer_at};
-ghost use Rattle.pg_own_starts.specs.Classes.{answers_of, with_part};
+//! The classes of a grammar's class expressions.
+ghost use Rattle.std.specs.Prelude.{IfOk};
 ghost use Rattle.pg_own_starts.specs.OwnStarts.{IsClassOf};
 ghost use Rattle.pg_own_starts.specs.Words.{AreClassesOf};
 
-use pg_class::{Class, ClassFault};
-use pg_form::{ClassExpression, ClassItem, ClassPart};
+use pg_character_sets::class_of;
+use pg_class::Class;
+use pg_form::ClassExpression;
 use pg_value::Grammar;
 use std::alloc::{AllocError, Global};
-use std::collections::VecDeque;
-
-/// The classes of the class items, in file order. The only error is that memory ran out.
-pub fn classes_of_items(alloc: Global, items: &[ClassItem]) -> Result<Vec<Class>, AllocError>
-    ensures { IfOk result (λ classes. (c : ℕ) → IsScalar c → answers_of classes.items c ≡ item_answers items.now c) }
-{
-    let mut classes = Vec::new(alloc);
-    for item in items {
-        let class = class_of(alloc, classes.as_slice(), &item.class)?;
-        classes.push(class)?;
-    }
-    Ok(classes)
-}
-
-/// The class of a class expression, where these are the classes of the class items. The only error is that memory ran out.
-pub(crate) fn class_of(
-    alloc: Global,
-    items: &[Class],
-    expression: &ClassExpression,
-) -> Result<Class, AllocError>
-    ensures { IfOk result (λ class. (c : ℕ) → IsScalar c → has class c ≡ is_member (answers_of items.now c) expression.now c) }
-{
-    let mut stack = VecDeque::new(alloc);
-    let mut rest = expression.parts();
-    while let Some((part, before)) = rest.split_last() {
-        push_part(alloc, items, part, &mut stack)?;
-        rest = before;
-    }
-    first_of(alloc, &mut stack)
-}
 
 /// The class of an expression of the grammar, these being the classes of its class items. The only error is that memory
 /// ran out.
@@ -62,114 +24,4 @@ pub(crate) fn class_in_grammar(
     let _ranges = class.ranges();
     let _items = grammar.class_items();
     Ok(class)
-}
-
-/// Takes the first class out; the empty class if there is none. The only error is that memory ran out.
-fn first_of(alloc: Global, stack: &mut VecDeque<Class>) -> Result<Class, AllocError>
-    ensures class { IfOk result (λ class. (c : ℕ) → IsScalar c → has class c ≡ one_holds (take 1 (answers_of stack.old.items c))) }
-    ensures rest { stack.new.items ≡ drop 1 stack.old.items }
-{
-    match stack.pop_front() {
-        Some(class) => Ok(class),
-        None => class_in(alloc, &[]),
-    }
-}
-
-/// Puts what a part spells with those after it before them. The only error is that memory ran out.
-fn push_part(
-    alloc: Global,
-    items: &[Class],
-    part: &ClassPart,
-    stack: &mut VecDeque<Class>,
-) -> Result<(), AllocError>
-    ensures { OnOk result ((c : ℕ) → IsScalar c →
-        answers_of stack.new.items c ≡ with_part (answers_of items.now c) c part.now (answers_of stack.old.items c)) }
-{
-    match part {
-        ClassPart::Literal(characters) => {
-            push(stack, class_of_each(alloc, characters.as_slice())?)
-        }
-        ClassPart::Range(low, high) => push(stack, class_between(alloc, *low, *high)?),
-        ClassPart::Union(count) => push_union(alloc, *count, stack),
-        ClassPart::Complement => push_complement(alloc, stack),
-        ClassPart::Class(item) => push(stack, class_at(alloc, items, item.index())?),
-        ClassPart::Predicate(used) => push(stack, used.class.share()?),
-    }
-}
-
-/// Puts a class before. The only error is that memory ran out.
-fn push(stack: &mut VecDeque<Class>, class: Class) -> Result<(), AllocError>
-    ensures { OnOk result (stack.new.items ≡ class ∷ stack.old.items) }
-{
-    stack.push_front(class)?;
-    Ok(())
-}
-
-/// Takes so many classes out, and puts their union before the others.
-fn push_union(alloc: Global, count: usize, stack: &mut VecDeque<Class>) -> Result<(), AllocError>
-    ensures { OnOk result ((c : ℕ) → IsScalar c → answers_of stack.new.items c ≡
-        one_holds (take count (answers_of stack.old.items c)) ∷ drop count (answers_of stack.old.items c)) }
-{
-    let mut members = VecDeque::new(alloc);
-    for _taken in 0..count {
-        let class = first_of(alloc, stack)?;
-        members.push_back(class)?;
-    }
-    let union = Class::union_of(alloc, members)?;
-    push(stack, union)
-}
-
-/// Puts the complement of the first class in its place.
-fn push_complement(alloc: Global, stack: &mut VecDeque<Class>) -> Result<(), AllocError>
-    ensures { OnOk result ((c : ℕ) → IsScalar c →
-        answers_of stack.new.items c ≡ first_negated (answers_of stack.old.items c)) }
-{
-    match stack.pop_front() {
-        Some(class) => push(stack, class.complement(alloc)?),
-        None => Ok(()),
-    }
-}
-
-/// The class of a class item; the empty class for one that isn't there.
-fn class_at(alloc: Global, items: &[Class], item: usize) -> Result<Class, AllocError>
-    ensures { IfOk result (λ class. (c : ℕ) → IsScalar c → has class c ≡ answer_at (answers_of items.now c) item) }
-{
-    match items.get(item) {
-        Some(class) => class.share(),
-        None => class_in(alloc, &[]),
-    }
-}
-
-/// The class of these characters.
-fn class_of_each(alloc: Global, characters: &[char]) -> Result<Class, AllocError>
-    ensures { IfOk result (λ class. (c : ℕ) → IsScalar c → has class c ≡ list_any (λ x. x == c) characters.now) }
-{
-    let mut ranges = Vec::new(alloc);
-    for character in characters {
-        ranges.push((*character, *character))?;
-    }
-    class_in(alloc, ranges.as_slice())
-}
-
-/// The class of the characters from one to another, both included; the empty class if the second is below the first.
-pub(crate) fn class_between(alloc: Global, low: char, high: char) -> Result<Class, AllocError>
-    ensures { IfOk result (λ class. (c : ℕ) → IsScalar c → has class c ≡ (nat_le low c && nat_le c high)) }
-{
-    if low <= high {
-        class_in(alloc, &[(low, high)])
-    } else {
-        class_in(alloc, &[])
-    }
-}
-
-/// The class of the characters in these ranges, none of which descends. The only error is that memory ran out.
-pub(crate) fn class_in(alloc: Global, ranges: &[(char, char)]) -> Result<Class, AllocError>
-    requires { All (λ range. range.0 ≤ range.1) ranges.now }
-    ensures { IfOk result (λ class. (c : ℕ) → IsScalar c → has class c ≡ has ranges.now c) }
-{
-    match Class::from_ranges(alloc, ranges) {
-        Ok(class) => Ok(class),
-        Err(ClassFault::Memory) => Err(AllocError),
-        Err(ClassFault::Descends) => unreachable!(),
-    }
 }

@@ -1,6 +1,6 @@
 //! The starts that a node of a grammar gives by itself, and not by its parts.
 //!
-//! A class expression is worked out to its ranges (`classes`), words are told apart by their classes and reserved texts
+//! A class expression is worked out to its ranges (`pg_character_sets`), words are told apart by their classes and reserved texts
 //! (`words`), and a try around a string gives a key (`keys`). Starts stand in one order (`listed`), in which each stands once,
 //! and are printed in one form (`printed`).
 #![tactic(auto)]
@@ -13,7 +13,6 @@ mod own;
 mod printed;
 mod words;
 
-pub use classes::classes_of_items;
 pub use keys::key_tries;
 pub use listed::ListedStart;
 pub use operators::{OperatorStarts, operator_starts};

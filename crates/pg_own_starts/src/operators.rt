@@ -9,9 +9,10 @@ ghost use Rattle.pg_own_starts.specs.OperatorStarts.{AreBothStarts, AreOperatorS
 ghost use Rattle.pg_own_starts.specs.OwnStarts.{IsOperatorStart};
 ghost use Rattle.pg_own_starts.specs.Words.{AreClassesOf};
 
-use crate::classes::{class_in_grammar, classes_of_items};
+use crate::classes::class_in_grammar;
 use crate::listed::ListedStart;
 use crate::words::{classes_of_words, listed_words};
+use pg_character_sets::classes_of_items;
 use pg_class::Class;
 use pg_form::OperatorsItem;
 use pg_start::Start;

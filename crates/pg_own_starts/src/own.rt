@@ -5,10 +5,11 @@ ghost use Rattle.pg_own_starts.specs.Own.{AreOwn, keyword_key};
 ghost use Rattle.pg_own_starts.specs.OwnStarts.{role_keyword};
 ghost use Rattle.pg_own_starts.specs.Words.{AreClassesOf, AreWordClasses};
 
-use crate::classes::{class_between, class_in, class_in_grammar};
+use crate::classes::class_in_grammar;
 use crate::keys::{tried_keyword, tried_string};
 use crate::listed::ListedStart;
 use crate::words::{WordClasses, listed_words};
+use pg_character_sets::{class_between, class_in};
 use pg_class::Class;
 use pg_form::{Around, ClassExpression, Form, Leaf, Node, NodeId, Role, WordId};
 use pg_start::{Start, StartKind};

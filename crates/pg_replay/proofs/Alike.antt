@@ -1,4 +1,4 @@
--- Forests that are alike: the same, or the same as they are flattened, or of the same text, as loose as trees are.
+-- Forests that are alike: the same, or the same as they are flattened, or of the same text, or any two, as loose as trees are.
 use Rattle.std.proofs.Common.{◌≡◌, ℕ, Bool, true, false, List, [], ◌∷◌, ◌++◌, refl, sym, ap, ◌∙◌, append-nil, append_assoc, subst, if◌then◌else◌}
 use Rattle.std.specs.Str.{bytes_eq}
 use Rattle.std.proofs.lemmas.Slice.Eq.{bytes_eq-Decides}
@@ -12,7 +12,7 @@ use Rattle.pg_form.specs.declared.form.Around.TheVariants as kind
 use Rattle.pg_form.specs.declared.side.Side.{Side}
 use Rattle.pg_form.specs.declared.side.Side.TheVariants.{Left, Right}
 use Rattle.pg_language.specs.Derives.{Link, folded, made_by}
-use Rattle.pg_replay.specs.Tasks.{Looseness, tight, apart, only_text, as_kids, as_flat, inside, inside_form, is_steady, has_label, makes_node, leaves_out, given_by}
+use Rattle.pg_replay.specs.Tasks.{Looseness, tight, apart, only_text, dropped, as_kids, as_flat, as_joined, inside, inside_form, is_steady, has_label, makes_node, leaves_out, is_dropped, made_of, given_by}
 
 -- ---- texts of lists
 
@@ -64,11 +64,12 @@ flat_append label (node other kids ∷ v) w = go (bytes_eq other label) (flat_ap
 
 -- ---- what is alike
 
--- the same, or the same as they are flattened, or of the same text, as loose as trees are
+-- the same, or the same as they are flattened, or of the same text, or any two, as loose as trees are
 abbrev pub IsAlike : Looseness → List Tree → List Tree → Type 0
 IsAlike tight x w = x ≡ w
 IsAlike (apart label) x w = flat_of label x ≡ flat_of label w
 IsAlike only_text x w = text_in x ≡ text_in w
+IsAlike dropped x w = Unit {0}
 
 -- the one forest can stand for the other where trees are so loose
 pub record Alike (loose : Looseness) (x w : List Tree) : Type 0 where
@@ -78,6 +79,7 @@ pub is_same : (loose : Looseness) (x w : List Tree) → x ≡ w → IsAlike loos
 is_same tight x w e = e
 is_same (apart label) x w e = ap (flat_of label) e
 is_same only_text x w e = ap text_in e
+is_same dropped x w e = tt
 
 pub alike_same : (loose : Looseness) (x w : List Tree) → x ≡ w → Alike loose x w
 alike_same loose x w e = record { is = is_same loose x w e }
@@ -86,12 +88,14 @@ is_through : (loose : Looseness) (x y w : List Tree) → IsAlike loose x y → I
 is_through tight x y w e f = e ∙ f
 is_through (apart label) x y w e f = e ∙ f
 is_through only_text x y w e f = e ∙ f
+is_through dropped x y w e f = tt
 
 is_both : (loose : Looseness) (v w x y : List Tree) → IsAlike loose v w → IsAlike loose x y → IsAlike loose (v ++ x) (w ++ y)
 is_both tight v w x y e f = ap (λ z. z ++ x) e ∙ ap (λ z. w ++ z) f
 is_both (apart label) v w x y e f =
     flat_append label v x ∙ ap (λ z. with_kids z (flat_of label x)) e ∙ ap (λ z. with_kids (flat_of label w) z) f ∙ sym (flat_append label w y)
 is_both only_text v w x y e f = text_append v x ∙ ap (λ z. z ++ text_in x) e ∙ ap (λ z. text_in w ++ z) f ∙ sym (text_append w y)
+is_both dropped v w x y e f = tt
 
 pub alike_both : (loose : Looseness) (v w x y : List Tree) → Alike loose v w → Alike loose x y → Alike loose (v ++ x) (w ++ y)
 alike_both loose v w x y h k = record { is = is_both loose v w x y h.is k.is }
@@ -101,16 +105,24 @@ is_node : (loose : Looseness) (shape : Shape) (symbol : List ℕ) (x w : List Tr
 is_node tight shape symbol x w e = ap (λ z. built shape symbol z ∷ []) e
 is_node (apart label) shape symbol x w e = is_same (apart label) (built shape symbol x ∷ []) (built shape symbol w ∷ []) (ap (λ z. built shape symbol z ∷ []) e)
 is_node only_text shape symbol x w e = built_text shape symbol x ∙ e ∙ sym (built_text shape symbol w)
+is_node dropped shape symbol x w e = tt
 
 is_flat : (loose : Looseness) (label symbol : List ℕ) (x w : List Tree) → IsAlike (as_flat label loose) x w → IsAlike loose (built (shaped.Flat label) symbol x ∷ []) (built (shaped.Flat label) symbol w ∷ [])
 is_flat tight label symbol x w e = ap (λ ks. node label ks ∷ []) e
 is_flat (apart other) label symbol x w e = is_same (apart other) (built (shaped.Flat label) symbol x ∷ []) (built (shaped.Flat label) symbol w ∷ []) (ap (λ ks. node label ks ∷ []) e)
 is_flat only_text label symbol x w e = built_text (shaped.Flat label) symbol x ∙ e ∙ sym (built_text (shaped.Flat label) symbol w)
+is_flat dropped label symbol x w e = tt
+
+is_joined : (loose : Looseness) (symbol : List ℕ) (x w : List Tree) → IsAlike (as_joined loose) x w → IsAlike loose (built shaped.Join symbol x ∷ []) (built shaped.Join symbol w ∷ [])
+is_joined tight symbol x w e = ap (λ t. leaf t ∷ []) e
+is_joined (apart label) symbol x w e = is_same (apart label) (leaf (text_in x) ∷ []) (leaf (text_in w) ∷ []) (ap (λ t. leaf t ∷ []) e)
+is_joined only_text symbol x w e = is_same only_text (leaf (text_in x) ∷ []) (leaf (text_in w) ∷ []) (ap (λ t. leaf t ∷ []) e)
+is_joined dropped symbol x w e = tt
 
 is_shaped : (loose : Looseness) (shape : Shape) (symbol : List ℕ) (x w : List Tree) → IsAlike (inside shape loose) x w → IsAlike loose (built shape symbol x ∷ []) (built shape symbol w ∷ [])
 is_shaped loose (shaped.Node label) symbol x w e = is_node loose (shaped.Node label) symbol x w e
 is_shaped loose shaped.Symbol symbol x w e = is_node loose shaped.Symbol symbol x w e
-is_shaped loose shaped.Join symbol x w e = is_same loose (leaf (text_in x) ∷ []) (leaf (text_in w) ∷ []) (ap (λ t. leaf t ∷ []) e)
+is_shaped loose shaped.Join symbol x w e = is_joined loose symbol x w e
 is_shaped loose (shaped.Flat label) symbol x w e = is_flat loose label symbol x w e
 
 pub alike_shaped : (loose : Looseness) (shape : Shape) (symbol : List ℕ) (x w : List Tree) → Alike (inside shape loose) x w → Alike loose (built shape symbol x ∷ []) (built shape symbol w ∷ [])
@@ -120,13 +132,19 @@ inside_twice : (shape : Shape) (loose : Looseness) → inside shape (inside shap
 inside_twice (shaped.Node label) tight = refl
 inside_twice (shaped.Node label) (apart other) = refl
 inside_twice (shaped.Node label) only_text = refl
+inside_twice (shaped.Node label) dropped = refl
 inside_twice shaped.Symbol tight = refl
 inside_twice shaped.Symbol (apart other) = refl
 inside_twice shaped.Symbol only_text = refl
-inside_twice shaped.Join loose = refl
+inside_twice shaped.Symbol dropped = refl
+inside_twice shaped.Join tight = refl
+inside_twice shaped.Join (apart other) = refl
+inside_twice shaped.Join only_text = refl
+inside_twice shaped.Join dropped = refl
 inside_twice (shaped.Flat label) tight = refl
 inside_twice (shaped.Flat label) (apart other) = refl
 inside_twice (shaped.Flat label) only_text = refl
+inside_twice (shaped.Flat label) dropped = refl
 
 -- a tree of such a shape again
 alike_again : (loose : Looseness) (shape : Shape) (symbol : List ℕ) (x w : List Tree) → Alike (inside shape loose) x w → Alike (inside shape loose) (built shape symbol x ∷ []) (built shape symbol w ∷ [])
@@ -165,14 +183,21 @@ is_left_out : (k : Around) (loose : Looseness) (text : List ℕ) (from to : ℕ)
 is_left_out k tight text from to e = absurd cc
 is_left_out k (apart label) text from to e = node_left_out k label text from to e
 is_left_out k only_text text from to e = absurd cc
+is_left_out k dropped text from to e = absurd cc
 
-is_given : (k : Around) (loose : Looseness) (text : List ℕ) (from to : ℕ) (x w : List Tree) → IsAlike (inside_form k loose) x w → IsAlike loose (given_by k loose text from to x) (made_by k text from to w)
-is_given k loose text from to (t ∷ x) w e = is_made k loose text from to (t ∷ x) w e
-is_given k loose text from to [] w e = go (leaves_out k loose) refl
+is_made_of : (k : Around) (loose : Looseness) (text : List ℕ) (from to : ℕ) (x w : List Tree) → IsAlike (inside_form k loose) x w → IsAlike loose (made_of k loose text from to x) (made_by k text from to w)
+is_made_of k loose text from to (t ∷ x) w e = is_made k loose text from to (t ∷ x) w e
+is_made_of k loose text from to [] w e = go (leaves_out k loose) refl
   where
     go : (b : Bool) → leaves_out k loose ≡ b → IsAlike loose (if b then [] else made_by k text from to []) (made_by k text from to w)
     go true h = is_through loose [] (made_by k text from to []) (made_by k text from to w) (is_left_out k loose text from to h) (is_made k loose text from to [] w e)
     go false h = is_made k loose text from to [] w e
+
+is_given : (k : Around) (loose : Looseness) (text : List ℕ) (from to : ℕ) (x w : List Tree) → IsAlike (inside_form k loose) x w → IsAlike loose (given_by k loose text from to x) (made_by k text from to w)
+is_given k tight text from to x w e = is_made_of k tight text from to x w e
+is_given k (apart label) text from to x w e = is_made_of k (apart label) text from to x w e
+is_given k only_text text from to x w e = is_made_of k only_text text from to x w e
+is_given k dropped text from to x w e = tt
 
 pub alike_given : (k : Around) (loose : Looseness) (text : List ℕ) (from to : ℕ) (x w : List Tree) → Alike (inside_form k loose) x w → Alike loose (given_by k loose text from to x) (made_by k text from to w)
 alike_given k loose text from to x w h = record { is = is_given k loose text from to x w h.is }
@@ -194,6 +219,7 @@ is_back : (loose : Looseness) (x w : List Tree) → IsAlike loose x w → IsAlik
 is_back tight x w e = sym e
 is_back (apart label) x w e = sym e
 is_back only_text x w e = sym e
+is_back dropped x w e = tt
 
 alike_back : (loose : Looseness) (x w : List Tree) → Alike loose x w → Alike loose w x
 alike_back loose x w h = record { is = is_back loose x w h.is }
@@ -219,9 +245,11 @@ is_twice : (loose : Looseness) (shape : Shape) (z : List Tree) → is_steady sha
 is_twice tight (shaped.Node label) z e = absurd cc
 is_twice (apart other) (shaped.Node label) z e = absurd cc
 is_twice only_text (shaped.Node label) z e = is_text_twice (shaped.Node label) z
+is_twice dropped (shaped.Node label) z e = tt
 is_twice tight shaped.Symbol z e = absurd cc
 is_twice (apart other) shaped.Symbol z e = absurd cc
 is_twice only_text shaped.Symbol z e = is_text_twice shaped.Symbol z
+is_twice dropped shaped.Symbol z e = tt
 is_twice loose shaped.Join z e = is_same loose (leaf (text_in z) ∷ []) (leaf (text_in z ++ []) ∷ []) (ap (λ t. leaf t ∷ []) (sym (append-nil (text_in z))))
 is_twice loose (shaped.Flat label) z e =
     is_same loose (built (shaped.Flat label) [] z ∷ []) (built (shaped.Flat label) [] (built (shaped.Flat label) [] z ∷ []) ∷ []) (ap (λ ks. node label ks ∷ []) (sym (own_label label (flat_of label z))))
@@ -240,13 +268,19 @@ is_nothing : (loose : Looseness) (shape : Shape) (z : List Tree) → is_steady s
 is_nothing tight (shaped.Node label) z e h = absurd cc
 is_nothing (apart other) (shaped.Node label) z e h = absurd cc
 is_nothing only_text (shaped.Node label) z e h = h ∙ sym (built_text (shaped.Node label) [] z)
+is_nothing dropped (shaped.Node label) z e h = tt
 is_nothing tight shaped.Symbol z e h = absurd cc
 is_nothing (apart other) shaped.Symbol z e h = absurd cc
 is_nothing only_text shaped.Symbol z e h = h ∙ sym (built_text shaped.Symbol [] z)
-is_nothing loose shaped.Join z e h = h ∙ sym (built_text shaped.Join [] z)
+is_nothing dropped shaped.Symbol z e h = tt
+is_nothing tight shaped.Join z e h = h ∙ sym (built_text shaped.Join [] z)
+is_nothing (apart other) shaped.Join z e h = h ∙ sym (built_text shaped.Join [] z)
+is_nothing only_text shaped.Join z e h = h ∙ sym (built_text shaped.Join [] z)
+is_nothing dropped shaped.Join z e h = tt
 is_nothing tight (shaped.Flat label) z e h = h ∙ sym (own_label label (flat_of label z))
 is_nothing (apart other) (shaped.Flat label) z e h = h ∙ sym (own_label label (flat_of label z))
 is_nothing only_text (shaped.Flat label) z e h = h ∙ sym (built_text (shaped.Flat label) [] z)
+is_nothing dropped (shaped.Flat label) z e h = tt
 
 idle_right : (loose : Looseness) (shape : Shape) (y : List Tree) (ls : List Link) → is_steady shape (inside shape loose) ≡ true → Alike (inside shape loose) [] y → AreIdle (inside shape loose) ls →
     Alike (inside shape loose) [] (folded Right shape y ls)

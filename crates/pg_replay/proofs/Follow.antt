@@ -22,7 +22,7 @@ use Rattle.pg_language.specs.Onward.{LeadsOn}
 use Rattle.pg_language.proofs.Onward.{leads_on, rounds_onward}
 use Rattle.pg_replay.specs.Refusals as refusal
 use Rattle.pg_replay.specs.Refusals.{still_entered, if_no_item, IsEntered, ChoosesNone}
-use Rattle.pg_replay.specs.Tasks.{Looseness, tight, apart, only_text, Known, OnTask, node, parts, rounds, more_rounds, links, operand, linked, settle, fold, marked, operator_symbol, application, unmark, close, leave, Setting, under_marks, loosened, State, Turn, on, stops, ended, part_turn, numbered_turn, choice_turn, many_turn, is_place, is_known_at, is_known, covers, inside_form, is_text, given_by, is_still, is_entered, rule_turn, around_turn, form_turn, node_turn, parts_turn, rounds_turn, is_unchanged, more_turn, closed_table, closed_forest, without_newest, turn}
+use Rattle.pg_replay.specs.Tasks.{Looseness, tight, apart, only_text, dropped, Known, OnTask, node, parts, rounds, more_rounds, links, operand, linked, settle, fold, marked, operator_symbol, application, unmark, close, leave, Setting, under_marks, loosened, State, Turn, on, stops, ended, part_turn, numbered_turn, choice_turn, many_turn, is_place, is_known_at, is_known, covers, inside_form, is_text, given_by, is_still, is_entered, rule_turn, around_turn, form_turn, node_turn, parts_turn, rounds_turn, is_unchanged, more_turn, closed_table, closed_forest, without_newest, turn}
 use Rattle.pg_replay.proofs.Alike.{text_in, IsAlike, Alike, is_same, alike_same, alike_both, alike_given}
 use Rattle.pg_replay.proofs.KnownBodies.{AreKnown, AreBlank, IsSo}
 use Rattle.pg_replay.proofs.NoText.{no_text}
@@ -238,12 +238,19 @@ module _ (g : Grammar) (text : List ℕ) where
   is_covered tight tight w e h none = h
   is_covered tight (apart label) w e h none = is_same (apart label) [] w h
   is_covered tight only_text w e h none = sym none
+  is_covered tight dropped w e h none = tt
   is_covered (apart label) tight w e h none = absurd cc
   is_covered (apart label) (apart other) w e h none = subst (λ m. IsAlike (apart m) [] w) ((bytes_eq-Decides label other).0 e) h
   is_covered (apart label) only_text w e h none = sym none
+  is_covered (apart label) dropped w e h none = tt
   is_covered only_text tight w e h none = absurd cc
   is_covered only_text (apart other) w e h none = absurd cc
   is_covered only_text only_text w e h none = h
+  is_covered only_text dropped w e h none = tt
+  is_covered dropped tight w e h none = absurd cc
+  is_covered dropped (apart other) w e h none = absurd cc
+  is_covered dropped only_text w e h none = sym none
+  is_covered dropped dropped w e h none = tt
 
   covered : (k l : Looseness) (w : List Tree) → covers k l ≡ true → Alike k [] w → text_in w ≡ [] → Alike l [] w
   covered k l w e h none = record { is = is_covered k l w e h.is none }

@@ -15,7 +15,7 @@ use Rattle.pg_replay.specs.declared.fault.Mismatch.TheVariants.{TextDiffers}
 use Rattle.pg_language.specs.Derives.{Spot, at, Link, Derives, DerivesParts, DerivesRounds, DerivesLinks, no_part, first_part}
 use Rattle.pg_language.proofs.Onward.{leads_on}
 use Rattle.pg_replay.specs.Refusals.{Stop, stop, if_no_item, still_entered, Refuses, RefusesParts, RefusesRounds, RefusesLinks}
-use Rattle.pg_replay.specs.Tasks.{Looseness, tight, apart, only_text, Chain, RoundStart, OnTask, node, parts, rounds, more_rounds, links, operand, linked, settle, fold, marked, operator_symbol, application, unmark, close, leave, Setting, under_marks, loosened, State, Turn, on, stops, ended, is_steady, folded_after, first_mark, marks_after, applied_after, closed_table, closed_forest, without_newest}
+use Rattle.pg_replay.specs.Tasks.{Looseness, tight, apart, only_text, dropped, Chain, RoundStart, OnTask, node, parts, rounds, more_rounds, links, operand, linked, settle, fold, marked, operator_symbol, application, unmark, close, leave, Setting, under_marks, loosened, State, Turn, on, stops, ended, is_steady, folded_after, first_mark, marks_after, applied_after, closed_table, closed_forest, without_newest}
 use Rattle.pg_replay.proofs.ChainTrees.{chained, chained_from, chained_on}
 use Rattle.pg_replay.proofs.Alike.{Alike, AreAlike}
 use Rattle.pg_fitting.proofs.Places.{if_true}
@@ -89,11 +89,12 @@ entered_after (application builders o) a b u entered = entered
 entered_after unmark a b u entered = entered
 entered_after (leave r place trees count) a b u entered = without_newest entered
 
--- so many trees are as many as there are, unless only their text is answered
+-- so many trees are as many as there are, unless at most their text is answered
 abbrev pub AsMany : Looseness → ℕ → ℕ → Type 0
 AsMany tight trees count = trees ≡ count
 AsMany (apart label) trees count = trees ≡ count
 AsMany only_text trees count = Unit {0}
+AsMany dropped trees count = Unit {0}
 
 -- a round that began there took nothing and gave nothing that can't be left out, and what the chain makes stays as it is
 pub record IsIdle (loose : Looseness) (shape : Shape) (from : RoundStart) (a : Spot) (v : List Tree) (items : List TrailItem) : Type 0 where

@@ -10,7 +10,7 @@ use Rattle.pg_form.specs.declared.used.OperatorBuilders.{OperatorBuilders}
 use Rattle.pg_value.specs.declared.trail.Fixity.{Fixity}
 use Rattle.pg_value.specs.declared.trail.Fixity.TheVariants as fixity
 use Rattle.pg_fitting.specs.Steps.{Step, a_term, a_symbol, an_application}
-use Rattle.pg_replay.specs.States.{Looseness, tight, apart, only_text, Chain}
+use Rattle.pg_replay.specs.States.{Looseness, tight, apart, only_text, dropped, Chain}
 
 -- ---- in trees of a shape, in chains and forms
 
@@ -19,29 +19,38 @@ abbrev pub as_kids : Looseness → Looseness
 as_kids tight = tight
 as_kids (apart label) = tight
 as_kids only_text = only_text
+as_kids dropped = dropped
 
 -- or they are taken apart there
 abbrev pub as_flat : List ℕ → Looseness → Looseness
 as_flat label tight = apart label
 as_flat label (apart other) = apart label
 as_flat label only_text = only_text
+as_flat label dropped = dropped
+
+-- or they are joined there
+abbrev pub as_joined : Looseness → Looseness
+as_joined tight = only_text
+as_joined (apart label) = only_text
+as_joined only_text = only_text
+as_joined dropped = dropped
 
 -- how loose the trees are of which a tree of the shape is built, where that one is so loose
 abbrev pub inside : Shape → Looseness → Looseness
 inside (shaped.Node label) l = as_kids l
 inside shaped.Symbol l = as_kids l
-inside shaped.Join l = only_text
+inside shaped.Join l = as_joined l
 inside (shaped.Flat label) l = as_flat label l
 
 -- so they are in a chain that has a round
 abbrev pub inside_chain : Chain → ℕ → Looseness → Looseness
 inside_chain c n l = if n == 0 then l else inside c.used.shape l
 
--- how loose the trees of the part are in the form, where what it makes is so loose
+-- how loose the trees of the part are in the form, where what it makes is so loose: `text` makes its leaf of the text between its places
 abbrev pub inside_form : Around → Looseness → Looseness
 inside_form kind.Try l = l
-inside_form kind.Text l = only_text
-inside_form kind.Skip l = only_text
+inside_form kind.Text l = dropped
+inside_form kind.Skip l = dropped
 inside_form (kind.Build used symbol) l = inside used.shape l
 inside_form (kind.Label message) l = l
 inside_form kind.Local l = l
@@ -80,21 +89,35 @@ waiting builders (step ∷ steps) ls = waiting_before builders step (waiting bui
 
 -- ---- what is left out
 
--- whether trees that are left out where they are so loose can be left out where they are as loose as the other
+-- whether trees without text that are left out where they are so loose can be left out where they are as loose as the other
 abbrev pub covers : Looseness → Looseness → Bool
 covers tight l = true
 covers (apart label) tight = false
 covers (apart label) (apart other) = bytes_eq label other
 covers (apart label) only_text = true
+covers (apart label) dropped = true
 covers only_text tight = false
 covers only_text (apart label) = false
 covers only_text only_text = true
+covers only_text dropped = true
+covers dropped tight = false
+covers dropped (apart label) = false
+covers dropped only_text = true
+covers dropped dropped = true
 
--- whether nothing but the text of trees is answered
+-- whether at most the text of trees is answered
 abbrev pub is_text : Looseness → Bool
 is_text tight = false
 is_text (apart label) = false
 is_text only_text = true
+is_text dropped = true
+
+-- whether nothing of them is
+abbrev pub is_dropped : Looseness → Bool
+is_dropped tight = false
+is_dropped (apart label) = false
+is_dropped only_text = false
+is_dropped dropped = true
 
 -- whether the shape joins texts to a leaf
 abbrev pub joins : Shape → Bool
@@ -134,3 +157,4 @@ abbrev pub leaves_out : Around → Looseness → Bool
 leaves_out k tight = false
 leaves_out k (apart label) = makes_node k label
 leaves_out k only_text = false
+leaves_out k dropped = false

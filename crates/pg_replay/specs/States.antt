@@ -18,8 +18,10 @@ pub data Looseness : Type 0 where
   tight : Looseness
   -- of those that have the label, the kids in their place, as they are flattened
   apart : (label : List ℕ) → Looseness
-  -- nothing but their text, or nothing, so that one without text can be left out
+  -- nothing but their text, so that one without text can be left out
   only_text : Looseness
+  -- nothing, so that all of them can be left out
+  dropped : Looseness
 
 -- the place where a rule's body took nothing, and how loose trees may be there so that it gives none
 pub record Known : Type 0 where

@@ -35,8 +35,8 @@ use Rattle.pg_language.specs.Runs.{run_at, past_run, stands_at}
 use Rattle.pg_language.specs.Declarations.{Declaration, no_keyword, no_digit, no_symbol, declared, declaration_at}
 use Rattle.pg_language.specs.Derives.{leaf_of, declaration_tree, made_by}
 use Rattle.pg_replay.specs.declared.fault.Mismatch.TheVariants.{ItemDiffers, TextDiffers, NotAdmitted}
-pub use Rattle.pg_replay.specs.States.{Looseness, tight, apart, only_text, Known, Chain, RoundStart, OnTask, node, parts, rounds, more_rounds, links, operand, linked, settle, fold, marked, operator_symbol, application, unmark, close, leave, Setting, under_marks, loosened, State, Turn, on, stops, ended, told, with_task, with_marks, with_loose, with_forest, with_entered, with_known, with_blank, after_item, moved_to, without_newest, with_tasks}
-pub use Rattle.pg_replay.specs.Loose.{as_kids, as_flat, inside, inside_chain, inside_form, builder_on, newest_waiting, others_waiting, operands_waiting, waiting_before, waiting, covers, is_text, joins, flattens, is_steady, has_label, makes_node, leaves_out}
+pub use Rattle.pg_replay.specs.States.{Looseness, tight, apart, only_text, dropped, Known, Chain, RoundStart, OnTask, node, parts, rounds, more_rounds, links, operand, linked, settle, fold, marked, operator_symbol, application, unmark, close, leave, Setting, under_marks, loosened, State, Turn, on, stops, ended, told, with_task, with_marks, with_loose, with_forest, with_entered, with_known, with_blank, after_item, moved_to, without_newest, with_tasks}
+pub use Rattle.pg_replay.specs.Loose.{as_kids, as_flat, as_joined, inside, inside_chain, inside_form, builder_on, newest_waiting, others_waiting, operands_waiting, waiting_before, waiting, covers, is_text, is_dropped, joins, flattens, is_steady, has_label, makes_node, leaves_out}
 
 -- ---- leaves
 
@@ -333,10 +333,14 @@ closed_table (kind.Build used symbol) operators table = table
 closed_table (kind.Label message) operators table = table
 closed_table kind.Local operators table = first_operators operators table
 
--- what the form gives of these trees, where they are so loose
+-- what the form makes of these trees, where it is so loose
+abbrev pub made_of : Around → Looseness → List ℕ → ℕ → ℕ → List Tree → List Tree
+made_of k l text from to [] = if leaves_out k l then [] else made_by k text from to []
+made_of k l text from to (t ∷ w) = made_by k text from to (t ∷ w)
+
+-- what it gives: nothing where nothing of it comes in
 abbrev pub given_by : Around → Looseness → List ℕ → ℕ → ℕ → List Tree → List Tree
-given_by k l text from to [] = if leaves_out k l then [] else made_by k text from to []
-given_by k l text from to (t ∷ w) = made_by k text from to (t ∷ w)
+given_by k l text from to w = if is_dropped l then [] else made_of k l text from to w
 
 abbrev pub closed_forest : Around → Looseness → List ℕ → ℕ → ℕ → ℕ → List Tree → List Tree
 closed_forest k l text from to trees forest = take trees forest ++ given_by k l text from to (drop trees forest)

@@ -8,8 +8,8 @@ use Rattle.pg_replay.specs.declared.task.Closing as declared_closing
 use Rattle.pg_replay.specs.declared.replayer.Replayer.{Replayer}
 use Rattle.pg_replay.specs.declared.replayer.Known as declared_known
 use Rattle.pg_replay.specs.declared.task.Looseness as declared_loose
-use Rattle.pg_replay.specs.declared.task.Looseness.TheVariants.{Tight, Apart, OnlyText}
-use Rattle.pg_replay.specs.Tasks.{Looseness, tight, apart, only_text, Known, Chain, RoundStart, OnTask, node, parts, rounds, more_rounds, links, operand, linked, settle, fold, marked, operator_symbol, application, unmark, close, leave, State}
+use Rattle.pg_replay.specs.declared.task.Looseness.TheVariants.{Tight, Apart, OnlyText, Dropped}
+use Rattle.pg_replay.specs.Tasks.{Looseness, tight, apart, only_text, dropped, Known, Chain, RoundStart, OnTask, node, parts, rounds, more_rounds, links, operand, linked, settle, fold, marked, operator_symbol, application, unmark, close, leave, State}
 
 abbrev pub chain_of : declared.Chain → Chain
 chain_of c = record { side = c.side; used = c.used.now; part = c.part; separator = c.separator }
@@ -21,6 +21,7 @@ abbrev pub loose_of : declared_loose.Looseness → Looseness
 loose_of Tight = tight
 loose_of (Apart label) = apart label.now
 loose_of OnlyText = only_text
+loose_of Dropped = dropped
 
 abbrev pub known_of : declared_known.Known → Known
 known_of known = record { place = known.place; loose = loose_of known.loose }
@@ -41,7 +42,7 @@ task_of (task.Links chain left trees) = links (chain_of chain) left trees
 task_of (task.Operand chain left trees from) = operand (chain_of chain) left trees (start_of from)
 task_of (task.Linked chain left trees later from) = linked (chain_of chain) left trees later (start_of from)
 task_of (task.Settle loose) = settle (loose_of loose)
-task_of (task.Fold side used trees) = fold used.now trees
+task_of (task.Fold used trees) = fold used.now trees
 task_of (task.Term p loose) = marked p (loose_of loose)
 task_of (task.Symbol o) = operator_symbol o.now
 task_of (task.Application builders o) = application builders.now o.now

@@ -5,22 +5,21 @@ ghost use Rattle.pg_language.specs.Derives.{span, made_by};
 ghost use Rattle.pg_replay.specs.Tasks.{close, told, with_blank, is_place, around_turn, given_by, makes_empty_leaf, blank_after, closed_table, closed_forest, close_turn};
 ghost use Rattle.pg_replay.specs.View.{state_of, loose_of, closing_of};
 
-use crate::looseness::{inside_form, joins, leaves_out};
+use crate::looseness::{inside_form, is_dropped, joins, leaves_out};
 use crate::replayer::Replayer;
 use crate::step::build;
 use crate::task::{Closing, Halt, Looseness, Task};
 use pg_form::{Around, NodeId};
 use pg_table::Table;
 use pg_text::Text;
-use pg_tree::{ForestTape, Shape};
-use std::alloc::{AllocError, Global};
+use pg_tree::Forest;
+use std::alloc::AllocError;
 
 impl<'a> Replayer<'a> {
     /// The part, and then what is made of it, unless the form at this node is known to take nothing here and to make an empty
     /// leaf of it.
     pub(crate) fn enter_around(
         &mut self,
-        alloc: Global,
         node: NodeId,
         around: &'a Around,
         part: NodeId,
@@ -31,7 +30,6 @@ impl<'a> Replayer<'a> {
             self.forest.push_leaf(&[])?;
             return Ok(None);
         }
-        open_forest(alloc, around, &mut self.forest)?;
         let closing = self.closing(node, around);
         self.set_loose(inside_form(around, self.loose));
         self.go_on(&[Task::Close(closing), Task::Node(part)])
@@ -55,7 +53,6 @@ impl<'a> Replayer<'a> {
     /// What the form makes of its part.
     pub(crate) fn close(
         &mut self,
-        alloc: Global,
         text: &Text,
         closing: &Closing<'a>,
     ) -> Result<Option<Halt>, AllocError>
@@ -72,7 +69,6 @@ impl<'a> Replayer<'a> {
             loose,
         } = closing;
         close_forest(
-            alloc,
             text,
             around,
             loose,
@@ -128,60 +124,59 @@ fn makes_empty_leaf(around: &Around) -> bool
     }
 }
 
-/// Where a form builds a tree, the trees that it is built of begin here.
-fn open_forest(alloc: Global, around: &Around, forest: &mut ForestTape) -> Result<(), AllocError>
-    ensures { forest.new ≡ forest.old }
-{
-    match around {
-        Around::Try | Around::Text | Around::Skip | Around::Label(_) | Around::Local => Ok(()),
-        Around::Build(_, _) => forest.open(alloc),
-    }
-}
-
 /// What a form gives of the trees after so many.
 fn close_forest(
-    alloc: Global,
     text: &Text,
     around: &Around,
     loose: &Looseness,
     from: usize,
     to: usize,
     trees: usize,
-    forest: &mut ForestTape,
+    forest: &mut Forest,
 ) -> Result<(), AllocError>
     ensures { OnOk result (forest.new ≡ closed_forest around.now (loose_of loose.now) text.now from to trees forest.old) }
 {
-    if forest.len() <= trees && leaves_out(around, loose) {
-        return forest.close(trees);
+    if is_dropped(loose) {
+        cut(trees, forest);
+        return Ok(());
     }
-    make_forest(alloc, text, around, from, to, trees, forest)
+    if forest.len() <= trees && leaves_out(around, loose) {
+        return Ok(());
+    }
+    make_forest(text, around, from, to, trees, forest)
 }
 
 /// What a form makes of the trees after so many.
 fn make_forest(
-    alloc: Global,
     text: &Text,
     around: &Around,
     from: usize,
     to: usize,
     trees: usize,
-    forest: &mut ForestTape,
+    forest: &mut Forest,
 ) -> Result<(), AllocError>
     ensures { OnOk result (forest.new ≡ take trees forest.old ++ made_by around.now text.now from to (drop trees forest.old)) }
 {
     match around {
         Around::Try | Around::Label(_) | Around::Local => Ok(()),
         Around::Text => {
-            forest.cut(trees.min(forest.len()));
+            cut(trees, forest);
             forest.push_leaf(span(text.characters(), from, to))?;
             Ok(())
         }
         Around::Skip => {
-            forest.cut(trees.min(forest.len()));
+            cut(trees, forest);
             Ok(())
         }
-        Around::Build(used, symbol) => build(alloc, &used.shape, symbol.as_str(), trees, forest),
+        Around::Build(used, symbol) => build(&used.shape, symbol.as_str(), trees, forest),
     }
+}
+
+/// The trees after so many are dropped.
+fn cut(trees: usize, forest: &mut Forest)
+    ensures { forest.new ≡ take trees forest.old }
+{
+    forest.cut(trees.min(forest.len()));
 }
 
 /// The characters between the places.

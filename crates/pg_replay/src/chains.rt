@@ -7,27 +7,22 @@ ghost use Rattle.pg_replay.specs.View.{state_of, chain_of, start_of, loose_of};
 use crate::fault::Mismatch;
 use crate::looseness::{inside, is_steady};
 use crate::replayer::Replayer;
-use crate::step::{build, build_stretch};
+use crate::step::build;
 use crate::task::{Chain, Halt, Looseness, RoundStart, Task};
 use pg_form::{BuilderUse, Side};
-use pg_tree::{ForestTape, Shape};
+use pg_tree::Shape;
 use pg_value::TrailItem;
-use std::alloc::{AllocError, Global};
+use std::alloc::AllocError;
 
 impl<'a> Replayer<'a> {
     /// The next item counts the rounds; the first operand comes before them.
-    pub(crate) fn begin_chain(
-        &mut self,
-        alloc: Global,
-        chain: &Chain<'a>,
-    ) -> Result<Option<Halt>, AllocError>
+    pub(crate) fn begin_chain(&mut self, chain: &Chain<'a>) -> Result<Option<Halt>, AllocError>
         ensures { IfOk result (λ halt. told halt (state_of self.new) ≡ chain_turn (chain_of chain.now) self.old.rest.now (state_of self.old)) }
     {
         match self.rest.split_first() {
             Some((TrailItem::Rounds(left), rest)) => {
                 let (left, trees) = (*left, self.forest.len());
                 self.take_item(rest);
-                self.forest.open(alloc)?;
                 let loose = self.loose;
                 self.set_loose(inside_chain(chain, left, loose));
                 let links = Task::Links {
@@ -53,7 +48,6 @@ impl<'a> Replayer<'a> {
         ensures { IfOk result (λ halt. told halt (state_of self.new) ≡ links_turn (chain_of chain.now) left trees (state_of self.old)) }
     {
         if left == 0 {
-            self.forest.close(trees)?;
             return Ok(None);
         }
         let operand = Task::Operand {
@@ -68,7 +62,6 @@ impl<'a> Replayer<'a> {
     /// The operand, and then the folding and the other rounds.
     pub(crate) fn operand(
         &mut self,
-        alloc: Global,
         chain: &Chain<'a>,
         left: usize,
         trees: usize,
@@ -76,7 +69,6 @@ impl<'a> Replayer<'a> {
     ) -> Result<Option<Halt>, AllocError>
         ensures { IfOk result (λ halt. told halt (state_of self.new) ≡ operand_turn (chain_of chain.now) left trees (start_of from) (state_of self.old)) }
     {
-        open_later(alloc, chain.side, &mut self.forest)?;
         let linked = Task::Linked {
             chain: chain.copy(),
             left,
@@ -112,11 +104,11 @@ impl<'a> Replayer<'a> {
     {
         if self.is_idle(&chain.used.shape, from) {
             return self.go_on(&[Task::Fold {
-                side: Side::Right,
                 used: chain.used,
                 trees,
             }]);
         }
+        self.ask_again(from.place, from.trees, from.items, left)?;
         self.fold_and_link(chain, left, trees, later)
     }
 
@@ -138,7 +130,6 @@ impl<'a> Replayer<'a> {
         ensures { IfOk result (λ halt. told halt (state_of self.new) ≡ on (with_links chain.now.side (chain_of chain.now) left trees later (state_of self.old))) }
     {
         let fold = Task::Fold {
-            side: chain.side,
             used: chain.used,
             trees,
         };
@@ -165,28 +156,13 @@ impl<'a> Replayer<'a> {
     /// The trees after so many are made into one.
     pub(crate) fn fold(
         &mut self,
-        alloc: Global,
-        side: Side,
         used: &BuilderUse,
         trees: usize,
     ) -> Result<Option<Halt>, AllocError>
         ensures { IfOk result (λ halt. told halt (state_of self.new) ≡ fold_turn used.now trees (state_of self.old)) }
     {
-        match side {
-            Side::Left => build_stretch(alloc, &used.shape, "", trees, &mut self.forest)?,
-            Side::Right => build(alloc, &used.shape, "", trees, &mut self.forest)?,
-        }
+        build(&used.shape, "", trees, &mut self.forest)?;
         Ok(None)
-    }
-}
-
-/// From the right the trees of an operand and of all after it begin here.
-fn open_later(alloc: Global, side: Side, forest: &mut ForestTape) -> Result<(), AllocError>
-    ensures { forest.new ≡ forest.old }
-{
-    match side {
-        Side::Left => Ok(()),
-        Side::Right => forest.open(alloc),
     }
 }
 

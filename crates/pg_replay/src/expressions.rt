@@ -9,7 +9,7 @@ use crate::fault::Mismatch;
 use crate::looseness::{newest_waiting, wait_before};
 use crate::operators::{operator_end, utf8};
 use crate::replayer::Replayer;
-use crate::step::build_stretch;
+use crate::step::build;
 use crate::task::{Halt, Looseness, Task};
 use pg_fitting::{Step, fitting_steps};
 use pg_form::{BuilderUse, NodeId, OperatorBuilders};
@@ -104,14 +104,13 @@ impl<'a> Replayer<'a> {
     /// A term, whose trees are so loose and begin the next operand.
     pub(crate) fn term(
         &mut self,
-        alloc: Global,
         part: NodeId,
         loose: Looseness<'a>,
     ) -> Result<Option<Halt>, AllocError>
         ensures { IfOk result (λ halt. told halt (state_of self.new) ≡
             on (with_task (node part) (with_loose (loose_of loose.entry) (with_marks (length self.old.forest ∷ reverse self.old.marks.items) (state_of self.old))))) }
     {
-        self.mark(alloc)?;
+        self.mark()?;
         self.set_loose(loose);
         self.go_on(&[Task::Node(part)])
     }
@@ -121,8 +120,6 @@ impl<'a> Replayer<'a> {
         ensures { IfOk result (λ halt. told halt (state_of self.new) ≡
             on (with_marks (without_newest (reverse self.old.marks.items)) (state_of self.old))) }
     {
-        let trees = self.newest_mark();
-        self.forest.close(trees)?;
         self.unmark();
         Ok(None)
     }
@@ -202,7 +199,7 @@ impl<'a> Replayer<'a> {
     {
         let trees = self.newest_mark();
         let symbol = utf8(alloc, symbol)?;
-        build_stretch(alloc, &used.shape, symbol.as_str(), trees, &mut self.forest)
+        build(&used.shape, symbol.as_str(), trees, &mut self.forest)
     }
 }
 

@@ -4,7 +4,8 @@ ghost use Rattle.std.specs.Prelude.{◌≡◌, ◌<◌, ◌≤◌, ◌+◌, ◌-
 ghost use Rattle.std.specs.List.{list_any};
 ghost use Rattle.std.specs.Str.{bytes_eq};
 ghost use Rattle.pg_form.specs.Operators.{IsOperator};
-ghost use Rattle.pg_value.specs.Fits.{IsClassIn};
+ghost use Rattle.pg_form.specs.ClassItems.{has_character};
+ghost use Rattle.pg_value.specs.Sites.{class_at};
 ghost use Rattle.pg_table.specs.Tables.{admit_fault};
 ghost use Rattle.pg_form.specs.declared.form.Form.TheVariants as form;
 ghost use Rattle.pg_declarations.specs.Views.{operator_of};
@@ -15,7 +16,8 @@ ghost use Rattle.pg_replay.specs.View.{state_of};
 use crate::fault::Mismatch;
 use crate::replayer::Replayer;
 use crate::task::Halt;
-use pg_declarations::{Declaration, Declared, declaration_at, run_at};
+use pg_character_sets::ClassSite;
+use pg_declarations::{Declaration, Declared, declaration_at, run_of};
 use pg_form::{ClassExpression, Leaf, NodeId, OperatorsItem, WordId, WordItem};
 use pg_text::Text;
 use pg_value::Grammar;
@@ -37,14 +39,14 @@ impl Replayer<'_> {
     {
         let place = self.place;
         match leaf {
-            Leaf::Satisfy(class) => self.take(text, satisfied(grammar, text, class, place)),
+            Leaf::Satisfy(class) => self.take(text, satisfied(grammar, text, node, class, place)),
             Leaf::String(s) => self.take(text, spelled(text, s.as_slice(), place)),
             Leaf::Word(word) => self.take(text, word_at(grammar, text, *word, place)),
             Leaf::NotFollowedBy(class) => {
-                Ok(stays_if(!next_in(grammar, class, text.char_at(place))))
+                Ok(stays_if(!next_in(grammar, node, class, text.char_at(place))))
             }
             Leaf::EndOfText => Ok(stays_if(place == text.len())),
-            Leaf::Declare(class) => self.declare(alloc, grammar, text, class),
+            Leaf::Declare(class) => self.declare(alloc, grammar, text, node, class),
         }
     }
 
@@ -70,13 +72,20 @@ impl Replayer<'_> {
         alloc: Global,
         grammar: &Grammar,
         text: &Text,
+        node: NodeId,
         class: &ClassExpression,
     ) -> Result<Option<Halt>, AllocError>
-        requires { IsClassIn grammar.now class.now }
+        requires { class_at grammar.now (ClassSite.Node node) ≡ class.now }
         ensures { IfOk result (λ halt. told halt (state_of self.new) ≡ declare_turn grammar.now text.now class.now grammar.now.operators (state_of self.old)) }
     {
         match grammar.operators_item() {
-            Some(item) => match declaration_at(grammar, text, item, class, self.place) {
+            Some(item) => match declaration_at(
+                grammar,
+                text,
+                item,
+                ClassSite::Node(node),
+                self.place,
+            ) {
                 Declaration::NoKeyword | Declaration::NoDigit(_) | Declaration::NoSymbol(_) => Ok(
                     Some(Halt::Stopped(Mismatch::TextDiffers)),
                 ),
@@ -115,23 +124,29 @@ fn stays_if(so: bool) -> Option<Halt>
 }
 
 /// Whether a character of the class comes next.
-fn next_in(grammar: &Grammar, class: &ClassExpression, next: Option<char>) -> bool
-    requires { IsClassIn grammar.now class.now }
+fn next_in(grammar: &Grammar, node: NodeId, class: &ClassExpression, next: Option<char>) -> bool
+    requires { class_at grammar.now (ClassSite.Node node) ≡ class.now }
     ensures { result ≡ next_in grammar.now class.now next }
 {
     match next {
-        Some(c) => grammar.has(class, c),
+        Some(c) => grammar.contains(ClassSite::Node(node), c),
         None => false,
     }
 }
 
 /// One character of the class.
-fn satisfied(grammar: &Grammar, text: &Text, class: &ClassExpression, place: usize) -> Option<usize>
-    requires { IsClassIn grammar.now class.now }
+fn satisfied(
+    grammar: &Grammar,
+    text: &Text,
+    node: NodeId,
+    class: &ClassExpression,
+    place: usize,
+) -> Option<usize>
+    requires { class_at grammar.now (ClassSite.Node node) ≡ class.now }
     ensures value { result ≡ satisfied grammar.now text.now class.now place }
     ensures within { IfSome result (λ n. n ≤ length text.now - place) }
 {
-    if next_in(grammar, class, text.char_at(place)) {
+    if next_in(grammar, node, class, text.char_at(place)) {
         return Some(1);
     }
     None
@@ -176,13 +191,13 @@ fn next_at(text: &Text, place: usize) -> Option<char>
 }
 
 /// A word of the item with this number.
-#[tactic(auto, using(crate::proofs::LeafClasses::head_class, crate::proofs::LeafClasses::rest_class))]
+#[tactic(auto, using(pg_value::proofs::Sites::class_at_head, pg_value::proofs::Sites::class_at_rest))]
 fn word_at(grammar: &Grammar, text: &Text, word: WordId, place: usize) -> Option<usize>
     ensures value { result ≡ word_by grammar.now text.now place (slice_get grammar.now.words word) }
     ensures within { IfSome result (λ n. n ≤ length text.now - place) }
 {
     match item_at(grammar.word_items(), word.index()) {
-        Some(item) => word_of(grammar, text, item, place),
+        Some(item) => word_of(grammar, text, word, item, place),
         None => None,
     }
 }
@@ -196,22 +211,53 @@ fn item_at(items: &[WordItem], number: usize) -> Option<&WordItem>
 
 /// A word of the item.
 #[tactic(auto, using(crate::proofs::Characters::whole_word, crate::proofs::Characters::run_short))]
-fn word_of(grammar: &Grammar, text: &Text, item: &WordItem, place: usize) -> Option<usize>
-    requires head { IsClassIn grammar.now item.now.head }
-    requires rest { IsClassIn grammar.now item.now.rest }
+fn word_of(
+    grammar: &Grammar,
+    text: &Text,
+    word: WordId,
+    item: &WordItem,
+    place: usize,
+) -> Option<usize>
+    requires head { class_at grammar.now (ClassSite.Head word) ≡ item.now.head }
+    requires rest { class_at grammar.now (ClassSite.Rest word) ≡ item.now.rest }
     ensures value { result ≡ word_from grammar.now text.now item.now place (slice_get text.now place) }
     ensures within { IfSome result (λ n. n ≤ length text.now - place) }
 {
     match next_at(text, place) {
         Some(c) => {
-            if !grammar.has(&item.head, c) {
+            if !begins_word(grammar, word, item, c) {
                 return None;
             }
-            let count = run_at(grammar, text, &item.rest, place + 1).len() + 1;
+            let count = rest_at(grammar, text, word, item, place + 1).len() + 1;
             unreserved(item, &after(text, place)[..count])
         }
         None => None,
     }
+}
+
+/// Whether a word of the item begins with the character.
+fn begins_word(grammar: &Grammar, word: WordId, item: &WordItem, c: char) -> bool
+    requires { class_at grammar.now (ClassSite.Head word) ≡ item.now.head }
+    ensures { result ≡ has_character grammar.now.classes item.now.head c }
+{
+    grammar.contains(ClassSite::Head(word), c)
+}
+
+/// The characters at the place that a word of the item goes on with.
+fn rest_at<'a>(
+    grammar: &Grammar,
+    text: &'a Text,
+    word: WordId,
+    item: &WordItem,
+    place: usize,
+) -> &'a [char]
+    requires rest { class_at grammar.now (ClassSite.Rest word) ≡ item.now.rest }
+    requires place { place ≤ length text.now }
+    ensures value { result.now ≡ run_at grammar.now text.now item.now.rest place }
+    ensures within { place + length result.now ≤ length text.now }
+    ensures limit { length text.now ≤ 1048576 }
+{
+    run_of(grammar, text, ClassSite::Rest(word), place)
 }
 
 /// The word's characters, unless it is reserved.

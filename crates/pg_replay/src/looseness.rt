@@ -3,7 +3,7 @@
 ghost use Rattle.std.specs.Prelude.{◌≡◌, OnOk};
 ghost use Rattle.std.specs.Str.{bytes_eq};
 ghost use Rattle.pg_fitting.specs.Judge.{step_of};
-ghost use Rattle.pg_replay.specs.Tasks.{joins, as_kids, inside, inside_form, newest_waiting, operands_waiting, waiting_before, covers, is_text, flattens, is_steady, has_label, makes_node, leaves_out};
+ghost use Rattle.pg_replay.specs.Tasks.{joins, as_kids, as_joined, inside, inside_form, newest_waiting, operands_waiting, waiting_before, covers, is_text, is_dropped, flattens, is_steady, has_label, makes_node, leaves_out};
 ghost use Rattle.pg_replay.specs.View.{loose_of, waiting_of};
 
 use crate::expressions::builder_on;
@@ -14,12 +14,13 @@ use pg_tree::{Label, Shape};
 use pg_value::Fixity;
 use std::alloc::AllocError;
 
-/// How loose the trees of the part are in the form, where what it makes is so loose.
+/// How loose the trees of the part are in the form, where what it makes is so loose: `text` makes its leaf of the text between
+/// its places.
 pub(crate) fn inside_form<'a>(around: &'a Around, loose: Looseness<'a>) -> Looseness<'a>
     ensures { loose_of result ≡ inside_form around.now (loose_of loose.entry) }
 {
     match around {
-        Around::Text | Around::Skip => Looseness::OnlyText,
+        Around::Text | Around::Skip => Looseness::Dropped,
         Around::Build(used, _) => inside(&used.shape, loose),
         Around::Try | Around::Label(_) | Around::Local => loose,
     }
@@ -31,10 +32,10 @@ pub(crate) fn inside<'a>(shape: &'a Shape, loose: Looseness<'a>) -> Looseness<'a
 {
     match shape {
         Shape::Node(_) | Shape::Symbol => as_kids(loose),
-        Shape::Join => Looseness::OnlyText,
+        Shape::Join => as_joined(loose),
         Shape::Flat(label) => match loose {
             Looseness::Tight | Looseness::Apart(_) => Looseness::Apart(label),
-            Looseness::OnlyText => Looseness::OnlyText,
+            Looseness::OnlyText | Looseness::Dropped => loose,
         },
     }
 }
@@ -45,7 +46,17 @@ fn as_kids(loose: Looseness<'_>) -> Looseness<'_>
 {
     match loose {
         Looseness::Tight | Looseness::Apart(_) => Looseness::Tight,
-        Looseness::OnlyText => loose,
+        Looseness::OnlyText | Looseness::Dropped => loose,
+    }
+}
+
+/// Of trees that are joined to a leaf nothing but the text comes into it.
+fn as_joined(loose: Looseness<'_>) -> Looseness<'_>
+    ensures { loose_of result ≡ as_joined (loose_of loose.entry) }
+{
+    match loose {
+        Looseness::Tight | Looseness::Apart(_) | Looseness::OnlyText => Looseness::OnlyText,
+        Looseness::Dropped => Looseness::Dropped,
     }
 }
 
@@ -109,25 +120,35 @@ pub(crate) fn joins(shape: &Shape) -> bool
     }
 }
 
-/// Whether trees that are left out where they are so loose can be left out where they are as loose as the other.
+/// Whether trees without text that are left out where they are so loose can be left out where they are as loose as the other.
 pub(crate) fn covers(known: &Looseness, loose: &Looseness) -> bool
     ensures { result ≡ covers (loose_of known.now) (loose_of loose.now) }
 {
     match (known, loose) {
-        (Looseness::Tight, _) | (_, Looseness::OnlyText) => true,
+        (Looseness::Tight, _) | (_, Looseness::OnlyText | Looseness::Dropped) => true,
         (Looseness::Apart(label), Looseness::Apart(other)) => is_label(label.as_str(), other),
         (Looseness::Apart(_), Looseness::Tight) => false,
-        (Looseness::OnlyText, Looseness::Tight | Looseness::Apart(_)) => false,
+        (Looseness::OnlyText | Looseness::Dropped, Looseness::Tight | Looseness::Apart(_)) => false,
     }
 }
 
-/// Whether nothing but the text of trees is answered.
+/// Whether at most the text of trees is answered.
 pub(crate) fn is_text(loose: &Looseness) -> bool
     ensures { result ≡ is_text (loose_of loose.now) }
 {
     match loose {
-        Looseness::OnlyText => true,
+        Looseness::OnlyText | Looseness::Dropped => true,
         Looseness::Tight | Looseness::Apart(_) => false,
+    }
+}
+
+/// Whether nothing of trees is answered.
+pub(crate) fn is_dropped(loose: &Looseness) -> bool
+    ensures { result ≡ is_dropped (loose_of loose.now) }
+{
+    match loose {
+        Looseness::Dropped => true,
+        Looseness::Tight | Looseness::Apart(_) | Looseness::OnlyText => false,
     }
 }
 
@@ -154,7 +175,7 @@ pub(crate) fn leaves_out(around: &Around, loose: &Looseness) -> bool
 {
     match loose {
         Looseness::Apart(label) => makes_node(around, label),
-        Looseness::Tight | Looseness::OnlyText => false,
+        Looseness::Tight | Looseness::OnlyText | Looseness::Dropped => false,
     }
 }
 

@@ -8,9 +8,9 @@ use crate::looseness::covers;
 use crate::task::{Halt, Looseness, Task};
 use pg_form::RuleId;
 use pg_table::Table;
-use pg_tree::ForestTape;
+use pg_tree::Forest;
 use pg_value::TrailItem;
-use std::alloc::{AllocError, Global};
+use std::alloc::AllocError;
 
 /// The place where a rule's body was last found to take nothing from text and trail, and how loose trees may be there so that
 /// it gives none.
@@ -28,7 +28,7 @@ pub struct Replayer<'a> {
     pub place: usize,
     /// The operators in force there.
     pub table: Table,
-    pub forest: ForestTape,
+    pub forest: Forest,
     /// The items that aren't taken yet.
     pub rest: &'a [TrailItem],
     /// The rules that were entered since something was last taken, and that haven't ended; the newest last.
@@ -129,11 +129,10 @@ impl<'a> Replayer<'a> {
 
     /// The next operand begins.
     #[tactic(auto, using(crate::proofs::Stack::rule_entered))]
-    pub(crate) fn mark(&mut self, alloc: Global) -> Result<(), AllocError>
+    pub(crate) fn mark(&mut self) -> Result<(), AllocError>
         ensures { OnOk result (state_of self.new ≡ with_marks (length self.old.forest ∷ reverse self.old.marks.items) (state_of self.old)) }
     {
         let trees = self.forest.len();
-        self.forest.open(alloc)?;
         self.marks.extend_from_slice(&[trees])
     }
 

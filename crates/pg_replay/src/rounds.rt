@@ -62,7 +62,26 @@ impl Replayer<'_> {
         if self.is_unchanged(place, trees, items) {
             return Ok(None);
         }
+        self.ask_again(place, trees, items, left)?;
         self.round(part, left)
+    }
+
+    /// After a round that took nothing, each of the others gives its trees again: what they take is asked for at once, so that a
+    /// count that is only claimed fills no memory before it is found too large. The only error is that memory ran out.
+    pub(crate) fn ask_again(
+        &mut self,
+        place: usize,
+        trees: usize,
+        items: usize,
+        left: usize,
+    ) -> Result<(), AllocError>
+        ensures { state_of self.new ≡ state_of self.old }
+    {
+        if !self.is_still(place, items) {
+            return Ok(());
+        }
+        let before = trees.min(self.forest.len());
+        self.forest.reserve(before, left)
     }
 
     /// Whether nothing was taken since then, and no tree was given that can't be left out.

@@ -10,7 +10,7 @@ use crate::replayer::Replayer;
 use crate::task::{Chain, Halt, Looseness, Task};
 use pg_form::{Form, Node, NodeId, RuleId};
 use pg_text::Text;
-use pg_tree::{Forest, ForestTape, Shape, built};
+use pg_tree::{Forest, Shape};
 use pg_value::{Grammar, TrailItem};
 use std::alloc::{AllocError, Global};
 
@@ -57,7 +57,7 @@ impl<'a> Replayer<'a> {
                 left,
                 trees,
                 from,
-            } => self.operand(alloc, chain, *left, *trees, *from),
+            } => self.operand(chain, *left, *trees, *from),
             Task::Linked {
                 chain,
                 left,
@@ -69,12 +69,12 @@ impl<'a> Replayer<'a> {
                 self.set_loose(*loose);
                 Ok(None)
             }
-            Task::Fold { side, used, trees } => self.fold(alloc, *side, used, *trees),
-            Task::Term(part, loose) => self.term(alloc, *part, *loose),
+            Task::Fold { used, trees } => self.fold(used, *trees),
+            Task::Term(part, loose) => self.term(*part, *loose),
             Task::Symbol(operator) => Ok(self.symbol(grammar, text, operator)),
             Task::Application { builders, operator } => self.apply(alloc, builders, operator),
             Task::Unmark => self.end_expression(),
-            Task::Close(closing) => self.close(alloc, text, closing),
+            Task::Close(closing) => self.close(text, closing),
             Task::Leave {
                 rule,
                 place,
@@ -122,7 +122,7 @@ impl<'a> Replayer<'a> {
             Form::Choice(parts) => self.choose(parts.as_slice()),
             Form::Many(part) => self.begin_rounds(*part),
             Form::Rule(rule) => self.enter_rule(grammar, *rule),
-            Form::Around(around, part) => self.enter_around(alloc, node, around, *part),
+            Form::Around(around, part) => self.enter_around(node, around, *part),
             Form::Chain(side, used, part, separator) => {
                 let chain = Chain {
                     side: *side,
@@ -130,7 +130,7 @@ impl<'a> Replayer<'a> {
                     part: *part,
                     separator: *separator,
                 };
-                self.begin_chain(alloc, &chain)
+                self.begin_chain(&chain)
             }
             Form::Expression(builders, part) => self.begin_expression(
                 alloc, grammar, builders, *part,
@@ -241,42 +241,16 @@ fn node_at(nodes: &[Node], number: usize) -> Option<&Node>
     nodes.get(number)
 }
 
-/// The trees after so many are made into one.
+/// The trees after so many are made into one, where they lie.
 pub(crate) fn build(
-    alloc: Global,
     shape: &Shape,
     symbol: &str,
     trees: usize,
-    forest: &mut ForestTape,
+    forest: &mut Forest,
 ) -> Result<(), AllocError>
     ensures { OnOk result (forest.new ≡ take trees forest.old ++ built shape.now symbol.now (drop trees forest.old) ∷ []) }
 {
-    let kids = kids_after(alloc, trees, forest)?;
-    forest.push(built(alloc, shape, symbol, kids)?)
-}
-
-/// The same, and the tree begins a stretch: it is taken again where an operator or a link comes before or after it, without being
-/// gone through.
-pub(crate) fn build_stretch(
-    alloc: Global,
-    shape: &Shape,
-    symbol: &str,
-    trees: usize,
-    forest: &mut ForestTape,
-) -> Result<(), AllocError>
-    ensures { OnOk result (forest.new ≡ take trees forest.old ++ built shape.now symbol.now (drop trees forest.old) ∷ []) }
-{
-    let kids = kids_after(alloc, trees, forest)?;
-    forest.open(alloc)?;
-    forest.push(built(alloc, shape, symbol, kids)?)
-}
-
-/// Takes the trees after so many.
-fn kids_after(alloc: Global, trees: usize, forest: &mut ForestTape) -> Result<Forest, AllocError>
-    ensures forest { OnOk result (forest.new ≡ take trees forest.old) }
-    ensures kids { IfOk result (λ kids. kids ≡ drop trees forest.old) }
-{
-    forest.split_off(alloc, trees.min(forest.len()))
+    forest.build(shape, symbol, trees.min(forest.len()))
 }
 
 /// Whether the rule is one of these.

@@ -15,8 +15,10 @@ pub enum Looseness<'a> {
     Tight,
     /// Of those that have the label, the kids in their place, as they are flattened.
     Apart(&'a Label),
-    /// Nothing but their text, or nothing, so that one without text can be left out.
+    /// Nothing but their text, so that one without text can be left out.
     OnlyText,
+    /// Nothing, so that all of them can be left out.
+    Dropped,
 }
 
 /// A chain: from which side it is folded by which builder, its operand and its separator.
@@ -107,9 +109,8 @@ pub enum Task<'a> {
     },
     /// From here on trees are so loose.
     Settle(Looseness<'a>),
-    /// The trees after so many are made into one; from the left that one is folded again.
+    /// The trees after so many are made into one.
     Fold {
-        side: Side,
         used: &'a BuilderUse,
         trees: usize,
     },

@@ -15,7 +15,7 @@ use crate::task::{Halt, Looseness, Task};
 use pg_form::NodeId;
 use pg_table::Table;
 use pg_text::Text;
-use pg_tree::{Forest, ForestTape};
+use pg_tree::Forest;
 use pg_value::{Grammar, Trail};
 use std::alloc::{AllocError, Global};
 
@@ -120,7 +120,7 @@ fn begin<'a>(
         tasks: Vec::new(alloc),
         place: 0,
         table,
-        forest: ForestTape::new(alloc),
+        forest: Forest::new(alloc),
         rest: trail.items(),
         entered: Vec::new(alloc),
         marks: Vec::new(alloc),
@@ -140,10 +140,7 @@ fn halted(replayer: Replayer<'_>, text: &Text, halt: Halt) -> Result<Forest, Rep
 {
     match stop_of(&replayer, text, halt) {
         Some(stop) => Err(ReplayFault::Stopped(stop)),
-        None => {
-            let forest = forest_of(replayer)?;
-            Ok(forest)
-        }
+        None => Ok(forest_of(replayer)),
     }
 }
 
@@ -166,9 +163,9 @@ fn stop_of(replayer: &Replayer<'_>, text: &Text, halt: Halt) -> Option<Stop>
 }
 
 /// The trees that were derived.
-fn forest_of(replayer: Replayer<'_>) -> Result<Forest, AllocError>
-    ensures { IfOk result (λ forest. forest ≡ replayer.entry.forest) }
+fn forest_of(replayer: Replayer<'_>) -> Forest
+    ensures { result ≡ replayer.entry.forest }
 {
     let Replayer { forest, .. } = replayer;
-    forest.into_forest()
+    forest
 }

@@ -15,10 +15,11 @@ ghost use Rattle.pg_own_starts.specs.Words.{AreClassesOf, AreWordClasses};
 ghost use Rattle.pg_own_starts.specs.declared.listed.ListedStart.{ListedStart};
 
 use crate::flows::follow_of;
+use pg_character_sets::classes_of_items;
 use pg_class::Class;
 use pg_form::{Form, Node};
 use pg_graph::Numbers;
-use pg_own_starts::{ListedStart, WordClasses, classes_of_items, classes_of_words, own_starts};
+use pg_own_starts::{ListedStart, WordClasses, classes_of_words, own_starts};
 use pg_start::Start;
 use pg_value::Grammar;
 use std::alloc::{AllocError, Global};

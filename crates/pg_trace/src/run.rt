@@ -2,7 +2,6 @@
 
 ghost use Rattle.std.specs.Prelude.{◌≡◌, ◌-◌, ◌^◌, [], position, IfOk};
 ghost use Rattle.std.specs.Str.{bytes_eq, chars};
-ghost use Rattle.pg_class_tables.specs.Tables.{AreTablesOf};
 ghost use Rattle.pg_language.specs.Answers.{given};
 ghost use Rattle.pg_pred.specs.Offer.{offer_of};
 ghost use Rattle.pg_turns.specs.Ready.{IsTapeReady};
@@ -11,7 +10,6 @@ ghost use Rattle.pg_turns.specs.View.{stack_of, tape_of};
 ghost use Rattle.pg_value.specs.Fits.{Fits};
 
 use crate::teller::Teller;
-use pg_class_tables::ClassTables;
 use pg_form::{NodeId, RuleId};
 use pg_language::Reading;
 use pg_pred::Registry;
@@ -85,9 +83,8 @@ fn is_written<W: Write>(
 ) -> Result<bool, AllocError>
     requires { Fits (offer_of traced.now.registry.now) traced.now.grammar.now }
 {
-    let tables = ClassTables::of(alloc, traced.grammar)?;
     let mut teller = Teller::begun(alloc, traced.grammar, traced.text, traced.only)?;
-    run(alloc, traced, &tables, &mut teller, writer)?;
+    run(alloc, traced, &mut teller, writer)?;
     Ok(teller.writes)
 }
 
@@ -95,36 +92,32 @@ fn is_written<W: Write>(
 fn run<W: Write>(
     alloc: Global,
     traced: &Traced<'_>,
-    tables: &ClassTables,
     teller: &mut Teller<'_>,
     writer: &mut W,
 ) -> Result<(), AllocError>
-    requires fits { Fits (offer_of traced.now.registry.now) traced.now.grammar.now }
-    requires tables { AreTablesOf traced.now.grammar.now tables.now }
+    requires { Fits (offer_of traced.now.registry.now) traced.now.grammar.now }
 {
     let own = traced.table.copy(alloc)?;
     let mut machine = Machine::new(alloc, own);
-    run_by(alloc, traced, tables, &mut machine, teller, writer)
+    run_by(alloc, traced, &mut machine, teller, writer)
 }
 
 /// The same by a machine in which nothing runs.
 fn run_by<'a, W: Write>(
     alloc: Global,
     traced: &Traced<'a>,
-    tables: &ClassTables,
     machine: &mut Machine<'a>,
     teller: &mut Teller<'_>,
     writer: &mut W,
 ) -> Result<(), AllocError>
     requires fits { Fits (offer_of traced.now.registry.now) traced.now.grammar.now }
-    requires tables { AreTablesOf traced.now.grammar.now tables.now }
     requires frames { stack_of machine.old.frames.items ≡ [] }
 {
     let most = traced.max_steps;
     let mut mode = Mode::At(start_of(traced.grammar), 0);
     let mut steps: u64 = 0;
     while steps < most && goes_on(&*machine, &*teller, &mode) {
-        mode = turn(alloc, traced, tables, machine, teller, mode)?;
+        mode = turn(alloc, traced, machine, teller, mode)?;
         put(teller, GATHERED, writer);
         steps += 1;
     }
@@ -148,13 +141,11 @@ fn start_of(grammar: &Grammar) -> NodeId {
 fn turn<'a>(
     alloc: Global,
     traced: &Traced<'a>,
-    tables: &ClassTables,
     machine: &mut Machine<'a>,
     teller: &mut Teller<'_>,
     mode: Mode,
 ) -> Result<Mode, AllocError>
     requires fits { Fits (offer_of traced.now.registry.now) traced.now.grammar.now }
-    requires tables { AreTablesOf traced.now.grammar.now tables.now }
     requires ready { IsTapeReady (offer_of traced.now.registry.now) traced.now.grammar.now (2 ^ 64 - 1) (tape_of mode machine.old) }
     ensures { IfOk result (λ next. tape_of next machine.new ≡
         tape_turn (given traced.now.reading traced.now.grammar.now traced.now.text.now) (tape_of mode machine.old)) }
@@ -163,7 +154,6 @@ fn turn<'a>(
     let progress = machine.turns(
         alloc,
         traced.grammar,
-        tables,
         traced.registry,
         traced.text,
         traced.reading,

@@ -1,9 +1,9 @@
 pub mod Growth
 pub mod Flattening
+pub mod Showing
 pub mod Stored
 pub mod Ends
-pub mod Labels
-pub mod Queues
+pub mod Marking
+pub mod Characters
 pub mod Beginnings
 pub mod Written
-pub mod Stretching

@@ -1,9 +1,9 @@
 pub mod Trees
 pub mod Marks
+pub mod Kept
 pub mod Stored
 pub mod Written
 pub mod Json
 pub mod Built
 pub mod Meter
 pub mod Bytes
-pub mod Stretches

@@ -1,100 +1,110 @@
--- How trees are stored: their leaves and nodes in postorder, and the bytes of their texts and labels in the same order.
-use Rattle.std.specs.Prelude.{◌≡◌, ◌+◌, ◌≤◌, ℕ, zero, suc, Bool, true, false, List, [], ◌∷◌, ◌++◌, length, take, drop, reverse}
-use Rattle.std.specs.Str.{bytes_eq}
-use Rattle.pg_tree.specs.Trees.{Tree, Trees, leaf, node, no_trees, tree, kids_of}
+-- How trees are stored: their leaves and nodes in postorder, the texts of the leaves and the labels of the nodes in the same order.
+use Rattle.std.specs.Prelude.{◌≡◌, ◌+◌, ◌-◌, ◌≤◌, ℕ, zero, suc, Bool, true, false, List, [], ◌∷◌, ◌++◌, length, take, drop, reverse}
+use Rattle.pg_tree.specs.Kept.{Kept, Kepts, kept_leaf, kept_node, no_kepts, kept, kepts_of}
 use Rattle.pg_tree.specs.declared.entry.Entry.{Entry}
 use Rattle.pg_tree.specs.declared.entry.Entry.TheVariants.{Leaf, Node}
 use Rattle.pg_tree.specs.declared.entry.Extent.{Extent}
+use Rattle.pg_tree.specs.declared.store.Store.{Store}
 
--- how many trees
-abbrev pub kid_count : Trees → ℕ
-kid_count no_trees = 0
-kid_count (tree t ts) = suc (kid_count ts)
-
--- the texts and labels of a tree, or of several: a label stands behind the texts and labels of the kids
+-- the texts of the leaves of a tree, or of several
 abbrev mutual
-  pub tree_bytes : Tree → List ℕ
-  tree_bytes (leaf text) = text
-  tree_bytes (node label kids) = kids_bytes kids ++ label
+  pub kept_texts : Kept → List ℕ
+  kept_texts (kept_leaf text) = text
+  kept_texts (kept_node away label kids) = kepts_texts kids
 
-  pub kids_bytes : Trees → List ℕ
-  kids_bytes no_trees = []
-  kids_bytes (tree t ts) = tree_bytes t ++ kids_bytes ts
+  pub kepts_texts : Kepts → List ℕ
+  kepts_texts no_kepts = []
+  kepts_texts (kept t ts) = kept_texts t ++ kepts_texts ts
 
--- the entries of a tree, or of several: a node stands behind its kids
+-- the labels of the nodes: one stands behind those of the kids
 abbrev mutual
-  pub tree_entries : Tree → List Entry
-  tree_entries (leaf text) = Leaf (length text) ∷ []
-  tree_entries (node label kids) = kids_entries kids
-      ++ Node (length label) (kid_count kids) (length (kids_entries kids) + 1) (length (kids_bytes kids ++ label)) ∷ []
+  pub kept_labels : Kept → List ℕ
+  kept_labels (kept_leaf text) = []
+  kept_labels (kept_node away label kids) = kepts_labels kids ++ label
 
-  pub kids_entries : Trees → List Entry
-  kids_entries no_trees = []
-  kids_entries (tree t ts) = tree_entries t ++ kids_entries ts
+  pub kepts_labels : Kepts → List ℕ
+  kepts_labels no_kepts = []
+  kepts_labels (kept t ts) = kept_labels t ++ kepts_labels ts
 
--- the entries, and the bytes, of a list of trees
-abbrev pub entries_of : List Tree → List Entry
-entries_of ts = kids_entries (kids_of ts)
+-- the entries: a node stands behind its kids
+abbrev mutual
+  pub kept_entries : Kept → List Entry
+  kept_entries (kept_leaf text) = Leaf (length text) ∷ []
+  kept_entries (kept_node away label kids) = kepts_entries kids
+      ++ Node away (length label) (length (kepts_entries kids) + 1) (length (kepts_texts kids)) (length (kepts_labels kids ++ label)) ∷ []
 
-abbrev pub bytes_of : List Tree → List ℕ
-bytes_of ts = kids_bytes (kids_of ts)
+  pub kepts_entries : Kepts → List Entry
+  kepts_entries no_kepts = []
+  kepts_entries (kept t ts) = kept_entries t ++ kepts_entries ts
+
+-- those of a list of trees
+abbrev pub entries_of : List Kept → List Entry
+entries_of ts = kepts_entries (kepts_of ts)
+
+abbrev pub texts_of : List Kept → List ℕ
+texts_of ts = kepts_texts (kepts_of ts)
+
+abbrev pub labels_of : List Kept → List ℕ
+labels_of ts = kepts_labels (kepts_of ts)
 
 -- how large the tree is whose last entry this is
 abbrev pub extent_of : Entry → Extent
-extent_of (Leaf bytes) = record { entries = 1; bytes = bytes }
-extent_of (Node label kids entries bytes) = record { entries = entries; bytes = bytes }
+extent_of (Leaf n) = record { entries = 1; texts = n; labels = 0 }
+extent_of (Node away label entries texts labels) = record { entries = entries; texts = texts; labels = labels }
 
--- whether an entry is a node
-abbrev pub is_node : Entry → Bool
-is_node (Leaf bytes) = false
-is_node (Node label kids entries bytes) = true
+-- how long an entry's own text is, and its own label
+abbrev pub own_text : Entry → ℕ
+own_text (Leaf n) = n
+own_text (Node away label entries texts labels) = 0
 
--- how long an entry's own text or label is
-abbrev pub own_bytes : Entry → ℕ
-own_bytes (Leaf bytes) = bytes
-own_bytes (Node label kids entries bytes) = label
+abbrev pub own_label : Entry → ℕ
+own_label (Leaf n) = 0
+own_label (Node away label entries texts labels) = label
 
--- how many kids the tree has whose last entry this is
-abbrev pub kids_below : Entry → ℕ
-kids_below (Leaf bytes) = 0
-kids_below (Node label kids entries bytes) = kids
+-- the entry of a node that is taken away
+abbrev pub entry_away : Entry → Entry
+entry_away (Leaf n) = Leaf n
+entry_away (Node away label entries texts labels) = Node true label entries texts labels
 
--- the texts of the leaves among entries, joined
-abbrev pub leaf_bytes : List Entry → List ℕ → List ℕ
-leaf_bytes [] bytes = []
-leaf_bytes (Leaf n ∷ es) bytes = take n bytes ++ leaf_bytes es (drop n bytes)
-leaf_bytes (Node label _ _ _ ∷ es) bytes = leaf_bytes es (drop label bytes)
-
--- whether a tree is a node with this label
-abbrev pub has_label : List ℕ → Tree → Bool
-has_label label (leaf text) = false
-has_label label (node other kids) = bytes_eq other label
-
--- so many trees of a stack, the last first, before kids
-abbrev pub kids_before : ℕ → Trees → List Tree → Trees
+-- the trees of so many entries on a stack, the last first, before kids; and what is left of the stack
+abbrev pub kids_before : ℕ → Kepts → List Kept → Kepts
 kids_before zero after stack = after
 kids_before (suc n) after [] = after
-kids_before (suc n) after (t ∷ stack) = kids_before n (tree t after) stack
+kids_before (suc n) after (t ∷ stack) = kids_before (suc n - length (kept_entries t)) (kept t after) stack
 
--- the trees that entries and bytes show, behind those of a stack, the last first: a node takes its kids off the stack
-abbrev pub shown_on : List Tree → List Entry → List ℕ → List Tree
-shown_on stack [] bytes = stack
-shown_on stack (Leaf n ∷ es) bytes = shown_on (leaf (take n bytes) ∷ stack) es (drop n bytes)
-shown_on stack (Node label kids _ _ ∷ es) bytes =
-    shown_on (node (take label bytes) (kids_before kids no_trees stack) ∷ drop kids stack) es (drop label bytes)
+abbrev pub rest_before : ℕ → List Kept → List Kept
+rest_before zero stack = stack
+rest_before (suc n) [] = []
+rest_before (suc n) (t ∷ stack) = rest_before (suc n - length (kept_entries t)) stack
 
--- the trees that entries and bytes show
-abbrev pub shown : List Entry → List ℕ → List Tree
-shown entries bytes = reverse (shown_on [] entries bytes)
+-- the trees that entries, texts and labels show, behind those of a stack, the last first: a node takes its kids off the stack
+abbrev pub shown_on : List Kept → List Entry → List ℕ → List ℕ → List Kept
+shown_on stack [] texts labels = stack
+shown_on stack (Leaf n ∷ es) texts labels = shown_on (kept_leaf (take n texts) ∷ stack) es (drop n texts) labels
+shown_on stack (Node away label entries _ _ ∷ es) texts labels =
+    shown_on (kept_node away (take label labels) (kids_before (entries - 1) no_kepts stack) ∷ rest_before (entries - 1) stack) es texts (drop label labels)
 
--- these are the entries, the bytes and the number of these trees
-pub record IsStored (entries : List Entry) (bytes : List ℕ) (roots : ℕ) (ts : List Tree) : Type 0 where
+-- the trees that entries, texts and labels show
+abbrev pub shown : List Entry → List ℕ → List ℕ → List Kept
+shown entries texts labels = reverse (shown_on [] entries texts labels)
+
+-- these are the entries, the texts, the labels and the number of these trees
+pub record IsStored (entries : List Entry) (texts labels : List ℕ) (roots : ℕ) (ts : List Kept) : Type 0 where
   pub entries_are : entries ≡ entries_of ts
-  pub bytes_are : bytes ≡ bytes_of ts
+  pub texts_are : texts ≡ texts_of ts
+  pub labels_are : labels ≡ labels_of ts
   pub roots_are : roots ≡ length ts
 
--- so many entries and bytes are those of the first trees
-pub record IsEndOf (ts : List Tree) (count : ℕ) (end : Extent) : Type 0 where
+-- the trees in a store, and that it keeps these
+abbrev pub kept_in : Store → List Kept
+kept_in s = shown s.entries.items s.texts.items s.labels.items
+
+abbrev pub Keeps : Store → List Kept → Type 0
+Keeps s ts = IsStored s.entries.items s.texts.items s.labels.items s.roots ts
+
+-- so many entries, texts and labels are those of the first trees
+pub record IsEndOf (ts : List Kept) (count : ℕ) (end : Extent) : Type 0 where
   pub within : count ≤ length ts
   pub entries_are : end.entries ≡ length (entries_of (take count ts))
-  pub bytes_are : end.bytes ≡ length (bytes_of (take count ts))
+  pub texts_are : end.texts ≡ length (texts_of (take count ts))
+  pub labels_are : end.labels ≡ length (labels_of (take count ts))

@@ -1,34 +1,40 @@
 -- The text in JSON of entries, from the first to the last. An entry stands behind its kids, but a node's text begins
 -- before theirs.
 use Rattle.std.specs.Prelude.{◌+◌, ◌-◌, ◌&&◌, ◌≤◌, ℕ, zero, suc, Bool, true, false, List, [], ◌∷◌, ◌++◌, length, take, drop, get_or, set, codes, if◌then◌else◌}
-use Rattle.pg_tree.specs.Trees.{Tree, Trees, leaf, node, no_trees, tree}
+use Rattle.pg_tree.specs.Kept.{Kept, Kepts, kept_leaf, kept_node, no_kepts, kept}
 use Rattle.pg_tree.specs.declared.entry.Entry.{Entry}
 use Rattle.pg_tree.specs.declared.entry.Entry.TheVariants.{Leaf, Node}
-use Rattle.pg_tree.specs.Stored.{extent_of, own_bytes, kids_below}
+use Rattle.pg_tree.specs.Stored.{extent_of, own_text, own_label}
 use Rattle.pg_tree.specs.Json.{quoted}
 
--- how many nodes begin at each entry of a tree, if so many begin at its first entry beside its own
+-- how many nodes that are shown begin at each entry of a tree, if so many begin at its first entry beside its own
 abbrev mutual
-  pub openings_with : ℕ → Tree → List ℕ
-  openings_with more (leaf text) = more ∷ []
-  openings_with more (node label kids) = node_openings more kids
+  pub openings_with : ℕ → Kept → List ℕ
+  openings_with more (kept_leaf text) = more ∷ []
+  openings_with more (kept_node true label kids) = node_openings more kids
+  openings_with more (kept_node false label kids) = node_openings (suc more) kids
 
-  pub node_openings : ℕ → Trees → List ℕ
-  node_openings more no_trees = (more + 1) ∷ []
-  node_openings more (tree t ts) = openings_with (more + 1) t ++ (kids_openings ts ++ 0 ∷ [])
+  pub node_openings : ℕ → Kepts → List ℕ
+  node_openings more no_kepts = more ∷ []
+  node_openings more (kept t ts) = openings_with more t ++ (kids_openings ts ++ 0 ∷ [])
 
-  pub kids_openings : Trees → List ℕ
-  kids_openings no_trees = []
-  kids_openings (tree t ts) = openings_with 0 t ++ kids_openings ts
+  pub kids_openings : Kepts → List ℕ
+  kids_openings no_kepts = []
+  kids_openings (kept t ts) = openings_with 0 t ++ kids_openings ts
 
--- numbers with one more at this index
-abbrev pub raised : List ℕ → ℕ → List ℕ
-raised counts i = set counts i (get_or counts i 0 + 1)
+-- numbers with so much more at this index
+abbrev pub raised : ℕ → List ℕ → ℕ → List ℕ
+raised more counts i = set counts i (get_or counts i 0 + more)
+
+-- how many nodes that are shown begin with the tree of an entry, by itself
+abbrev pub opening : Entry → ℕ
+opening (Leaf n) = 0
+opening (Node true label entries texts labels) = 0
+opening (Node false label entries texts labels) = 1
 
 -- the openings so far, with the next entry: a node begins where its tree does
 abbrev pub with_opening : List ℕ → Entry → List ℕ
-with_opening counts (Leaf n) = counts ++ 0 ∷ []
-with_opening counts (Node l k size b) = raised (counts ++ 0 ∷ []) (length counts + 1 - size)
+with_opening counts e = raised (opening e) (counts ++ 0 ∷ []) (length counts + 1 - (extent_of e).entries)
 
 -- the openings of entries, behind those of the entries before them
 abbrev pub openings_on : List ℕ → List Entry → List ℕ
@@ -48,23 +54,40 @@ abbrev pub braces : ℕ → List ℕ
 braces zero = []
 braces (suc n) = braces n ++ codes "{\"kids\":["
 
--- a tree begins with an entry that has no kids
-abbrev pub has_none : ℕ → Bool
-has_none zero = true
-has_none (suc n) = false
+-- whether there are some
+abbrev pub has_some : ℕ → Bool
+has_some zero = false
+has_some (suc n) = true
 
--- the comma before a tree that begins with this entry, where something stands before it
-abbrev pub separator : Bool → Entry → List ℕ
-separator later e = if later && has_none (kids_below e) then codes "," else []
+-- whether a tree that is shown begins with an entry, at which so many nodes begin
+abbrev pub begins : ℕ → Entry → Bool
+begins nodes (Leaf n) = true
+begins nodes (Node away label entries texts labels) = has_some nodes
+
+-- the comma before such a tree, where another ends before it
+abbrev pub separator : Bool → ℕ → Entry → List ℕ
+separator later n e = if later && begins n e then codes "," else []
+
+-- whether a tree ends before what comes next: after the first texts of so many nodes, and after the text of an entry
+abbrev pub still : Bool → ℕ → Bool
+still later zero = later
+still later (suc n) = false
+
+abbrev pub ended : Bool → Entry → Bool
+ended later (Leaf n) = true
+ended later (Node true label entries texts labels) = later
+ended later (Node false label entries texts labels) = true
 
 -- the text of a leaf, and that of a node behind its kids
-abbrev pub own_json : Entry → List ℕ → List ℕ
-own_json (Leaf n) bytes = quoted (take n bytes)
-own_json (Node label k s b) bytes = codes "],\"node\":" ++ (quoted (take label bytes) ++ codes "}")
+abbrev pub own_json : Entry → (texts labels : List ℕ) → List ℕ
+own_json (Leaf n) texts labels = quoted (take n texts)
+own_json (Node true label e t s) texts labels = []
+own_json (Node false label e t s) texts labels = codes "],\"node\":" ++ (quoted (take label labels) ++ codes "}")
 
--- the text of entries with their openings and bytes
-abbrev pub entries_json : Bool → List Entry → List ℕ → List ℕ → List ℕ
-entries_json later [] counts bytes = []
-entries_json later (e ∷ es) [] bytes = []
-entries_json later (e ∷ es) (n ∷ counts) bytes =
-    separator later e ++ (braces n ++ (own_json e bytes ++ entries_json true es counts (drop (own_bytes e) bytes)))
+-- the text of entries with their openings, texts and labels
+abbrev pub entries_json : Bool → List Entry → (counts texts labels : List ℕ) → List ℕ
+entries_json later [] counts texts labels = []
+entries_json later (e ∷ es) [] texts labels = []
+entries_json later (e ∷ es) (n ∷ counts) texts labels =
+    separator later n e
+    ++ (braces n ++ (own_json e texts labels ++ entries_json (ended (still later n) e) es counts (drop (own_text e) texts) (drop (own_label e) labels)))

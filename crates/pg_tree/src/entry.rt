@@ -1,39 +1,42 @@
 //! The leaves and nodes of trees as entries of one list.
 //!
-//! A list of trees is stored in postorder, so that a node stands behind its kids and nothing has to recurse. The texts
-//! and the labels stand in one queue of bytes, in the order of the entries. specs/Stored.antt says which trees entries
-//! and bytes stand for.
+//! A list of trees is stored in postorder, so that a node stands behind its kids and nothing has to recurse. The texts of the
+//! leaves stand in one list of bytes, and the labels of the nodes in another, each in the order of the entries. So the texts of
+//! trees that stand beside each other are one piece. specs/Stored.antt says which trees entries, texts and labels stand for.
 
-ghost use Rattle.std.specs.Prelude.{◌≡◌, IfOk};
-ghost use Rattle.pg_tree.specs.Stored.{extent_of, own_bytes, kids_below, is_node};
-ghost use Rattle.pg_tree.specs.Written.{has_none};
+ghost use Rattle.std.specs.Prelude.{◌≡◌, ◌≤◌, false, IfOk};
+ghost use Rattle.pg_tree.specs.Stored.{extent_of, own_text, own_label, entry_away};
+ghost use Rattle.pg_tree.specs.Written.{opening, has_some, begins, still, ended};
 ghost use Rattle.pg_tree.specs.declared.entry.Entry.TheVariants.{Leaf, Node};
 
 use std::alloc::AllocError;
 
-/// A leaf or a node. Its numbers have 32 bits, so that a run's trees take half the memory.
+/// A leaf or a node. Most of its numbers have 32 bits, so that a run's trees take half the memory.
 #[derive(Clone, Copy)]
 pub(crate) enum Entry {
     /// A leaf, with the length of its text in bytes.
     Leaf(u32),
     /// A node.
     Node {
+        /// Whether flattening took it away, so that its kids stand in its place.
+        away: bool,
         /// The length of the label in bytes.
         label: u32,
-        /// How many kids the node has.
-        kids: u32,
         /// How many entries its tree has, this one among them.
         entries: u32,
-        /// How many bytes its tree has, those of the label among them.
-        bytes: u32,
+        /// How many bytes the texts of its tree have.
+        texts: u32,
+        /// How many bytes the labels of its tree have, this one among them: each may be long, so that 32 bits don't hold them.
+        labels: usize,
     },
 }
 
-/// So many entries and bytes: how large a tree is, or where it ends.
+/// So many entries, and bytes of texts and labels: how large a tree is, or where it ends.
 #[derive(Clone, Copy)]
 pub(crate) struct Extent {
     pub(crate) entries: usize,
-    pub(crate) bytes: usize,
+    pub(crate) texts: usize,
+    pub(crate) labels: usize,
 }
 
 impl Entry {
@@ -44,21 +47,22 @@ impl Entry {
         Ok(Entry::Leaf(counted(bytes)?))
     }
 
-    /// A node with a label of so many bytes, with so many kids, entries and bytes. The only error is that some are too many
-    /// to be counted.
+    /// A node with a label of so many bytes, with so many entries and bytes of texts and labels. The only error is that some are
+    /// too many to be counted.
     pub(crate) fn node(
         label: usize,
-        kids: usize,
         entries: usize,
-        bytes: usize,
+        texts: usize,
+        labels: usize,
     ) -> Result<Entry, AllocError>
-        ensures { IfOk result (λ entry. entry ≡ Node label kids entries bytes) }
+        ensures { IfOk result (λ entry. entry ≡ Node false label entries texts labels) }
     {
         Ok(Entry::Node {
+            away: false,
             label: counted(label)?,
-            kids: counted(kids)?,
             entries: counted(entries)?,
-            bytes: counted(bytes)?,
+            texts: counted(texts)?,
+            labels,
         })
     }
 
@@ -69,53 +73,116 @@ impl Entry {
         match self {
             Entry::Leaf(bytes) => Extent {
                 entries: 1,
-                bytes: bytes as usize,
+                texts: bytes as usize,
+                labels: 0,
             },
-            Entry::Node { entries, bytes, .. } => Extent {
+            Entry::Node {
+                entries,
+                texts,
+                labels,
+                ..
+            } => Extent {
                 entries: entries as usize,
-                bytes: bytes as usize,
+                texts: texts as usize,
+                labels,
             },
         }
     }
 
-    /// How long its own text or label is.
-    pub(crate) fn own_bytes(self) -> usize
-        ensures { result ≡ own_bytes self }
+    /// The same node, taken away; a leaf stays.
+    pub(crate) fn put_away(self) -> Entry
+        ensures { result ≡ entry_away self }
+    {
+        match self {
+            Entry::Leaf(bytes) => Entry::Leaf(bytes),
+            Entry::Node {
+                label,
+                entries,
+                texts,
+                labels,
+                ..
+            } => Entry::Node {
+                away: true,
+                label,
+                entries,
+                texts,
+                labels,
+            },
+        }
+    }
+
+    /// How long its own text is.
+    pub(crate) fn own_text(self) -> usize
+        ensures { result ≡ own_text self }
     {
         match self {
             Entry::Leaf(bytes) => bytes as usize,
+            Entry::Node { .. } => 0,
+        }
+    }
+
+    /// How long its own label is.
+    pub(crate) fn own_label(self) -> usize
+        ensures { result ≡ own_label self }
+    {
+        match self {
+            Entry::Leaf(_) => 0,
             Entry::Node { label, .. } => label as usize,
         }
     }
 
-    /// Whether this is a node.
-    pub(crate) fn is_node(self) -> bool
-        ensures { result ≡ is_node self }
-    {
-        match self {
-            Entry::Leaf(_) => false,
-            Entry::Node { .. } => true,
-        }
-    }
-
-    /// How many kids the tree has whose last entry this is.
-    pub(crate) fn kids(self) -> usize
-        ensures { result ≡ kids_below self }
+    /// How many nodes that are shown begin with its tree, by itself.
+    pub(crate) fn opening(self) -> usize
+        ensures value { result ≡ opening self }
+        ensures small { result ≤ 1 }
     {
         match self {
             Entry::Leaf(_) => 0,
-            Entry::Node { kids, .. } => kids as usize,
+            Entry::Node { away: true, .. } => 0,
+            Entry::Node { away: false, .. } => 1,
         }
     }
 
-    /// Whether a tree begins with this entry.
-    pub(crate) fn begins(self) -> bool
-        ensures { result ≡ has_none (kids_below self) }
+    /// Whether a tree that is shown begins with it, where so many nodes begin.
+    pub(crate) fn begins(self, nodes: usize) -> bool
+        ensures { result ≡ begins nodes self }
     {
-        match self.kids() {
-            0 => true,
-            _ => false,
+        match self {
+            Entry::Leaf(_) => true,
+            Entry::Node { .. } => has_some(nodes),
         }
+    }
+
+    /// Whether a tree ends before what comes after its text, before which so many nodes begin; `later` says whether one ends
+    /// before those.
+    pub(crate) fn ended(self, later: bool, nodes: usize) -> bool
+        ensures { result ≡ ended (still later nodes) self }
+    {
+        match self {
+            Entry::Leaf(_) => true,
+            Entry::Node { away: true, .. } => still(later, nodes),
+            Entry::Node { away: false, .. } => true,
+        }
+    }
+}
+
+/// Whether there are some.
+fn has_some(nodes: usize) -> bool
+    ensures { result ≡ has_some nodes }
+{
+    match nodes {
+        0 => false,
+        _ => true,
+    }
+}
+
+/// Whether a tree ends before what comes after the first texts of so many nodes.
+fn still(later: bool, nodes: usize) -> bool
+    ensures { result ≡ still later nodes }
+{
+    match nodes {
+        0 => later,
+        _ => false,
     }
 }
 

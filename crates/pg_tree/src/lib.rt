@@ -8,24 +8,20 @@
 
 mod entry;
 mod forest;
-mod forest_tape;
 mod json_text;
-mod kids;
 mod label;
 mod meter;
 mod openings;
-mod queue;
 mod quoted;
 mod read;
 mod shape;
-mod stretches;
+mod store;
 #[cfg(test)]
 mod tests;
 mod tree;
 mod write;
 
 pub use forest::Forest;
-pub use forest_tape::ForestTape;
 pub use label::Label;
 pub use meter::Meter;
 pub use read::{ReadFault, read_bytes};

@@ -1,22 +1,21 @@
-//! How many nodes begin at each entry.
+//! How many nodes that are shown begin at each entry.
 //!
 //! A node begins at the first entry of its tree, which its size gives. Only `json_text.rt` calls this.
 
-ghost use Rattle.std.specs.Prelude.{◌≡◌, ◌≤◌, length, sum, IfOk, OnOk};
-ghost use Rattle.pg_tree.specs.Trees.{kids_of};
-ghost use Rattle.pg_tree.specs.Written.{IsWithin, with_opening, kids_openings};
+ghost use Rattle.std.specs.Prelude.{◌≡◌, ◌≤◌, [], length, sum, IfOk, OnOk};
+ghost use Rattle.pg_tree.specs.Written.{IsWithin, AreWithin, with_opening, openings_on};
 
 use crate::entry::Entry;
-use crate::forest::Forest;
 use std::alloc::{AllocError, Global};
 
-/// How many nodes begin at each entry of a forest.
-pub(crate) fn openings(alloc: Global, forest: &Forest) -> Result<Vec<usize>, AllocError>
-    ensures { IfOk result (λ openings. openings.items ≡ kids_openings (kids_of forest.now)) }
+/// How many nodes that are shown begin at each of these entries, which the caller owes to be those of trees.
+pub(crate) fn openings(alloc: Global, entries: &[Entry]) -> Result<Vec<usize>, AllocError>
+    requires { AreWithin 0 entries.now }
+    ensures { IfOk result (λ openings. openings.items ≡ openings_on [] entries.now) }
 {
-    let mut openings = Vec::new(alloc);
-    for i in 0..forest.entries.len() {
-        push_opening(forest.entries[i], &mut openings)?;
+    let mut openings = Vec::with_capacity(alloc, entries.len())?;
+    for i in 0..entries.len() {
+        push_opening(entries[i], &mut openings)?;
     }
     Ok(openings)
 }
@@ -29,9 +28,6 @@ fn push_opening(entry: Entry, openings: &mut Vec<usize>) -> Result<(), AllocErro
 {
     openings.push(0)?;
     let begin = openings.len() - entry.extent().entries;
-    match entry {
-        Entry::Leaf(_) => {}
-        Entry::Node { .. } => openings[begin] += 1,
-    }
+    openings[begin] += entry.opening();
     Ok(())
 }

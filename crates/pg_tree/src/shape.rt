@@ -3,12 +3,10 @@
 //! A shape is part of a grammar, beside the builder's name: what a grammar derives is told by it. The functions that
 //! builders store are held to `built`, and so is the function of this name.
 
-ghost use Rattle.std.specs.Prelude.{◌≡◌, ◌↔◌, List, IfOk, IfSome, IsTrue};
-ghost use Rattle.pg_tree.specs.Trees.{Tree as Made, node, kids_of};
+ghost use Rattle.std.specs.Prelude.{◌≡◌, ◌↔◌, IfOk, IsTrue};
 ghost use Rattle.pg_tree.specs.Built.{built};
 
 use crate::forest::Forest;
-use crate::kids::{flattened, joined};
 use crate::label::Label;
 use crate::tree::Tree;
 use std::alloc::{AllocError, Global};
@@ -39,17 +37,6 @@ impl Shape {
         }
     }
 
-    /// The label of the node that the shape makes of the kids as they are, with this symbol, if it makes one.
-    pub fn label<'a>(&'a self, symbol: &'a str) -> Option<&'a str>
-        ensures { IfSome result (λ label. (kids : List Made) → built self.now symbol.now kids ≡ node label.now (kids_of kids)) }
-    {
-        match self {
-            Shape::Node(label) => Some(label.as_str()),
-            Shape::Symbol => Some(symbol),
-            Shape::Join | Shape::Flat(_) => None,
-        }
-    }
-
     /// Whether the other shape is equal.
     pub fn equals(&self, other: &Shape) -> bool
         ensures { IsTrue result ↔ (self.now ≡ other.now) }
@@ -69,16 +56,7 @@ impl Shape {
 pub fn built(alloc: Global, shape: &Shape, symbol: &str, kids: Forest) -> Result<Tree, AllocError>
     ensures { IfOk result (λ tree. tree ≡ built shape.now symbol.now kids) }
 {
-    match shape {
-        Shape::Node(label) => Tree::node(alloc, label.as_str(), kids),
-        Shape::Symbol => Tree::node(alloc, symbol, kids),
-        Shape::Join => {
-            let text = joined(alloc, kids)?;
-            Tree::of_text(alloc, text)
-        }
-        Shape::Flat(label) => {
-            let kids = flattened(alloc, label.as_str(), kids)?;
-            Tree::node(alloc, label.as_str(), kids)
-        }
-    }
+    let mut forest = kids;
+    forest.build(shape, symbol, 0)?;
+    Ok(Tree { forest })
 }

@@ -4,14 +4,12 @@
 //! label kids` of specs/Trees.antt, with texts as the bytes of UTF-8. No clause names how it is
 //! stored. The parsers' results and the printed forests rely on it.
 
-ghost use Rattle.std.specs.Prelude.{◌≡◌, IfOk};
+ghost use Rattle.std.specs.Prelude.{◌≡◌, [], ◌∷◌, IfOk};
 ghost use Rattle.pg_tree.specs.Trees.{leaf, node, kids_of};
 
-use crate::entry::Entry;
 use crate::forest::Forest;
-use crate::queue::push_bytes;
+use crate::store::Store;
 use std::alloc::{AllocError, Global};
-use std::collections::VecDeque;
 use std::marker::Model;
 
 /// A leaf with a text, or a node with a label and its kids in order (ours: the shape of what a
@@ -41,22 +39,7 @@ impl Tree {
     pub fn leaf(alloc: Global, text: &str) -> Result<Tree, AllocError>
         ensures { IfOk result (λ t. t ≡ leaf text.now) }
     {
-        let mut bytes = VecDeque::new(alloc);
-        push_bytes(&mut bytes, text.as_bytes())?;
-        Tree::of_text(alloc, bytes)
-    }
-
-    /// The leaf with these bytes. The only error is that memory ran out.
-    pub(crate) fn of_text(alloc: Global, text: VecDeque<u8>) -> Result<Tree, AllocError>
-        ensures { IfOk result (λ t. t ≡ leaf text.items) }
-    {
-        let mut entries = VecDeque::new(alloc);
-        entries.push_back(Entry::leaf(text.len())?)?;
-        let forest = Forest {
-            entries,
-            bytes: text,
-            roots: 1,
-        };
+        let forest = one_leaf(alloc, text)?;
         Ok(Tree { forest })
     }
 
@@ -69,4 +52,12 @@ impl Tree {
         forest.wrap(label, 0)?;
         Ok(Tree { forest })
     }
+}
+
+/// A forest of one leaf with a copy of this text.
+fn one_leaf(alloc: Global, text: &str) -> Result<Forest, AllocError>
+    ensures { IfOk result (λ forest. forest ≡ leaf text.now ∷ []) }
+{
+    let store = Store::leaf(alloc, text.as_bytes())?;
+    Ok(Forest { store })
 }

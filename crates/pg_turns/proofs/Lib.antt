@@ -12,7 +12,7 @@ pub mod Runs
 pub mod Shown
 pub mod ChainsShown
 pub mod Labels
-pub mod Declared
+pub mod LeafClasses
 pub mod LevelsLie
 pub mod OperatorErrors
 pub mod OperandsLie
@@ -23,3 +23,4 @@ pub mod Turned
 pub mod Ready
 pub mod TapeRuns
 pub mod Hiding
+pub mod PastError

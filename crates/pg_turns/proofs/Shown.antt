@@ -28,6 +28,7 @@ use Rattle.pg_message_tape.specs.TapeErrors.{Says}
 use Rattle.pg_turns.specs.declared.frame.Before as declared
 use Rattle.pg_turns.specs.declared.frame.Reply.TheVariants.{Succeeded, Failed}
 use Rattle.pg_message_tape.specs.declared.message_tape.TapeError.{TapeError}
+use Rattle.pg_turns.proofs.PastError.{past_says}
 use Rattle.pg_message_tape.proofs.Merged.{drop_seam, take_seam, hold, nothing_says, alone, cut_messages, merge_says, after_says}
 
 -- ---- the same lists in another form
@@ -117,9 +118,9 @@ module _ {G : Given} {T : Table} where
   parts_succeeded {v = v} {t = t} (p ∷ ps) c j s r h no_parts g q m =
       let d = append-nil t in moved (shows_at (stands_parts h (some_parts (hold q) m)) (framed refl refl (relisted (ap (λ k. k ++ s) (append-nil v)) g))) cc
   parts_succeeded {v = v} {w = w} {t = t} {u = u} [] c j s r h (some_parts {c = b} k l) g q m =
-      let d = three t u r in moved (shows_succeeded h (relisted (sym (three v w s)) g) (after_says c k q) (extends_both b c l m)) cc
+      let d = three t u r in moved (shows_succeeded h (relisted (sym (three v w s)) g) (past_says c k q) (extends_both b c l m)) cc
   parts_succeeded {v = v} {w = w} {t = t} {u = u} (p ∷ ps) c j s r h (some_parts {c = b} k l) g q m =
-      let d = three t u r in moved (shows_at (stands_parts h (some_parts (hold (after_says c k q)) (extends_both b c l m))) (framed refl refl (relisted (sym (three v w s)) g))) cc
+      let d = three t u r in moved (shows_at (stands_parts h (some_parts (hold (past_says c k q)) (extends_both b c l m))) (framed refl refl (relisted (sym (three v w s)) g))) cc
 
   pub parts_failed : {fs : List Frame} {gs : List OnFrame} {v w : List Tree} {g : RunTrees} {t u : List TrailItem} {x y z : List TapeMessage} {U W : Table} {done : Before} {b : Option declared.Before} {error : TapeError} {f : Error}
       (ps : List ℕ) (c : Bool) (s : List Tree) (r : List TrailItem) → Stands G fs gs v t x T → ShowsBefore x T done w u b y U → Means gs g (v ++ w ++ s) → Says y error f z → Extends true U W →
@@ -129,9 +130,9 @@ module _ {G : Given} {T : Table} where
   parts_failed {v = v} {t = t} (p ∷ ps) c s r h no_parts g q m =
       let d = append-nil t in moved (shows_failed s r h (relisted (ap (λ k. k ++ s) (append-nil v)) g) q m) cc
   parts_failed {v = v} {w = w} {t = t} {u = u} [] c s r h (some_parts k l) g q m =
-      let d = three t u r in moved (shows_failed (w ++ s) (u ++ r) h (relisted (sym (three v w s)) g) (after_says c k q) (extends_both true true (extends_any l) m)) cc
+      let d = three t u r in moved (shows_failed (w ++ s) (u ++ r) h (relisted (sym (three v w s)) g) (past_says c k q) (extends_both true true (extends_any l) m)) cc
   parts_failed {v = v} {w = w} {t = t} {u = u} (p ∷ ps) c s r h (some_parts k l) g q m =
-      let d = three t u r in moved (shows_failed (w ++ s) (u ++ r) h (relisted (sym (three v w s)) g) (after_says c k q) (extends_both true true (extends_any l) m)) cc
+      let d = three t u r in moved (shows_failed (w ++ s) (u ++ r) h (relisted (sym (three v w s)) g) (past_says c k q) (extends_both true true (extends_any l) m)) cc
 
   -- ---- choices
 

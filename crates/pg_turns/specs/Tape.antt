@@ -106,14 +106,23 @@ abbrev pub joined_consumed : Option Before → Bool → Bool
 joined_consumed None c = c
 joined_consumed (Some b) c = b.consumed || c
 
+-- the error after one that is kept: where the answer consumed and nothing is said of it, the kept one's messages and all after them are dropped
+abbrev pub tape_error_past : Bool → KeptError → TapeError → List TapeMessage → TapeError
+tape_error_past true kept error x = if error.from == length x then tape_error error.place kept.from else error
+tape_error_past false kept error x = merged_tape_error kept error x
+
+abbrev pub messages_past : Bool → KeptError → TapeError → List TapeMessage → List TapeMessage
+messages_past true kept error x = if error.from == length x then take kept.from x else x
+messages_past false kept error x = merged_messages kept error x
+
 -- the error after that of the parts before
 abbrev pub joined_tape_error : Option Before → Bool → TapeError → List TapeMessage → TapeError
 joined_tape_error None c error x = error
-joined_tape_error (Some b) c error x = tape_error_after c b.kept error x
+joined_tape_error (Some b) c error x = tape_error_past c b.kept error x
 
 abbrev pub joined_messages : Option Before → Bool → TapeError → List TapeMessage → List TapeMessage
 joined_messages None c error x = x
-joined_messages (Some b) c error x = messages_after c b.kept error x
+joined_messages (Some b) c error x = messages_past c b.kept error x
 
 abbrev pub before_at : Bool → ℕ → TapeError → Before
 before_at c upto error = record { consumed = c; kept = kept_at upto error }

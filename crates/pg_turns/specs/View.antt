@@ -14,7 +14,7 @@ use Rattle.pg_turns.specs.declared.frame.Mode.{Mode}
 use Rattle.pg_turns.specs.declared.frame.Mode.TheVariants as mode
 use Rattle.pg_turns.specs.declared.machine.Machine.{Machine}
 use Rattle.pg_lists.specs.RunTrees.{RunTrees}
-use Rattle.pg_lists.specs.ViewLevels.{setting_of, levels_of}
+use Rattle.pg_lists.specs.ViewLevels.{setting_of}
 
 abbrev pub tried_of : Tried → OnTried
 tried_of tried.Nothing = no_tried
@@ -49,7 +49,7 @@ frame_of (frame.Separator l) = on_separator (links_of l.value)
 frame_of (frame.Operand l before trees) = on_operand (links_of l.value) before trees
 frame_of frame.Rule = on_rule
 frame_of (frame.Around f) = on_around f.around.now f.start f.forest f.operators
-frame_of (frame.Expression f) = on_expression (setting_of f.value.setting) (levels_of f.value.levels.items)
+frame_of (frame.Expression f) = on_expression (setting_of f.value.setting) f.value.levels
 
 abbrev pub is_choice : Frame → Bool
 is_choice (frame.Choice f) = true

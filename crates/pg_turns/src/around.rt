@@ -11,19 +11,18 @@ ghost use Rattle.pg_turns.specs.View.{on_lists, tape_of};
 use crate::frame::{AroundFrame, Mode, Reply};
 use crate::machine::Machine;
 use pg_form::Around;
-use pg_lists::{RunForest, begin_build, build_after, end_build};
+use pg_lists::{RunForest, build_after};
 use pg_message_tape::MessageTape;
 use pg_pred::Registry;
 use pg_table::Table;
 use pg_text::Text;
-use std::alloc::{AllocError, Global};
+use std::alloc::AllocError;
 
 impl<'a> Machine<'a> {
     /// An answer of the part.
     #[inline(always)]
     pub(crate) fn hand_to_around(
         &mut self,
-        alloc: Global,
         registry: &Registry,
         text: &Text,
         frame: AroundFrame<'a>,
@@ -35,7 +34,6 @@ impl<'a> Machine<'a> {
     {
         let around = frame.around;
         make(
-            alloc,
             registry,
             text,
             around,
@@ -50,21 +48,16 @@ impl<'a> Machine<'a> {
     }
 }
 
-/// What a form that begins does with the trees: one that takes those of its part off opens a stretch of them, and one that throws
-/// them away has none made.
+/// What a form that begins does with the trees: one that throws those of its part away has none made.
 #[inline(always)]
-pub(crate) fn begin(
-    alloc: Global,
-    around: &Around,
-    forest: &mut RunForest,
-) -> Result<(), AllocError>
+pub(crate) fn begin(around: &Around, forest: &mut RunForest) -> Result<(), AllocError>
     ensures { OnOk result (forest.new ≡ forest_in around.now forest.old) }
 {
     match around {
         Around::Try => Ok(()),
         Around::Text => forest.hide(),
         Around::Skip => forest.hide(),
-        Around::Build(used, symbol) => begin_build(alloc, used, symbol.as_str(), forest),
+        Around::Build(_, _) => Ok(()),
         Around::Label(_) => Ok(()),
         Around::Local => Ok(()),
     }
@@ -140,7 +133,6 @@ fn say<'a>(
 /// What the form makes of the trees after the first, where the part is ok.
 #[inline(always)]
 fn make(
-    alloc: Global,
     registry: &Registry,
     text: &Text,
     around: &Around,
@@ -157,7 +149,7 @@ fn make(
             consumed: _,
             end,
             error: _,
-        } => remake(alloc, registry, text, around, start, end, count, forest),
+        } => remake(registry, text, around, start, end, count, forest),
         Reply::Failed { .. } => give_up(around, count, forest),
         Reply::EmptyRound => Ok(()),
     }
@@ -178,8 +170,7 @@ fn give_up(around: &Around, count: usize, forest: &mut RunForest) -> Result<(), 
             show_first(count, forest);
             Ok(())
         }
-        Around::Build(used, symbol) => end_build(used, symbol.as_str(), count, forest),
-        Around::Label(_) | Around::Local => Ok(()),
+        Around::Build(_, _) | Around::Label(_) | Around::Local => Ok(()),
     }
 }
 
@@ -195,7 +186,6 @@ fn show_first(count: usize, forest: &mut RunForest)
 /// The same of a part that took the text from the one place to the other.
 #[inline(never)]
 fn remake(
-    alloc: Global,
     registry: &Registry,
     text: &Text,
     around: &Around,
@@ -215,7 +205,7 @@ fn remake(
             Ok(())
         }
         Around::Build(used, symbol) => {
-            build_after(alloc, registry, used, symbol.as_str(), count, forest)
+            build_after(registry, used, symbol.as_str(), count, forest)
         }
         Around::Label(_) | Around::Local => Ok(()),
     }

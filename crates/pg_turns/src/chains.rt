@@ -14,7 +14,7 @@ ghost use Rattle.pg_turns.specs.declared.frame.Reply.TheVariants.{Succeeded};
 use crate::frame::{Before, ChainFrame, Frame, LinksFrame, Marks, Mode, Reply};
 use crate::machine::Machine;
 use pg_form::{BuilderUse, Side};
-use pg_lists::{Lists, RunForest, build_stretch};
+use pg_lists::{Lists, RunForest, build_after};
 use pg_message_tape::{KeptError, TapeError};
 use pg_pred::Registry;
 use pg_value::TrailItem;
@@ -57,7 +57,6 @@ impl<'a> Machine<'a> {
                 self.begin_links(alloc, chain, consumed, end, error)
             }
             Reply::Failed { consumed, error } => {
-                self.lists.forest.close(forest)?;
                 Ok(Mode::With(Reply::Failed { consumed, error }))
             }
             Reply::EmptyRound => Ok(Mode::With(Reply::EmptyRound)),
@@ -111,7 +110,6 @@ impl<'a> Machine<'a> {
     #[inline(always)]
     pub(crate) fn hand_to_separator(
         &mut self,
-        alloc: Global,
         registry: &Registry,
         links: Box<LinksFrame<'a>>,
         reply: Reply,
@@ -128,17 +126,12 @@ impl<'a> Machine<'a> {
             } => {
                 let kept = self.lists.messages.kept(error);
                 let trees = self.lists.forest.len();
-                // From the right the trees of an operand are taken with what comes before them, but only after all that comes after.
-                match links.chain.side {
-                    Side::Left => {}
-                    Side::Right => self.lists.forest.open(alloc)?,
-                }
                 let operand = links.chain.operand;
                 let frame = Frame::Operand(links, Before { consumed, kept }, trees);
                 self.enter_part(frame, operand, end)
             }
             Reply::Failed { consumed, error } => {
-                self.end_links(alloc, registry, links, consumed, error)
+                self.end_links(registry, links, consumed, error)
             }
             Reply::EmptyRound => Ok(Mode::With(Reply::EmptyRound)),
         }
@@ -149,7 +142,6 @@ impl<'a> Machine<'a> {
     #[inline(always)]
     pub(crate) fn hand_to_operand(
         &mut self,
-        alloc: Global,
         registry: &Registry,
         links: Box<LinksFrame<'a>>,
         before: Before,
@@ -169,7 +161,7 @@ impl<'a> Machine<'a> {
             } => {
                 let error = self.lists.error_after(before.kept, consumed, error)?;
                 if before.consumed || consumed {
-                    self.add_link(alloc, registry, links, trees, end, error)
+                    self.add_link(registry, links, trees, end, error)
                 } else {
                     Ok(Mode::Endless)
                 }
@@ -177,7 +169,7 @@ impl<'a> Machine<'a> {
             Reply::Failed { consumed, error } => {
                 let error = self.lists.error_after(before.kept, consumed, error)?;
                 let consumed = before.consumed || consumed;
-                self.end_links(alloc, registry, links, consumed, error)
+                self.end_links(registry, links, consumed, error)
             }
             Reply::EmptyRound => Ok(Mode::With(Reply::EmptyRound)),
         }
@@ -187,7 +179,6 @@ impl<'a> Machine<'a> {
     #[inline(never)]
     fn add_link(
         &mut self,
-        alloc: Global,
         registry: &Registry,
         mut links: Box<LinksFrame<'a>>,
         trees: usize,
@@ -202,7 +193,7 @@ impl<'a> Machine<'a> {
             (link_forest links.entry.value.chain.side links.entry.value.chain.used.now.shape links.entry.value.left self.old.lists.forest)
             self.old.lists.trail.items self.old.lists.messages self.old.table) }
     {
-        fold(alloc, registry, &mut links, trees, &mut self.lists.forest)?;
+        fold(registry, &mut links, trees, &mut self.lists.forest)?;
         let kept = self.lists.messages.kept(error);
         count_link(&mut links, kept, end, self.marks()?);
         let separator = links.chain.separator;
@@ -213,7 +204,6 @@ impl<'a> Machine<'a> {
     #[inline(never)]
     fn end_links(
         &mut self,
-        alloc: Global,
         registry: &Registry,
         mut links: Box<LinksFrame<'a>>,
         consumed: bool,
@@ -223,7 +213,7 @@ impl<'a> Machine<'a> {
         ensures { IfOk result (λ mode. tape_of mode self.new ≡
             on_lists (tape_ended (links_of links.entry.value) consumed error) self.old) }
     {
-        let mode = self.end_chain(alloc, registry, &mut links, consumed, error)?;
+        let mode = self.end_chain(registry, &mut links, consumed, error)?;
         self.spare_links = Some(links);
         Ok(mode)
     }
@@ -231,7 +221,6 @@ impl<'a> Machine<'a> {
     /// A link failed: the chain fails where the link had consumed, and else ends before it.
     fn end_chain(
         &mut self,
-        alloc: Global,
         registry: &Registry,
         links: &mut LinksFrame<'a>,
         consumed: bool,
@@ -242,20 +231,12 @@ impl<'a> Machine<'a> {
             on_lists (tape_ended (links_of links.old) consumed error) self.old) }
     {
         if consumed {
-            self.lists.forest.close(links.chain.forest)?;
             return Ok(Mode::With(Reply::Failed { consumed, error }));
         }
         let error = end_error(&mut self.lists, links, error)?;
         self.cut(links.marks);
         let used = links.chain.used;
-        build_waiting(
-            alloc,
-            registry,
-            used,
-            &mut links.waiting,
-            &mut self.lists.forest,
-        )?;
-        self.lists.forest.close(links.chain.forest)?;
+        build_waiting(registry, used, &mut links.waiting, &mut self.lists.forest)?;
         self.lists
             .note(links.chain.slot, TrailItem::Rounds(links.count));
         Ok(Mode::With(Reply::Succeeded {
@@ -304,7 +285,6 @@ fn boxed<'a>(
 
 /// What a link more makes of the trees: from the left they are folded, and from the right those on its left wait.
 fn fold(
-    alloc: Global,
     registry: &Registry,
     links: &mut LinksFrame<'_>,
     trees: usize,
@@ -318,7 +298,7 @@ fn fold(
     ensures forest { OnOk result (forest.new ≡ link_forest links.old.chain.side links.old.chain.used.now.shape links.old.left forest.old) }
 {
     match links.chain.side {
-        Side::Left => { build_stretch(alloc, registry, links.chain.used, "", links.left, forest) }
+        Side::Left => build_after(registry, links.chain.used, "", links.left, forest),
         Side::Right => {
             let left = links.left;
             links.waiting.push(left)?;
@@ -350,7 +330,6 @@ fn count_link(links: &mut LinksFrame<'_>, kept: KeptError, end: usize, marks: Ma
 
 /// Makes the trees after each of these places into one, from the last place on.
 fn build_waiting(
-    alloc: Global,
     registry: &Registry,
     used: &BuilderUse,
     places: &mut Vec<usize>,
@@ -360,7 +339,7 @@ fn build_waiting(
     ensures { OnOk result (forest.new ≡ all_built used.now.shape (reverse places.old.items) forest.old) }
 {
     while let Some(place) = places.pop() {
-        build_stretch(alloc, registry, used, "", place, forest)?;
+        build_after(registry, used, "", place, forest)?;
     }
     Ok(())
 }

@@ -2,7 +2,7 @@
 
 ghost use Rattle.std.specs.Prelude.{◌≡◌, ◌∷◌, [], Some, IfOk, OnOk};
 ghost use Rattle.pg_form.specs.Operators.{IsOperator};
-ghost use Rattle.pg_value.specs.Fits.{IsClassIn};
+ghost use Rattle.pg_value.specs.Sites.{class_at};
 ghost use Rattle.pg_table.specs.Tables.{admit_fault};
 ghost use Rattle.pg_language.specs.Declarations.{declare_outcome, unless_refused};
 ghost use Rattle.pg_language.specs.Leaves.{some_declare_outcome};
@@ -15,8 +15,9 @@ ghost use Rattle.pg_turns.specs.View.{on_lists, tape_of};
 
 use crate::frame::{Mode, Reply};
 use crate::machine::Machine;
+use pg_character_sets::ClassSite;
 use pg_declarations::{Declaration, Declared, declaration_at};
-use pg_form::{ClassExpression, OperatorsItem};
+use pg_form::{ClassExpression, NodeId, OperatorsItem};
 use pg_lists::RunForest;
 use pg_message_tape::Message;
 use pg_text::Text;
@@ -31,15 +32,16 @@ impl<'a> Machine<'a> {
         alloc: Global,
         grammar: &Grammar,
         text: &'a Text,
+        node: NodeId,
         class: &ClassExpression,
         place: usize,
     ) -> Result<Mode, AllocError>
-        requires { IsClassIn grammar.now class.now }
+        requires { class_at grammar.now (ClassSite.Node node) ≡ class.now }
         ensures { IfOk result (λ mode. tape_of mode self.new ≡
             on_lists (tape_told (some_declare_outcome grammar.now text.now class.now (spot_at self.old.table place) grammar.now.operators)) self.old) }
     {
         match grammar.operators_item() {
-            Some(item) => self.declare_by(alloc, grammar, text, item, class, place),
+            Some(item) => self.declare_by(alloc, grammar, text, item, node, class, place),
             None => Ok(Mode::Endless),
         }
     }
@@ -51,15 +53,16 @@ impl<'a> Machine<'a> {
         grammar: &Grammar,
         text: &'a Text,
         item: &OperatorsItem,
+        node: NodeId,
         class: &ClassExpression,
         place: usize,
     ) -> Result<Mode, AllocError>
         requires item { grammar.now.operators ≡ Some item.now }
-        requires class { IsClassIn grammar.now class.now }
+        requires class { class_at grammar.now (ClassSite.Node node) ≡ class.now }
         ensures { IfOk result (λ mode. tape_of mode self.new ≡
             on_lists (tape_leaf (declare_outcome grammar.now text.now item.now class.now (spot_at self.old.table place))) self.old) }
     {
-        match declaration_at(grammar, text, item, class, place) {
+        match declaration_at(grammar, text, item, ClassSite::Node(node), place) {
             Declaration::NoKeyword => {
                 let next = text.char_at(place);
                 self.fail_wanting(

@@ -1,7 +1,6 @@
 //! Nodes are entered: a leaf answers at once, and any other form runs its first part.
 
 ghost use Rattle.std.specs.Prelude.{◌≡◌, ◌∷◌, length, slice_get, option_copied, Some, IfOk};
-ghost use Rattle.pg_class_tables.specs.Tables.{AreTablesOf};
 ghost use Rattle.pg_form.specs.declared.form.Form.TheVariants as form;
 ghost use Rattle.pg_form.specs.declared.form.Leaf.TheVariants as leaf;
 ghost use Rattle.pg_language.specs.Answers.{given};
@@ -14,7 +13,6 @@ ghost use Rattle.pg_turns.specs.View.{frame_of, on_lists, stack_of, tape_of};
 use crate::around::begin;
 use crate::frame::{AroundFrame, ChainFrame, Frame, Mode, PartsFrame, Reply, RoundsFrame, Tried};
 use crate::machine::Machine;
-use pg_class_tables::ClassTables;
 use pg_form::{Around, BuilderUse, Form, Leaf, Node, NodeId, RuleId, Side, WordId};
 use pg_language::Reading;
 use pg_lists::Given;
@@ -29,20 +27,16 @@ impl<'a> Machine<'a> {
         &mut self,
         alloc: Global,
         grammar: &'a Grammar,
-        tables: &ClassTables,
         text: &'a Text,
         reading: Reading,
         node: NodeId,
         place: usize,
     ) -> Result<Mode, AllocError>
-        requires { AreTablesOf grammar.now tables.now }
         ensures { IfOk result (λ mode. tape_of mode self.new ≡
             on_lists (tape_enter_at (given reading grammar.now text.now) (slice_get grammar.now.nodes node) place) self.old) }
     {
         match item_at(grammar.nodes(), node.index()) {
-            Some(form) => {
-                self.enter_form(alloc, grammar, tables, text, reading, node, form, place)
-            }
+            Some(form) => { self.enter_form(alloc, grammar, text, reading, node, form, place) }
             None => Ok(Mode::Endless),
         }
     }
@@ -53,25 +47,23 @@ impl<'a> Machine<'a> {
         &mut self,
         alloc: Global,
         grammar: &'a Grammar,
-        tables: &ClassTables,
         text: &'a Text,
         reading: Reading,
         node: NodeId,
         form: &'a Node,
         place: usize,
     ) -> Result<Mode, AllocError>
-        requires tables { AreTablesOf grammar.now tables.now }
-        requires node { slice_get grammar.now.nodes node ≡ Some form.now }
+        requires { slice_get grammar.now.nodes node ≡ Some form.now }
         ensures { IfOk result (λ mode. tape_of mode self.new ≡
             on_lists (tape_enter (given reading grammar.now text.now) form.now place) self.old) }
     {
         match form {
-            Form::Leaf(leaf) => self.enter_leaf(alloc, grammar, tables, text, node, leaf, place),
+            Form::Leaf(leaf) => self.enter_leaf(alloc, grammar, text, node, leaf, place),
             Form::Seq(parts) => self.enter_parts(parts.as_slice(), place),
             Form::Choice(parts) => self.enter_choice(parts.as_slice(), place),
             Form::Many(part) => self.enter_rounds(*part, place),
             Form::Chain(side, used, operand, separator) => {
-                self.enter_chain(alloc, *side, used, *operand, *separator, place)
+                self.enter_chain(*side, used, *operand, *separator, place)
             }
             Form::Rule(rule) => self.enter_rule(grammar, *rule, place),
             Form::Expression(builders, term) => {
@@ -82,37 +74,35 @@ impl<'a> Machine<'a> {
                 };
                 self.enter_expression(alloc, given, builders, *term, place)
             }
-            Form::Around(around, part) => self.enter_around(alloc, around, *part, place),
+            Form::Around(around, part) => self.enter_around(around, *part, place),
         }
     }
 
     /// A leaf answers at once.
     #[inline(always)]
-    #[tactic(auto, using(crate::proofs::Declared::declare_class_in))]
+    #[tactic(auto, using(crate::proofs::LeafClasses::satisfy_class, crate::proofs::LeafClasses::not_followed_class, crate::proofs::LeafClasses::declare_class))]
     fn enter_leaf(
         &mut self,
         alloc: Global,
         grammar: &'a Grammar,
-        tables: &ClassTables,
         text: &'a Text,
         node: NodeId,
         leaf: &'a Leaf<WordId>,
         place: usize,
     ) -> Result<Mode, AllocError>
-        requires tables { AreTablesOf grammar.now tables.now }
-        requires node { slice_get grammar.now.nodes node ≡ Some (form.Leaf leaf.now) }
+        requires { slice_get grammar.now.nodes node ≡ Some (form.Leaf leaf.now) }
         ensures { IfOk result (λ mode. tape_of mode self.new ≡
             on_lists (tape_told (leaf_outcome grammar.now text.now leaf.now (spot_at self.old.table place))) self.old) }
     {
         match leaf {
-            Leaf::Satisfy(class) => self.satisfy(grammar, tables, text, node, class, place),
+            Leaf::Satisfy(class) => self.satisfy(grammar, text, node, class, place),
             Leaf::String(characters) => self.string(text, characters.as_slice(), place),
-            Leaf::Word(word) => self.enter_word(grammar, tables, text, *word, place),
+            Leaf::Word(word) => self.enter_word(grammar, text, *word, place),
             Leaf::NotFollowedBy(class) => {
-                self.not_followed_by(grammar, tables, text, node, class, place)
+                self.not_followed_by(grammar, text, node, class, place)
             }
             Leaf::EndOfText => self.end_of_text(text, place),
-            Leaf::Declare(class) => self.declare(alloc, grammar, text, class, place),
+            Leaf::Declare(class) => self.declare(alloc, grammar, text, node, class, place),
         }
     }
 
@@ -120,7 +110,6 @@ impl<'a> Machine<'a> {
     #[inline(always)]
     fn enter_around(
         &mut self,
-        alloc: Global,
         around: &'a Around,
         part: NodeId,
         place: usize,
@@ -136,7 +125,7 @@ impl<'a> Machine<'a> {
             forest: self.lists.forest.len(),
             operators: self.table.operators().len(),
         };
-        begin(alloc, around, &mut self.lists.forest)?;
+        begin(around, &mut self.lists.forest)?;
         self.enter_part(Frame::Around(frame), part, place)
     }
 
@@ -214,7 +203,6 @@ impl<'a> Machine<'a> {
     #[inline(always)]
     fn enter_chain(
         &mut self,
-        alloc: Global,
         side: Side,
         used: &'a BuilderUse,
         operand: NodeId,
@@ -234,7 +222,6 @@ impl<'a> Machine<'a> {
             slot,
             forest: self.lists.forest.len(),
         };
-        self.lists.forest.open(alloc)?;
         self.enter_part(Frame::First(chain), operand, place)
     }
 
@@ -257,20 +244,19 @@ impl<'a> Machine<'a> {
 
     /// A word of the item that the leaf names.
     #[inline(always)]
+    #[tactic(auto, using(pg_value::proofs::Sites::class_at_head, pg_value::proofs::Sites::class_at_rest))]
     fn enter_word(
         &mut self,
         grammar: &'a Grammar,
-        tables: &ClassTables,
         text: &'a Text,
         word: WordId,
         place: usize,
     ) -> Result<Mode, AllocError>
-        requires { AreTablesOf grammar.now tables.now }
         ensures { IfOk result (λ mode. tape_of mode self.new ≡
             on_lists (tape_told (leaf_outcome grammar.now text.now (leaf.Word word) (spot_at self.old.table place))) self.old) }
     {
         match item_at(grammar.word_items(), word.index()) {
-            Some(item) => self.word(grammar, tables, text, word, item, place),
+            Some(item) => self.word(grammar, text, word, item, place),
             None => Ok(Mode::Endless),
         }
     }

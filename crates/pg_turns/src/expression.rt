@@ -10,12 +10,12 @@ ghost use Rattle.pg_value.specs.Fits.{BuildersFit};
 ghost use Rattle.pg_turns.specs.Tape.{tape_at, on_expression, tape_climbed, tape_expression, tape_failed, tape_to_expression};
 ghost use Rattle.pg_lists.specs.TapeLevels.{on_climb, on_failed};
 ghost use Rattle.pg_turns.specs.View.{on_lists, stack_of, tape_of};
-ghost use Rattle.pg_lists.specs.ViewLevels.{failure_of, given_of, levels_of, setting_of, stretch_of};
+ghost use Rattle.pg_lists.specs.ViewLevels.{failure_of, given_of, setting_of, stretch_of};
 
 use crate::frame::{Frame, Mode, Reply};
 use crate::machine::Machine;
 use pg_form::{NodeId, OperatorBuilders, OperatorsItem};
-use pg_lists::{Climbed, ExpressionFrame, Failure, Given, Setting, Stretch};
+use pg_lists::{Climbed, ExpressionFrame, Failure, Given, Levels, Setting, Stretch};
 use pg_operators::InForce;
 use pg_pred::Registry;
 use pg_table::Table;
@@ -64,7 +64,6 @@ impl<'a> Machine<'a> {
         self.lists.trail.push(TrailItem::Ops(none))?;
         let rows = in_force.rows();
         let forest = self.lists.forest.len();
-        self.lists.forest.open(alloc)?;
         let setting = Setting {
             item,
             builders,
@@ -73,7 +72,7 @@ impl<'a> Machine<'a> {
             slot,
             forest,
         };
-        let mut levels = Vec::with_capacity(alloc, rows)?;
+        let mut levels = Levels::new(alloc);
         let place = self
             .lists
             .down(alloc, given, &setting, &mut levels, rows, place)?;
@@ -89,7 +88,7 @@ impl<'a> Machine<'a> {
     ) -> Result<Mode, AllocError>
         ensures { IfOk result (λ mode. tape_of mode self.new ≡
             tape_at frame.entry.value.setting.term place
-            (on_expression (setting_of frame.entry.value.setting) (levels_of frame.entry.value.levels.items) ∷ stack_of self.old.frames.items)
+            (on_expression (setting_of frame.entry.value.setting) frame.entry.value.levels ∷ stack_of self.old.frames.items)
             self.old.lists.forest self.old.lists.trail.items self.old.lists.messages self.old.table) }
     {
         let term = frame.setting.term;
@@ -109,7 +108,7 @@ impl<'a> Machine<'a> {
         requires item { given.grammar.now.operators ≡ Some frame.value.setting.item.now }
         requires offered { BuildersFit (offer_of registry.now) (all_builders frame.value.setting.builders.now) }
         ensures { IfOk result (λ mode. tape_of mode self.new ≡
-            on_lists (tape_to_expression (given_of given.entry) (setting_of frame.entry.value.setting) (levels_of frame.entry.value.levels.items) reply) self.old) }
+            on_lists (tape_to_expression (given_of given.entry) (setting_of frame.entry.value.setting) frame.entry.value.levels reply) self.old) }
     {
         match reply {
             Reply::Succeeded {
@@ -145,7 +144,7 @@ impl<'a> Machine<'a> {
         requires offered { BuildersFit (offer_of registry.now) (all_builders frame.value.setting.builders.now) }
         ensures { IfOk result (λ mode. tape_of mode self.new ≡
             tape_climbed (given_of given.entry) (setting_of frame.entry.value.setting)
-            (on_climb (given_of given.entry) (setting_of frame.entry.value.setting) (levels_of frame.entry.value.levels.items) (stretch_of stretch self.old.lists))
+            (on_climb (given_of given.entry) (setting_of frame.entry.value.setting) frame.entry.value.levels (stretch_of stretch self.old.lists))
             (stack_of self.old.frames.items) self.old.table) }
     {
         let ExpressionFrame { setting, levels } = &mut *frame;
@@ -154,7 +153,6 @@ impl<'a> Machine<'a> {
             .climb(alloc, registry, given, setting, levels, stretch)?;
         match climbed {
             Climbed::Ended(stretch) => {
-                self.lists.forest.close(setting.forest)?;
                 Ok(Mode::With(Reply::Succeeded {
                     consumed: stretch.consumed,
                     end: stretch.place,
@@ -173,10 +171,9 @@ impl<'a> Machine<'a> {
         failure: Failure,
     ) -> Result<Mode, AllocError>
         ensures { IfOk result (λ mode. tape_of mode self.new ≡
-            tape_failed (on_failed (levels_of frame.old.levels.items) (failure_of failure self.old.lists))
+            tape_failed (on_failed frame.old.levels (failure_of failure self.old.lists))
             (stack_of self.old.frames.items) self.old.lists.forest self.old.lists.trail.items self.old.table) }
     {
-        self.lists.forest.close(frame.setting.forest)?;
         let failure = self.lists.fail_levels(&mut frame.levels, failure)?;
         Ok(Mode::With(Reply::Failed {
             consumed: failure.consumed,

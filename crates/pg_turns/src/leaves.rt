@@ -3,8 +3,8 @@
 ghost use Rattle.std.specs.Prelude.{◌≡◌, ◌<◌, ◌≤◌, ◌+◌, ◌^◌, ◌++◌, ◌∷◌, [], false, nat_eq, length, drop, slice_get, Some, IfOk, OnOk, IfSome};
 ghost use Rattle.std.specs.List.{list_any, prefix_len, common_prefix_len};
 ghost use Rattle.std.specs.Str.{bytes_eq};
-ghost use Rattle.pg_class_tables.specs.Tables.{AreTablesOf, IsClassOfNode};
 ghost use Rattle.pg_form.specs.ClassItems.{has_character};
+ghost use Rattle.pg_value.specs.Sites.{class_at};
 ghost use Rattle.pg_language.specs.Leaves.{taken, satisfy_outcome, string_outcome, word_outcome, word_read, not_followed_outcome, end_outcome};
 ghost use Rattle.pg_message_tape.specs.Messages.{tape_message_of};
 ghost use Rattle.pg_turns.specs.Spots.{spot_at};
@@ -15,7 +15,7 @@ ghost use Rattle.pg_turns.specs.declared.frame.Reply.TheVariants.{Succeeded, Fai
 
 use crate::frame::{Mode, Reply};
 use crate::machine::Machine;
-use pg_class_tables::ClassTables;
+use pg_character_sets::ClassSite;
 use pg_form::{ClassExpression, NodeId, WordId, WordItem};
 use pg_message_tape::{Message, MessageTape, TapeError};
 use pg_text::Text;
@@ -28,20 +28,18 @@ impl<'a> Machine<'a> {
     pub(crate) fn satisfy(
         &mut self,
         grammar: &Grammar,
-        tables: &ClassTables,
         text: &Text,
         node: NodeId,
         class: &ClassExpression,
         place: usize,
     ) -> Result<Mode, AllocError>
-        requires tables { AreTablesOf grammar.now tables.now }
-        requires class { IsClassOfNode grammar.now node class.now }
+        requires { class_at grammar.now (ClassSite.Node node) ≡ class.now }
         ensures { IfOk result (λ mode. tape_of mode self.new ≡
             on_lists (tape_leaf (satisfy_outcome grammar.now text.now class.now (spot_at self.old.table place))) self.old) }
     {
         match next_in(text, place) {
             Some(c) => {
-                if tables.node_has(grammar, node, class, c) {
+                if node_has(grammar, node, class, c) {
                     return self.take(&[c], place, place + 1);
                 }
                 self.fail(false, place, Message::Stopped(Some(c)))
@@ -80,24 +78,23 @@ impl<'a> Machine<'a> {
     pub(crate) fn word(
         &mut self,
         grammar: &Grammar,
-        tables: &ClassTables,
         text: &'a Text,
         word: WordId,
         item: &WordItem,
         place: usize,
     ) -> Result<Mode, AllocError>
-        requires tables { AreTablesOf grammar.now tables.now }
-        requires item { slice_get grammar.now.words word ≡ Some item.now }
+        requires head { class_at grammar.now (ClassSite.Head word) ≡ item.now.head }
+        requires rest { class_at grammar.now (ClassSite.Rest word) ≡ item.now.rest }
         ensures { IfOk result (λ mode. tape_of mode self.new ≡
             on_lists (tape_leaf (word_outcome grammar.now text.now item.now (spot_at self.old.table place))) self.old) }
     {
         match next_in(text, place) {
             Some(c) => {
-                if !tables.head_has(grammar, word, item, c) {
+                if !begins_word(grammar, word, item, c) {
                     return self.fail(false, place, Message::Stopped(Some(c)));
                 }
                 let rest = after(text.characters(), place + 1);
-                let count = run_len(grammar, tables, word, item, rest);
+                let count = run_len(grammar, word, item, rest);
                 let characters = &after(text.characters(), place)[..count + 1];
                 self.read_word(item, characters, place)
             }
@@ -128,20 +125,18 @@ impl<'a> Machine<'a> {
     pub(crate) fn not_followed_by(
         &mut self,
         grammar: &Grammar,
-        tables: &ClassTables,
         text: &Text,
         node: NodeId,
         class: &ClassExpression,
         place: usize,
     ) -> Result<Mode, AllocError>
-        requires tables { AreTablesOf grammar.now tables.now }
-        requires class { IsClassOfNode grammar.now node class.now }
+        requires { class_at grammar.now (ClassSite.Node node) ≡ class.now }
         ensures { IfOk result (λ mode. tape_of mode self.new ≡
             on_lists (tape_leaf (not_followed_outcome grammar.now text.now class.now (spot_at self.old.table place))) self.old) }
     {
         match next_in(text, place) {
             Some(c) => {
-                if tables.node_has(grammar, node, class, c) {
+                if node_has(grammar, node, class, c) {
                     return self.fail(false, place, Message::Refused(Some(c)));
                 }
                 self.stay(place, Message::Stopped(Some(c)))
@@ -324,22 +319,42 @@ fn matched(characters: &[char], rest: &[char]) -> usize
     count
 }
 
+/// Whether the class of the node has the character.
+#[inline(always)]
+fn node_has(grammar: &Grammar, node: NodeId, class: &ClassExpression, c: char) -> bool
+    requires { class_at grammar.now (ClassSite.Node node) ≡ class.now }
+    ensures { result ≡ has_character grammar.now.classes class.now c }
+{
+    grammar.contains(ClassSite::Node(node), c)
+}
+
+/// Whether a word of the item begins with the character.
+#[inline(always)]
+fn begins_word(grammar: &Grammar, word: WordId, item: &WordItem, c: char) -> bool
+    requires { class_at grammar.now (ClassSite.Head word) ≡ item.now.head }
+    ensures { result ≡ has_character grammar.now.classes item.now.head c }
+{
+    grammar.contains(ClassSite::Head(word), c)
+}
+
+/// Whether a word of the item goes on with the character.
+#[inline(always)]
+fn goes_on(grammar: &Grammar, word: WordId, item: &WordItem, c: char) -> bool
+    requires { class_at grammar.now (ClassSite.Rest word) ≡ item.now.rest }
+    ensures { result ≡ has_character grammar.now.classes item.now.rest c }
+{
+    grammar.contains(ClassSite::Rest(word), c)
+}
+
 /// How many of these characters a word of the item goes on with.
-fn run_len(
-    grammar: &Grammar,
-    tables: &ClassTables,
-    word: WordId,
-    item: &WordItem,
-    characters: &[char],
-) -> usize
-    requires tables { AreTablesOf grammar.now tables.now }
-    requires item { slice_get grammar.now.words word ≡ Some item.now }
+fn run_len(grammar: &Grammar, word: WordId, item: &WordItem, characters: &[char]) -> usize
+    requires { class_at grammar.now (ClassSite.Rest word) ≡ item.now.rest }
     ensures value { result ≡ prefix_len (has_character grammar.now.classes item.now.rest) characters.now }
     ensures within { result ≤ length characters.now }
 {
     let mut count = 0;
     for c in characters {
-        if !tables.rest_has(grammar, word, item, *c) {
+        if !goes_on(grammar, word, item, *c) {
             break;
         }
         count += 1;

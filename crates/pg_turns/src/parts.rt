@@ -1,14 +1,14 @@
 //! Sequences: parts one after another.
 
 ghost use Rattle.std.specs.Prelude.{◌≡◌, IfOk, OnOk};
-ghost use Rattle.pg_turns.specs.Tape.{tape_to_parts, tape_next_part, joined_consumed, joined_tape_error, joined_messages};
+ghost use Rattle.pg_turns.specs.Tape.{tape_to_parts, tape_next_part, joined_consumed, joined_tape_error, joined_messages, tape_error_past, messages_past};
 ghost use Rattle.pg_turns.specs.View.{on_lists, tape_of};
 
 use crate::frame::{Before, Frame, Mode, PartsFrame, Reply};
 use crate::machine::Machine;
 use pg_form::NodeId;
 use pg_lists::Lists;
-use pg_message_tape::TapeError;
+use pg_message_tape::{KeptError, TapeError};
 use std::alloc::AllocError;
 
 impl<'a> Machine<'a> {
@@ -81,9 +81,35 @@ fn joined(
     ensures messages { OnOk result (lists.new.messages ≡ joined_messages before consumed error lists.old.messages) }
 {
     match before {
-        Some(before) => lists.error_after(before.kept, consumed, error),
+        Some(before) => past(lists, before.kept, consumed, error),
         None => Ok(error),
     }
+}
+
+/// The error after one that is kept. Messages that no error has any more are dropped where that moves none.
+#[inline(always)]
+fn past(
+    lists: &mut Lists<'_>,
+    kept: KeptError,
+    consumed: bool,
+    error: TapeError,
+) -> Result<TapeError, AllocError>
+    ensures error { IfOk result (λ after. after ≡ tape_error_past consumed kept error lists.old.messages) }
+    ensures forest { OnOk result (lists.new.forest ≡ lists.old.forest) }
+    ensures trail { OnOk result (lists.new.trail ≡ lists.old.trail) }
+    ensures messages { OnOk result (lists.new.messages ≡ messages_past consumed kept error lists.old.messages) }
+{
+    if !consumed {
+        return lists.error_after(kept, false, error);
+    }
+    if error.from != lists.messages.len() {
+        return Ok(error);
+    }
+    lists.messages.cut(kept.from);
+    Ok(TapeError {
+        place: error.place,
+        from: kept.from,
+    })
 }
 
 /// Whether the parts before consumed, or this one did.

@@ -2,7 +2,6 @@
 
 ghost use Rattle.std.specs.Prelude.{◌≡◌, ◌≤◌, ◌-◌, ◌^◌, ◌⊎◌, true, length, take, IfOk};
 ghost use Rattle.pg_pred.specs.Offer.{offer_of};
-ghost use Rattle.pg_class_tables.specs.Tables.{AreTablesOf};
 ghost use Rattle.pg_value.specs.Fits.{Fits};
 ghost use Rattle.pg_language.specs.Answers.{given};
 ghost use Rattle.pg_lists.specs.ViewLevels.{given_of};
@@ -13,7 +12,6 @@ ghost use Rattle.pg_turns.specs.View.{frame_of, is_choice, is_rare, on_lists, Is
 
 use crate::frame::{Frame, Mode, Reply};
 use crate::machine::Machine;
-use pg_class_tables::ClassTables;
 use pg_language::Reading;
 use pg_lists::Given;
 use pg_pred::Registry;
@@ -37,7 +35,6 @@ impl<'a> Machine<'a> {
         &mut self,
         alloc: Global,
         grammar: &'a Grammar,
-        tables: &ClassTables,
         registry: &Registry,
         text: &'a Text,
         reading: Reading,
@@ -45,7 +42,6 @@ impl<'a> Machine<'a> {
         most: u64,
     ) -> Result<Progress, AllocError>
         requires fits { Fits (offer_of registry.now) grammar.now }
-        requires tables { AreTablesOf grammar.now tables.now }
         requires ready { IsTapeReadyFor (offer_of registry.now) grammar.now most (tape_of begun self.now) }
         ensures after { IfOk result (λ came. IsAfter (given reading grammar.now text.now) (tape_of begun self.old) came.steps (tape_of came.mode self.new)) }
         ensures within { IfOk result (λ came. came.steps ≤ most) }
@@ -54,37 +50,33 @@ impl<'a> Machine<'a> {
         let mut mode = begun;
         let mut steps: u64 = 0;
         while steps < most && !self.is_over(&mode) {
-            mode = self.step(alloc, grammar, tables, registry, text, reading, mode)?;
+            mode = self.step(alloc, grammar, registry, text, reading, mode)?;
             steps += 1;
         }
         Ok(Progress { mode, steps })
     }
 
     /// One turn: the node at hand is entered, or the answer at hand is handed to the topmost frame. The caller owes that the
-    /// registry fits, that the tables are the grammar's, and that the frames are ready: their counts can grow, the builders that
-    /// they name are offered, and expressions have the grammar's operators item. The only error is that memory ran out; what the
+    /// registry fits, and that the frames are ready: their counts can grow, the builders that they name are offered, and
+    /// expressions have the grammar's operators item. The only error is that memory ran out; what the
     /// machine holds then isn't said.
     #[inline(always)]
     fn step(
         &mut self,
         alloc: Global,
         grammar: &'a Grammar,
-        tables: &ClassTables,
         registry: &Registry,
         text: &'a Text,
         reading: Reading,
         mode: Mode,
     ) -> Result<Mode, AllocError>
         requires fits { Fits (offer_of registry.now) grammar.now }
-        requires tables { AreTablesOf grammar.now tables.now }
         requires ready { IsTapeReady (offer_of registry.now) grammar.now (2 ^ 64 - 1) (tape_of mode self.now) }
         ensures { IfOk result (λ next. tape_of next self.new ≡
             tape_turn (given reading grammar.now text.now) (tape_of mode self.old)) }
     {
         match mode {
-            Mode::At(node, place) => {
-                self.enter(alloc, grammar, tables, text, reading, node, place)
-            }
+            Mode::At(node, place) => { self.enter(alloc, grammar, text, reading, node, place) }
             Mode::With(reply) => {
                 let given = Given {
                     reading,
@@ -131,7 +123,7 @@ impl<'a> Machine<'a> {
             Frame::Around(frame) => {
                 let frame = *frame;
                 self.leave();
-                self.hand_to_around(alloc, registry, given.text, frame, reply)
+                self.hand_to_around(registry, given.text, frame, reply)
             }
             Frame::Choice(_) => self.hand_on_choice(alloc, given, reply),
             Frame::First(_)
@@ -209,9 +201,9 @@ impl<'a> Machine<'a> {
     {
         match frame {
             Frame::First(chain) => self.hand_to_first(alloc, chain, reply),
-            Frame::Separator(links) => self.hand_to_separator(alloc, registry, links, reply),
+            Frame::Separator(links) => self.hand_to_separator(registry, links, reply),
             Frame::Operand(links, before, trees) => {
-                self.hand_to_operand(alloc, registry, links, before, trees, reply)
+                self.hand_to_operand(registry, links, before, trees, reply)
             }
             Frame::Expression(frame) => {
                 self.hand_to_expression(alloc, registry, given, frame, reply)

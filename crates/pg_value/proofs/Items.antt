@@ -229,7 +229,7 @@ knows-none items c (suc n) (suc k) has e = absurd (no_answer n k has e)
 -- ---- expressions of a grammar
 
 -- the class expression of a node stands in its base form
-class_parts-form_of : (rules words : List Name) (n : Node) → class_parts (form_of rules words n) ≡ class_parts n
+pub class_parts-form_of : (rules words : List Name) (n : Node) → class_parts (form_of rules words n) ≡ class_parts n
 class_parts-form_of rules words (form.Leaf (leaf.Word word)) = refl
 class_parts-form_of rules words _ = refl
 

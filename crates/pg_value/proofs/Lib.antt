@@ -3,3 +3,4 @@ mod OneByOne
 pub mod Negated
 pub mod Items
 pub mod Numbers
+pub mod Sites

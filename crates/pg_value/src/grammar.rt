@@ -3,17 +3,19 @@
 //! The invariant says that every number names something: a node's parts are the whole forms next after it, the nodes
 //! that are no part of another are the rules' bodies, what is named is there, and so is the operators item where operators
 //! are used; rules have different names, and so have class items and word items; a class item names only those before it;
-//! no string and no reserved text is empty, a choice has an alternative, no range descends. A
-//! maker (`pg_grammar`) establishes it.
+//! no string and no reserved text is empty, a choice has an alternative, no range descends. Beside that it keeps what each
+//! class expression contains, so that no character takes going through one. A maker (`pg_grammar`) establishes it.
 
-ghost use Rattle.std.specs.Prelude.{◌≡◌, ◌<◌, length, position, slice_get, Some, false, option_copied};
+ghost use Rattle.std.specs.Prelude.{◌≡◌, ◌<◌, length, map, position, slice_get, Some, false, option_copied};
 ghost use Rattle.pg_form.specs.Forms.{parts_of, form_of, has_bad_literal, has_unknown_class, lacks_alternative, NamesRule, NamesWord};
-ghost use Rattle.pg_form.specs.ClassItems.{AreClasses};
+ghost use Rattle.pg_form.specs.Contents.{class_parts};
+ghost use Rattle.pg_form.specs.ClassItems.{AreClasses, has_character};
 ghost use Rattle.pg_form.specs.WordItems.{AreWords};
 ghost use Rattle.pg_form.specs.OperatorsItems.{AreOperators};
 ghost use Rattle.pg_value.specs.Follows.{PartsFollow, BodiesAreNodes};
 ghost use Rattle.std.specs.Str.{bytes_eq};
 
+use pg_character_sets::{ClassSite, ContentSets};
 use pg_form::{ClassItem, Decl, Node, NodeId, OperatorsItem, RuleId, WordItem};
 use pg_text::Characters;
 use std::marker::Model;
@@ -37,22 +39,26 @@ pub struct Grammar {
     nodes: Vec<Node>,
     rules: Vec<Rule>,
     start: RuleId,
+    sets: ContentSets,
 }
 
 impl Model for Grammar {
     ghost use Rattle.pg_value.specs.Grammar.{Grammar as Parts, IsGrammar};
+    ghost use Rattle.pg_value.specs.Sites.{AreGrammarSets};
 
     ghost Value = { Parts };
 
     ghost view = { λ g. record { classes = g.classes.items; words = g.words.items; operators = g.operators; initials = g.initials.items; nodes = g.nodes.items; rules = g.rules.items; start = g.start } };
 
-    ghost invariant = { λ g. IsGrammar (record { classes = g.classes.items; words = g.words.items; operators = g.operators; initials = g.initials.items; nodes = g.nodes.items; rules = g.rules.items; start = g.start }) };
+    ghost invariant = { λ g. IsGrammar (record { classes = g.classes.items; words = g.words.items; operators = g.operators; initials = g.initials.items; nodes = g.nodes.items; rules = g.rules.items; start = g.start }) × AreGrammarSets (record { classes = g.classes.items; words = g.words.items; operators = g.operators; initials = g.initials.items; nodes = g.nodes.items; rules = g.rules.items; start = g.start }) g.sets };
 }
 
 impl Grammar {
     ghost use Rattle.pg_value.specs.Grammar.{IsGrammar, rule_names, word_names};
+    ghost use Rattle.pg_value.specs.Sites.{class_at};
+    ghost use Rattle.pg_character_sets.specs.Contents.{AreContentSets};
 
-    /// The grammar of these parts, which the caller owes to be one. It takes no memory.
+    /// The grammar of these parts, which the caller owes to be one, and the sets to be theirs. It takes no memory.
     pub fn new(
         classes: Vec<ClassItem>,
         words: Vec<WordItem>,
@@ -61,8 +67,10 @@ impl Grammar {
         nodes: Vec<Node>,
         rules: Vec<Rule>,
         start: RuleId,
+        sets: ContentSets,
     ) -> Grammar
-        requires { IsGrammar (record { classes = classes.items; words = words.items; operators = operators; initials = initials.items; nodes = nodes.items; rules = rules.items; start = start }) }
+        requires grammar { IsGrammar (record { classes = classes.items; words = words.items; operators = operators; initials = initials.items; nodes = nodes.items; rules = rules.items; start = start }) }
+        requires sets { AreContentSets classes.items words.items operators (map class_parts nodes.items) sets }
         ensures { result ≡ record { classes = classes.items; words = words.items; operators = operators; initials = initials.items; nodes = nodes.items; rules = rules.items; start = start } }
     {
         Grammar {
@@ -73,6 +81,7 @@ impl Grammar {
             nodes,
             rules,
             start,
+            sets,
         }
     }
 
@@ -147,6 +156,18 @@ impl Grammar {
         ensures alternative { lacks_alternative (form_of (rule_names self.now) (word_names self.now) result.now) ≡ false }
     {
         &self.nodes[id.index()]
+    }
+
+    /// Whether the class expression that stands there has the character: no character, where none stands there. An ASCII
+    /// character is looked up, and any other is found by halves. It takes no memory.
+    #[inline]
+    pub fn contains(&self, site: ClassSite, c: char) -> bool
+        ensures { result ≡ has_character self.now.classes (class_at self.now site) c }
+    {
+        match self.sets.at(site) {
+            Some(set) => set.has(c),
+            None => false,
+        }
     }
 
     /// The number of the rule with this name, if there is one.

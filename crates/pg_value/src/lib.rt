@@ -2,8 +2,8 @@
 //!
 //! A [`Grammar`] is read only; `pg_grammar` makes one of what is handed in, and `pg_form` has what it consists of.
 //! Every number in a grammar names something: that is an invariant of the type, and all layers above rely on it.
-//! `Grammar::test` tells whether a class expression has a character, with the functions of a registry that fits
-//! (`Grammar::fits`).
+//! `Grammar::contains` tells whether a class expression has a character, by where it stands, and `Grammar::test` does so with
+//! the functions of a registry that fits (`Grammar::fits`).
 #![tactic(auto)]
 
 mod fits;

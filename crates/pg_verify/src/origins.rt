@@ -19,11 +19,10 @@ use crate::claims::{claimed_first, claimed_follow};
 use crate::edges::{BEHIND, FIRST, FOLLOW, rule_set};
 use crate::starts::starts_of_claims;
 use pg_certificate::{ClaimedStart, RuleClaim};
+use pg_character_sets::classes_of_items;
 use pg_class::Class;
 use pg_graph::Numbers;
-use pg_own_starts::{
-    ListedStart, OperatorStarts, WordClasses, classes_of_items, classes_of_words, operator_starts,
-};
+use pg_own_starts::{ListedStart, OperatorStarts, WordClasses, classes_of_words, operator_starts};
 use pg_sets::{Listing, add_own, listed, origins_of_nodes};
 use pg_start::Start;
 use pg_value::Grammar;

@@ -4,6 +4,7 @@ ghost use Rattle.std.specs.Prelude.{◌≡◌, false, IfOk};
 ghost use Rattle.pg_pred.specs.Offer.{offer_of};
 ghost use Rattle.pg.specs.Status.{IsCheckStatus};
 
+use crate::NO_MEMORY;
 use crate::commands::NO;
 use pg_bench::check_bytes;
 use pg_explain_bench::{Places, PlacingWriter, places_of};
@@ -18,7 +19,7 @@ use std::rt::Files;
 use std::{cmp, io};
 
 /// Says of each grammar whether it is accepted, or what is wrong with it; where there are several, with the file's name in front of each line.
-/// The status is the greatest of all.
+/// The status is the greatest of all. After want of memory no more are checked.
 pub(crate) fn check_files<R: AllocGlobal + Files + Input + Print + Eprint>(
     rt: &Handle<R>,
     grammars: &[&str],
@@ -31,7 +32,7 @@ pub(crate) fn check_files<R: AllocGlobal + Files + Input + Print + Eprint>(
     for grammar in grammars {
         let status = check_file(rt, grammar, registry, certificate, findings, names)?;
         greatest = cmp::max(greatest, status);
-        if rt.has_failed() {
+        if rt.has_failed() || status == NO_MEMORY {
             break;
         }
     }

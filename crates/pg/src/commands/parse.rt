@@ -4,6 +4,7 @@ ghost use Rattle.std.specs.Prelude.{◌≡◌, Some, false, IfOk};
 ghost use Rattle.pg_pred.specs.Offer.{offer_of};
 ghost use Rattle.pg.specs.Status.{IsParseStatus};
 
+use crate::NO_MEMORY;
 use pg_bench::{BenchFault, parse_bytes};
 use pg_explain_bench::outline_bytes;
 use pg_pred::Registry;
@@ -55,7 +56,7 @@ fn parse_file<R: AllocGlobal + Files + Input + Print + Eprint>(
     }
 }
 
-/// Parses several texts by the grammar of these bytes. What is wrong with the grammar is told once.
+/// Parses several texts by the grammar of these bytes. What is wrong with the grammar is told once. After want of memory no more are parsed.
 fn parse_each<R: AllocGlobal + Files + Input + Print + Eprint>(
     rt: &Handle<R>,
     bytes: &[u8],
@@ -83,7 +84,7 @@ fn parse_each<R: AllocGlobal + Files + Input + Print + Eprint>(
             None => UNUSABLE,
         };
         greatest = cmp::max(greatest, status);
-        if rt.has_failed() {
+        if rt.has_failed() || status == NO_MEMORY {
             break;
         }
     }

@@ -71,7 +71,8 @@ fn trace_file<F: Read + Drop, R: AllocGlobal + Print + Eprint>(
     }
 }
 
-/// The same on the text of these bytes. Where standard error takes no more, or grammar or text can't be used, no more is told, and the probe says why.
+/// The same on the text of these bytes. Where grammar or text can't be used, nothing is told, and the probe says why. Where standard error takes no more,
+/// the probe answers all the same, with the status of what can't be written.
 fn trace_text<R: AllocGlobal + Print + Eprint>(
     rt: &R,
     bytes: &[u8],
@@ -95,8 +96,10 @@ fn trace_text<R: AllocGlobal + Print + Eprint>(
     };
     let mut writer = ErrorWriter { rt };
     match trace_bytes(rt.alloc(), bytes, registry, text, tracing, &mut writer) {
-        Ok(true) | Err(WriteFault::Writer) => {
-            probe_text(rt, bytes, text, names, registry, max_steps, reading)
+        Ok(true) => probe_text(rt, bytes, text, names, registry, max_steps, reading),
+        Err(WriteFault::Writer) => {
+            probe_text(rt, bytes, text, names, registry, max_steps, reading)?;
+            Ok(UNUSABLE)
         }
         Ok(false) => tell_nearest(rt, bytes, names.grammar, only),
         Err(WriteFault::Memory) => Err(AllocError),

@@ -1,6 +1,5 @@
 use Rattle.std.proofs.Common.{◌≡◌, ◌<◌, ◌==◌, ℕ, true, false, List, [], ◌∷◌, length, refl, sym, ◌∙◌, eqb-true, arith}
 use Rattle.pg_expand.specs.declared.lookup.RowOperator.{RowOperator}
-use Rattle.pg_value.specs.Fits.{in_operators, in_gap}
 use Rattle.pg_operators.proofs.Found.{stands_found, stands_unknown}
 use Rattle.pg_operators.proofs.standing.standing_at.Goals as goal
 
@@ -12,12 +11,6 @@ some_there : (s : List ℕ) → false ≡ (length s == 0) → 0 < length s
 some_there [] e = absurd cc
 some_there (c ∷ cs) e = omega arith
 
-pub run_at-run-requires-clause-class : goal.run_at-run-requires-clause-class
-run_at-run-requires-clause-class c = in_operators c.requires
-
-pub past_run-end-requires-clause-class : goal.past_run-end-requires-clause-class
-past_run-end-requires-clause-class c = in_gap c.requires
-
 pub returns-then-is_empty-2 : goal.returns-then-is_empty-2
 returns-then-is_empty-2 c = λ operators is.
     stands_unknown c.args.grammar.now c.args.text.now c.args.item.now operators c.args.place c.args.lookup.now c.run_at-run.result.now
@@ -28,4 +21,4 @@ returns-then-is_empty-2 c = λ operators is.
 pub returns : goal.returns
 returns c = λ operators is.
     stands_found c.args.grammar.now c.args.text.now c.args.item.now operators c.args.place c.args.lookup.now c.run_at-run.result.now
-    (record { found = c.find-found.result; run = c.run_at-run.result; end = c.past_run-end.result }) is c.run_at-run.ensures.value (some_there c.run_at-run.result.now c.if-is_empty.ensures) c.find-found.ensures refl c.past_run-end.ensures.value c.past_run-end.ensures.within
+    (record { found = c.find-found.result; run = c.run_at-run.result; end = c.past_gap-end.result }) is c.run_at-run.ensures.value (some_there c.run_at-run.result.now c.if-is_empty.ensures) c.find-found.ensures refl c.past_gap-end.ensures.value c.past_gap-end.ensures.within

@@ -7,6 +7,6 @@ abbrev pub invariant-loop-i : goal.invariant-loop-i
 invariant-loop-i l = record {
   counted : length l.openings.items ≡ l.i;
   few : sum l.openings.items ≤ l.i;
-  within : AreWithin l.i (drop l.i l.forest-inside.entries.items);
-  noted : openings_on l.openings.items (drop l.i l.forest-inside.entries.items) ≡ openings_on [] l.forest-inside.entries.items;
+  within : AreWithin l.i (drop l.i l.entries);
+  noted : openings_on l.openings.items (drop l.i l.entries) ≡ openings_on [] l.entries;
 }

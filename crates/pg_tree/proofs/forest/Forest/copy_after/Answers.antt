@@ -1,21 +1,14 @@
-use Rattle.pg_tree.proofs.Stored.{stored_as, stored-shown, shown-stored}
-use Rattle.pg_tree.proofs.Ends.{end_entries-le, end_bytes-le, stored-drop}
+use Rattle.std.proofs.Common.{length, drop, ap, ◌∙◌, arith}
+use Rattle.pg_tree.specs.Stored.{kept_in}
+use Rattle.pg_tree.proofs.Stored.{keeps-shown, listed-in}
+use Rattle.pg_tree.proofs.Showing.{length-listed, listed-drop, shown-drop}
 use Rattle.pg_tree.proofs.forest.Forest.copy_after.Goals as goal
 
-pub copy_after-requires : goal.copy_after-requires
-copy_after-requires c =
-    let stored = stored_as _ _ _ _ c.self.invariant c.self.view_is in end_entries-le _ _ _ _ c.end_of-end.ensures stored.entries_are
-
-pub copy_after-requires-2 : goal.copy_after-requires-2
-copy_after-requires-2 c =
-    let stored = stored_as _ _ _ _ c.self.invariant c.self.view_is in end_bytes-le _ _ _ _ c.end_of-end.ensures stored.bytes_are
+pub copy_after-requires-clause-within : goal.copy_after-requires-clause-within
+copy_after-requires-clause-within c = omega (arith, c.requires, ap length c.self.view_is, length-listed (kept_in c.self.inside.store))
 
 pub invariant_of-result : goal.invariant_of-result
-invariant_of-result c =
-    let stored = stored_as _ _ _ _ c.self.invariant c.self.view_is in
-    stored-shown _ _ _ _ (stored-drop _ _ _ _ _ _ _ _ stored c.end_of-end.ensures c.in_ok-copy_after.ensures c.in_ok-copy_after-2.ensures)
+invariant_of-result c = keeps-shown _ _ _ _ _ c.in_ok-store.ensures (shown-drop c.args.count _ c.self.invariant.1)
 
 pub returns : goal.returns
-returns c =
-    let stored = stored_as _ _ _ _ c.self.invariant c.self.view_is in
-    shown-stored _ _ _ _ (stored-drop _ _ _ _ _ _ _ _ stored c.end_of-end.ensures c.in_ok-copy_after.ensures c.in_ok-copy_after-2.ensures)
+returns c = listed-in _ _ _ _ _ c.in_ok-store.ensures ∙ listed-drop c.args.count _ ∙ ap (drop c.args.count) c.self.view_is

@@ -6,8 +6,8 @@ use Rattle.pg_turns.specs.Tape.{tape_enter_at}
 use Rattle.pg_turns.specs.View.{stack_of}
 use Rattle.pg_turns.proofs.machine.Machine.enter.Goals as goal
 
-pub enter_form-requires-clause-node : goal.enter_form-requires-clause-node
-enter_form-requires-clause-node c =
+pub enter_form-requires : goal.enter_form-requires
+enter_form-requires c =
     let there : slice_get c.args.grammar.now.nodes c.args.node ≡ Some c.in-Some.form.now =
     ap (λ ns. slice_get ns c.args.node) (sym c.nodes.ensures.all) ∙ ap (slice_get c.nodes.result.now) (sym c.index.ensures) ∙ sym c.item_at.ensures ∙ ap option_copied c.in-Some.is in
     there

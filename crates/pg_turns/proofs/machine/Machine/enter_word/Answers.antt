@@ -5,11 +5,20 @@ use Rattle.pg_language.specs.Leaves.{some_word_outcome}
 use Rattle.pg_turns.specs.Spots.{spot_at}
 use Rattle.pg_turns.specs.Tape.{tape_told}
 use Rattle.pg_turns.specs.View.{stack_of}
+use Rattle.pg_value.proofs.Sites.{class_at_head, class_at_rest}
 use Rattle.pg_turns.proofs.machine.Machine.enter_word.Goals as goal
 
-pub word-requires-clause-item : goal.word-requires-clause-item
-word-requires-clause-item c =
-    ap (λ ws. slice_get ws c.args.word) (sym c.word_items.ensures.all) ∙ ap (slice_get c.word_items.result.now) (sym c.index.ensures) ∙ sym c.item_at.ensures ∙ ap option_copied c.in-Some.is
+pub word-requires-clause-head : goal.word-requires-clause-head
+word-requires-clause-head c =
+    let there : slice_get c.args.grammar.now.words c.args.word ≡ Some c.in-Some.item.now =
+    ap (λ ws. slice_get ws c.args.word) (sym c.word_items.ensures.all) ∙ ap (slice_get c.word_items.result.now) (sym c.index.ensures) ∙ sym c.item_at.ensures ∙ ap option_copied c.in-Some.is in
+    class_at_head c.args.grammar.now c.args.word c.in-Some.item.now there
+
+pub word-requires-clause-rest : goal.word-requires-clause-rest
+word-requires-clause-rest c =
+    let there : slice_get c.args.grammar.now.words c.args.word ≡ Some c.in-Some.item.now =
+    ap (λ ws. slice_get ws c.args.word) (sym c.word_items.ensures.all) ∙ ap (slice_get c.word_items.result.now) (sym c.index.ensures) ∙ sym c.item_at.ensures ∙ ap option_copied c.in-Some.is in
+    class_at_rest c.args.grammar.now c.args.word c.in-Some.item.now there
 
 pub returns-in-Some : goal.returns-in-Some
 returns-in-Some c =

@@ -15,8 +15,8 @@ slice_bounds-characters-end c =
     let rest : c.after-rest.result.now ≡ drop (c.args.place + 1) c.args.text.now = c.after-rest.ensures ∙ ap (drop (c.args.place + 1)) c.characters.ensures.same in
     word_fits c.args.text.now c.after.result.now c.after-rest.result.now c.args.place c.run_len-count.result c.next_in.result c.in-Some.c (sym c.next_in.ensures.value) c.in-Some.is all rest c.run_len-count.ensures.within
 
-pub returns-else-not-head_has : goal.returns-else-not-head_has
-returns-else-not-head_has c =
+pub returns-else-not-begins_word : goal.returns-else-not-begins_word
+returns-else-not-begins_word c =
     let m = c.args.self.now in
     let p = has_character c.args.grammar.now.classes c.args.item.now.rest in
     let all : c.after.result.now ≡ drop c.args.place c.args.text.now = c.after.ensures ∙ ap (drop c.args.place) c.characters-in-Some.ensures.same in
@@ -27,4 +27,4 @@ returns-else-not-head_has c =
     ap (take (c.run_len-count.result + 1)) all ∙ word_taken p c.args.text.now c.args.place c.in-Some.c c.run_len-count.result there count in
     IfOk-weaker c.read_word.result _ _
     (λ mode h. word_told (stack_of m.frames.items) m.lists.forest m.lists.trail.items m.lists.messages m.table (tape_of mode c.read_word.new.self) c.args.grammar.now c.args.text.now c.args.item.now c.args.place c.in-Some.c
-    (take (c.run_len-count.result + 1) c.after.result.now) there (sym c.head_has.ensures ∙ c.if-not-head_has.false) whole h) c.read_word.ensures
+    (take (c.run_len-count.result + 1) c.after.result.now) there (sym c.begins_word.ensures ∙ c.if-not-begins_word.false) whole h) c.read_word.ensures

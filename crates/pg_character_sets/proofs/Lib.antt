@@ -1,0 +1,3 @@
+pub mod ClassStack
+pub mod Sets
+pub mod Contents

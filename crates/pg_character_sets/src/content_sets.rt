@@ -1,0 +1,173 @@
+//! What stands in a grammar beside its class items: the expressions of its word items, its operators item and its nodes.
+//!
+//! Each is worked out once, when the grammar is made, and whoever asks for a character asks its set.
+
+ghost use Rattle.std.specs.Prelude.{◌≡◌, ◌∷◌, [], ℕ, false, map, option_copied, IfOk};
+ghost use Rattle.std.specs.Char.{IsScalar};
+ghost use Rattle.pg_class.specs.Ranges.{has};
+ghost use Rattle.pg_form.specs.Contents.{class_parts};
+ghost use Rattle.pg_character_sets.specs.Sets.{IsSetBy, AreSetsBy};
+ghost use Rattle.pg_character_sets.specs.Contents.{AreContentSets, operator_expressions, set_at, word_head, word_rest};
+
+use crate::character_set::CharacterSet;
+use crate::classes::class_in;
+use crate::item_sets::{ItemSets, set_in};
+use crate::site::ClassSite;
+use pg_form::{BaseForm, ClassItem, OperatorsItem, WordItem};
+use std::alloc::{AllocError, Global};
+use std::marker::Model;
+
+/// What the class expressions of word items, of an operators item and of forms contain. A form without one contains nothing.
+#[derive(Drop)]
+pub struct ContentSets {
+    heads: Vec<CharacterSet>,
+    rests: Vec<CharacterSet>,
+    operators: Vec<CharacterSet>,
+    forms: Vec<CharacterSet>,
+}
+
+impl Model for ContentSets {
+    ghost use Rattle.pg_character_sets.specs.Contents.{Sets};
+
+    ghost Value = { Sets };
+
+    ghost view = { λ s. record { heads = s.heads.items; rests = s.rests.items; operators = s.operators.items; forms = s.forms.items } };
+}
+
+impl ContentSets {
+    /// What these contain, the expressions being over these class items. The only error is that memory ran out.
+    #[tactic(auto, using(crate::proofs::Contents::contents_are))]
+    pub fn of(
+        alloc: Global,
+        classes: &[ClassItem],
+        words: &[WordItem],
+        operators: Option<&OperatorsItem>,
+        forms: &[BaseForm],
+    ) -> Result<ContentSets, AllocError>
+        ensures { IfOk result (AreContentSets classes.now words.now (option_copied operators.entry) (map class_parts forms.now)) }
+    {
+        let items = ItemSets::of(alloc, classes)?;
+        let heads = head_sets(alloc, &items, words)?;
+        let rests = rest_sets(alloc, &items, words)?;
+        let symbols = operator_sets(alloc, &items, operators)?;
+        let nodes = form_sets(alloc, &items, forms)?;
+        Ok(ContentSets {
+            heads,
+            rests,
+            operators: symbols,
+            forms: nodes,
+        })
+    }
+
+    /// What the expression that stands there contains, if one does. It takes no memory.
+    #[inline]
+    pub fn at(&self, site: ClassSite) -> Option<&CharacterSet>
+        ensures { option_copied result ≡ set_at self.now site }
+    {
+        match site {
+            ClassSite::Head(word) => set_in(self.heads.as_slice(), word.index()),
+            ClassSite::Rest(word) => set_in(self.rests.as_slice(), word.index()),
+            ClassSite::Operators => set_in(self.operators.as_slice(), 0),
+            ClassSite::Gap => set_in(self.operators.as_slice(), 1),
+            ClassSite::Node(node) => set_in(self.forms.as_slice(), node.index()),
+        }
+    }
+}
+
+/// What words begin with.
+fn head_sets(
+    alloc: Global,
+    items: &ItemSets,
+    words: &[WordItem],
+) -> Result<Vec<CharacterSet>, AllocError>
+    ensures { IfOk result (λ sets. AreSetsBy items.now (map word_head words.now) sets.items) }
+{
+    let mut sets = Vec::with_capacity(alloc, words.len())?;
+    for word in words {
+        let set = items.set_of(alloc, &word.head)?;
+        sets.push(set)?;
+    }
+    Ok(sets)
+}
+
+/// What words go on with.
+fn rest_sets(
+    alloc: Global,
+    items: &ItemSets,
+    words: &[WordItem],
+) -> Result<Vec<CharacterSet>, AllocError>
+    ensures { IfOk result (λ sets. AreSetsBy items.now (map word_rest words.now) sets.items) }
+{
+    let mut sets = Vec::with_capacity(alloc, words.len())?;
+    for word in words {
+        let set = items.set_of(alloc, &word.rest)?;
+        sets.push(set)?;
+    }
+    Ok(sets)
+}
+
+/// The characters of operators and those of gaps, if there are operators.
+fn operator_sets(
+    alloc: Global,
+    items: &ItemSets,
+    operators: Option<&OperatorsItem>,
+) -> Result<Vec<CharacterSet>, AllocError>
+    ensures { IfOk result (λ sets. AreSetsBy items.now (operator_expressions (option_copied operators.entry)) sets.items) }
+{
+    match operators {
+        Some(item) => both_sets(alloc, items, item),
+        None => Ok(Vec::new(alloc)),
+    }
+}
+
+/// The characters of operators, and those of gaps.
+#[tactic(auto, using(crate::proofs::Sets::both_are))]
+fn both_sets(
+    alloc: Global,
+    items: &ItemSets,
+    item: &OperatorsItem,
+) -> Result<Vec<CharacterSet>, AllocError>
+    ensures { IfOk result (λ sets. AreSetsBy items.now (item.now.class ∷ item.now.gap ∷ []) sets.items) }
+{
+    let class = items.set_of(alloc, &item.class)?;
+    let gap = items.set_of(alloc, &item.gap)?;
+    let mut sets = Vec::with_capacity(alloc, 2)?;
+    sets.push(class)?;
+    sets.push(gap)?;
+    Ok(sets)
+}
+
+/// The sets of forms; one without a class expression has the empty set.
+fn form_sets(
+    alloc: Global,
+    items: &ItemSets,
+    forms: &[BaseForm],
+) -> Result<Vec<CharacterSet>, AllocError>
+    ensures { IfOk result (λ sets. AreSetsBy items.now (map class_parts forms.now) sets.items) }
+{
+    let class = class_in(alloc, &[])?;
+    let none = CharacterSet::new(alloc, class)?;
+    let mut sets = Vec::with_capacity(alloc, forms.len())?;
+    for form in forms {
+        let set = form_set(alloc, items, &none, form)?;
+        sets.push(set)?;
+    }
+    Ok(sets)
+}
+
+/// The set of a form, this one being empty.
+#[tactic(auto, using(crate::proofs::Sets::none_has))]
+fn form_set(
+    alloc: Global,
+    items: &ItemSets,
+    none: &CharacterSet,
+    form: &BaseForm,
+) -> Result<CharacterSet, AllocError>
+    requires { (c : ℕ) → IsScalar c → has none.now c ≡ false }
+    ensures { IfOk result (IsSetBy items.now (class_parts form.now)) }
+{
+    match form.class() {
+        Some(class) => items.set_of(alloc, class),
+        None => none.share(),
+    }
+}
