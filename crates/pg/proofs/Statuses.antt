@@ -2,17 +2,24 @@
 use Rattle.std.proofs.Common.{◌≡◌, ◌⊎◌, ℕ, List, Bool, true, false, Option, Result, Ok, Err, codes, sym, subst, inl, inr}
 use Rattle.std.specs.Prelude.{IfErr, OnOk}
 use Rattle.std.specs.String.{string_bytes}
+use Rattle.pg_tree.specs.Trees.{Tree}
+use Rattle.pg_tree.specs.Meter.{Metered}
 use Rattle.pg_pred.specs.Offer.{Offer}
+use Rattle.pg_value.specs.Grammar.{Grammar}
+use Rattle.pg_value.specs.declared.trail.TrailItem.{TrailItem}
+use Rattle.pg_making.specs.Spells.{HasInitialTable}
 use Rattle.pg_language.specs.declared.reading.Reading.{Reading}
+use Rattle.pg_predict.specs.Checked.{GrammarWithSets}
 use Rattle.pg_predict.specs.Findings.{lines_of}
 use Rattle.pg_grammar_bench.specs.Checking.{IsChecked, is_accepted, is_refused}
 use Rattle.pg_explain_bench.specs.Explaining.{IsExplainedFile}
 use Rattle.pg_json_bench.specs.Listing.{IsListedFile}
 use Rattle.pg_explain_bench.specs.declared.explain.Explained.TheVariants as told
-use Rattle.pg_grammar_bench.specs.Faults.{IsFileRefusal, IsPageRefusal, IsVerifyRefusal, IfNotVerified, IfRefused, IfParseError}
+use Rattle.pg_grammar_bench.specs.Faults.{IsFileRefusal, IsGrammarRefusal, IsPageRefusal, IsVerifyRefusal, IfNotVerified, IfRefused, IfParseError}
 use Rattle.pg_grammar_bench.specs.Files.{AreFindingsOf}
 use Rattle.pg_bench.specs.declared.done.Done.{Done}
-use Rattle.pg_bench.specs.Parsed.{IsParsed, IsErrorOf}
+use Rattle.pg_bench.specs.Parsed.{IsParsedBy, IsForestBy, IsErrorBy}
+use Rattle.pg_bench.specs.Refusals.{IsTextFault}
 use Rattle.pg_grammar_bench.specs.Printing.{IsPrinted}
 use Rattle.pg_bench.specs.Probing.{IsProbed}
 use Rattle.pg_bench.specs.Replaying.{IsReplayed}
@@ -20,8 +27,8 @@ use Rattle.pg_grammar_bench.specs.Showing.{IsShownFile}
 use Rattle.pg_grammar_bench.specs.Verifying.{IsVerifiedFile, IsVerdictOf}
 use Rattle.pg_grammar_bench.specs.declared.fault.BenchFault.{BenchFault}
 use Rattle.pg_grammar_bench.specs.declared.fault.BenchFault.TheVariants.{File, Refused, Reader, NotUtf8, TooLong, NotATrail, NotVerified, ParseError, Writer, Memory}
-use Rattle.pg_report.specs.Status.{status_of, status_of_verdict}
-use Rattle.pg.specs.Status.{IsStatus, yes, no, unusable, out_of_memory, IsCheckStatus, IsParseStatus, IsProbeStatus, IsReplayStatus, IsPrintStatus, IsVerifyStatus}
+use Rattle.pg_report.specs.Status.{status_of, status_of_verdict, IsLoaded, IsRefusedWith}
+use Rattle.pg.specs.Status.{IsStatus, yes, no, unusable, out_of_memory, IsCheckStatus, IsParseStatus, IsTextStatus, IsProbeStatus, IsReplayStatus, IsPrintStatus, IsVerifyStatus}
 
 -- ---- a check
 
@@ -94,20 +101,20 @@ verdict_status offer file certificate verdict status ok refusal refuted (inr is)
     own (Ok x) ok h k = yes ok
     own (Err f) ok h k = of f h k
 
--- ---- a parse
+-- ---- a parse by a grammar that is loaded
 
-pub parsed_status : (offer : Offer) (file : List ℕ) (reader left : Option (List ℕ)) (with_trail : Bool) (writer held : Option (List ℕ)) (done : Done)
-    → IsParsed offer file reader left with_trail writer held done → IsParseStatus offer file reader 0
-parsed_status offer file reader left with_trail writer held done h = yes (left, h.forest, h.trail, done, h.parsed)
+pub parsed_status : (g : Grammar) (reader left : Option (List ℕ)) (with_trail : Bool) (writer held : Option (List ℕ)) (done : Done)
+    → IsParsedBy g reader left with_trail writer held done → IsTextStatus g reader 0
+parsed_status g reader left with_trail writer held done h = yes (left, h.forest, h.trail, done, h.parsed)
 
-pub parse_fault_status : (offer : Offer) (file : List ℕ) (reader left : Option (List ℕ)) (fault : BenchFault) (status : ℕ) → IfRefused (AreFindingsOf offer file) fault
-    → IfParseError (IsErrorOf offer file reader left) fault → IfNotVerified (λ verdict. ⊥) fault → status ≡ status_of fault → IsParseStatus offer file reader status
-parse_fault_status offer file reader left fault status findings error judged is = subst (IsParseStatus offer file reader) (sym is) (own fault findings error judged)
+pub parse_fault_status : (g : Grammar) (reader left : Option (List ℕ)) (fault : BenchFault) (status : ℕ) → IfRefused (λ findings. ⊥) fault
+    → IfParseError (IsErrorBy g reader left) fault → IfNotVerified (λ verdict. ⊥) fault → status ≡ status_of fault → IsTextStatus g reader status
+parse_fault_status g reader left fault status findings error judged is = subst (IsTextStatus g reader) (sym is) (own fault findings error judged)
   where
-    own : (f : BenchFault) → IfRefused (AreFindingsOf offer file) f → IfParseError (IsErrorOf offer file reader left) f → IfNotVerified (λ verdict. ⊥) f
-        → IsParseStatus offer file reader (status_of f)
-    own (Refused refused) h k v = no (inl (refused.findings, h))
-    own (ParseError e) h k v = no (inr (left, e, k))
+    own : (f : BenchFault) → IfRefused (λ findings. ⊥) f → IfParseError (IsErrorBy g reader left) f → IfNotVerified (λ verdict. ⊥) f
+        → IsTextStatus g reader (status_of f)
+    own (Refused refused) h k v = absurd h
+    own (ParseError e) h k v = no (left, e, k)
     own (NotVerified verdict) h k v = absurd v
     own Memory h k v = out_of_memory
     own (File f) h k v = unusable
@@ -116,6 +123,79 @@ parse_fault_status offer file reader left fault status findings error judged is 
     own TooLong h k v = unusable
     own NotATrail h k v = unusable
     own Writer h k v = unusable
+
+-- the same where the forest isn't written as it is
+pub outlined_status : (g : Grammar) (reader left : Option (List ℕ)) (forest : List Tree) (trail : List TrailItem) (done : Done) (status : ℕ)
+    → IsForestBy g reader left forest trail done → (status ≡ 0) ⊎ (status ≡ 2) → IsTextStatus g reader status
+outlined_status g reader left forest trail done status h (inl is) = subst (IsTextStatus g reader) (sym is) (yes (left, forest, trail, done, h))
+outlined_status g reader left forest trail done status h (inr is) = subst (IsTextStatus g reader) (sym is) unusable
+
+pub text_fault_status : {R : Type 0} (g : Grammar) (before after : Metered R) (reader left : Option (List ℕ)) (fault : BenchFault) (status : ℕ)
+    → IsTextFault g before after reader left fault → status ≡ status_of fault → IsTextStatus g reader status
+text_fault_status g before after reader left fault status h is = subst (IsTextStatus g reader) (sym is) (own fault h)
+  where
+    own : (f : BenchFault) → IsTextFault g before after reader left f → IsTextStatus g reader (status_of f)
+    own Reader h = unusable
+    own NotUtf8 h = unusable
+    own TooLong h = unusable
+    own (ParseError e) h = no (left, e, h.1)
+    own Memory h = out_of_memory
+    own _ h = absurd h
+
+-- ---- and by the file that it is loaded from
+
+pub loaded_table : (offer : Offer) (file : List ℕ) (checked : GrammarWithSets) → IsLoaded offer file checked → HasInitialTable checked.grammar
+loaded_table offer file checked h = h.spelled.spells.spelled.grammar.admitted
+
+pub loaded_status : (offer : Offer) (file : List ℕ) (checked : GrammarWithSets) (reader : Option (List ℕ)) (status : ℕ) → IsLoaded offer file checked
+    → IsTextStatus checked.grammar reader status → IsParseStatus offer file reader status
+loaded_status offer file checked reader status is h = own status h
+  where
+    own : (n : ℕ) → IsTextStatus checked.grammar reader n → IsParseStatus offer file reader n
+    own _ (yes h) =
+        let read = h.4 in
+        yes (
+          h.0,
+          h.1,
+          h.2,
+          h.3,
+          record {
+            grammar = checked.grammar;
+            spelled = is.spelled;
+            accepted = record { faultless = is.accepted.faultless };
+            bytes = read.0;
+            read = read.1;
+            end = read.2;
+            is = read.3;
+          },
+        )
+    own _ (no h) =
+        let read = h.2 in
+        no (inr (
+          h.0,
+          h.1,
+          record {
+            grammar = checked.grammar;
+            spelled = is.spelled;
+            accepted = record { faultless = is.accepted.faultless };
+            bytes = read.0;
+            read = read.1;
+            end = read.2;
+            is = read.3;
+          },
+        ))
+    own _ unusable = unusable
+    own _ out_of_memory = out_of_memory
+
+pub not_loaded_status : (offer : Offer) (file : List ℕ) (reader : Option (List ℕ)) (status : ℕ) → IsRefusedWith offer file status
+    → IsParseStatus offer file reader status
+not_loaded_status offer file reader status h = subst (IsParseStatus offer file reader) (sym h.status_is) (own h.fault h.grammar h.findings)
+  where
+    own : (f : BenchFault) → IsGrammarRefusal f → IfRefused (AreFindingsOf offer file) f → IsParseStatus offer file reader (status_of f)
+    own (File f) h k = unusable
+    own (Refused refused) h k = no (inl (refused.findings, k))
+    own Memory h k = out_of_memory
+    own _ h k = absurd h
 
 -- ---- a probe
 

@@ -2,6 +2,7 @@
 use Rattle.std.specs.Prelude.{ℕ, List, Bool, true, false, Option, ◌⊎◌}
 use Rattle.pg_message.specs.declared.error.ParseError as message
 use Rattle.pg_tree.specs.Trees.{Tree}
+use Rattle.pg_value.specs.Grammar.{Grammar}
 use Rattle.pg_value.specs.declared.trail.TrailItem.{TrailItem}
 use Rattle.pg_pred.specs.Offer.{Offer}
 use Rattle.pg_language.specs.declared.reading.Reading.{Reading}
@@ -10,7 +11,7 @@ use Rattle.pg_grammar_bench.specs.Checking.{IsJudgedFile}
 use Rattle.pg_grammar_bench.specs.Files.{AreFindingsOf, SpellsAny}
 use Rattle.pg_grammar_bench.specs.Verifying.{IsVerifiedFile, IsVerdictOf}
 use Rattle.pg_bench.specs.declared.done.Done.{Done}
-use Rattle.pg_bench.specs.Parsed.{IsForestOf, IsErrorOf}
+use Rattle.pg_bench.specs.Parsed.{IsForestOf, IsForestBy, IsErrorOf, IsErrorBy}
 use Rattle.pg_bench.specs.Probing.{IsShown}
 use Rattle.pg_bench.specs.Showing.{IsShownBy}
 use Rattle.pg_bench.specs.Replaying.{IsReplayOfText}
@@ -47,6 +48,18 @@ Refuses offer file reader =
 -- of a parse
 abbrev pub IsParseStatus : Offer → List ℕ → Option (List ℕ) → ℕ → Type 0
 IsParseStatus offer file reader = IsStatus (DerivesReader offer file reader) (Refuses offer file reader)
+
+-- a grammar that is accepted derives the reader's text, within so many steps
+abbrev pub DerivesBy : Grammar → Option (List ℕ) → Type 0
+DerivesBy g reader = (left : Option (List ℕ)) × (forest : List Tree) × (trail : List TrailItem) × (done : Done) × IsForestBy g reader left forest trail done
+
+-- it doesn't
+abbrev pub FailsBy : Grammar → Option (List ℕ) → Type 0
+FailsBy g reader = (left : Option (List ℕ)) × (error : message.ParseError) × IsErrorBy g reader left error
+
+-- of a parse by such a grammar, once it is loaded
+abbrev pub IsTextStatus : Grammar → Option (List ℕ) → ℕ → Type 0
+IsTextStatus g reader = IsStatus (DerivesBy g reader) (FailsBy g reader)
 
 -- the grammar's start rule gives an answer, or none, to the reader's text: whether that is ok
 abbrev pub AnswersReader : Offer → List ℕ → Option (List ℕ) → List ℕ → ℕ → Reading → Bool → Type 0

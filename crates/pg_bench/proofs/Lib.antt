@@ -1,4 +1,5 @@
 pub mod Parses
+pub mod Loaded
 pub mod Shown
 pub mod ShownTexts
 pub mod Replayed

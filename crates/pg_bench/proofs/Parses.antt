@@ -4,7 +4,6 @@ use Rattle.std.specs.Prelude.{IfSome, IfNone}
 use Rattle.std.specs.Io.KnownBytes.{Consumes, IsAtEnd}
 use Rattle.pg_tree.specs.Meter.{Metered}
 use Rattle.pg_tree.specs.Trees.{Tree}
-use Rattle.pg_pred.specs.Offer.{Offer}
 use Rattle.pg_value.specs.Grammar.{Grammar}
 use Rattle.pg_value.specs.declared.trail.TrailItem.{TrailItem}
 use Rattle.pg_table.specs.Tables.{Table, Added, initial, whole}
@@ -14,25 +13,19 @@ use Rattle.pg_language.specs.Answers.{given}
 use Rattle.pg_language.specs.Errors.{without_position}
 use Rattle.pg_language.specs.Outcomes.{ok}
 use Rattle.pg_language.specs.declared.reading.Reading.TheVariants.{Library}
-use Rattle.pg_making.specs.Spells.{SpellsWithinLimits}
 use Rattle.pg_machine.specs.CheckedRuns.{IsTextAnswer, IsOnlyDerivation, IsUnderivable}
 use Rattle.pg_machine.specs.Outcomes.{outcome_of, outcome_with}
 use Rattle.pg_machine.specs.declared.answer.Answer.{Answer}
 use Rattle.pg_machine.specs.declared.answer.Success.{Success}
 use Rattle.pg_predict.specs.Checked.{GrammarWithSets, IsChecked}
-use Rattle.pg_grammar_bench.specs.Files.{IsFaultOfFile, AreFindingsOf}
-use Rattle.pg_grammar_bench.specs.Faults.{IsGrammarRefusal, IfFile, IfRefused}
 use Rattle.pg_grammar_bench.specs.declared.fault.BenchFault.{BenchFault}
-use Rattle.pg_grammar_bench.specs.declared.fault.BenchFault.TheVariants.{File, Refused, Reader, NotUtf8, TooLong, ParseError, Memory}
-use Rattle.pg_bench.specs.Parsed.{IsSpelledBy, IsForestOf, IsForestOfBytes, ReadsText}
-use Rattle.pg_bench.specs.Refusals.{IsErrorOfAnswer, IsWell, IsReadRefusal, IsTextRefusal, IsParseRefusal, IsRunRefusal, IsTextFault, IsForestRefusal}
+use Rattle.pg_grammar_bench.specs.declared.fault.BenchFault.TheVariants.{Reader, NotUtf8, TooLong, ParseError, Memory}
+use Rattle.pg_bench.specs.Parsed.{IsSpelledBy, IsForestOfBytes}
+use Rattle.pg_bench.specs.Refusals.{IsErrorOfAnswer, IsWell, IsReadRefusal, IsTextRefusal, IsParseRefusal, IsRunRefusal, IsTextFault}
 use Rattle.pg_derive.specs.LeastSets.{node_sets}
 use Rattle.pg_derive.specs.PredictiveLaws.{LosesNoAlternative, EachRoundConsumes, EachLinkConsumes}
 use Rattle.pg_bench.specs.declared.done.Done.{Done}
-use Rattle.pg_bench.specs.Promise.{IsAccepted, IsAnsweredIn, CommitsRightly, IsForestOfText, IsErrorOfText}
-
-pub accepted_grammar : (checked : GrammarWithSets) → IsChecked checked → IsAccepted checked.grammar
-accepted_grammar checked is = record { faultless = is.faultless }
+use Rattle.pg_bench.specs.Promise.{IsAnsweredIn, CommitsRightly, IsForestOfText, IsErrorOfText}
 
 commits_rightly : (checked : GrammarWithSets) (text : List ℕ) → IsChecked checked
     → LosesNoAlternative (given Library checked.grammar text) (node_sets checked.grammar checked.sets) → EachRoundConsumes (given Library checked.grammar text)
@@ -138,37 +131,6 @@ parse_refused g before after reader left bytes TooLong read end well h = (well, 
 parse_refused g before after reader left bytes (ParseError error) read end well h = (well, (bytes, read, end, h))
 parse_refused g before after reader left bytes Memory read end well h = tt
 parse_refused g before after reader left bytes _ read end well h = absurd h
-
-pub forest_of_file : (offer : Offer) (file : List ℕ) (reader left : Option (List ℕ)) (g : Grammar) (forest : List Tree) (trail : List TrailItem) (done : Done)
-    → SpellsWithinLimits offer file g → IsAccepted g → ReadsText reader left (λ bytes. IsForestOfBytes g bytes forest trail done)
-    → IsForestOf offer file reader left forest trail done
-forest_of_file offer file reader left g forest trail done spelled accepted h =
-    record { grammar = g; spelled = spelled; accepted = accepted; bytes = h.0; read = h.1; end = h.2; is = h.3 }
-
--- what refuses the grammar of a file
-pub grammar_refused : {R : Type 0} (offer : Offer) (file : List ℕ) (before : Metered R) (reader left : Option (List ℕ)) (fault : BenchFault)
-    → IsGrammarRefusal fault → IfFile (IsFaultOfFile offer file) fault
-    → IfRefused (AreFindingsOf offer file) fault → IsForestRefusal offer file before before reader left fault
-grammar_refused offer file before reader left (File fault) h is findings = (is, refl)
-grammar_refused offer file before reader left (Refused findings) h is are = (are, refl)
-grammar_refused offer file before reader left Memory h is findings = tt
-grammar_refused offer file before reader left _ h is findings = absurd h
-
--- what refuses a text by it
-pub reading_refused_file : {R : Type 0} (offer : Offer) (file : List ℕ) (before after : Metered R) (reader left : Option (List ℕ)) (g : Grammar)
-    (fault : BenchFault) → SpellsWithinLimits offer file g → IsAccepted g → IsTextFault g before after reader left fault
-    → IsForestRefusal offer file before after reader left fault
-reading_refused_file offer file before after reader left g Reader spelled accepted h = ((g, spelled, accepted), h)
-reading_refused_file offer file before after reader left g NotUtf8 spelled accepted h = ((g, spelled, accepted), h.0, h.1)
-reading_refused_file offer file before after reader left g TooLong spelled accepted h = ((g, spelled, accepted), h.0, h.1)
-reading_refused_file offer file before after reader left g (ParseError error) spelled accepted h =
-    let read = h.1 in (
-      (g, spelled, accepted),
-      h.0,
-      record { grammar = g; spelled = spelled; accepted = accepted; bytes = read.0; read = read.1; end = read.2; is = read.3 },
-    )
-reading_refused_file offer file before after reader left g Memory spelled accepted h = tt
-reading_refused_file offer file before after reader left g _ spelled accepted h = absurd h
 
 -- ---- under a table that is the initial one
 

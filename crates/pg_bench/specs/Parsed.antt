@@ -51,6 +51,18 @@ IsForestOf offer file reader left forest trail done = ParsesReader offer file re
 abbrev pub IsErrorOf : Offer → List ℕ → Option (List ℕ) → Option (List ℕ) → message.ParseError → Type 0
 IsErrorOf offer file reader left e = ParsesReader offer file reader left (λ g bytes. IsErrorOfBytes g bytes e)
 
+-- the reader's whole bytes have this property
+abbrev pub ReadsText : Option (List ℕ) → Option (List ℕ) → (List ℕ → Type 0) → Type 0
+ReadsText reader left Is = (bytes : List ℕ) × Consumes reader left bytes × IsAtEnd left × Is bytes
+
+-- this is the forest of the reader's whole bytes by the grammar, derived along this trail, after so many steps
+abbrev pub IsForestBy : Grammar → Option (List ℕ) → Option (List ℕ) → List Tree → List TrailItem → Done → Type 0
+IsForestBy g reader left forest trail done = ReadsText reader left (λ bytes. IsForestOfBytes g bytes forest trail done)
+
+-- or this is their error
+abbrev pub IsErrorBy : Grammar → Option (List ℕ) → Option (List ℕ) → message.ParseError → Type 0
+IsErrorBy g reader left e = ReadsText reader left (λ bytes. IsErrorOfBytes g bytes e)
+
 -- what is written after the forest's JSON: a line feed, and the trail's JSON on a line of its own where it is asked for
 abbrev pub after_forest : Bool → List TrailItem → List ℕ
 after_forest false trail = codes "\n"
@@ -81,6 +93,18 @@ pub record IsPartlyWritten (offer : Offer) (file : List ℕ) (reader left : Opti
   pub parsed : IsForestOf offer file reader left forest trail done
   pub written : AppendsPrefix writer held (parse_text with_trail forest trail)
 
--- the reader's whole bytes have this property
-abbrev pub ReadsText : Option (List ℕ) → Option (List ℕ) → (List ℕ → Type 0) → Type 0
-ReadsText reader left Is = (bytes : List ℕ) × Consumes reader left bytes × IsAtEnd left × Is bytes
+-- this is the forest by a grammar, with this trail, after so many steps, and it was written, with the trail where that is asked for
+pub record IsParsedBy (g : Grammar) (reader left : Option (List ℕ)) (with_trail : Bool) (writer held : Option (List ℕ)) (done : Done) : Type 0 where
+  pub forest : List Tree
+  pub trail : List TrailItem
+  pub parsed : IsForestBy g reader left forest trail done
+  pub written : Appends writer held (parse_text with_trail forest trail)
+  pub read : IfRead with_trail trail
+
+-- or a prefix of that was
+pub record IsPartlyParsedBy (g : Grammar) (reader left : Option (List ℕ)) (with_trail : Bool) (writer held : Option (List ℕ)) : Type 0 where
+  pub forest : List Tree
+  pub trail : List TrailItem
+  pub done : Done
+  pub parsed : IsForestBy g reader left forest trail done
+  pub written : AppendsPrefix writer held (parse_text with_trail forest trail)

@@ -2,17 +2,15 @@
 use Rattle.std.specs.Prelude.{◌≡◌, ◌≤◌, ◌<◌, ◌+◌, ◌*◌, ◌⊎◌, ℕ, List, length, true, false, Option, None}
 use Rattle.std.specs.Str.{chars, IsUtf8}
 use Rattle.pg_text.specs.declared.text.TheConstants.{LIMIT}
-use Rattle.pg_message.specs.declared.error.ParseError as message
 use Rattle.pg_tree.specs.Meter.{Metered, saturating_sum}
 use Rattle.pg_pred.specs.Offer.{Offer}
 use Rattle.pg_value.specs.Grammar.{Grammar}
 use Rattle.pg_machine.specs.declared.answer.Answer.{Answer}
-use Rattle.pg_predict.specs.Findings.{Finding}
-use Rattle.pg_grammar_bench.specs.Files.{AreFindingsOf, IsFaultOfFile, SpellsSome}
+use Rattle.pg_grammar_bench.specs.Files.{IsFaultOfFile, SpellsAny}
 use Rattle.pg_grammar_bench.specs.Faults.{Claimed, memory_alone}
 use Rattle.pg_grammar_bench.specs.declared.fault.BenchFault.{BenchFault}
-use Rattle.pg_bench.specs.Parsed.{IsErrorOf, IsErrorOfBytes, ReadsText}
-use Rattle.pg_bench.specs.Promise.{IsAccepted, IsErrorOfText}
+use Rattle.pg_bench.specs.Parsed.{IsErrorOfBytes, ReadsText}
+use Rattle.pg_bench.specs.Promise.{IsErrorOfText}
 
 -- ---- the reader, before and after it is asked for a text
 
@@ -81,26 +79,13 @@ IsShowFault NoTrail before after reader left =
       not_a_trail = IsWell before after × NoTrail;
     })
 
--- what a run refuses with before it writes, by a grammar of this kind that a file spells: with findings, with an error or for want
--- of a trail only where this is claimed of them
-abbrev pub IsFilesRefusal : {R : Type 0} → (Grammar → Type 0) → (List Finding → Type 0) → (message.ParseError → Type 0) → Type 0 → Offer → List ℕ
-    → Metered R → Metered R → Option (List ℕ) → Option (List ℕ) → BenchFault → Type 0
-IsFilesRefusal Is Finds Errs NoTrail offer file before after reader left =
+-- and what showing refuses with by the grammar that a file spells
+abbrev pub IsShownRefusal : {R : Type 0} → Type 0 → Offer → List ℕ → Metered R → Metered R → Option (List ℕ) → Option (List ℕ) → BenchFault → Type 0
+IsShownRefusal NoTrail offer file before after reader left =
     Claimed (record memory_alone {
       file = λ fault. IsFaultOfFile offer file fault × (after ≡ before);
-      refused = λ findings. Finds findings × (after ≡ before);
-      reader = SpellsSome Is offer file × IsUnread before after;
-      not_utf8 = SpellsSome Is offer file × IsWell before after × ReadsText reader left (λ bytes. ¬ (IsUtf8 bytes));
-      too_long = SpellsSome Is offer file × IsWell before after × ReadsText reader left (λ bytes. IsUtf8 bytes × (LIMIT < length (chars bytes)));
-      not_a_trail = SpellsSome Is offer file × IsWell before after × NoTrail;
-      parse_error = λ error. SpellsSome Is offer file × IsWell before after × Errs error;
+      reader = SpellsAny offer file × IsUnread before after;
+      not_utf8 = SpellsAny offer file × IsWell before after × ReadsText reader left (λ bytes. ¬ (IsUtf8 bytes));
+      too_long = SpellsAny offer file × IsWell before after × ReadsText reader left (λ bytes. IsUtf8 bytes × (LIMIT < length (chars bytes)));
+      not_a_trail = SpellsAny offer file × IsWell before after × NoTrail;
     })
-
--- parsing does so
-abbrev pub IsForestRefusal : {R : Type 0} → Offer → List ℕ → Metered R → Metered R → Option (List ℕ) → Option (List ℕ) → BenchFault → Type 0
-IsForestRefusal offer file before after reader left =
-    IsFilesRefusal IsAccepted (AreFindingsOf offer file) (IsErrorOf offer file reader left) ⊥ offer file before after reader left
-
--- and showing, whatever the grammar
-abbrev pub IsShownRefusal : {R : Type 0} → Type 0 → Offer → List ℕ → Metered R → Metered R → Option (List ℕ) → Option (List ℕ) → BenchFault → Type 0
-IsShownRefusal NoTrail = IsFilesRefusal (λ g. Unit {0}) (λ findings. ⊥) (λ error. ⊥) NoTrail

@@ -2,7 +2,8 @@
 //!
 //! The steps come one after another: the grammar file is read and its grammar checked, then the text is read, then it is
 //! parsed, and only then is anything written. So a refusal by an earlier step has neither read nor written what a later
-//! one would have.
+//! one would have. `parse_checked` is the steps after the first, for a grammar that is read once for many texts, and `parsed_text` those
+//! before the last.
 
 ghost use Rattle.std.specs.Prelude.{◌≡◌, ◌≤◌, ◌<◌, ◌+◌, ◌*◌, ◌⊎◌, ◌++◌, false, true, length, Some, IfOk, IfErr, OnOk, IsErrOf};
 ghost use Rattle.std.specs.Str.{chars, IsUtf8};
@@ -15,9 +16,9 @@ ghost use Rattle.pg_tree.specs.Bytes.{AppendsPrefix};
 ghost use Rattle.pg_making.specs.Spells.{HasInitialTable};
 ghost use Rattle.pg_bench.specs.Promise.{IsAccepted, IsForestOfText};
 ghost use Rattle.pg_grammar_bench.specs.Files.{AreFindingsOf, IsFaultOfFile, SpellsSome};
-ghost use Rattle.pg_bench.specs.Parsed.{IsParsed, IsForestOf, IsForestOfBytes, IsErrorOf, ReadsText, IsPartlyWritten, after_forest, parse_text, IfRead};
+ghost use Rattle.pg_bench.specs.Parsed.{IsParsed, IsParsedBy, IsForestBy, IsForestOfBytes, IsErrorOf, IsErrorBy, IsSpelledBy, ReadsText, IsPartlyWritten, IsPartlyParsedBy, after_forest, parse_text, IfRead};
 ghost use Rattle.pg_grammar_bench.specs.Faults.{IfRefused, IfParseError, IfNotATrail, IfNotVerified, IsWriteRefusal, IsBeforeReading, IsAfterFile, IsAfterReading, IfFile, IsBeforeWriting, IsMemory};
-ghost use Rattle.pg_bench.specs.Refusals.{IsForestRefusal, IsErrorOfAnswer, IsTextFault, IsParseRefusal, IsRunRefusal, IsWell};
+ghost use Rattle.pg_bench.specs.Refusals.{IsErrorOfAnswer, IsTextFault, IsParseRefusal, IsRunRefusal, IsWell};
 
 use crate::done::Done;
 use crate::initial::initial_table;
@@ -35,9 +36,20 @@ use std::io::{Read, Write};
 
 /// What a run of a text gives, and what it took.
 #[derive(Drop)]
-struct Parse {
-    success: Success,
-    done: Done,
+pub struct Parse {
+    /// What the run gives.
+    pub success: Success,
+    /// What it took.
+    pub done: Done,
+}
+
+/// A text with its parse.
+#[derive(Drop)]
+pub struct ParsedText {
+    /// The text.
+    pub text: Text,
+    /// Its parse.
+    pub parse: Parse,
 }
 
 /// Parses the text that a reader gives by the grammar that a file spells, and writes the forest's JSON and a line feed; `with_trail`
@@ -52,6 +64,7 @@ struct Parse {
 /// `ParseError` where the grammar doesn't derive the text, and the writer's.
 /// Up to `ParseError`, and where memory runs out, nothing is written. A text of over 4,194,304 bytes can't be one of 1,048,576
 /// characters, so no more is read of it.
+#[tactic(auto, using(crate::proofs::Loaded::parsed_file, crate::proofs::Loaded::partly_file, crate::proofs::Loaded::error_of_file, crate::proofs::Loaded::no_file_fault, crate::proofs::Loaded::no_findings, crate::proofs::Loaded::is_read, crate::proofs::Loaded::accepted_file))]
 pub fn parse_bytes<R: Read, W: Write>(
     alloc: Global,
     grammar: &[u8],
@@ -108,15 +121,81 @@ pub fn parse_bytes<R: Read, W: Write>(
 
     ensures asked { reader.new.calls ≤ saturating_sum reader.old.calls (4 * LIMIT + 1) }
 {
-    match parse_of_files(alloc, grammar, registry, reader) {
-        Ok(parse) => match write_parse(alloc, &parse.success, with_trail, writer) {
+    let checked = checked_of(alloc, grammar, registry)?;
+    let done = parse_checked(alloc, &checked, registry, reader, writer, with_trail);
+    drop(checked);
+    match done {
+        Ok(done) => Ok(done),
+        Err(fault) => Err(fault),
+    }
+}
+
+/// Does what [`parse_bytes`] does by a grammar that is loaded already, so that many texts are parsed by one that is read and checked once. The
+/// caller owes that the grammar has what it names in the registry, and an initial operator table. Faults of a file and findings don't come.
+pub fn parse_checked<R: Read, W: Write>(
+    alloc: Global,
+    checked: &Checked,
+    registry: &Registry,
+    reader: &mut Meter<R>,
+    writer: &mut Meter<W>,
+    with_trail: bool,
+) -> Result<Done, BenchFault>
+    requires fits { Fits (offer_of registry.now) checked.now.grammar }
+    requires table { HasInitialTable checked.now.grammar }
+    requires reader { reader.old.failed ≡ false }
+    requires writer { writer.old.failed ≡ false }
+
+    // The whole of the reader's bytes is a text that the grammar derives, in one way, and its forest was written, with the trail
+    // where it is asked for. The steps that it took are within the grammar's step cost for each character and for the end.
+    ensures ok { IfOk result (IsParsedBy checked.now.grammar (R.remaining reader.old.inner) (R.remaining reader.new.inner) with_trail
+        (W.contents writer.old.inner) (W.contents writer.new.inner)) }
+
+    // No file is read, and no grammar is refused.
+    ensures no_file { IfErr result (IfFile (λ fault. ⊥)) }
+    ensures unchecked { IfErr result (IfRefused (λ findings. ⊥)) }
+
+    // The reader failed, or gave more than the limit.
+    ensures reader { IsErrOf result BenchFault.Reader →
+        (reader.new.failed ≡ true) ⊎ (saturating_sum reader.old.bytes (4 * LIMIT + 1) ≤ reader.new.bytes) }
+
+    // What is wrong with the bytes that the reader gave, in this order.
+    ensures not_utf8 { IsErrOf result BenchFault.NotUtf8 →
+        ReadsText (R.remaining reader.old.inner) (R.remaining reader.new.inner) (λ bytes. ¬ (IsUtf8 bytes)) }
+    ensures too_long { IsErrOf result BenchFault.TooLong →
+        ReadsText (R.remaining reader.old.inner) (R.remaining reader.new.inner) (λ bytes. IsUtf8 bytes × (LIMIT < length (chars bytes))) }
+
+    // Nothing derives the text, and the error is the start rule's, or that of the end after it.
+    ensures parse_error { IfErr result (IfParseError (IsErrorBy checked.now.grammar
+        (R.remaining reader.old.inner) (R.remaining reader.new.inner))) }
+
+    // No trail is read.
+    ensures no_trail { IfErr result (IfNotATrail ⊥) }
+    ensures no_certificate { IfErr result (IfNotVerified (λ verdict. ⊥)) }
+
+    // In every other case the reader didn't fail, and didn't give more.
+    ensures reader_stays { OnOk result (reader.new.failed ≡ false) }
+    ensures reader_well { IfErr result (λ fault. IsAfterReading fault → reader.new.failed ≡ false) }
+    ensures short { OnOk result (reader.new.bytes ≤ saturating_sum reader.old.bytes (4 * LIMIT)) }
+    ensures short_too { IfErr result (λ fault. IsAfterReading fault → reader.new.bytes ≤ saturating_sum reader.old.bytes (4 * LIMIT)) }
+
+    // The writer failed after a prefix of what it was to be given, and in every other case was given nothing.
+    ensures writer { IsErrOf result BenchFault.Writer → writer.new.failed ≡ true }
+    ensures prefix { IsErrOf result BenchFault.Writer → IsPartlyParsedBy checked.now.grammar (R.remaining reader.old.inner) (R.remaining reader.new.inner) with_trail
+        (W.contents writer.old.inner) (W.contents writer.new.inner) }
+    ensures writer_stays { OnOk result (writer.new.failed ≡ false) }
+    ensures unwritten { IfErr result (λ fault. IsBeforeWriting fault → writer.new ≡ writer.old) }
+
+    ensures asked { reader.new.calls ≤ saturating_sum reader.old.calls (4 * LIMIT + 1) }
+{
+    match parsed_text(alloc, checked, registry, reader) {
+        Ok(parsed) => match write_parse(alloc, &parsed.parse.success, with_trail, writer) {
             Ok(()) => {
-                let done = parse.done;
-                drop(parse);
+                let done = parsed.parse.done;
+                drop(parsed);
                 Ok(done)
             }
             Err(fault) => {
-                drop(parse);
+                drop(parsed);
                 Err(fault)
             }
         },
@@ -124,43 +203,26 @@ pub fn parse_bytes<R: Read, W: Write>(
     }
 }
 
-/// The parse of the text that a reader gives, by the grammar that a file spells.
-#[tactic(auto, using(crate::proofs::Parses::accepted_grammar, crate::proofs::Parses::forest_of_file, crate::proofs::Parses::grammar_refused, crate::proofs::Parses::reading_refused_file))]
-fn parse_of_files<R: Read>(
-    alloc: Global,
-    grammar: &[u8],
-    registry: &Registry,
-    reader: &mut Meter<R>,
-) -> Result<Parse, BenchFault>
-    requires { reader.old.failed ≡ false }
-    ensures ok { IfOk result (λ p. IsForestOf (offer_of registry.now) grammar.now (R.remaining reader.old.inner) (R.remaining reader.new.inner) p.success.forest p.success.trail p.done) }
-    ensures well { OnOk result (IsWell reader.old reader.new) }
-    ensures err { IfErr result (IsForestRefusal (offer_of registry.now) grammar.now reader.old reader.new
-        (R.remaining reader.old.inner) (R.remaining reader.new.inner)) }
-    ensures asked { reader.new.calls ≤ saturating_sum reader.old.calls (4 * LIMIT + 1) }
-{
-    let checked = checked_of(alloc, grammar, registry)?;
-    let parse = parse_of_reader(alloc, &checked, registry, reader);
-    drop(checked);
-    match parse {
-        Ok(parse) => Ok(parse),
-        Err(fault) => Err(fault),
-    }
-}
-
-/// The parse of the text that a reader gives.
+/// The text that a reader gives, with its parse by a grammar that is loaded already. The meter has to be fresh of failures, and the caller owes
+/// what it owes to [`parse_checked`]. The faults are the reader's, those of its bytes, and `ParseError` where the grammar doesn't derive
+/// the text. A text of over 4,194,304 bytes can't be one of 1,048,576 characters, so no more is read of it.
 #[tactic(auto, using(crate::proofs::Parses::read_refused, crate::proofs::Parses::parse_refused))]
-fn parse_of_reader<R: Read>(
+pub fn parsed_text<R: Read>(
     alloc: Global,
     checked: &Checked,
     registry: &Registry,
     reader: &mut Meter<R>,
-) -> Result<Parse, BenchFault>
+) -> Result<ParsedText, BenchFault>
     requires fits { Fits (offer_of registry.now) checked.now.grammar }
     requires table { HasInitialTable checked.now.grammar }
     requires reader { reader.old.failed ≡ false }
-    ensures ok { IfOk result (λ p. ReadsText (R.remaining reader.old.inner) (R.remaining reader.new.inner)
-        (λ bytes. IsForestOfBytes checked.now.grammar bytes p.success.forest p.success.trail p.done)) }
+
+    // The whole of the reader's bytes is this text, which the grammar derives, in one way, to this forest.
+    ensures ok { IfOk result (λ p. IsForestBy checked.now.grammar (R.remaining reader.old.inner) (R.remaining reader.new.inner)
+        p.parse.success.forest p.parse.success.trail p.parse.done) }
+    ensures text { IfOk result (λ p. ReadsText (R.remaining reader.old.inner) (R.remaining reader.new.inner) (λ bytes. IsSpelledBy bytes p.text)) }
+
+    // The reader didn't fail, and didn't give more than the limit.
     ensures well { OnOk result (IsWell reader.old reader.new) }
     ensures err { IfErr result (IsTextFault checked.now.grammar reader.old reader.new (R.remaining reader.old.inner) (R.remaining reader.new.inner)) }
     ensures asked { reader.new.calls ≤ saturating_sum reader.old.calls (4 * LIMIT + 1) }
@@ -169,21 +231,28 @@ fn parse_of_reader<R: Read>(
     parse_of(alloc, checked, registry, bytes.as_slice())
 }
 
-/// The parse of the text that bytes spell.
+/// The text that bytes spell, with its parse.
 #[tactic(auto, using(crate::proofs::Parses::bytes_forest, crate::proofs::Parses::bytes_refused, crate::proofs::Parses::text_refused))]
 fn parse_of(
     alloc: Global,
     checked: &Checked,
     registry: &Registry,
     bytes: &[u8],
-) -> Result<Parse, BenchFault>
+) -> Result<ParsedText, BenchFault>
     requires fits { Fits (offer_of registry.now) checked.now.grammar }
     requires table { HasInitialTable checked.now.grammar }
-    ensures ok { IfOk result (λ p. IsForestOfBytes checked.now.grammar bytes.now p.success.forest p.success.trail p.done) }
+    ensures ok { IfOk result (λ p. IsForestOfBytes checked.now.grammar bytes.now p.parse.success.forest p.parse.success.trail p.parse.done) }
+    ensures text { IfOk result (λ p. IsSpelledBy bytes.now p.text) }
     ensures err { IfErr result (IsParseRefusal checked.now.grammar bytes.now) }
 {
     let text = text_of(alloc, bytes)?;
-    parse_of_text(alloc, checked, registry, &text)
+    match parse_of_text(alloc, checked, registry, &text) {
+        Ok(parse) => Ok(ParsedText { text, parse }),
+        Err(fault) => {
+            drop(text);
+            Err(fault)
+        }
+    }
 }
 
 /// The parse of a text.

@@ -1,11 +1,15 @@
 -- The sets of what stands in a grammar.
-use Rattle.std.proofs.Common.{◌≡◌, ℕ, zero, suc, ◌<◌, ◌≤◌, false, List, [], ◌∷◌, length, map, Option, Some, None, slice_get, unwrap_or, refl, sym, ap, subst, ◌∙◌, arith}
-use Rattle.pg_class.specs.Ranges.{Range}
+use Rattle.std.proofs.Common.{◌≡◌, ℕ, zero, suc, List, [], ◌∷◌, length, map, Option, Some, None, slice_get, unwrap_or, refl, sym, ap, ◌∙◌, arith}
+use Rattle.pg_class.specs.Ranges.{Range, has}
+use Rattle.pg_form.specs.Classes.{is_member}
+use Rattle.pg_form.specs.Contents.{class_parts}
+use Rattle.pg_form.specs.Forms.{BaseForm}
 use Rattle.pg_form.specs.declared.class.ClassPart.{ClassPart}
 use Rattle.pg_form.specs.declared.class_item.ClassItem.{ClassItem}
 use Rattle.pg_form.specs.declared.operators_item.OperatorsItem.{OperatorsItem}
 use Rattle.pg_form.specs.declared.word_item.WordItem.{WordItem}
-use Rattle.pg_character_sets.specs.Sets.{AreItemSets, AreSetsBy, IsSetOf, AreSetsOf}
+use Rattle.pg_character_sets.specs.Sets.{AreItemSets, IsSetBy, AreSetsBy, IsSetOf, AreSetsOf}
+use Rattle.pg_character_sets.specs.Classes.{answers_of}
 use Rattle.pg_character_sets.specs.Contents.{AreContentSets, operator_expressions, word_head, word_rest}
 use Rattle.pg_character_sets.proofs.Sets.{as_many, set_at, sets_of}
 
@@ -42,3 +46,19 @@ none_at items [] sets (suc k) are there = refl
 none_at items (e ∷ expressions) [] k are there = let long = as_many items (e ∷ expressions) [] are in absurd (omega arith)
 none_at items (e ∷ expressions) (s ∷ sets) zero are there = absurd cc
 none_at items (e ∷ expressions) (s ∷ sets) (suc k) are there = none_at items expressions sets k (λ c is. let all = are c is in cc) there
+
+-- a form whose expression is written alike has the set
+pub alike_has : (classes : List (List Range)) (before : List BaseForm) (sets : List (List Range)) (k : ℕ) (form : BaseForm) (class : List ClassPart) (own : List Range)
+    → AreSetsBy classes (map class_parts before) sets → slice_get before k ≡ Some form → class_parts form ≡ class → slice_get sets k ≡ Some own
+    → IsSetBy classes class own
+alike_has classes [] sets zero form class own are at alike there c is = absurd cc
+alike_has classes [] sets (suc k) form class own are at alike there c is = absurd cc
+alike_has classes (f ∷ before) [] zero form class own are at alike there c is = absurd cc
+alike_has classes (f ∷ before) [] (suc k) form class own are at alike there c is = absurd cc
+alike_has classes (f ∷ before) (s ∷ sets) zero form class own are at alike there c is =
+    let same : f ≡ form = cc in
+    let this : s ≡ own = cc in
+    let first : has s c ≡ is_member (answers_of classes c) (class_parts f) c = cc (are c is) in
+    ap (λ x. has x c) (sym this) ∙ (first ∙ ap (λ x. is_member (answers_of classes c) x c) (ap class_parts same ∙ alike))
+alike_has classes (f ∷ before) (s ∷ sets) (suc k) form class own are at alike there c is =
+    alike_has classes before sets k form class own (λ b below. let e = are b below in cc) at alike there c is

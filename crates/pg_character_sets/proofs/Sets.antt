@@ -1,5 +1,5 @@
 -- Answers that are written one after another, and sets that are found again.
-use Rattle.std.proofs.Common.{◌≡◌, ℕ, zero, suc, ◌+◌, ◌<◌, ◌≤◌, Bool, true, false, List, [], ◌∷◌, ◌++◌, length, map, take, set, get_or, slice_get, Option, Some, None, arith, refl, subst, ap, sym, ◌∙◌, below_more}
+use Rattle.std.proofs.Common.{◌≡◌, ℕ, zero, suc, ◌+◌, ◌<◌, ◌≤◌, Bool, false, List, [], ◌∷◌, ◌++◌, length, map, take, set, get_or, slice_get, Some, arith, refl, subst, ap, sym, ◌∙◌, below_more}
 use Rattle.std.proofs.lemmas.List.{get_or-set_same, get_or-set_other, length-map, map-append, take_all, take_more}
 use Rattle.std.specs.Char.{IsScalar}
 use Rattle.std.proofs.Math.Bool.{or-false}

@@ -1,5 +1,5 @@
 -- What stands in a grammar beside its class items.
-use Rattle.std.specs.Prelude.{ℕ, List, [], ◌∷◌, map, Option, Some, None, slice_get}
+use Rattle.std.specs.Prelude.{List, [], ◌∷◌, map, Option, Some, None, slice_get}
 use Rattle.pg_class.specs.Ranges.{Range}
 use Rattle.pg_form.specs.declared.class.ClassPart.{ClassPart}
 use Rattle.pg_form.specs.declared.class_item.ClassItem.{ClassItem}

@@ -1,3 +1,4 @@
 pub mod Classes
 pub mod Sets
 pub mod Contents
+pub mod Alike

@@ -2,20 +2,24 @@
 //!
 //! Each is worked out once, when the grammar is made, and whoever asks for a character asks its set.
 
-ghost use Rattle.std.specs.Prelude.{◌≡◌, ◌∷◌, [], ℕ, false, map, option_copied, IfOk};
+ghost use Rattle.std.specs.Prelude.{◌≡◌, ◌∷◌, [], ℕ, true, false, map, option_copied, slice_get, IfOk, IfSome};
 ghost use Rattle.std.specs.Char.{IsScalar};
 ghost use Rattle.pg_class.specs.Ranges.{has};
 ghost use Rattle.pg_form.specs.Contents.{class_parts};
 ghost use Rattle.pg_character_sets.specs.Sets.{IsSetBy, AreSetsBy};
 ghost use Rattle.pg_character_sets.specs.Contents.{AreContentSets, operator_expressions, set_at, word_head, word_rest};
 
+use crate::alike::are_alike;
 use crate::character_set::CharacterSet;
 use crate::classes::class_in;
 use crate::item_sets::{ItemSets, set_in};
 use crate::site::ClassSite;
-use pg_form::{BaseForm, ClassItem, OperatorsItem, WordItem};
+use pg_form::{BaseForm, ClassExpression, ClassItem, OperatorsItem, WordItem};
 use std::alloc::{AllocError, Global};
 use std::marker::Model;
+
+/// On how many forms is looked back for one with an equal expression.
+const LOOKED_BACK: usize = 16;
 
 /// What the class expressions of word items, of an operators item and of forms contain. A form without one contains nothing.
 #[derive(Drop)]
@@ -148,26 +152,104 @@ fn form_sets(
     let class = class_in(alloc, &[])?;
     let none = CharacterSet::new(alloc, class)?;
     let mut sets = Vec::with_capacity(alloc, forms.len())?;
-    for form in forms {
-        let set = form_set(alloc, items, &none, form)?;
+    for i in 0..forms.len() {
+        let set = form_set(alloc, items, &none, &forms[..i], sets.as_slice(), &forms[i])?;
         sets.push(set)?;
     }
     Ok(sets)
 }
 
-/// The set of a form, this one being empty.
+/// The set of a form, this one being empty, and these the sets of the forms before.
 #[tactic(auto, using(crate::proofs::Sets::none_has))]
 fn form_set(
     alloc: Global,
     items: &ItemSets,
     none: &CharacterSet,
+    before: &[BaseForm],
+    sets: &[CharacterSet],
     form: &BaseForm,
 ) -> Result<CharacterSet, AllocError>
-    requires { (c : ℕ) → IsScalar c → has none.now c ≡ false }
+    requires none { (c : ℕ) → IsScalar c → has none.now c ≡ false }
+    requires sets { AreSetsBy items.now (map class_parts before.now) sets.now }
     ensures { IfOk result (IsSetBy items.now (class_parts form.now)) }
 {
     match form.class() {
-        Some(class) => items.set_of(alloc, class),
+        Some(class) => class_set(alloc, items, before, sets, class),
         None => none.share(),
+    }
+}
+
+/// What a class expression contains, which is shared with a form before that has an equal one.
+fn class_set(
+    alloc: Global,
+    items: &ItemSets,
+    before: &[BaseForm],
+    sets: &[CharacterSet],
+    class: &ClassExpression,
+) -> Result<CharacterSet, AllocError>
+    requires { AreSetsBy items.now (map class_parts before.now) sets.now }
+    ensures { IfOk result (IsSetBy items.now class.now) }
+{
+    match set_before(items, before, sets, class) {
+        Some(set) => set.share(),
+        None => items.set_of(alloc, class),
+    }
+}
+
+/// The set of one of the last forms before whose expression is written alike, if there is one.
+fn set_before<'a>(
+    items: &ItemSets,
+    before: &[BaseForm],
+    sets: &'a [CharacterSet],
+    class: &ClassExpression,
+) -> Option<&'a CharacterSet>
+    requires { AreSetsBy items.now (map class_parts before.now) sets.now }
+    ensures { IfSome result (λ set. IsSetBy items.now class.now set.now) }
+{
+    for i in before.len().saturating_sub(LOOKED_BACK)..before.len() {
+        if let Some(set) = set_if_alike(items, before, sets, i, class) {
+            return Some(set);
+        }
+    }
+    None
+}
+
+/// The set of the form with this number, if its expression is written alike.
+#[tactic(auto, using(crate::proofs::Contents::alike_has))]
+fn set_if_alike<'a>(
+    items: &ItemSets,
+    before: &[BaseForm],
+    sets: &'a [CharacterSet],
+    number: usize,
+    class: &ClassExpression,
+) -> Option<&'a CharacterSet>
+    requires { AreSetsBy items.now (map class_parts before.now) sets.now }
+    ensures { IfSome result (λ set. IsSetBy items.now class.now set.now) }
+{
+    match form_in(before, number) {
+        Some(form) => {
+            if !has_class(form, class) {
+                return None;
+            }
+            set_in(sets, number)
+        }
+        None => None,
+    }
+}
+
+/// The form with this number, if there is one.
+fn form_in(forms: &[BaseForm], number: usize) -> Option<&BaseForm>
+    ensures { option_copied result ≡ slice_get forms.now number }
+{
+    forms.get(number)
+}
+
+/// Whether an expression that is written alike stands in the form.
+fn has_class(form: &BaseForm, class: &ClassExpression) -> bool
+    ensures { result ≡ true → class_parts form.now ≡ class.now }
+{
+    match form.class() {
+        Some(other) => are_alike(other.parts(), class.parts()),
+        None => false,
     }
 }

@@ -96,6 +96,7 @@ impl ItemSets {
 }
 
 /// The set with this number, if there is one.
+#[inline]
 pub(crate) fn set_in(sets: &[CharacterSet], number: usize) -> Option<&CharacterSet>
     ensures { option_copied result ≡ slice_get sets.now number }
 {

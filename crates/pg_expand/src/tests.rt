@@ -3,9 +3,9 @@
 ghost use Rattle.std.specs.Prelude.{◌<◌, ◌≤◌, length, IfOk};
 
 use super::*;
-use pg_form::{Decl, NodeId, Role, Texts};
+use pg_form::{Decl, NodeId, Role};
 use pg_table::Table;
-use pg_text::Characters;
+use pg_text::{Characters, Texts};
 use std::alloc::{AllocError, Global};
 use std::test::Fail;
 
@@ -28,7 +28,7 @@ fn table_of(alloc: Global, declared: &[Declared]) -> Result<Table, Fail> {
         let precedence = if *precedence < 10 { *precedence } else { 0 };
         decls.push(Decl::new(*role, precedence, spelled(alloc, *c)?))?;
     }
-    let reserved = Texts::new(Vec::new(alloc));
+    let reserved = Texts::new(alloc, Vec::new(alloc))?;
     Ok(Table::of_declarations(alloc, reserved, 64, decls.as_slice())?)
 }
 

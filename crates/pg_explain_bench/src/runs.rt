@@ -1,4 +1,4 @@
-//! Runs of a grammar over a text, told for people from the bytes of both: rule by rule, or by an outline of the trees that they give.
+//! Runs of a grammar over a text, told for people: rule by rule, from the bytes of both, or by an outline of the trees that a run gave.
 //!
 //! What a run comes to is proved of the calls of `pg_bench`, which say too why a grammar or a text can't be used; here nothing is said then.
 
@@ -7,12 +7,11 @@ ghost use Rattle.pg_pred.specs.Offer.{offer_of};
 ghost use Rattle.pg_table.specs.Tables.{ComesFrom};
 ghost use Rattle.pg_value.specs.Fits.{Fits};
 
-use pg_grammar_bench::{BenchFault, checked_of, placed_of};
+use pg_grammar_bench::{BenchFault, placed_of};
 use pg_language::Reading;
-use pg_machine::run;
+use pg_machine::Success;
 use pg_outline::write_outline;
 use pg_pred::Registry;
-use pg_predict::Checked;
 use pg_table::{InitialFault, Table};
 use pg_text::{Text, TextFault};
 use pg_trace::{Traced, rule_named, write_trace};
@@ -21,75 +20,26 @@ use pg_value::Grammar;
 use std::alloc::Global;
 use std::io::Write;
 
-/// Writes the outline of the forest that the grammar gives the text, if it is accepted and derives it (ours). The meter has to be fresh of failures. The
-/// errors are that the writer failed and that memory ran out.
-pub fn outline_bytes<W: Write>(
+/// Writes the outline of the forest that a grammar gave a text in a parse (ours), which was proved where the text was parsed; nothing where the
+/// grammar has no initial table. The meter has to be fresh of failures. The errors are that the writer failed and that memory ran out,
+/// which comes before the first byte is written, or not at all.
+pub fn outline_success<W: Write>(
     alloc: Global,
-    grammar: &[u8],
-    registry: &Registry,
-    text: &[u8],
+    grammar: &Grammar,
+    text: &Text,
+    success: Success,
     writer: &mut Meter<W>,
 ) -> Result<(), WriteFault>
     requires { writer.old.failed ≡ false }
 {
-    match checked_of(alloc, grammar, registry) {
-        Ok(checked) => {
-            let written = outline_checked(alloc, &checked, registry, text, writer);
-            drop(checked);
-            written
+    match table_of(alloc, grammar) {
+        Ok(Some(table)) => {
+            let Success { forest, trail, .. } = success;
+            write_outline(alloc, grammar, text, &table, forest, &trail, writer)
         }
-        Err(fault) => unless_memory(fault),
+        Ok(None) => Ok(()),
+        Err(fault) => Err(fault),
     }
-}
-
-fn outline_checked<W: Write>(
-    alloc: Global,
-    checked: &Checked,
-    registry: &Registry,
-    text: &[u8],
-    writer: &mut Meter<W>,
-) -> Result<(), WriteFault>
-    requires fits { Fits (offer_of registry.now) checked.now.grammar }
-    requires fresh { writer.old.failed ≡ false }
-{
-    let Some(text) = text_of(alloc, text)? else {
-        return Ok(());
-    };
-    let Some(table) = table_of(alloc, checked.grammar())? else {
-        return Ok(());
-    };
-    outline_text(alloc, checked, registry, &text, &table, writer)
-}
-
-fn outline_text<W: Write>(
-    alloc: Global,
-    checked: &Checked,
-    registry: &Registry,
-    text: &Text,
-    table: &Table,
-    writer: &mut Meter<W>,
-) -> Result<(), WriteFault>
-    requires fits { Fits (offer_of registry.now) checked.now.grammar }
-    requires table { ComesFrom checked.now.grammar table.now }
-    requires fresh { writer.old.failed ≡ false }
-{
-    let Ok(answer) = run(alloc, checked, text, table, registry) else {
-        return Err(WriteFault::Memory);
-    };
-    let written = match &answer.success {
-        Some(success) => write_outline(
-            alloc,
-            checked.grammar(),
-            text,
-            table,
-            &success.forest,
-            &success.trail,
-            writer,
-        ),
-        None => Ok(()),
-    };
-    drop(answer);
-    written
 }
 
 /// What is told of a run: of this rule alone, or of all where this is empty; in so many steps at most, in this reading of choice.

@@ -8,7 +8,8 @@ ghost use Rattle.pg_form.specs.OperatorsItems.{operators_pass_limit, operators_l
 
 use crate::class::ClassExpression;
 use crate::limits::OPERATOR_LIMIT;
-use crate::texts::Texts;
+use crate::texts::{has_empty, has_long};
+use pg_text::Texts;
 
 /// How operators are read: all characters of the class that follow one another, and then all characters of the gap.
 #[derive(Drop)]
@@ -37,14 +38,14 @@ impl OperatorsItem {
     {
         self.class.has_descending_range()
             || self.gap.has_descending_range()
-            || self.reserved.has_empty()
+            || has_empty(&self.reserved)
     }
 
     /// Whether a literal has more than 1,024 characters, or the name of a predicate more than 64.
     fn has_long_text(&self) -> bool
         ensures { result ≡ operators_have_long_text self.now }
     {
-        self.class.has_long_text() || self.gap.has_long_text() || self.reserved.has_long()
+        self.class.has_long_text() || self.gap.has_long_text() || has_long(&self.reserved)
     }
 
     /// Whether a literal or name is too long, or a table may hold none or over 64 operators.

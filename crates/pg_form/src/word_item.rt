@@ -7,8 +7,8 @@ ghost use Rattle.std.specs.Prelude.{◌≡◌};
 ghost use Rattle.pg_form.specs.WordItems.{word_lacks_item, word_has_bad_literal, word_has_long_text};
 
 use crate::class::ClassExpression;
-use crate::texts::Texts;
-use pg_text::Characters;
+use crate::texts::{has_empty, has_long};
+use pg_text::{Characters, Texts};
 
 /// A kind of words, with a name by which forms name it: a character of the head, then all characters of the rest that
 /// follow, unless the whole is reserved.
@@ -38,13 +38,13 @@ impl WordItem {
     {
         self.head.has_descending_range()
             || self.rest.has_descending_range()
-            || self.reserved.has_empty()
+            || has_empty(&self.reserved)
     }
 
     /// Whether a literal has more than 1,024 characters, or the name of a predicate more than 64.
     pub fn has_long_text(&self) -> bool
         ensures { result ≡ word_has_long_text self.now }
     {
-        self.head.has_long_text() || self.rest.has_long_text() || self.reserved.has_long()
+        self.head.has_long_text() || self.rest.has_long_text() || has_long(&self.reserved)
     }
 }

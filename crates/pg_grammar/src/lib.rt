@@ -21,6 +21,7 @@ pub use pg_form::{
     Around, BaseForm, BuilderUse, CLASS_LIMIT, ClassExpression, ClassId, ClassItem, ClassPart,
     Decl, Form, LITERAL_LIMIT, Leaf, NAME_LIMIT, NODE_LIMIT, NextForm, Node, NodeId,
     OPERATOR_LIMIT, OperatorBuilders, OperatorsItem, Parts, PredicateUse, RULE_LIMIT, Role, RuleId,
-    Side, Texts, WORD_LIMIT, WordId, WordItem,
+    Side, WORD_LIMIT, WordId, WordItem,
 };
+pub use pg_text::Texts;
 pub use pg_value::{AppliedOperator, AppliedOperators, Fixity, Grammar, Rule, Trail, TrailItem};

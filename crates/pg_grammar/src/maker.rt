@@ -18,9 +18,9 @@ use crate::spelled::go_through_strings;
 use pg_character_sets::ContentSets;
 use pg_form::{
     BaseForm, CLASS_LIMIT, ClassExpression, ClassId, ClassItem, Decl, LITERAL_LIMIT, NAME_LIMIT,
-    NODE_LIMIT, OperatorsItem, RULE_LIMIT, RuleId, Texts, WORD_LIMIT, WordId, WordItem,
+    NODE_LIMIT, OperatorsItem, RULE_LIMIT, RuleId, WORD_LIMIT, WordId, WordItem,
 };
-use pg_text::Characters;
+use pg_text::{Characters, Texts};
 use pg_value::Grammar;
 use std::alloc::{AllocError, Global};
 use std::marker::Model;

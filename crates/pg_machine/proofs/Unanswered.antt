@@ -1,5 +1,5 @@
 -- Whether an answer is the last one: whether some frame still waits for it.
-use Rattle.std.proofs.Common.{◌≡◌, List, [], ◌∷◌, ◌∙◌, length, true, false, sym, subst, refl}
+use Rattle.std.proofs.Common.{◌≡◌, List, [], ◌∷◌, ◌∙◌, length, true, false, sym, refl}
 use Rattle.std.proofs.Math.Dec.{eqb-suc-zero}
 use Rattle.std.proofs.lemmas.Bool.{false≢true}
 use Rattle.std.specs.Prelude.{◌==◌, None}
@@ -8,16 +8,14 @@ use Rattle.pg_value.specs.declared.trail.TrailItem.{TrailItem}
 use Rattle.pg_table.specs.Tables.{Table}
 use Rattle.pg_message_tape.specs.Messages.{TapeMessage}
 use Rattle.pg_turns.specs.Tape.{OnFrame, tape_with}
-use Rattle.pg_turns.specs.View.{stack_of}
-use Rattle.pg_turns.specs.declared.frame.Frame.{Frame}
 use Rattle.pg_turns.specs.declared.frame.Reply.{Reply}
-use Rattle.pg_turns.proofs.Stack.{some_left}
 use Rattle.pg_machine.specs.Outcomes.{outcome_on}
 
-pub none_on : (reply : Reply) (fs : List Frame) (v : RunTrees) (t : List TrailItem) (x : List TapeMessage) (T : Table) → (length fs == 0) ≡ false → outcome_on (tape_with reply (stack_of fs) v t x T) ≡ None
-none_on reply fs v t x T h = let r = some_left fs h in subst (λ (gs : List OnFrame). outcome_on (tape_with reply gs v t x T) ≡ None) (sym r.2) refl
+pub none_on : (reply : Reply) (fs : List OnFrame) (v : RunTrees) (t : List TrailItem) (x : List TapeMessage) (T : Table) → (length fs == 0) ≡ false → outcome_on (tape_with reply fs v t x T) ≡ None
+none_on reply [] v t x T h = absurd (false≢true (sym h))
+none_on reply (f ∷ fs) v t x T h = refl
 
-pub last_on : (reply : Reply) (fs : List Frame) (v : RunTrees) (t : List TrailItem) (x : List TapeMessage) (T : Table) → (length fs == 0) ≡ true
-    → tape_with reply (stack_of fs) v t x T ≡ tape_with reply [] v t x T
+pub last_on : (reply : Reply) (fs : List OnFrame) (v : RunTrees) (t : List TrailItem) (x : List TapeMessage) (T : Table) → (length fs == 0) ≡ true
+    → tape_with reply fs v t x T ≡ tape_with reply [] v t x T
 last_on reply [] v t x T h = refl
 last_on reply (f ∷ fs) v t x T h = absurd (false≢true (sym (eqb-suc-zero (length fs)) ∙ h))

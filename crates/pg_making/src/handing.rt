@@ -13,12 +13,12 @@ ghost use Rattle.pg_items.specs.Entries.{forms_of};
 ghost use Rattle.pg_making.specs.Spells.{made_classes};
 ghost use Rattle.pg_making.specs.Making.{with_entry, MayFollow, LeadsNowhere, IsProperEntry};
 
-use pg_form::{BaseForm, Decl, OPERATOR_LIMIT, Role, Texts};
+use pg_form::{BaseForm, Decl, OPERATOR_LIMIT, Role};
 use pg_grammar::{Maker, MakerFault};
 use pg_items::{PlacedForm, Span, WrittenClass};
 use pg_meaning::{MakingError, PlacedBase, body_meant, class_meant, is_predicate_name};
 use pg_pred::Registry;
-use pg_text::Characters;
+use pg_text::{Characters, Texts};
 use pg_tokens::copied;
 use std::alloc::{AllocError, Global};
 
@@ -201,11 +201,7 @@ fn without_spans(
 pub fn texts(alloc: Global, literals: &[Characters]) -> Result<Texts, AllocError>
     ensures { IfOk result (λ texts. texts ≡ literals.now) }
 {
-    let mut copies = Vec::new(alloc);
-    for literal in literals {
-        copies.push(copied(alloc, literal.as_slice())?)?;
-    }
-    Ok(Texts::new(copies))
+    Texts::of(alloc, literals)
 }
 
 /// The declaration of an operator, if the precedence is 0 to 9 and the symbol has a character.

@@ -9,6 +9,9 @@
 
 mod message;
 mod message_tape;
+mod repeated;
+mod texts;
 
 pub use message::{Message, Sided, utf8};
-pub use message_tape::{KeptError, MessageTape, TapeError, told};
+pub use message_tape::{KeptError, MessageTape, TapeError};
+pub use texts::told;

@@ -37,7 +37,7 @@ pub enum Message<'a> {
     /// The symbol of an operator would have been taken.
     WantedSymbol,
     /// The table doesn't admit an operator with this symbol, for this reason.
-    NotAdmitted(&'a [char], AdmitFault),
+    NotAdmitted(AdmitFault, &'a [char]),
     /// Something without a name would have been taken: an operator before or after an operand.
     WantedNameless,
     /// An operator between two operands would have been taken.
@@ -111,7 +111,7 @@ impl Message<'_> {
             Message::WantedDeclaration => String::from_str(alloc, "declaration"),
             Message::WantedPrecedence => String::from_str(alloc, "precedence"),
             Message::WantedSymbol => String::from_str(alloc, "operator symbol"),
-            Message::NotAdmitted(symbol, fault) => not_admitted(alloc, symbol, *fault),
+            Message::NotAdmitted(fault, symbol) => not_admitted(alloc, symbol, *fault),
             Message::WantedNameless => Ok(String::new(alloc)),
             Message::WantedOperator => String::from_str(alloc, "operator"),
             Message::Ambiguous(side) => String::from_str(alloc, ambiguous(*side)),

@@ -3,14 +3,16 @@
 //! An error's own messages stand together; those of the error of the last answer stand last. So errors are merged by
 //! leaving messages where they are, and dropped by cutting the list.
 
-ghost use Rattle.std.specs.Prelude.{◌≡◌, ◌∷◌, ◌++◌, [], length, map, take, drop, IfOk, OnOk};
-ghost use Rattle.pg_message.specs.Messages.{has_text, of_kind};
+ghost use Rattle.std.specs.Prelude.{◌≡◌, ◌∷◌, ◌++◌, ◌-◌, ◌<◌, [], if◌then◌else◌, length, map, take, drop, IfOk, OnErr, OnOk};
 ghost use Rattle.pg_language.specs.Errors.{without_position};
-ghost use Rattle.pg_message_tape.specs.Messages.{tape_message_of, error_of, message_kind, message_text, with_message_once, with_messages_once, unexpected, relabelled};
+ghost use Rattle.pg_message_tape.specs.Messages.{tape_message_of, error_of, unexpected, relabelled};
+ghost use Rattle.pg_message_tape.specs.Repeats.{said, repeated};
 ghost use Rattle.pg_message_tape.specs.TapeErrors.{merged_tape_error, merged_messages, kept_at};
 
 use crate::message::Message;
-use pg_message::{MessageKind, ParseError};
+use crate::repeated::{Remainder, Repeated, after, may_come_in_turn, say_in_turn, shorten};
+use crate::texts::told_once;
+use pg_message::ParseError;
 use pg_text::{Characters, Pos};
 use std::alloc::{AllocError, Global};
 use std::marker::Model;
@@ -38,17 +40,26 @@ pub struct KeptError {
 /// The messages, seen as the list of their kinds and texts.
 #[derive(Drop)]
 pub struct MessageTape<'a> {
-    messages: Vec<Message<'a>>,
+    /// The messages, with what rows say in turn kept once.
+    entries: Vec<Repeated<'a>>,
+    /// How many messages there are more than entries.
+    more: usize,
 }
 
 impl<'a> Model for MessageTape<'a> {
-    ghost use Rattle.std.specs.Prelude.{List, map};
-    ghost use Rattle.pg_message_tape.specs.Messages.{TapeMessage, tape_message_of};
+    ghost use Rattle.std.specs.Prelude.{◌≡◌, ◌<◌, ◌^◌, List};
+    ghost use Rattle.pg_message_tape.specs.Messages.{TapeMessage};
+    ghost use Rattle.pg_message_tape.specs.Repeats.{said, more_said};
 
     ghost Value = { List TapeMessage };
 
-    ghost view = { λ t. map tape_message_of t.messages.items };
+    ghost view = { λ t. said t.entries.items };
+
+    ghost invariant = { λ t. (t.more ≡ more_said t.entries.items) × (t.more < 2 ^ 63) };
 }
+
+/// More messages than entries than this are never there: what comes then is an entry of its own.
+const MOST_MORE: usize = usize::MAX / 2;
 
 impl<'a> MessageTape<'a> {
     /// No messages. It takes no memory.
@@ -56,16 +67,18 @@ impl<'a> MessageTape<'a> {
         ensures { result ≡ [] }
     {
         MessageTape {
-            messages: Vec::new(alloc),
+            entries: Vec::new(alloc),
+            more: 0,
         }
     }
 
     /// How many messages there are.
+    #[tactic(auto, using(crate::proofs::Repeats::length_said))]
     #[inline(always)]
     pub fn len(&self) -> usize
         ensures { result ≡ length self.now }
     {
-        self.messages.len()
+        self.entries.len() + self.more
     }
 
     /// Puts a message at the end. The only error is that memory ran out.
@@ -73,8 +86,40 @@ impl<'a> MessageTape<'a> {
     pub fn push(&mut self, message: Message<'a>) -> Result<(), AllocError>
         ensures { OnOk result (self.new ≡ self.old ++ tape_message_of message.entry ∷ []) }
     {
-        self.messages.push(message)?;
+        if may_come_in_turn(&message, self.more) && self.say_in_turn(&message) {
+            return Ok(());
+        }
+        self.push_new(message)
+    }
+
+    /// Puts a message at the end, as an entry of its own. The only error is that memory ran out.
+    #[inline(always)]
+    fn push_new(&mut self, message: Message<'a>) -> Result<(), AllocError>
+        ensures { OnOk result (self.new ≡ self.old ++ tape_message_of message.entry ∷ []) }
+    {
+        self.entries.push(Repeated {
+            message,
+            more: 0,
+            nameless_first: false,
+            nameless_second: true,
+        })?;
         Ok(())
+    }
+
+    /// Says the message as one more of the last entry, if it comes next there in turn and can be counted; answers whether it
+    /// was.
+    #[inline(never)]
+    fn say_in_turn(&mut self, message: &Message<'_>) -> bool
+        ensures { self.new ≡ (if result then self.old ++ tape_message_of message.now ∷ [] else self.old) }
+    {
+        if self.more >= MOST_MORE {
+            return false;
+        }
+        let again = say_in_turn(&mut self.entries, message);
+        if again {
+            self.more += 1;
+        }
+        again
     }
 
     /// Puts these messages at the end. The only error is that memory ran out.
@@ -92,7 +137,31 @@ impl<'a> MessageTape<'a> {
     pub fn cut(&mut self, count: usize)
         ensures { self.new ≡ take count self.old }
     {
-        self.messages.truncate(count);
+        if self.more == 0 {
+            self.entries.truncate(count);
+        } else {
+            self.cut_counted(count);
+        }
+    }
+
+    /// The same where some are counted: entry by entry.
+    #[inline(never)]
+    fn cut_counted(&mut self, count: usize)
+        ensures { self.new ≡ take count self.old }
+    {
+        'cut: while count < self.len() {
+            self.cut_last(count);
+        }
+    }
+
+    /// Drops what the last entry says after the first messages, of which there are more.
+    fn cut_last(&mut self, count: usize)
+        requires { count < length self.old }
+        ensures shorter { length self.new < length self.old }
+        ensures first { take count self.new ≡ take count self.old }
+    {
+        let most = self.len() - count;
+        self.more -= shorten(&mut self.entries, most);
     }
 
     /// The error of the last answer, to be merged with later ones.
@@ -150,29 +219,91 @@ impl<'a> MessageTape<'a> {
         self.put_back(last)
     }
 
-    /// Takes off the messages after the first.
-    fn take_off(&mut self, from: usize) -> Result<Vec<Message<'a>>, AllocError>
-        ensures after { IfOk result (λ own. map tape_message_of own.items ≡ drop from self.old) }
+    /// Takes off the messages after the first, which are a tape of their own then.
+    fn take_off(&mut self, from: usize) -> Result<MessageTape<'a>, AllocError>
+        ensures after { IfOk result (λ own. own ≡ drop from self.old) }
         ensures before { OnOk result (self.new ≡ take from self.old) }
     {
-        let own = split_off(&mut self.messages, from)?;
+        if self.more > 0 {
+            return self.take_off_counted(from);
+        }
+        let own = split_off(&mut self.entries, from)?;
+        Ok(MessageTape {
+            entries: own,
+            more: 0,
+        })
+    }
+
+    /// The same where some are counted: entry by entry.
+    fn take_off_counted(&mut self, from: usize) -> Result<MessageTape<'a>, AllocError>
+        ensures after { IfOk result (λ own. own ≡ drop from self.old) }
+        ensures before { OnOk result (self.new ≡ take from self.old) }
+    {
+        let own = self.copied(from)?;
+        self.cut(from);
         Ok(own)
     }
 
-    /// Puts messages at the end.
-    fn put_back(&mut self, messages: Vec<Message<'a>>) -> Result<(), AllocError>
-        ensures { OnOk result (self.new ≡ self.old ++ map tape_message_of messages.entry.items) }
+    /// A tape of the messages after the first.
+    fn copied(&self, from: usize) -> Result<MessageTape<'a>, AllocError>
+        ensures { IfOk result (λ own. own ≡ drop from self.now) }
     {
-        let mut messages = messages;
-        self.messages.append(&mut messages)?;
+        let after = after(&self.entries, self.len(), from);
+        let mut own = MessageTape::new(*self.entries.allocator());
+        own.push_after(after)?;
+        Ok(own)
+    }
+
+    /// Puts what is said after some messages at the end.
+    fn push_after(&mut self, after: Remainder<'_, 'a>) -> Result<(), AllocError>
+        ensures { OnOk result (self.new ≡ self.old ++ drop after.entry.skipped (said after.entry.entries.now)) }
+    {
+        let mut skipped = after.skipped;
+        for entry in after.entries {
+            skipped = self.push_but(*entry, skipped)?;
+        }
         Ok(())
     }
 
-    /// The messages after the first.
-    fn after(&self, from: usize) -> &[Message<'a>]
-        ensures { map tape_message_of result.now ≡ drop from self.now }
+    /// Puts what an entry says at the end, but for so many messages; answers how many of those it doesn't say.
+    fn push_but(&mut self, entry: Repeated<'a>, skipped: usize) -> Result<usize, AllocError>
+        ensures pushed { OnOk result (self.new ≡ self.old ++ drop skipped (repeated entry.entry)) }
+        ensures left { IfOk result (λ left. left ≡ skipped - length (repeated entry.entry)) }
     {
-        after(&self.messages, from)
+        let more = entry.more as usize;
+        if more < skipped {
+            return Ok(skipped - more - 1);
+        }
+        self.push_repeated(entry.without(skipped))?;
+        Ok(0)
+    }
+
+    /// Puts what an entry says at the end.
+    fn push_repeated(&mut self, entry: Repeated<'a>) -> Result<(), AllocError>
+        ensures { OnOk result (self.new ≡ self.old ++ repeated entry.entry) }
+    {
+        let more = self.more + entry.more as usize;
+        if more > MOST_MORE {
+            return Err(AllocError);
+        }
+        self.entries.push(entry)?;
+        self.more = more;
+        Ok(())
+    }
+
+    /// Puts the messages of another tape at the end.
+    fn put_back(&mut self, other: MessageTape<'a>) -> Result<(), AllocError>
+        ensures { OnOk result (self.new ≡ self.old ++ other.entry) }
+    {
+        let MessageTape { entries, more } = other;
+        let more = self.more + more;
+        if more > MOST_MORE {
+            return Err(AllocError);
+        }
+        let mut entries = entries;
+        self.entries.append(&mut entries)?;
+        self.more = more;
+        Ok(())
     }
 
     /// Makes this name all that is expected in the error whose messages begin at that number. The only error is that memory
@@ -181,20 +312,34 @@ impl<'a> MessageTape<'a> {
         ensures { OnOk result (self.new ≡ relabelled name.now from self.old) }
     {
         let own = self.take_off(from)?;
-        self.push_unexpected(own.as_slice())?;
+        self.push_unexpected(own.entries.as_slice())?;
         self.push(Message::Named(name.as_slice()))
     }
 
     /// Puts those of the messages at the end that aren't about what would have been taken.
-    fn push_unexpected(&mut self, messages: &[Message<'a>]) -> Result<(), AllocError>
-        ensures { OnOk result (self.new ≡ self.old ++ unexpected (map tape_message_of messages.now)) }
+    fn push_unexpected(&mut self, entries: &[Repeated<'a>]) -> Result<(), AllocError>
+        ensures { OnOk result (self.new ≡ self.old ++ unexpected (said entries.now)) }
     {
-        for message in messages {
-            if !message.is_expected() {
-                self.push(*message)?;
-            }
+        for entry in entries {
+            self.push_own(*entry)?;
         }
         Ok(())
+    }
+
+    /// Puts those that an entry says at the end that aren't about what would have been taken.
+    fn push_own(&mut self, entry: Repeated<'a>) -> Result<(), AllocError>
+        ensures { OnOk result (self.new ≡ self.old ++ unexpected (repeated entry.entry)) }
+    {
+        let times = entry.own_times();
+        if times == 0 || entry.message.is_expected() {
+            return Ok(());
+        }
+        self.push_repeated(Repeated {
+            message: entry.message,
+            more: (times - 1) as u32,
+            nameless_first: false,
+            nameless_second: false,
+        })
     }
 
     /// The error of the last answer with its texts. Its position is handed in. The only error is that memory ran out.
@@ -207,68 +352,9 @@ impl<'a> MessageTape<'a> {
         ensures error { IfOk result (λ e. without_position e ≡ error_of error.place (drop error.from self.now)) }
         ensures position { IfOk result (λ e. e.position ≡ position) }
     {
-        told(alloc, error.place, position, self.after(error.from))
+        let own = self.copied(error.from)?;
+        told_once(alloc, error.place, position, own.entries.as_slice())
     }
-}
-
-/// Takes off the messages after the first.
-fn split_off<'a>(
-    messages: &mut Vec<Message<'a>>,
-    from: usize,
-) -> Result<Vec<Message<'a>>, AllocError>
-    ensures after { IfOk result (λ own. own.items ≡ drop from messages.old.items) }
-    ensures before { OnOk result (messages.new.items ≡ take from messages.old.items) }
-{
-    messages.split_off(from.min(messages.len()))
-}
-
-/// The messages after the first.
-fn after<'m, 'a>(messages: &'m [Message<'a>], from: usize) -> &'m [Message<'a>]
-    ensures { result.now ≡ drop from messages.now }
-{
-    &messages[from.min(messages.len())..]
-}
-
-/// The error at the place of which all this is said, each text once. The only error is that memory ran out.
-pub fn told(
-    alloc: Global,
-    place: usize,
-    position: Pos,
-    messages: &[Message<'_>],
-) -> Result<ParseError, AllocError>
-    ensures error { IfOk result (λ e. without_position e ≡ error_of place (map tape_message_of messages.now)) }
-    ensures position { IfOk result (λ e. e.position ≡ position) }
-{
-    let mut error = ParseError::new(alloc, place, position);
-    say_all(alloc, &mut error, messages)?;
-    Ok(error)
-}
-
-/// Says these messages, but for those that are there already.
-fn say_all(
-    alloc: Global,
-    error: &mut ParseError,
-    messages: &[Message<'_>],
-) -> Result<(), AllocError>
-    ensures { OnOk result (error.new ≡
-        record error.old { messages = with_messages_once error.old.messages (map tape_message_of messages.now) }) }
-{
-    for message in messages {
-        say(alloc, error, message)?;
-    }
-    Ok(())
-}
-
-/// Says one message more, unless it is there already.
-fn say(alloc: Global, error: &mut ParseError, message: &Message<'_>) -> Result<(), AllocError>
-    ensures { OnOk result (error.new ≡
-        record error.old { messages = with_message_once error.old.messages (message_kind message.now) (message_text message.now) }) }
-{
-    let text = message.text(alloc)?;
-    if !has_message(error, message.kind(), text.as_str()) {
-        error.add(message.kind(), text)?;
-    }
-    Ok(())
 }
 
 /// The error that was kept, which is the last one again.
@@ -282,13 +368,17 @@ fn before(kept: KeptError) -> TapeError
     }
 }
 
-/// Whether the error has this text among those of the kind.
-fn has_message(error: &ParseError, kind: MessageKind, text: &str) -> bool
-    ensures { result ≡ has_text (of_kind error.now.messages kind) text.now }
+/// Takes off the entries after the first. Where memory runs out all stay.
+fn split_off<'a>(
+    entries: &mut Vec<Repeated<'a>>,
+    from: usize,
+) -> Result<Vec<Repeated<'a>>, AllocError>
+    ensures after { IfOk result (λ own. own.items ≡ drop from entries.old.items) }
+    ensures before { OnOk result (entries.new.items ≡ take from entries.old.items) }
+    ensures kept { OnErr result (entries.new.items ≡ entries.old.items) }
 {
-    error
-        .messages
-        .of_kind(kind)
-        .iter()
-        .any(|message| message.as_str() == text)
+    entries.split_off(from.min(entries.len()))
 }
+
+#[cfg(test)]
+mod tests;

@@ -7,30 +7,26 @@ use pg_tree::{Label, Shape};
 use std::alloc::{AllocError, Global};
 
 /// The place of what is gone. No text is so long.
-const GONE: usize = usize::MAX;
+const GONE: u32 = u32::MAX;
 
-/// A label: the text, or the characters if there are any.
+/// What a tree that is in no other yet is called.
 #[derive(Clone, Copy)]
-pub(crate) struct Name<'a> {
-    pub text: &'a str,
-    pub symbol: &'a [char],
+pub(crate) enum Name<'a> {
+    /// A leaf has no name.
+    Leaf,
+    /// A node with this label.
+    Text(&'a str),
+    /// A node whose label has these characters.
+    Symbol(&'a [char]),
 }
 
-impl<'a> Name<'a> {
-    pub(crate) fn of_text(text: &'a str) -> Name<'a> {
-        Name { text, symbol: &[] }
-    }
-
-    pub(crate) fn of_symbol(symbol: &'a [char]) -> Name<'a> {
-        Name { text: "", symbol }
-    }
-
-    /// Whether it is the label with these characters.
+impl Name<'_> {
+    /// Whether it is a node with this label.
     fn is(&self, label: &str) -> bool {
-        if self.symbol.is_empty() {
-            self.text == label
-        } else {
-            label.chars().eq(self.symbol.iter().copied())
+        match self {
+            Name::Leaf => false,
+            Name::Text(text) => *text == label,
+            Name::Symbol(symbol) => label.chars().eq(symbol.iter().copied()),
         }
     }
 }
@@ -38,7 +34,6 @@ impl<'a> Name<'a> {
 /// A tree that is in no other yet.
 #[derive(Clone, Copy)]
 struct Root<'a> {
-    is_node: bool,
     name: Name<'a>,
     /// How many nodes and leaves there are with those of it and of the trees before it.
     end: usize,
@@ -47,7 +42,7 @@ struct Root<'a> {
 /// Where the nodes and leaves of a list of trees begin, in characters.
 #[derive(Drop)]
 pub(crate) struct Beginnings<'a> {
-    places: Vec<usize>,
+    places: Vec<u32>,
     roots: Vec<Root<'a>>,
 }
 
@@ -66,7 +61,7 @@ impl<'a> Beginnings<'a> {
 
     /// A leaf comes, which begins there.
     pub(crate) fn push_leaf(&mut self, place: usize) -> Result<(), AllocError> {
-        self.push(false, Name::of_text(""), place)
+        self.push(Name::Leaf, place)
     }
 
     /// The trees after so many become the kids of a node, which begins there.
@@ -77,7 +72,7 @@ impl<'a> Beginnings<'a> {
         place: usize,
     ) -> Result<(), AllocError> {
         self.roots.truncate(count);
-        self.push(true, name, place)
+        self.push(name, place)
     }
 
     /// The trees after so many are dropped.
@@ -96,7 +91,7 @@ impl<'a> Beginnings<'a> {
         place: usize,
     ) -> Result<(), AllocError> {
         match shape {
-            Shape::Node(label) => self.close(count, Name::of_text(label.as_str()), place),
+            Shape::Node(label) => self.close(count, Name::Text(label.as_str()), place),
             Shape::Symbol => self.close(count, symbol, place),
             Shape::Join => {
                 self.cut(count);
@@ -104,22 +99,26 @@ impl<'a> Beginnings<'a> {
             }
             Shape::Flat(label) => {
                 self.flatten(count, label);
-                self.close(count, Name::of_text(label.as_str()), place)
+                self.close(count, Name::Text(label.as_str()), place)
             }
         }
     }
 
     /// The places of all that isn't gone.
-    pub(crate) fn places(self) -> Vec<usize> {
+    pub(crate) fn places(self) -> Vec<u32> {
         let Beginnings { mut places, .. } = self;
         places.retain(|place| *place != GONE);
         places
     }
 
-    fn push(&mut self, is_node: bool, name: Name<'a>, place: usize) -> Result<(), AllocError> {
+    /// Where it begins fits, since texts have at most 1,048,576 characters.
+    fn push(&mut self, name: Name<'a>, place: usize) -> Result<(), AllocError> {
+        let Ok(place) = u32::try_from(place) else {
+            return Err(AllocError);
+        };
         self.places.extend_from_slice(&[place])?;
         let end = self.places.len();
-        self.roots.extend_from_slice(&[Root { is_node, name, end }])
+        self.roots.extend_from_slice(&[Root { name, end }])
     }
 
     /// How many nodes and leaves the first trees have.
@@ -146,14 +145,14 @@ impl<'a> Beginnings<'a> {
     /// Whether the tree with this number is a node with this label.
     fn is_labelled(&self, number: usize, label: &Label) -> bool {
         match self.roots.get(number) {
-            Some(root) => root.is_node && root.name.is(label.as_str()),
+            Some(root) => root.name.is(label.as_str()),
             None => false,
         }
     }
 }
 
 /// The last of the first so many is gone.
-fn forget(end: usize, places: &mut [usize]) {
+fn forget(end: usize, places: &mut [u32]) {
     match places.get_mut(end.saturating_sub(1)) {
         Some(place) => *place = GONE,
         None => {}

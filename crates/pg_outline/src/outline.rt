@@ -30,7 +30,7 @@ pub fn write_outline<W: Write>(
     grammar: &Grammar,
     text: &Text,
     table: &Table,
-    forest: &Forest,
+    forest: Forest,
     trail: &Trail,
     writer: &mut Meter<W>,
 ) -> Result<(), WriteFault>

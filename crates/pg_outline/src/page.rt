@@ -22,23 +22,25 @@ pub(crate) struct Page {
     json: Vec<u8>,
     pub lines: Vec<Line>,
     /// The place of each node and leaf, in the order in which they end; none at all where they aren't known.
-    places: Vec<usize>,
+    places: Vec<u32>,
     positions: Vec<Pos>,
 }
 
 impl Page {
-    /// The page of the forest of a text to which the trail leads. The only error is that memory ran out.
+    /// The page of the forest of a text to which the trail leads. The only error is that memory ran out. The forest is let go before the
+    /// trail is gone along, which takes the most memory.
     pub(crate) fn of(
         alloc: Global,
         grammar: &Grammar,
         text: &Text,
         table: &Table,
-        forest: &Forest,
+        forest: Forest,
         trail: &Trail,
     ) -> Result<Page, AllocError> {
-        let json = json_of(alloc, forest)?;
-        let lines = lines_of(alloc, json.as_slice())?;
+        let json = json_of(alloc, &forest)?;
+        drop(forest);
         let mut places = places_along(alloc, grammar, text, table, trail)?;
+        let lines = lines_of(alloc, json.as_slice())?;
         if places.len() != lines.len() {
             places.clear();
         }
@@ -97,7 +99,7 @@ impl Page {
     }
 
     fn place_of(&self, line: &Line) -> Option<usize> {
-        self.places.get(line.number).copied()
+        self.places.get(line.number).map(|place| *place as usize)
     }
 
     /// Puts the leaf's text behind what is there.

@@ -3,7 +3,7 @@
 use crate::beginnings::{Beginnings, Name};
 use crate::declared::parts_of_declaration;
 use pg_form::{Around, BuilderUse, Form, Leaf, NodeId, OperatorBuilders};
-use pg_replay::{Closing, Replayer, Task};
+use pg_replay::{Closing, Replayer, RoundsTask, ShortTask, Task};
 use pg_table::Table;
 use pg_text::Text;
 use pg_value::{AppliedOperator, Fixity, Grammar, Trail};
@@ -19,7 +19,7 @@ pub(crate) fn places_along(
     text: &Text,
     table: &Table,
     trail: &Trail,
-) -> Result<Vec<usize>, AllocError> {
+) -> Result<Vec<u32>, AllocError> {
     let mut replayer = Replayer::begin(alloc, grammar, table, trail)?;
     let mut walk = Walk {
         made: Beginnings::new(alloc),
@@ -65,17 +65,14 @@ impl<'a> Walk<'a> {
         replayer: &mut Replayer<'a>,
     ) -> Result<bool, AllocError> {
         let place = replayer.place;
-        let next = replayer.tasks.last().copied();
-        if replayer.step(alloc, grammar, text)?.is_some() {
+        let Some(task) = replayer.tasks.pop() else {
+            return Ok(false);
+        };
+        if replayer.perform(alloc, grammar, text, &task)?.is_some() {
             return Ok(false);
         }
-        match next {
-            Some(task) => {
-                self.follow(grammar, text, &task, place, replayer.forest.len())?;
-                Ok(true)
-            }
-            None => Ok(false),
-        }
+        self.follow(grammar, text, &task, place, replayer.forest.len())?;
+        Ok(true)
     }
 
     /// The task was done at the place, and there are so many trees after it.
@@ -88,22 +85,38 @@ impl<'a> Walk<'a> {
         trees: usize,
     ) -> Result<(), AllocError> {
         match task {
-            Task::Node(node) => self.enter(grammar, text, *node, place, trees),
-            Task::Operand { .. } | Task::Term(_, _) => self.begin(place),
-            Task::Symbol(operator) => self.read(operator, place),
-            Task::Fold { used, .. } => self.fold(used, trees),
-            Task::Application { builders, operator } => self.apply(builders, operator, trees),
-            Task::Unmark | Task::Settle(_) => {
+            Task::Short(short) => self.follow_short(grammar, text, short, place, trees),
+            Task::Rounds(RoundsTask::Operand { .. }) => self.begin(place),
+            Task::Close(closing) => self.close(closing, trees),
+            Task::Rounds(
+                RoundsTask::MoreRounds { .. }
+                | RoundsTask::Links { .. }
+                | RoundsTask::Linked { .. },
+            )
+            | Task::Leave(_) => Ok(()),
+        }
+    }
+
+    /// The same of a task that takes little room.
+    fn follow_short(
+        &mut self,
+        grammar: &Grammar,
+        text: &Text,
+        task: &ShortTask<'a>,
+        place: usize,
+        trees: usize,
+    ) -> Result<(), AllocError> {
+        match task {
+            ShortTask::Node(node) => self.enter(grammar, text, *node, place, trees),
+            ShortTask::Term(_, _) => self.begin(place),
+            ShortTask::Symbol(operator) => self.read(operator, place),
+            ShortTask::Fold { used, .. } => self.fold(used, trees),
+            ShortTask::Application { builders, operator } => self.apply(builders, operator, trees),
+            ShortTask::Unmark | ShortTask::Settle(_) => {
                 self.end();
                 Ok(())
             }
-            Task::Close(closing) => self.close(closing, trees),
-            Task::Parts(_)
-            | Task::Rounds { .. }
-            | Task::MoreRounds { .. }
-            | Task::Links { .. }
-            | Task::Linked { .. }
-            | Task::Leave { .. } => Ok(()),
+            ShortTask::Parts(_) | ShortTask::Rounds { .. } => Ok(()),
         }
     }
 
@@ -153,7 +166,7 @@ impl<'a> Walk<'a> {
         self.made.push_leaf(place)?;
         self.made.push_leaf(digit)?;
         self.made.push_leaf(symbol)?;
-        self.made.close(before, Name::of_text("declare"), place)
+        self.made.close(before, Name::Text("declare"), place)
     }
 
     /// Something begins of which a node may be made.
@@ -184,12 +197,7 @@ impl<'a> Walk<'a> {
     fn fold(&mut self, used: &'a BuilderUse, trees: usize) -> Result<(), AllocError> {
         self.end();
         let place = self.begun();
-        self.made.build(
-            &used.shape,
-            Name::of_text(""),
-            trees.saturating_sub(1),
-            place,
-        )
+        self.made.build(&used.shape, Name::Text(""), trees.saturating_sub(1), place)
     }
 
     /// An operator was applied. The operand after it, if there is one, ends.
@@ -204,7 +212,7 @@ impl<'a> Walk<'a> {
             Fixity::Postfix => {}
         }
         let used = builder_on(operator.fixity, builders);
-        let symbol = Name::of_symbol(operator.symbol.as_slice());
+        let symbol = Name::Symbol(operator.symbol.as_slice());
         let place = self.begun();
         self.made
             .build(&used.shape, symbol, trees.saturating_sub(1), place)
@@ -212,19 +220,19 @@ impl<'a> Walk<'a> {
 
     /// A form made what it makes of its part: nothing, where there are no more trees than before it.
     fn close(&mut self, closing: &Closing<'a>, trees: usize) -> Result<(), AllocError> {
-        if trees <= closing.trees {
-            self.made.cut(closing.trees);
+        let (before, place) = (closing.from.trees as usize, closing.from.place as usize);
+        if trees <= before {
+            self.made.cut(before);
             return Ok(());
         }
         match closing.around {
             Around::Text => {
-                self.made.cut(closing.trees);
-                self.made.push_leaf(closing.place)
+                self.made.cut(before);
+                self.made.push_leaf(place)
             }
             Around::Build(used, symbol) => {
-                let symbol = Name::of_text(symbol.as_str());
-                self.made
-                    .build(&used.shape, symbol, closing.trees, closing.place)
+                let symbol = Name::Text(symbol.as_str());
+                self.made.build(&used.shape, symbol, before, place)
             }
             Around::Try | Around::Skip | Around::Label(_) | Around::Local => Ok(()),
         }

@@ -1,3 +1,4 @@
 pub mod Reading
 pub mod Ordered
 pub mod Owned
+pub mod Comparing

@@ -1,5 +1,5 @@
 -- The own starts of a node, as sets list them.
-use Rattle.std.specs.Prelude.{◌≡◌, ◌↔◌, ◌⊎◌, ℕ, List, [], ◌∷◌, Some, map, slice_get}
+use Rattle.std.specs.Prelude.{◌≡◌, ◌↔◌, ◌⊎◌, ℕ, List, [], ◌∷◌, Some, map, slice_get, length}
 use Rattle.pg_value.specs.Grammar.{Grammar}
 use Rattle.pg_form.specs.declared.class.ClassPart.{ClassPart}
 use Rattle.pg_form.specs.Forms.{Node}
@@ -16,6 +16,7 @@ use Rattle.pg_start.specs.declared.kind.StartKind.TheVariants.{Key}
 use Rattle.pg_own_starts.specs.Listed.{IsListed}
 use Rattle.pg_own_starts.specs.OwnStarts.{OwnStart, IsKeyTry, role_keyword}
 use Rattle.pg_own_starts.specs.declared.listed.ListedStart.{ListedStart}
+use Rattle.pg_own_starts.specs.declared.word_starts.WordStarts.{WordStarts}
 
 -- the start is one that this gives by itself, under its name
 pub record OwnListed (g : Grammar) (n : Node) (listed : ListedStart) : Type 0 where
@@ -40,6 +41,16 @@ IsAmong (one ∷ others) listed = (one ≡ listed) ⊎ IsAmong others listed
 pub record AreOwn (g : Grammar) (n : Node) (own : List ListedStart) : Type 0 where
   pub members : (listed : ListedStart) → IsAmong own listed ↔ OwnListed g n listed
   pub there : IsPlain g n → (start : StartKind) × OwnStart g n start
+
+-- these are the starts of the word items: each is the one own start of what reads the item's words
+pub record AreItemStarts (g : Grammar) (starts : List ListedStart) : Type 0 where
+  pub long : length starts ≡ length g.words
+  pub each : (w : ℕ) (listed : ListedStart) → slice_get starts w ≡ Some listed → AreOwn g (form.Leaf (leaf.Word w)) (listed ∷ [])
+
+-- and these those of the word items and of the operators
+pub record AreWordStarts (g : Grammar) (starts : WordStarts) : Type 0 where
+  pub items : AreItemStarts g starts.items.items
+  pub operators : (builders : OperatorBuilders) (term : ℕ) → AreOwn g (form.Expression builders term) starts.operators.items
 
 -- the key of a declaration in a role, and in each role
 abbrev pub keyword_key : List Range → Role → ListedStart

@@ -1,7 +1,7 @@
 //! The starts that a node of a grammar gives by itself, and not by its parts.
 //!
 //! A class expression is worked out to its ranges (`pg_character_sets`), words are told apart by their classes and reserved texts
-//! (`words`), and a try around a string gives a key (`keys`). Starts stand in one order (`listed`), in which each stands once,
+//! (`words`) once for each item (`word_starts`), and a try around a string gives a key (`keys`). Starts stand in one order (`listed`), in which each stands once,
 //! and are printed in one form (`printed`).
 #![tactic(auto)]
 
@@ -11,6 +11,7 @@ mod listed;
 mod operators;
 mod own;
 mod printed;
+mod word_starts;
 mod words;
 
 pub use keys::key_tries;
@@ -18,4 +19,4 @@ pub use listed::ListedStart;
 pub use operators::{OperatorStarts, operator_starts};
 pub use own::own_starts;
 pub use printed::printed_start;
-pub use words::{WordClasses, classes_of_words};
+pub use word_starts::{WordStarts, starts_of_words};

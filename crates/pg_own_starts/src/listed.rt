@@ -33,9 +33,7 @@ impl ListedStart {
         let start = match self.start.view() {
             StartKind::Class(class) => Start::class(class)?,
             StartKind::Key(key, excluded) => Start::key(alloc, key.as_slice(), excluded)?,
-            StartKind::Word(heads, rest, reserved) => {
-                Start::word(alloc, heads, rest, reserved.as_slice())?
-            }
+            StartKind::Word(heads, rest, reserved) => { Start::word(heads, rest, reserved)? }
             StartKind::End => Start::end(),
         };
         Ok(ListedStart { start, word })
@@ -80,17 +78,25 @@ impl PartialOrd for ListedStart {
     }
 }
 
-/// Which of two starts stands first.
+/// Which of two starts stands first. Nothing is compared that doesn't tell: classes and reserved texts may be long.
 fn order(one: &ListedStart, other: &ListedStart) -> Ordering
     ensures { result ≡ start_order one.now other.now }
 {
     let (a, b) = (one.start.view(), other.start.view());
-    kind_number(a)
+    let keys = kind_number(a)
         .cmp(&kind_number(b))
-        .then(key_text(a).cmp(key_text(b)))
-        .then(ranges_of(a).cmp(ranges_of(b)))
-        .then(one.word.cmp(&other.word))
-        .then(heads_of(a).cmp(heads_of(b)))
+        .then(key_text(a).cmp(key_text(b)));
+    if keys.is_ne() {
+        return keys;
+    }
+    let named = ranges_of(a)
+        .cmp(ranges_of(b))
+        .then(one.word.cmp(&other.word));
+    if named.is_ne() {
+        return named;
+    }
+    heads_of(a)
+        .cmp(heads_of(b))
         .then(rest_of(a).cmp(rest_of(b)))
         .then(texts_order(reserved_of(a), reserved_of(b)))
 }

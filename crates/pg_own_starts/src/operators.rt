@@ -72,14 +72,7 @@ fn operator_start(
 {
     let words = classes_of_words(alloc, grammar, classes)?;
     let class = class_in_grammar(alloc, grammar, classes, &item.class)?;
-    listed_words(
-        alloc,
-        grammar,
-        words.as_slice(),
-        &class,
-        &class,
-        &item.reserved,
-    )
+    listed_words(grammar, words.as_slice(), &class, &class, &item.reserved)
 }
 
 /// The gap start by the operators item, these being the classes of the class items. The only error is that memory ran out.

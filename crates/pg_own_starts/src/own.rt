@@ -1,14 +1,14 @@
 //! The starts that a node gives by itself, and not by its parts.
 ghost use Rattle.std.specs.Prelude.{◌≡◌, ◌<◌, ◌∷◌, [], ℕ, length, map, IfOk};
 ghost use Rattle.pg_form.specs.declared.used.OperatorBuilders.{OperatorBuilders};
-ghost use Rattle.pg_own_starts.specs.Own.{AreOwn, keyword_key};
+ghost use Rattle.pg_own_starts.specs.Own.{AreOwn, AreWordStarts, keyword_key};
 ghost use Rattle.pg_own_starts.specs.OwnStarts.{role_keyword};
-ghost use Rattle.pg_own_starts.specs.Words.{AreClassesOf, AreWordClasses};
+ghost use Rattle.pg_own_starts.specs.Words.{AreClassesOf};
 
 use crate::classes::class_in_grammar;
 use crate::keys::{tried_keyword, tried_string};
 use crate::listed::ListedStart;
-use crate::words::{WordClasses, listed_words};
+use crate::word_starts::WordStarts;
 use pg_character_sets::{class_between, class_in};
 use pg_class::Class;
 use pg_form::{Around, ClassExpression, Form, Leaf, Node, NodeId, Role, WordId};
@@ -17,22 +17,22 @@ use pg_text::Characters;
 use pg_value::Grammar;
 use std::alloc::{AllocError, Global};
 
-/// The starts that a node gives by itself, where these are the classes of the class items and of the word items. The
+/// The starts that a node gives by itself, where these are the classes of the class items and the starts of the words. The
 /// only error is that memory ran out.
 pub fn own_starts(
     alloc: Global,
     grammar: &Grammar,
     classes: &[Class],
-    words: &[WordClasses],
+    words: &WordStarts,
     node: &Node,
 ) -> Result<Vec<ListedStart>, AllocError>
     requires classes { AreClassesOf grammar.now classes.now }
-    requires words { AreWordClasses grammar.now words.now }
+    requires words { AreWordStarts grammar.now words.now }
     ensures { IfOk result (λ own. AreOwn grammar.now node.now own.items) }
 {
     match node {
         Form::Leaf(leaf) => leaf_starts(alloc, grammar, classes, words, leaf),
-        Form::Expression(_, _) => operator_starts(alloc, grammar, classes, words),
+        Form::Expression(_, _) => operator_starts(alloc, grammar, words),
         Form::Around(around, part) => around_starts(alloc, grammar, classes, around, *part),
         Form::Seq(_) | Form::Choice(_) | Form::Many(_) | Form::Chain(_, _, _, _) | Form::Rule(_) =>
             Ok(Vec::new(alloc)),
@@ -44,11 +44,11 @@ fn leaf_starts(
     alloc: Global,
     grammar: &Grammar,
     classes: &[Class],
-    words: &[WordClasses],
+    words: &WordStarts,
     leaf: &Leaf<WordId>,
 ) -> Result<Vec<ListedStart>, AllocError>
     requires classes { AreClassesOf grammar.now classes.now }
-    requires words { AreWordClasses grammar.now words.now }
+    requires words { AreWordStarts grammar.now words.now }
     ensures { IfOk result (λ own. AreOwn grammar.now (Form.Leaf leaf.now) own.items) }
 {
     match leaf {
@@ -80,7 +80,7 @@ fn around_starts(
 }
 
 /// One start. The only error is that memory ran out.
-fn one(alloc: Global, listed: ListedStart) -> Result<Vec<ListedStart>, AllocError>
+pub(crate) fn one(alloc: Global, listed: ListedStart) -> Result<Vec<ListedStart>, AllocError>
     ensures { IfOk result (λ own. own.items ≡ listed ∷ []) }
 {
     let mut own = Vec::new(alloc);
@@ -131,31 +131,21 @@ fn character(alloc: Global, c: char) -> Result<Class, AllocError>
     Ok(class)
 }
 
-/// The words of the item.
+/// The words of the item. Their start is shared: it takes no time that grows with the reserved texts.
 fn word_starts(
     alloc: Global,
     grammar: &Grammar,
-    words: &[WordClasses],
+    words: &WordStarts,
     word: WordId,
 ) -> Result<Vec<ListedStart>, AllocError>
-    requires { AreWordClasses grammar.now words.now }
+    requires { AreWordStarts grammar.now words.now }
     ensures { IfOk result (λ own. AreOwn grammar.now (Form.Leaf (Leaf.Word word)) own.items) }
 {
-    let items = grammar.word_items();
-    let number = word.index();
-    if number < items.len() {
-        let (item, classes) = (&items[number], &words[number]);
-        let listed = listed_words(
-            alloc,
-            grammar,
-            words,
-            &classes.head,
-            &classes.rest,
-            &item.reserved,
-        )?;
-        return one(alloc, listed);
+    let _items = grammar.word_items();
+    match words.items.get(word.index()) {
+        Some(listed) => one(alloc, listed.copy(alloc)?),
+        None => Ok(Vec::new(alloc)),
     }
-    Ok(Vec::new(alloc))
 }
 
 /// The whole string that is tried, without a character of the class after it if there is one.
@@ -198,25 +188,28 @@ fn key_start(alloc: Global, text: &[char], excluded: &Class) -> Result<Vec<Liste
     one(alloc, ListedStart { start, word: 0 })
 }
 
-/// The operators.
+/// The operators. Their start is shared, too.
 fn operator_starts(
     alloc: Global,
     grammar: &Grammar,
-    classes: &[Class],
-    words: &[WordClasses],
+    words: &WordStarts,
 ) -> Result<Vec<ListedStart>, AllocError>
-    requires classes { AreClassesOf grammar.now classes.now }
-    requires words { AreWordClasses grammar.now words.now }
+    requires { AreWordStarts grammar.now words.now }
     ensures { IfOk result (λ own. (builders : OperatorBuilders) (term : ℕ) → AreOwn grammar.now (Form.Expression builders term) own.items) }
 {
-    match grammar.operators_item() {
-        Some(item) => {
-            let class = class_in_grammar(alloc, grammar, classes, &item.class)?;
-            let listed = listed_words(alloc, grammar, words, &class, &class, &item.reserved)?;
-            one(alloc, listed)
-        }
-        None => Ok(Vec::new(alloc)),
+    let _item = grammar.operators_item();
+    copies(alloc, words.operators.as_slice())
+}
+
+/// Equal starts, in their order. The only error is that memory ran out.
+fn copies(alloc: Global, starts: &[ListedStart]) -> Result<Vec<ListedStart>, AllocError>
+    ensures { IfOk result (λ own. own.items ≡ starts.now) }
+{
+    let mut own = Vec::new(alloc);
+    for listed in starts {
+        own.push(listed.copy(alloc)?)?;
     }
+    Ok(own)
 }
 
 /// The keyword of each role, without a character of the class or one of a to z after it.

@@ -11,23 +11,23 @@ ghost use Rattle.pg_own_starts.specs.Words.{AreClassesOf, AreWordClasses, ListsW
 use crate::classes::class_in_grammar;
 use crate::listed::{ListedStart, texts_order};
 use pg_class::Class;
-use pg_form::{Texts, WordItem};
+use pg_form::WordItem;
 use pg_start::{Start, StartKind};
-use pg_text::Characters;
+use pg_text::Texts;
 use pg_value::Grammar;
 use std::alloc::{AllocError, Global};
 
 /// The two classes of a word item.
 #[derive(Drop)]
-pub struct WordClasses {
+pub(crate) struct WordClasses {
     /// The characters that a word begins with.
-    pub head: Class,
+    pub(crate) head: Class,
     /// The characters that it goes on with.
-    pub rest: Class,
+    pub(crate) rest: Class,
 }
 
 /// The classes of the word items, in file order. The only error is that memory ran out.
-pub fn classes_of_words(
+pub(crate) fn classes_of_words(
     alloc: Global,
     grammar: &Grammar,
     classes: &[Class],
@@ -60,7 +60,6 @@ fn classes_of_word(
 
 /// The start of words of these classes, these texts reserved. The only error is that memory ran out.
 pub(crate) fn listed_words(
-    alloc: Global,
     grammar: &Grammar,
     words: &[WordClasses],
     head: &Class,
@@ -72,15 +71,14 @@ pub(crate) fn listed_words(
 {
     let word = first_reader(grammar, words, head, rest, reserved);
     match grammar.word_items().get(word) {
-        Some(item) => word_start(alloc, head, rest, &item.reserved, word),
-        None => word_start(alloc, head, rest, reserved, word),
+        Some(item) => word_start(head, rest, &item.reserved, word),
+        None => word_start(head, rest, reserved, word),
     }
 }
 
 /// The start of words of these classes, these texts reserved, under the word item with this number. The only error is
 /// that memory ran out.
 fn word_start(
-    alloc: Global,
     head: &Class,
     rest: &Class,
     reserved: &Texts,
@@ -88,7 +86,7 @@ fn word_start(
 ) -> Result<ListedStart, AllocError>
     ensures { IfOk result (λ listed. listed ≡ record { start = StartKind.Word head.now rest.now reserved.now; word = word }) }
 {
-    let start = Start::word(alloc, head, rest, reserved.as_slice())?;
+    let start = Start::word(head, rest, reserved)?;
     Ok(ListedStart { start, word })
 }
 
@@ -124,28 +122,23 @@ fn reads_same(
 ) -> bool
     ensures { (result ≡ true) ↔ ((word.now.head ≡ head.now) × (word.now.rest ≡ rest.now) × SameTexts item.now.reserved reserved.now) }
 {
-    word.head.equals(head)
-        && word.rest.equals(rest)
-        && are_same(item.reserved.as_slice(), reserved.as_slice())
+    word.head.equals(head) && word.rest.equals(rest) && are_same(&item.reserved, reserved)
 }
 
 /// Whether the texts are the same, in whatever order.
-fn are_same(texts: &[Characters], others: &[Characters]) -> bool
+fn are_same(texts: &Texts, others: &Texts) -> bool
     ensures { (result ≡ true) ↔ SameTexts texts.now others.now }
 {
-    texts_order(texts, others).is_eq() || (all_among(texts, others) && all_among(others, texts))
+    texts_order(texts.as_slice(), others.as_slice()).is_eq()
+        || (all_among(texts, others) && all_among(others, texts))
 }
 
 /// Whether each text is one of the others.
-fn all_among(texts: &[Characters], others: &[Characters]) -> bool
+fn all_among(texts: &Texts, others: &Texts) -> bool
     ensures { result ≡ list_all (is_reserved others.now) texts.now }
 {
-    texts.iter().all(|text| is_among(others, text.as_slice()))
-}
-
-/// Whether this is one of the texts.
-fn is_among(texts: &[Characters], text: &[char]) -> bool
-    ensures { result ≡ is_reserved texts.now text.now }
-{
-    texts.iter().any(|other| other.as_slice() == text)
+    texts
+        .as_slice()
+        .iter()
+        .all(|text| others.contains(text.as_slice()))
 }

@@ -2,17 +2,65 @@
 use Rattle.std.proofs.Common.{◌≡◌, ◌-◌, ℕ, List, [], ◌∷◌, ◌++◌, length, refl, ap, sym, ◌∙◌, arith}
 use Rattle.std.specs.Prelude.{reverse, ◌||◌, Bool, true, false, ◌==◌, Some, None, slice_get}
 use Rattle.std.proofs.lemmas.List.{reverse-append}
-use Rattle.pg_replay.specs.declared.task.Task.{Task}
+use Rattle.pg_replay.specs.declared.task.ShortTask.{ShortTask}
+use Rattle.pg_replay.specs.declared.task.RoundsTask.{RoundsTask}
+use Rattle.pg_replay.specs.declared.task.Closing.{Closing}
+use Rattle.pg_replay.specs.declared.task.Leaving.{Leaving}
+use Rattle.pg_replay.specs.declared.task_lists.TaskKind.{TaskKind}
+use Rattle.pg_replay.specs.declared.task_lists.TaskKind.TheVariants as kind
 use Rattle.pg_value.specs.Grammar.{Grammar}
 use Rattle.pg_replay.specs.Tasks.{OnTask, State, turn, turn_by, with_tasks, without_newest, first_mark, is_entered}
-use Rattle.pg_replay.specs.View.{task_of, tasks_on, tasks_of}
+use Rattle.pg_replay.specs.View.{first_by, others, tasks_by, short_of, rounds_of, closing_of, leaving_of}
 
-pub tasks_pushed : (ts more : List Task) → tasks_of (ts ++ more) ≡ tasks_on (tasks_of ts) more
-tasks_pushed ts more = go ts []
-  where
-    go : (ts : List Task) (below : List OnTask) → tasks_on below (ts ++ more) ≡ tasks_on (tasks_on below ts) more
-    go [] below = refl
-    go (x ∷ ts) below = go ts (task_of x ∷ below)
+newest : {A : Type 0} (xs : List A) (x : A) → reverse (xs ++ x ∷ []) ≡ x ∷ reverse xs
+newest xs x = reverse-append xs (x ∷ [])
+
+pub first_taken : {A : Type 0} (f : A → OnTask) (old new : List A) (x : A) → old ≡ new ++ x ∷ [] → first_by f (reverse old) ≡ f x
+first_taken f old new x e = ap (λ xs. first_by f xs) (ap reverse e ∙ newest new x)
+
+pub rest_taken : {A : Type 0} (old new : List A) (x : A) → old ≡ new ++ x ∷ [] → reverse new ≡ others (reverse old)
+rest_taken old new x e = sym (ap (λ xs. others xs) (ap reverse e ∙ newest new x))
+
+pub short_pushed : (ks more : List TaskKind) (ss all : List ShortTask) (rs : List RoundsTask) (cs : List Closing) (ls : List Leaving) (t : ShortTask) → more ≡ ks ++ kind.Short ∷ [] → all ≡ ss ++ t ∷ [] →
+    tasks_by (reverse more) (reverse all) rs cs ls ≡ short_of t ∷ tasks_by (reverse ks) (reverse ss) rs cs ls
+short_pushed ks more ss all rs cs ls t e f =
+    ap (λ (k : List TaskKind). tasks_by k (reverse all) rs cs ls) (ap reverse e ∙ newest ks kind.Short) ∙ ap (λ (xs : List ShortTask). first_by short_of xs ∷ tasks_by (reverse ks) (others xs) rs cs ls) (ap reverse f ∙ newest ss t)
+
+pub rounds_pushed : (ks more : List TaskKind) (ss : List ShortTask) (rs all : List RoundsTask) (cs : List Closing) (ls : List Leaving) (t : RoundsTask) → more ≡ ks ++ kind.Rounds ∷ [] → all ≡ rs ++ t ∷ [] →
+    tasks_by (reverse more) ss (reverse all) cs ls ≡ rounds_of t ∷ tasks_by (reverse ks) ss (reverse rs) cs ls
+rounds_pushed ks more ss rs all cs ls t e f =
+    ap (λ (k : List TaskKind). tasks_by k ss (reverse all) cs ls) (ap reverse e ∙ newest ks kind.Rounds) ∙ ap (λ (xs : List RoundsTask). first_by rounds_of xs ∷ tasks_by (reverse ks) ss (others xs) cs ls) (ap reverse f ∙ newest rs t)
+
+pub closing_pushed : (ks more : List TaskKind) (ss : List ShortTask) (rs : List RoundsTask) (cs all : List Closing) (ls : List Leaving) (t : Closing) → more ≡ ks ++ kind.Close ∷ [] → all ≡ cs ++ t ∷ [] →
+    tasks_by (reverse more) ss rs (reverse all) ls ≡ closing_of t ∷ tasks_by (reverse ks) ss rs (reverse cs) ls
+closing_pushed ks more ss rs cs all ls t e f =
+    ap (λ (k : List TaskKind). tasks_by k ss rs (reverse all) ls) (ap reverse e ∙ newest ks kind.Close) ∙ ap (λ (xs : List Closing). first_by closing_of xs ∷ tasks_by (reverse ks) ss rs (others xs) ls) (ap reverse f ∙ newest cs t)
+
+pub leaving_pushed : (ks more : List TaskKind) (ss : List ShortTask) (rs : List RoundsTask) (cs : List Closing) (ls all : List Leaving) (t : Leaving) → more ≡ ks ++ kind.Leave ∷ [] → all ≡ ls ++ t ∷ [] →
+    tasks_by (reverse more) ss rs cs (reverse all) ≡ leaving_of t ∷ tasks_by (reverse ks) ss rs cs (reverse ls)
+leaving_pushed ks more ss rs cs ls all t e f =
+    ap (λ (k : List TaskKind). tasks_by k ss rs cs (reverse all)) (ap reverse e ∙ newest ks kind.Leave) ∙ ap (λ (xs : List Leaving). first_by leaving_of xs ∷ tasks_by (reverse ks) ss rs cs (others xs)) (ap reverse f ∙ newest ls t)
+
+-- of the newest kind the newest task is taken off
+pub short_popped : (ks all : List TaskKind) (ss left : List ShortTask) (rs : List RoundsTask) (cs : List Closing) (ls : List Leaving) (t : OnTask) → all ≡ ks ++ kind.Short ∷ [] → t ≡ first_by short_of (reverse ss) → reverse left ≡ others (reverse ss) →
+    tasks_by (reverse all) (reverse ss) rs cs ls ≡ t ∷ tasks_by (reverse ks) (reverse left) rs cs ls
+short_popped ks all ss left rs cs ls t e f g =
+    ap (λ (k : List TaskKind). tasks_by k (reverse ss) rs cs ls) (ap reverse e ∙ newest ks kind.Short) ∙ ap (λ (x : OnTask). x ∷ tasks_by (reverse ks) (others (reverse ss)) rs cs ls) (sym f) ∙ ap (λ (xs : List ShortTask). t ∷ tasks_by (reverse ks) xs rs cs ls) (sym g)
+
+pub rounds_popped : (ks all : List TaskKind) (ss : List ShortTask) (rs left : List RoundsTask) (cs : List Closing) (ls : List Leaving) (t : OnTask) → all ≡ ks ++ kind.Rounds ∷ [] → t ≡ first_by rounds_of (reverse rs) → reverse left ≡ others (reverse rs) →
+    tasks_by (reverse all) ss (reverse rs) cs ls ≡ t ∷ tasks_by (reverse ks) ss (reverse left) cs ls
+rounds_popped ks all ss rs left cs ls t e f g =
+    ap (λ (k : List TaskKind). tasks_by k ss (reverse rs) cs ls) (ap reverse e ∙ newest ks kind.Rounds) ∙ ap (λ (x : OnTask). x ∷ tasks_by (reverse ks) ss (others (reverse rs)) cs ls) (sym f) ∙ ap (λ (xs : List RoundsTask). t ∷ tasks_by (reverse ks) ss xs cs ls) (sym g)
+
+pub closing_popped : (ks all : List TaskKind) (ss : List ShortTask) (rs : List RoundsTask) (cs left : List Closing) (ls : List Leaving) (t : OnTask) → all ≡ ks ++ kind.Close ∷ [] → t ≡ first_by closing_of (reverse cs) → reverse left ≡ others (reverse cs) →
+    tasks_by (reverse all) ss rs (reverse cs) ls ≡ t ∷ tasks_by (reverse ks) ss rs (reverse left) ls
+closing_popped ks all ss rs cs left ls t e f g =
+    ap (λ (k : List TaskKind). tasks_by k ss rs (reverse cs) ls) (ap reverse e ∙ newest ks kind.Close) ∙ ap (λ (x : OnTask). x ∷ tasks_by (reverse ks) ss rs (others (reverse cs)) ls) (sym f) ∙ ap (λ (xs : List Closing). t ∷ tasks_by (reverse ks) ss rs xs ls) (sym g)
+
+pub leaving_popped : (ks all : List TaskKind) (ss : List ShortTask) (rs : List RoundsTask) (cs : List Closing) (ls left : List Leaving) (t : OnTask) → all ≡ ks ++ kind.Leave ∷ [] → t ≡ first_by leaving_of (reverse ls) → reverse left ≡ others (reverse ls) →
+    tasks_by (reverse all) ss rs cs (reverse ls) ≡ t ∷ tasks_by (reverse ks) ss rs cs (reverse left)
+leaving_popped ks all ss rs cs ls left t e f g =
+    ap (λ (k : List TaskKind). tasks_by k ss rs cs (reverse ls)) (ap reverse e ∙ newest ks kind.Leave) ∙ ap (λ (x : OnTask). x ∷ tasks_by (reverse ks) ss rs cs (others (reverse ls))) (sym f) ∙ ap (λ (xs : List Leaving). t ∷ tasks_by (reverse ks) ss rs cs xs) (sym g)
 
 pub rule_entered : (entered : List ℕ) (r : ℕ) → reverse (entered ++ r ∷ []) ≡ r ∷ reverse entered
 rule_entered entered r = reverse-append entered (r ∷ [])
@@ -39,10 +87,9 @@ pub entered_reversed : (r : ℕ) (xs : List ℕ) → is_entered r (reverse xs) �
 entered_reversed r [] = refl
 entered_reversed r (x ∷ xs) = ap (is_entered r) (reverse-append (x ∷ []) xs) ∙ any_last r x (reverse xs) ∙ ap (λ b. (x == r) || b) (entered_reversed r xs)
 
--- where the last of the code's tasks is taken off, the next one is done
-pub turned : (g : Grammar) (text : List ℕ) (all ts : List Task) (t : Task) (s : State) → all ≡ ts ++ t ∷ [] →
-    turn g text (task_of t) (with_tasks (tasks_of ts) s) ≡ turn_by g text (tasks_of all) s
-turned g text all ts t s e = ap (λ xs. turn_by g text xs s) (sym (ap tasks_of e ∙ tasks_pushed ts (t ∷ [])))
+-- where the next task is taken off, it is done
+pub turned : (g : Grammar) (text : List ℕ) (all ts : List OnTask) (t : OnTask) (s : State) → all ≡ t ∷ ts → turn g text t (with_tasks ts s) ≡ turn_by g text all s
+turned g text all ts t s e = ap (λ xs. turn_by g text xs s) (sym e)
 
 -- ---- the newest
 

@@ -8,7 +8,7 @@ ghost use Rattle.pg_replay.specs.View.{state_of, loose_of, closing_of};
 use crate::looseness::{inside_form, is_dropped, joins, leaves_out};
 use crate::replayer::Replayer;
 use crate::step::build;
-use crate::task::{Closing, Halt, Looseness, Task};
+use crate::task::{Closing, Halt, Looseness, ShortTask, Start, Task, counted};
 use pg_form::{Around, NodeId};
 use pg_table::Table;
 use pg_text::Text;
@@ -30,23 +30,23 @@ impl<'a> Replayer<'a> {
             self.forest.push_leaf(&[])?;
             return Ok(None);
         }
-        let closing = self.closing(node, around);
+        let operators = counted(self.table.operators().len())?;
+        let from = self.start()?;
+        let closing = self.closing(node, around, operators, from);
         self.set_loose(inside_form(around, self.loose));
-        self.go_on(&[Task::Close(closing), Task::Node(part)])
+        self.go_on(&[Task::Close(closing), Task::Short(ShortTask::Node(part))])
     }
 
-    /// The form at the node, whose part begins here.
-    fn closing(&self, node: NodeId, around: &'a Around) -> Closing<'a>
-        ensures { closing_of result ≡ close around.now node self.now.place (length self.now.forest) (length self.now.table.operators) (length self.now.rest.now) (loose_of self.now.loose) }
+    /// The form at the node, whose part begins there.
+    fn closing(&self, node: NodeId, around: &'a Around, operators: u32, from: Start) -> Closing<'a>
+        ensures { closing_of result ≡ close around.now node from.place from.trees operators from.items (loose_of self.now.loose) }
     {
         Closing {
             around,
-            node,
-            place: self.place,
-            trees: self.forest.len(),
-            operators: self.table.operators().len(),
-            items: self.rest.len(),
             loose: self.loose,
+            node,
+            operators,
+            from,
         }
     }
 
@@ -57,29 +57,21 @@ impl<'a> Replayer<'a> {
         closing: &Closing<'a>,
     ) -> Result<Option<Halt>, AllocError>
         ensures { IfOk result (λ halt. told halt (state_of self.new) ≡
-            close_turn text.now closing.now.around.now closing.now.node closing.now.place closing.now.trees closing.now.operators closing.now.items (loose_of closing.now.loose) (state_of self.old)) }
+            close_turn text.now closing.now.around.now closing.now.node closing.now.from.place closing.now.from.trees closing.now.operators closing.now.from.items (loose_of closing.now.loose) (state_of self.old)) }
     {
-        let Closing {
-            around,
-            node,
-            place,
-            trees,
-            operators,
-            items,
-            loose,
-        } = closing;
+        let (around, place) = (closing.around, closing.from.place as usize);
         close_forest(
             text,
             around,
-            loose,
-            *place,
+            &closing.loose,
+            place,
             self.place,
-            *trees,
+            closing.from.trees as usize,
             &mut self.forest,
         )?;
-        close_table(around, *operators, &mut self.table);
-        self.note_blank(around, *node, *place, *items);
-        self.set_loose(*loose);
+        close_table(around, closing.operators as usize, &mut self.table);
+        self.note_blank(around, closing.node, place, closing.from.items as usize);
+        self.set_loose(closing.loose);
         Ok(None)
     }
 

@@ -8,7 +8,7 @@ use crate::fault::Mismatch;
 use crate::looseness::{inside, is_steady};
 use crate::replayer::Replayer;
 use crate::step::build;
-use crate::task::{Chain, Halt, Looseness, RoundStart, Task};
+use crate::task::{Chain, Halt, Looseness, RoundStart, RoundsTask, ShortTask, Task};
 use pg_form::{BuilderUse, Side};
 use pg_tree::Shape;
 use pg_value::TrailItem;
@@ -25,12 +25,16 @@ impl<'a> Replayer<'a> {
                 self.take_item(rest);
                 let loose = self.loose;
                 self.set_loose(inside_chain(chain, left, loose));
-                let links = Task::Links {
+                let links = Task::Rounds(RoundsTask::Links {
                     chain: chain.copy(),
                     left,
                     trees,
-                };
-                self.go_on(&[Task::Settle(loose), links, Task::Node(chain.part)])
+                });
+                self.go_on(&[
+                    Task::Short(ShortTask::Settle(loose)),
+                    links,
+                    Task::Short(ShortTask::Node(chain.part)),
+                ])
             }
             Some((TrailItem::Alt(_) | TrailItem::Ops(_), _)) | None => Ok(Some(Halt::Stopped(
                 Mismatch::ItemDiffers,
@@ -50,13 +54,13 @@ impl<'a> Replayer<'a> {
         if left == 0 {
             return Ok(None);
         }
-        let operand = Task::Operand {
+        let operand = Task::Rounds(RoundsTask::Operand {
             chain: chain.copy(),
             left: left - 1,
             trees,
             from: self.round_start(),
-        };
-        self.go_on(&[operand, Task::Node(chain.separator)])
+        });
+        self.go_on(&[operand, Task::Short(ShortTask::Node(chain.separator))])
     }
 
     /// The operand, and then the folding and the other rounds.
@@ -69,14 +73,14 @@ impl<'a> Replayer<'a> {
     ) -> Result<Option<Halt>, AllocError>
         ensures { IfOk result (λ halt. told halt (state_of self.new) ≡ operand_turn (chain_of chain.now) left trees (start_of from) (state_of self.old)) }
     {
-        let linked = Task::Linked {
+        let linked = Task::Rounds(RoundsTask::Linked {
             chain: chain.copy(),
             left,
             trees,
             later: self.forest.len(),
             from,
-        };
-        self.go_on(&[linked, Task::Node(chain.part)])
+        });
+        self.go_on(&[linked, Task::Short(ShortTask::Node(chain.part))])
     }
 
     /// A round that begins here.
@@ -103,10 +107,10 @@ impl<'a> Replayer<'a> {
         ensures { IfOk result (λ halt. told halt (state_of self.new) ≡ linked_turn (chain_of chain.now) left trees later (start_of from) (state_of self.old)) }
     {
         if self.is_idle(&chain.used.shape, from) {
-            return self.go_on(&[Task::Fold {
+            return self.go_on(&[Task::Short(ShortTask::Fold {
                 used: chain.used,
                 trees,
-            }]);
+            })]);
         }
         self.ask_again(from.place, from.trees, from.items, left)?;
         self.fold_and_link(chain, left, trees, later)
@@ -129,25 +133,25 @@ impl<'a> Replayer<'a> {
     ) -> Result<Option<Halt>, AllocError>
         ensures { IfOk result (λ halt. told halt (state_of self.new) ≡ on (with_links chain.now.side (chain_of chain.now) left trees later (state_of self.old))) }
     {
-        let fold = Task::Fold {
+        let fold = Task::Short(ShortTask::Fold {
             used: chain.used,
             trees,
-        };
+        });
         match chain.side {
             Side::Left => {
-                let links = Task::Links {
+                let links = Task::Rounds(RoundsTask::Links {
                     chain: chain.copy(),
                     left,
                     trees,
-                };
+                });
                 self.go_on(&[links, fold])
             }
             Side::Right => {
-                let links = Task::Links {
+                let links = Task::Rounds(RoundsTask::Links {
                     chain: chain.copy(),
                     left,
                     trees: later,
-                };
+                });
                 self.go_on(&[fold, links])
             }
         }

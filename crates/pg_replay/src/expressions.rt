@@ -10,7 +10,7 @@ use crate::looseness::{newest_waiting, wait_before};
 use crate::operators::{operator_end, utf8};
 use crate::replayer::Replayer;
 use crate::step::build;
-use crate::task::{Halt, Looseness, Task};
+use crate::task::{Halt, Looseness, ShortTask, Task};
 use pg_fitting::{Step, fitting_steps};
 use pg_form::{BuilderUse, NodeId, OperatorBuilders};
 use pg_text::Text;
@@ -56,7 +56,10 @@ impl<'a> Replayer<'a> {
         match fitting_steps(alloc, &self.table, read)? {
             Some(steps) => {
                 self.take_item(rest);
-                self.push_tasks(&[Task::Settle(self.loose), Task::Unmark])?;
+                self.push_tasks(&[
+                    Task::Short(ShortTask::Settle(self.loose)),
+                    Task::Short(ShortTask::Unmark),
+                ])?;
                 self.push_steps(alloc, builders, part, steps)?;
                 Ok(None)
             }
@@ -112,7 +115,7 @@ impl<'a> Replayer<'a> {
     {
         self.mark()?;
         self.set_loose(loose);
-        self.go_on(&[Task::Node(part)])
+        self.go_on(&[Task::Short(ShortTask::Node(part))])
     }
 
     /// The last operand is all of the expression, and ends it.
@@ -213,9 +216,9 @@ fn step_task<'a>(
     ensures { task_of result ≡ step_task builders.now part (loose_of loose.entry) (step_of step.entry) }
 {
     match step {
-        Step::Term => Task::Term(part, loose),
-        Step::Symbol(operator) => Task::Symbol(operator),
-        Step::Application(operator) => Task::Application { builders, operator },
+        Step::Term => Task::Short(ShortTask::Term(part, loose)),
+        Step::Symbol(operator) => Task::Short(ShortTask::Symbol(operator)),
+        Step::Application(operator) => Task::Short(ShortTask::Application { builders, operator }),
     }
 }
 

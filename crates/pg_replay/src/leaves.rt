@@ -265,18 +265,8 @@ fn unreserved(item: &WordItem, word: &[char]) -> Option<usize>
     ensures value { result ≡ unreserved item.now word.now }
     ensures count { IfSome result (λ n. n ≡ length word.now) }
 {
-    if is_reserved(item, word) {
+    if item.reserved.contains(word) {
         return None;
     }
     Some(word.len())
-}
-
-/// Whether a word of the item is reserved.
-fn is_reserved(item: &WordItem, word: &[char]) -> bool
-    ensures { result ≡ list_any (λ reserved. bytes_eq reserved word.now) item.now.reserved }
-{
-    item.reserved
-        .as_slice()
-        .iter()
-        .any(|reserved| reserved.as_slice() == word)
 }

@@ -13,10 +13,12 @@ mod replayer;
 mod rounds;
 mod step;
 mod task;
+mod task_lists;
 mod trails;
 
 pub use fault::{Mismatch, ReplayFault, Stop};
 pub use laws::trails_tell_derivations;
 pub use replayer::{Known, Replayer};
-pub use task::{Chain, Closing, Halt, Looseness, RoundStart, Task};
+pub use task::{Chain, Closing, Halt, Leaving, Looseness, RoundStart, RoundsTask, ShortTask, Task};
+pub use task_lists::{TaskKind, TaskLists};
 pub use trails::replay;

@@ -2,10 +2,11 @@
 
 ghost use Rattle.std.specs.Prelude.{◌≡◌, ◌∷◌, reverse, length, map, set, Some, IfOk, OnOk};
 ghost use Rattle.pg_replay.specs.Tasks.{on, told, with_tasks, with_entered, after_item, moved_to, without_newest, with_marks, with_loose, first_mark, with_known, is_known};
-ghost use Rattle.pg_replay.specs.View.{state_of, loose_of, if_known, tasks_on, tasks_of};
+ghost use Rattle.pg_replay.specs.View.{state_of, loose_of, if_known, tasks_on, tasks_in};
 
 use crate::looseness::covers;
-use crate::task::{Halt, Looseness, Task};
+use crate::task::{Halt, Looseness, Start, Task, counted};
+use crate::task_lists::TaskLists;
 use pg_form::RuleId;
 use pg_table::Table;
 use pg_tree::Forest;
@@ -23,7 +24,7 @@ pub struct Known<'a> {
 /// The tasks, of which the last is the next, and what was derived before them. Whoever goes along a trail step by step can look at it between the steps.
 #[derive(Drop)]
 pub struct Replayer<'a> {
-    pub tasks: Vec<Task<'a>>,
+    pub tasks: TaskLists<'a>,
     /// The place in the text, in characters.
     pub place: usize,
     /// The operators in force there.
@@ -46,20 +47,30 @@ pub struct Replayer<'a> {
 
 impl<'a> Replayer<'a> {
     /// These are the next tasks, the last of them first.
-    #[tactic(auto, using(crate::proofs::Stack::tasks_pushed))]
     pub(crate) fn push_tasks(&mut self, tasks: &[Task<'a>]) -> Result<(), AllocError>
-        ensures { OnOk result (state_of self.new ≡ with_tasks (tasks_on (tasks_of self.old.tasks.items) tasks.now) (state_of self.old)) }
+        ensures { OnOk result (state_of self.new ≡ with_tasks (tasks_on (tasks_in self.old.tasks) tasks.now) (state_of self.old)) }
     {
-        self.tasks.extend_from_slice(tasks)
+        self.tasks.push_all(tasks)
     }
 
     /// They are, and nothing stops.
     pub(crate) fn go_on(&mut self, tasks: &[Task<'a>]) -> Result<Option<Halt>, AllocError>
         ensures { IfOk result (λ halt. told halt (state_of self.new) ≡
-            on (with_tasks (tasks_on (tasks_of self.old.tasks.items) tasks.now) (state_of self.old))) }
+            on (with_tasks (tasks_on (tasks_in self.old.tasks) tasks.now) (state_of self.old))) }
     {
         self.push_tasks(tasks)?;
         Ok(None)
+    }
+
+    /// What begins here. The only error is that a number has more than 32 bits.
+    pub(crate) fn start(&self) -> Result<Start, AllocError>
+        ensures { IfOk result (λ from. from ≡ record { place = self.now.place; trees = length self.now.forest; items = length self.now.rest.now }) }
+    {
+        Ok(Start {
+            place: counted(self.place)?,
+            trees: counted(self.forest.len())?,
+            items: counted(self.rest.len())?,
+        })
     }
 
     /// An item was taken: these are left.

@@ -7,7 +7,7 @@ ghost use Rattle.pg_replay.specs.View.{state_of};
 use crate::fault::Mismatch;
 use crate::looseness::is_text;
 use crate::replayer::Replayer;
-use crate::task::{Halt, Task};
+use crate::task::{Halt, RoundsTask, ShortTask, Task};
 use pg_form::NodeId;
 use pg_value::TrailItem;
 use std::alloc::AllocError;
@@ -21,7 +21,7 @@ impl Replayer<'_> {
             Some((TrailItem::Rounds(left), rest)) => {
                 let left = *left;
                 self.take_item(rest);
-                self.go_on(&[Task::Rounds { part, left }])
+                self.go_on(&[Task::Short(ShortTask::Rounds { part, left })])
             }
             Some((TrailItem::Alt(_) | TrailItem::Ops(_), _)) | None => Ok(Some(Halt::Stopped(
                 Mismatch::ItemDiffers,
@@ -38,14 +38,14 @@ impl Replayer<'_> {
         }
         let left = left - 1;
         let (place, trees, items) = (self.place, self.forest.len(), self.rest.len());
-        let more = Task::MoreRounds {
+        let more = Task::Rounds(RoundsTask::MoreRounds {
             part,
             left,
             place,
             trees,
             items,
-        };
-        self.go_on(&[more, Task::Node(part)])
+        });
+        self.go_on(&[more, Task::Short(ShortTask::Node(part))])
     }
 
     /// The other rounds, after one that began at the place: where it took and gave nothing, all of them are done.

@@ -3,11 +3,11 @@
 ghost use Rattle.std.specs.Prelude.{◌≡◌, ◌==◌, ◌∷◌, ◌++◌, [], slice_get, length, take, drop, reverse, Some, IfOk, OnOk, option_copied};
 ghost use Rattle.pg_tree.specs.Built.{built};
 ghost use Rattle.pg_replay.specs.Tasks.{on, told, node_turn, form_turn, choice_turn, numbered_turn, rule_turn, leave_turn, is_entered, parts_turn, turn, next_turn};
-ghost use Rattle.pg_replay.specs.View.{state_of, task_of};
+ghost use Rattle.pg_replay.specs.View.{state_of, task_of, short_of, rounds_of};
 
 use crate::fault::Mismatch;
 use crate::replayer::Replayer;
-use crate::task::{Chain, Halt, Looseness, Task};
+use crate::task::{Chain, Halt, Leaving, Looseness, RoundsTask, ShortTask, Start, Task};
 use pg_form::{Form, Node, NodeId, RuleId};
 use pg_text::Text;
 use pg_tree::{Forest, Shape};
@@ -30,8 +30,8 @@ impl<'a> Replayer<'a> {
         }
     }
 
-    /// Does the task.
-    fn perform(
+    /// Does a task that was taken off. The answer is why it isn't done, if it isn't. The only error is that memory ran out.
+    pub fn perform(
         &mut self,
         alloc: Global,
         grammar: &'a Grammar,
@@ -41,49 +41,76 @@ impl<'a> Replayer<'a> {
         ensures { IfOk result (λ halt. told halt (state_of self.new) ≡ turn grammar.now text.now (task_of task.now) (state_of self.old)) }
     {
         match task {
-            Task::Node(node) => self.enter(alloc, grammar, text, *node),
-            Task::Parts(parts) => self.part(parts),
-            Task::Rounds { part, left } => self.round(*part, *left),
-            Task::MoreRounds {
+            Task::Short(short) => self.perform_short(alloc, grammar, text, short),
+            Task::Rounds(rounds) => self.perform_rounds(grammar, text, rounds),
+            Task::Close(closing) => self.close(text, closing),
+            Task::Leave(leaving) => {
+                let Start {
+                    place,
+                    trees,
+                    items,
+                } = leaving.from;
+                self.leave(leaving.rule, place as usize, trees as usize, items as usize);
+                Ok(None)
+            }
+        }
+    }
+
+    fn perform_short(
+        &mut self,
+        alloc: Global,
+        grammar: &'a Grammar,
+        text: &Text,
+        task: &ShortTask<'a>,
+    ) -> Result<Option<Halt>, AllocError>
+        ensures { IfOk result (λ halt. told halt (state_of self.new) ≡ turn grammar.now text.now (short_of task.now) (state_of self.old)) }
+    {
+        match task {
+            ShortTask::Node(node) => self.enter(alloc, grammar, text, *node),
+            ShortTask::Parts(parts) => self.part(parts),
+            ShortTask::Rounds { part, left } => self.round(*part, *left),
+            ShortTask::Settle(loose) => {
+                self.set_loose(*loose);
+                Ok(None)
+            }
+            ShortTask::Fold { used, trees } => self.fold(used, *trees),
+            ShortTask::Term(part, loose) => self.term(*part, *loose),
+            ShortTask::Symbol(operator) => Ok(self.symbol(grammar, text, operator)),
+            ShortTask::Application { builders, operator } => self.apply(alloc, builders, operator),
+            ShortTask::Unmark => self.end_expression(),
+        }
+    }
+
+    fn perform_rounds(
+        &mut self,
+        _grammar: &'a Grammar,
+        _text: &Text,
+        task: &RoundsTask<'a>,
+    ) -> Result<Option<Halt>, AllocError>
+        ensures { IfOk result (λ halt. told halt (state_of self.new) ≡ turn _grammar.now _text.now (rounds_of task.now) (state_of self.old)) }
+    {
+        match task {
+            RoundsTask::MoreRounds {
                 part,
                 left,
                 place,
                 trees,
                 items,
             } => self.more_rounds(*part, *left, *place, *trees, *items),
-            Task::Links { chain, left, trees } => self.links(chain, *left, *trees),
-            Task::Operand {
+            RoundsTask::Links { chain, left, trees } => self.links(chain, *left, *trees),
+            RoundsTask::Operand {
                 chain,
                 left,
                 trees,
                 from,
             } => self.operand(chain, *left, *trees, *from),
-            Task::Linked {
+            RoundsTask::Linked {
                 chain,
                 left,
                 trees,
                 later,
                 from,
             } => self.linked(chain, *left, *trees, *later, *from),
-            Task::Settle(loose) => {
-                self.set_loose(*loose);
-                Ok(None)
-            }
-            Task::Fold { used, trees } => self.fold(used, *trees),
-            Task::Term(part, loose) => self.term(*part, *loose),
-            Task::Symbol(operator) => Ok(self.symbol(grammar, text, operator)),
-            Task::Application { builders, operator } => self.apply(alloc, builders, operator),
-            Task::Unmark => self.end_expression(),
-            Task::Close(closing) => self.close(text, closing),
-            Task::Leave {
-                rule,
-                place,
-                trees,
-                items,
-            } => {
-                self.leave(*rule, *place, *trees, *items);
-                Ok(None)
-            }
         }
     }
 
@@ -118,7 +145,7 @@ impl<'a> Replayer<'a> {
     {
         match form {
             Form::Leaf(leaf) => self.leaf(alloc, grammar, text, node, leaf),
-            Form::Seq(parts) => self.go_on(&[Task::Parts(parts.as_slice())]),
+            Form::Seq(parts) => self.go_on(&[Task::Short(ShortTask::Parts(parts.as_slice()))]),
             Form::Choice(parts) => self.choose(parts.as_slice()),
             Form::Many(part) => self.begin_rounds(*part),
             Form::Rule(rule) => self.enter_rule(grammar, *rule),
@@ -166,7 +193,7 @@ impl<'a> Replayer<'a> {
         match parts.get(number - 1) {
             Some(part) => {
                 self.take_item(rest);
-                self.go_on(&[Task::Node(*part)])
+                self.go_on(&[Task::Short(ShortTask::Node(*part))])
             }
             None => Ok(Some(Halt::Stopped(Mismatch::ItemDiffers))),
         }
@@ -186,14 +213,9 @@ impl<'a> Replayer<'a> {
                     return Ok(Some(Halt::Stopped(Mismatch::ItemDiffers)));
                 }
                 self.enter_body(rule)?;
-                let (place, trees, items) = (self.place, self.forest.len(), self.rest.len());
-                let leave = Task::Leave {
-                    rule,
-                    place,
-                    trees,
-                    items,
-                };
-                self.go_on(&[leave, Task::Node(named.body)])
+                let from = self.start()?;
+                let leave = Task::Leave(Leaving { rule, from });
+                self.go_on(&[leave, Task::Short(ShortTask::Node(named.body))])
             }
             None => Ok(Some(Halt::Stopped(Mismatch::ItemDiffers))),
         }
@@ -228,7 +250,10 @@ impl<'a> Replayer<'a> {
         ensures { IfOk result (λ halt. told halt (state_of self.new) ≡ parts_turn parts.now (state_of self.old)) }
     {
         match parts.split_first() {
-            Some((part, rest)) => self.go_on(&[Task::Parts(rest), Task::Node(*part)]),
+            Some((part, rest)) => self.go_on(&[
+                Task::Short(ShortTask::Parts(rest)),
+                Task::Short(ShortTask::Node(*part)),
+            ]),
             None => Ok(None),
         }
     }

@@ -1,12 +1,13 @@
 //! What is left to do while a trail is gone along.
 
-ghost use Rattle.std.specs.Prelude.{◌≡◌};
+ghost use Rattle.std.specs.Prelude.{◌≡◌, IfOk};
 ghost use Rattle.pg_replay.specs.View.{chain_of};
 
 use crate::fault::Mismatch;
 use pg_form::{Around, BuilderUse, NodeId, OperatorBuilders, RuleId, Side};
 use pg_tree::Label;
 use pg_value::AppliedOperator;
+use std::alloc::AllocError;
 
 /// How loose trees are: what of them comes into what is answered, where they belong to others.
 #[derive(Clone, Copy)]
@@ -52,22 +53,45 @@ pub struct RoundStart {
     pub items: usize,
 }
 
-/// A form around a part: its node, the place where the part began, with so many trees and operators before it and so many items
-/// left, and how loose trees are after it.
+/// Where something began: the place, with so many trees before it and so many items left. A text may leave as many behind as it
+/// is long, so they have 32 bits.
+#[derive(Clone, Copy)]
+pub struct Start {
+    pub place: u32,
+    pub trees: u32,
+    pub items: u32,
+}
+
+/// A form around a part: its node, where the part began, with so many operators before it, and how loose trees are after it.
 #[derive(Clone, Copy)]
 pub struct Closing<'a> {
     pub around: &'a Around,
-    pub node: NodeId,
-    pub place: usize,
-    pub trees: usize,
-    pub operators: usize,
-    pub items: usize,
     pub loose: Looseness<'a>,
+    pub node: NodeId,
+    pub operators: u32,
+    pub from: Start,
 }
 
-/// What is left to do: a node, or the rest of one that was entered.
+/// The body of a rule, and where it began.
 #[derive(Clone, Copy)]
-pub enum Task<'a> {
+pub struct Leaving {
+    pub rule: RuleId,
+    pub from: Start,
+}
+
+/// A number of 32 bits. The only error is that it has more.
+pub(crate) fn counted(number: usize) -> Result<u32, AllocError>
+    ensures { IfOk result (λ counted. counted ≡ number) }
+{
+    match u32::try_from(number) {
+        Ok(counted) => Ok(counted),
+        Err(_) => Err(AllocError),
+    }
+}
+
+/// A task that takes little room.
+#[derive(Clone, Copy)]
+pub enum ShortTask<'a> {
     /// A node.
     Node(NodeId),
     /// The parts of a sequence.
@@ -77,6 +101,29 @@ pub enum Task<'a> {
         part: NodeId,
         left: usize,
     },
+    /// From here on trees are so loose.
+    Settle(Looseness<'a>),
+    /// The trees after so many are made into one.
+    Fold {
+        used: &'a BuilderUse,
+        trees: usize,
+    },
+    /// A term of an expression, whose trees are so loose and begin the next operand.
+    Term(NodeId, Looseness<'a>),
+    /// The symbol of an operator.
+    Symbol(&'a AppliedOperator),
+    /// The operator is applied to the trees of its operands.
+    Application {
+        builders: &'a OperatorBuilders,
+        operator: &'a AppliedOperator,
+    },
+    /// The last operand ends the expression.
+    Unmark,
+}
+
+/// More rounds, of a repetition or a chain.
+#[derive(Clone, Copy)]
+pub enum RoundsTask<'a> {
     /// So many rounds more, after one that began at the place, with so many trees before it and so many items left.
     MoreRounds {
         part: NodeId,
@@ -107,33 +154,18 @@ pub enum Task<'a> {
         later: usize,
         from: RoundStart,
     },
-    /// From here on trees are so loose.
-    Settle(Looseness<'a>),
-    /// The trees after so many are made into one.
-    Fold {
-        used: &'a BuilderUse,
-        trees: usize,
-    },
-    /// A term of an expression, whose trees are so loose and begin the next operand.
-    Term(NodeId, Looseness<'a>),
-    /// The symbol of an operator.
-    Symbol(&'a AppliedOperator),
-    /// The operator is applied to the trees of its operands.
-    Application {
-        builders: &'a OperatorBuilders,
-        operator: &'a AppliedOperator,
-    },
-    /// The last operand ends the expression.
-    Unmark,
+}
+
+/// What is left to do: a node, or the rest of one that was entered.
+#[derive(Clone, Copy)]
+pub enum Task<'a> {
+    Short(ShortTask<'a>),
+    /// More rounds of a repetition or a chain.
+    Rounds(RoundsTask<'a>),
     /// What a form makes of its part.
     Close(Closing<'a>),
-    /// The body of a rule ends, which began at the place, with so many trees before it and so many items left.
-    Leave {
-        rule: RuleId,
-        place: usize,
-        trees: usize,
-        items: usize,
-    },
+    /// The body of a rule ends.
+    Leave(Leaving),
 }
 
 /// Why the next task isn't done.

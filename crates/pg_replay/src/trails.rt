@@ -11,7 +11,8 @@ ghost use Rattle.pg_replay.specs.View.{state_of};
 
 use crate::fault::{Mismatch, ReplayFault, Stop};
 use crate::replayer::Replayer;
-use crate::task::{Halt, Looseness, Task};
+use crate::task::{Halt, Looseness, ShortTask, Task};
+use crate::task_lists::TaskLists;
 use pg_form::NodeId;
 use pg_table::Table;
 use pg_text::Text;
@@ -117,7 +118,7 @@ fn begin<'a>(
     let blank = vec![in alloc; None; grammar.nodes().len()]?;
     let table = table.copy(alloc)?;
     let mut replayer = Replayer {
-        tasks: Vec::new(alloc),
+        tasks: TaskLists::new(alloc),
         place: 0,
         table,
         forest: Forest::new(alloc),
@@ -129,7 +130,7 @@ fn begin<'a>(
         blank,
     };
     replayer.enter_body(grammar.start_rule())?;
-    replayer.push_tasks(&[Task::Node(body)])?;
+    replayer.push_tasks(&[Task::Short(ShortTask::Node(body))])?;
     Ok(replayer)
 }
 

@@ -1,6 +1,7 @@
 -- The exit status of what a run ends with.
-use Rattle.std.specs.Prelude.{◌≡◌, ℕ, List, Result, Ok, Err, Option, Some, None}
+use Rattle.std.specs.Prelude.{◌≡◌, ℕ, List, Result, Ok, Err}
 use Rattle.pg_pred.specs.Offer.{Offer}
+use Rattle.pg_value.specs.Fits.{Fits}
 use Rattle.pg_making.specs.Spells.{SpellsWithinLimits}
 use Rattle.pg_predict.specs.Checked.{GrammarWithSets, IsChecked}
 use Rattle.pg_grammar_bench.specs.Files.{IsFaultOfFile, AreFindingsOf}
@@ -26,10 +27,10 @@ abbrev pub status_of_verdict : {T : Type 0} → Result T BenchFault → ℕ
 status_of_verdict (Ok x) = 0
 status_of_verdict (Err fault) = status_of fault
 
--- the bytes spell a grammar that is accepted
-pub record IsAcceptedFile (offer : Offer) (file : List ℕ) : Type 0 where
-  pub checked : GrammarWithSets
+-- the bytes spell this grammar, which is accepted, and the offer has what it names
+pub record IsLoaded (offer : Offer) (file : List ℕ) (checked : GrammarWithSets) : Type 0 where
   pub spelled : SpellsWithinLimits offer file checked.grammar
+  pub fits : Fits offer checked.grammar
   pub accepted : IsChecked checked
 
 -- the status is that of a fault of the file, of what is wrong with its grammar, or of want of memory
@@ -40,7 +41,7 @@ pub record IsRefusedWith (offer : Offer) (file : List ℕ) (status : ℕ) : Type
   pub of_file : IfFile (IsFaultOfFile offer file) fault
   pub findings : IfRefused (AreFindingsOf offer file) fault
 
--- what is answered of a grammar before texts are read by it: none, if it is accepted, or the status of what refuses it
-abbrev pub IsRefusalStatus : Offer → List ℕ → Option ℕ → Type 0
-IsRefusalStatus offer file None = IsAcceptedFile offer file
-IsRefusalStatus offer file (Some status) = IsRefusedWith offer file status
+-- what is answered of a grammar file before texts are read: the grammar, if it is accepted, or the status of what refuses it
+abbrev pub IsLoading : Offer → List ℕ → Result GrammarWithSets ℕ → Type 0
+IsLoading offer file (Ok checked) = IsLoaded offer file checked
+IsLoading offer file (Err status) = IsRefusedWith offer file status

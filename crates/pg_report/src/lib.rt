@@ -21,7 +21,7 @@ pub use files::{
 pub use handle::Handle;
 pub use json::print_json_fault;
 pub use printing::{
-    ErrorWriter, UNUSABLE, cannot_write, print_page, print_refusal, print_report, print_verdict,
-    refuse, say,
+    ErrorWriter, UNUSABLE, cannot_write, loaded, print_page, print_report, print_verdict, refuse,
+    say,
 };
 pub use reporting::{Names, status, write_report};

@@ -2,11 +2,12 @@
 
 ghost use Rattle.std.specs.Prelude.{◌≡◌, ◌⊎◌, IfOk};
 ghost use Rattle.pg_pred.specs.Offer.{offer_of};
-ghost use Rattle.pg_report.specs.Status.{status_of, status_of_verdict, IsRefusalStatus};
+ghost use Rattle.pg_report.specs.Status.{status_of, status_of_verdict, IsLoading};
 
 use crate::reporting::{Names, status, write_report};
 use pg_grammar_bench::{BenchFault, checked_of};
 use pg_pred::Registry;
+use pg_predict::Checked;
 use pg_tree::{Meter, WriteFault, write_bytes};
 use std::alloc::AllocError;
 use std::fmt::Display;
@@ -44,21 +45,18 @@ pub(crate) fn print_fault<R: AllocGlobal + Eprint>(
     }
 }
 
-/// Prints why the grammar of these bytes isn't accepted, as far as standard error takes it, and gives the status; none, if it is.
-pub fn print_refusal<R: AllocGlobal + Eprint>(
+/// The grammar that these bytes spell, loaded; where it isn't accepted, why is printed, as far as standard error takes it, and the status given.
+pub fn loaded<R: AllocGlobal + Eprint>(
     rt: &R,
     bytes: &[u8],
     grammar: &str,
     registry: &Registry,
-) -> Result<Option<u8>, AllocError>
-    ensures { IfOk result (IsRefusalStatus (offer_of registry.now) bytes.now) }
+) -> Result<Result<Checked, u8>, AllocError>
+    ensures { IfOk result (IsLoading (offer_of registry.now) bytes.now) }
 {
     match checked_of(rt.alloc(), bytes, registry) {
-        Ok(checked) => {
-            drop(checked);
-            Ok(None)
-        }
-        Err(fault) => Ok(Some(print_report(rt, fault, Names::of_grammar(grammar))?)),
+        Ok(checked) => Ok(Ok(checked)),
+        Err(fault) => Ok(Err(print_report(rt, fault, Names::of_grammar(grammar))?)),
     }
 }
 

@@ -6,7 +6,8 @@ use crate::leaves::start_at;
 use crate::target::Want;
 use pg_class::Class;
 use pg_form::{Leaf, NodeId, WordId};
-use pg_start::{Reserved, StartKind};
+use pg_start::StartKind;
+use pg_text::Texts;
 
 /// The most characters that are put to a word that is reserved.
 const LONGER: usize = 3;
@@ -58,7 +59,7 @@ impl<'g> Draft<'g> {
     }
 
     /// A word is put: as much as the guide has, and no reserved one.
-    fn word(&mut self, heads: &Class, rest: &'g Class, reserved: &Reserved, want: Want) {
+    fn word(&mut self, heads: &Class, rest: &'g Class, reserved: &Texts, want: Want) {
         let from = self.text.len();
         self.one_of(heads, want);
         for _ in 0..self.plan.guide.len() {
@@ -66,7 +67,7 @@ impl<'g> Draft<'g> {
         }
         for _ in 0..LONGER {
             let (_, word) = self.text.split_at(from.min(self.text.len()));
-            if is_among(reserved, word) {
+            if reserved.contains(word) {
                 self.one_of(rest, Want::Any);
             }
         }
@@ -81,14 +82,4 @@ impl<'g> Draft<'g> {
             }
         }
     }
-}
-
-/// Whether the word is reserved.
-pub(crate) fn is_among(reserved: &Reserved, word: &[char]) -> bool {
-    for text in reserved.as_slice() {
-        if text.as_slice() == word {
-            return true;
-        }
-    }
-    false
 }

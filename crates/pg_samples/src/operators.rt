@@ -3,10 +3,10 @@
 use crate::basis::Basis;
 use crate::characters::character_of;
 use crate::drafting::Draft;
-use crate::letters::is_among;
 use pg_class::Class;
-use pg_start::{Reserved, StartKind};
+use pg_start::StartKind;
 use pg_table::Table;
+use pg_text::Texts;
 
 /// How many symbols are looked at for one that is declared.
 const TRIED: usize = 94;
@@ -58,7 +58,7 @@ impl<'g> Draft<'g> {
 }
 
 /// The characters of operators, and what is reserved, if there are any.
-fn symbols_of<'g>(basis: &'g Basis<'g>) -> Option<(&'g Class, &'g Reserved)> {
+fn symbols_of<'g>(basis: &'g Basis<'g>) -> Option<(&'g Class, &'g Texts)> {
     match &basis.operators {
         Some(operators) => match operators.operator.start.view() {
             StartKind::Word(class, _, reserved) => Some((class, reserved)),
@@ -86,10 +86,10 @@ fn gap_character(basis: &Basis<'_>) -> Option<char> {
 }
 
 /// A character of the class that is no operator of the table and not reserved. So many printable ones are passed at first.
-fn free_symbol(table: &Table, class: &Class, reserved: &Reserved, passed: usize) -> Option<char> {
+fn free_symbol(table: &Table, class: &Class, reserved: &Texts, passed: usize) -> Option<char> {
     for number in 0..TRIED {
         let c = character_of(class, None, passed.saturating_add(number))?;
-        if !is_among(reserved, &[c]) && !is_operator(table, c) {
+        if !reserved.contains(&[c]) && !is_operator(table, c) {
             return Some(c);
         }
     }

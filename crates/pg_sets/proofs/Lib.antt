@@ -8,3 +8,4 @@ pub mod Origin
 pub mod OriginRounds
 pub mod InOrder
 pub mod StartSets
+pub mod Mixed

@@ -1,10 +1,11 @@
 -- Which sets hold which starts by themselves, as a map from starts to the numbers of sets.
-use Rattle.std.specs.Prelude.{◌≡◌, ◌↔◌, ◌<◌, ℕ, true, List, [], Some, slice_get, length, unwrap_or, is_some}
+use Rattle.std.specs.Prelude.{◌≡◌, ◌↔◌, ◌⊎◌, ◌<◌, ℕ, true, List, [], Option, Some, None, slice_get, length, unwrap_or, is_some}
 use Rattle.std.specs.BTreeMap.{BTreeMap, get}
 use Rattle.std.specs.List.Sorted.{IsStrictlySortedBy}
 use Rattle.pg_value.specs.Grammar.{Grammar}
 use Rattle.pg_form.specs.Forms.{Node}
 use Rattle.pg_form.specs.declared.form.Form.TheVariants as form
+use Rattle.pg_form.specs.declared.form.Leaf.TheVariants as leaf
 use Rattle.pg_form.specs.declared.used.OperatorBuilders.{OperatorBuilders}
 use Rattle.pg_start.specs.declared.kind.StartKind.{StartKind}
 use Rattle.pg_sets.specs.Flows.{follow_of}
@@ -51,6 +52,42 @@ pub record AreSoManyOrigins (g : Grammar) (count : ℕ) (origins : Origins) : Ty
   pub held : (listed : ListedStart) (v : ℕ) → HoldsIt origins listed v ↔ (SourceBelow g count listed.start v × IsListed g listed)
   pub listed : (listed : ListedStart) → IsThere origins listed → IsListed g listed
   pub plain : (p : ℕ) (n : Node) → p < count → slice_get g.nodes p ≡ Some n → IsPlain g n → (start : StartKind) × OwnStart g n start
+
+-- ---- words, item by item
+
+-- the number of the word item whose words the node reads
+abbrev pub item_read : Node → Option ℕ
+item_read (form.Leaf (leaf.Word w)) = Some w
+item_read _ = None
+
+-- the node with this number reads the words of the item
+abbrev pub ReadsItem : Grammar → ℕ → ℕ → Type 0
+ReadsItem g w v = slice_get g.nodes v ≡ Some (form.Leaf (leaf.Word w))
+
+-- for each word item those of so many first nodes that read its words
+pub record AreReaders (g : Grammar) (count : ℕ) (readers : List (List ℕ)) : Type 0 where
+  pub long : length readers ≡ length g.words
+  pub members : (w v : ℕ) → w < length g.words → (has (numbers_at readers w) v ≡ true) ↔ ((v < count) × ReadsItem g w v)
+
+-- the node with this number reads words of one of so many first items, which begin so
+pub record ReadBelow (g : Grammar) (items : ℕ) (start : StartKind) (v : ℕ) : Type 0 where
+  pub item : ℕ
+  pub below : item < items
+  pub there : ReadsItem g item v
+  pub own : OwnStart g (form.Leaf (leaf.Word item)) start
+
+-- these are the starts of so many of the first word items, with the nodes that read them
+pub record AreItemOrigins (g : Grammar) (items : ℕ) (origins : Origins) : Type 0 where
+  pub held : (listed : ListedStart) (v : ℕ) → HoldsIt origins listed v ↔ (ReadBelow g items listed.start v × IsListed g listed)
+  pub listed : (listed : ListedStart) → IsThere origins listed → IsListed g listed
+
+-- these are those of all word items, and those of so many of the first nodes
+pub record AreMixedOrigins (g : Grammar) (count : ℕ) (origins : Origins) : Type 0 where
+  pub held : (listed : ListedStart) (v : ℕ) → HoldsIt origins listed v ↔ ((SourceBelow g count listed.start v ⊎ ReadBelow g (length g.words) listed.start v) × IsListed g listed)
+  pub listed : (listed : ListedStart) → IsThere origins listed → IsListed g listed
+  pub plain : (p : ℕ) (n : Node) → p < count → slice_get g.nodes p ≡ Some n → IsPlain g n → (start : StartKind) × OwnStart g n start
+
+-- ---- all nodes
 
 -- the same, for all nodes and for the end
 pub record AreOrigins (g : Grammar) (origins : Origins) : Type 0 where

@@ -8,6 +8,7 @@
 
 mod flows;
 mod origins;
+mod readers;
 mod sets;
 mod start_sets;
 

@@ -8,18 +8,19 @@ ghost use Rattle.std.specs.Ordering.{is_eq};
 ghost use Rattle.pg_form.specs.declared.used.OperatorBuilders.{OperatorBuilders};
 ghost use Rattle.pg_start.specs.declared.kind.StartKind.{StartKind};
 ghost use Rattle.pg_own_starts.specs.Listed.{IsListed, start_order};
-ghost use Rattle.pg_sets.specs.Origins.{sets_of, HoldsIt, IsThere, SourceAt, AreOrigins, AreSoManyOrigins, AreListed};
-ghost use Rattle.pg_own_starts.specs.Own.{IsAmong, IsPlain};
+ghost use Rattle.pg_sets.specs.Origins.{sets_of, HoldsIt, IsThere, SourceAt, AreOrigins, AreSoManyOrigins, AreListed, AreReaders, AreItemOrigins};
+ghost use Rattle.pg_own_starts.specs.Own.{IsAmong, IsPlain, AreWordStarts};
 ghost use Rattle.pg_own_starts.specs.OwnStarts.{OwnStart};
-ghost use Rattle.pg_own_starts.specs.Words.{AreClassesOf, AreWordClasses};
+ghost use Rattle.pg_own_starts.specs.Words.{AreClassesOf};
 ghost use Rattle.pg_own_starts.specs.declared.listed.ListedStart.{ListedStart};
 
 use crate::flows::follow_of;
+use crate::readers::{add_readers, item_read, readers_of_words};
 use pg_character_sets::classes_of_items;
 use pg_class::Class;
 use pg_form::{Form, Node};
-use pg_graph::Numbers;
-use pg_own_starts::{ListedStart, WordClasses, classes_of_words, own_starts};
+use pg_graph::{Numbers, numbers_at};
+use pg_own_starts::{ListedStart, WordStarts, own_starts, starts_of_words};
 use pg_start::Start;
 use pg_value::Grammar;
 use std::alloc::{AllocError, Global};
@@ -43,7 +44,7 @@ fn add_origin(
 }
 
 /// Takes the sets of a start out; there may be none.
-fn taken_sets(
+pub(crate) fn taken_sets(
     alloc: Global,
     origins: &mut BTreeMap<ListedStart, Numbers>,
     listed: &ListedStart,
@@ -81,13 +82,13 @@ fn add_node(
     alloc: Global,
     grammar: &Grammar,
     classes: &[Class],
-    words: &[WordClasses],
+    words: &WordStarts,
     origins: &mut BTreeMap<ListedStart, Numbers>,
     number: usize,
     node: &Node,
 ) -> Result<(), AllocError>
     requires classes { AreClassesOf grammar.now classes.now }
-    requires words { AreWordClasses grammar.now words.now }
+    requires words { AreWordStarts grammar.now words.now }
     ensures held { OnOk result ((other : ListedStart) (v : ℕ) →
         HoldsIt origins.new other v ↔ (HoldsIt origins.old other v ⊎ (SourceAt grammar.now number node.now other.start v × IsListed grammar.now other))) }
     ensures there { OnOk result ((other : ListedStart) → IsThere origins.new other → IsThere origins.old other ⊎ IsListed grammar.now other) }
@@ -109,15 +110,37 @@ pub fn origins_of_nodes(
     alloc: Global,
     grammar: &Grammar,
     classes: &[Class],
-    words: &[WordClasses],
+    words: &WordStarts,
 ) -> Result<BTreeMap<ListedStart, Numbers>, AllocError>
     requires classes { AreClassesOf grammar.now classes.now }
-    requires words { AreWordClasses grammar.now words.now }
+    requires words { AreWordStarts grammar.now words.now }
     ensures { IfOk result (AreSoManyOrigins grammar.now (length grammar.now.nodes)) }
 {
-    let mut origins = BTreeMap::new(alloc);
+    let readers = readers_of_words(alloc, grammar)?;
+    let mut origins = origins_of_items(alloc, grammar, words, readers.as_slice())?;
     for (number, node) in grammar.nodes().iter().enumerate() {
-        add_node(alloc, grammar, classes, words, &mut origins, number, node)?;
+        if item_read(node).is_none() {
+            add_node(alloc, grammar, classes, words, &mut origins, number, node)?;
+        }
+    }
+    Ok(origins)
+}
+
+/// For each start of words the nodes that read them, by the readers of each word item. The only error is that memory ran out.
+fn origins_of_items(
+    alloc: Global,
+    grammar: &Grammar,
+    words: &WordStarts,
+    readers: &[Numbers],
+) -> Result<BTreeMap<ListedStart, Numbers>, AllocError>
+    requires words { AreWordStarts grammar.now words.now }
+    requires readers { AreReaders grammar.now (length grammar.now.nodes) readers.now }
+    ensures { IfOk result (AreItemOrigins grammar.now (length grammar.now.words)) }
+{
+    let mut origins = BTreeMap::new(alloc);
+    for (item, listed) in words.items.iter().enumerate() {
+        let listed = listed.copy(alloc)?;
+        add_readers(alloc, &mut origins, listed, numbers_at(readers, item))?;
     }
     Ok(origins)
 }
@@ -154,8 +177,8 @@ pub(crate) fn listed_starts(alloc: Global, grammar: &Grammar) -> Result<Listing,
     ensures { IfOk result (λ listing. AreListed grammar.now listing.starts.items listing.origins.items) }
 {
     let classes = classes_of_items(alloc, grammar.class_items())?;
-    let words = classes_of_words(alloc, grammar, classes.as_slice())?;
-    let mut origins = origins_of_nodes(alloc, grammar, classes.as_slice(), words.as_slice())?;
+    let words = starts_of_words(alloc, grammar, classes.as_slice())?;
+    let mut origins = origins_of_nodes(alloc, grammar, classes.as_slice(), &words)?;
     add_end(alloc, grammar, &mut origins)?;
     listed(alloc, origins)
 }

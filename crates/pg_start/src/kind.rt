@@ -2,9 +2,8 @@
 //!
 //! A kind by itself promises nothing; a `Start` is of one, and its key isn't empty.
 
-use crate::reserved::Reserved;
 use pg_class::Class;
-use pg_text::Characters;
+use pg_text::{Characters, Texts};
 
 /// What is met at a place.
 #[derive(Debug, Drop)]
@@ -14,7 +13,7 @@ pub enum StartKind {
     /// This text, with no character of the class after it.
     Key(Characters, Class),
     /// A word: a character of the first class with the longest run of the second after it, unless that is reserved.
-    Word(Class, Class, Reserved),
+    Word(Class, Class, Texts),
     /// The end of the text.
     End,
 }

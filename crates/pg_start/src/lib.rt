@@ -11,7 +11,6 @@ mod laws;
 mod matching;
 mod pairs;
 mod prefix;
-mod reserved;
 mod start;
 #[cfg(test)]
 mod tests;
@@ -20,5 +19,4 @@ pub use kind::StartKind;
 pub use laws::{apart_is_symmetric, starts_apart_never_meet};
 pub use matching::matches_at;
 pub use pairs::apart;
-pub use reserved::Reserved;
 pub use start::Start;

@@ -21,7 +21,7 @@ pub fn matches_at(start: &Start, text: &Text, place: usize) -> bool
         StartKind::Class(class) => begins_in(ahead, class),
         StartKind::Key(key, excluded) => begins_with_key(ahead, key.as_slice(), excluded),
         StartKind::Word(heads, rest, reserved) => {
-            begins_in(ahead, heads) && !reserved.has(word_prefix(ahead, rest))
+            begins_in(ahead, heads) && !reserved.contains(word_prefix(ahead, rest))
         }
         StartKind::End => ahead.is_empty(),
     }

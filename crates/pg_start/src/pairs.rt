@@ -6,9 +6,9 @@ ghost use Rattle.pg_start.specs.Apart.{Apart, KeysApart, KeyWordApart};
 
 use crate::kind::StartKind;
 use crate::prefix::{begins_in, begins_with, word_prefix};
-use crate::reserved::Reserved;
 use crate::start::Start;
 use pg_class::Class;
+use pg_text::Texts;
 
 /// Whether two starts are apart. It takes no memory.
 ///
@@ -51,7 +51,7 @@ fn key_is_apart(key: &[char], excluded: &Class, other: &StartKind) -> bool
     }
 }
 
-fn word_is_apart(heads: &Class, rest: &Class, reserved: &Reserved, other: &StartKind) -> bool
+fn word_is_apart(heads: &Class, rest: &Class, reserved: &Texts, other: &StartKind) -> bool
     ensures { IsTrue result ↔ Apart (StartKind.Word heads.now rest.now reserved.now) other.now }
 {
     match other {
@@ -93,7 +93,7 @@ fn key_and_word_are_apart(
     excluded: &Class,
     heads: &Class,
     rest: &Class,
-    reserved: &Reserved,
+    reserved: &Texts,
 ) -> bool
     ensures { IsTrue result ↔ KeyWordApart key.now excluded.now heads.now rest.now reserved.now }
 {
@@ -101,5 +101,5 @@ fn key_and_word_are_apart(
         return true;
     }
     let word = word_prefix(key, rest);
-    reserved.has(word) && (word != key || rest.within(excluded))
+    reserved.contains(word) && (word != key || rest.within(excluded))
 }

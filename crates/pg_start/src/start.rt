@@ -6,9 +6,8 @@ ghost use Rattle.std.specs.Prelude.{◌≡◌, ◌<◌, length, IfOk};
 ghost use Rattle.pg_start.specs.Starts.{IsStart};
 
 use crate::kind::StartKind;
-use crate::reserved::Reserved;
 use pg_class::Class;
-use pg_text::Characters;
+use pg_text::{Characters, Texts};
 use std::alloc::{AllocError, Global};
 use std::marker::Model;
 
@@ -52,19 +51,14 @@ impl Start {
         })
     }
 
-    /// A word of one of the heads and all of the rest that follow, unless that is one of the reserved texts. The only
-    /// error is that memory ran out.
-    pub fn word(
-        alloc: Global,
-        heads: &Class,
-        rest: &Class,
-        reserved: &[Characters],
-    ) -> Result<Start, AllocError>
+    /// A word of one of the heads and all of the rest that follow, unless that is one of the reserved texts. It shares these and
+    /// takes no memory; the only error, told as want of memory, is that they are shared as often as can be counted.
+    pub fn word(heads: &Class, rest: &Class, reserved: &Texts) -> Result<Start, AllocError>
         ensures { IfOk result (λ start. start ≡ StartKind.Word heads.now rest.now reserved.now) }
     {
         let heads = heads.share()?;
         let rest = rest.share()?;
-        let reserved = Reserved::of(alloc, reserved)?;
+        let reserved = reserved.share()?;
         Ok(Start {
             kind: StartKind::Word(heads, rest, reserved),
         })

@@ -3,7 +3,7 @@ ghost use Rattle.std.specs.Prelude.{◌<◌, length};
 
 use super::*;
 use pg_class::Class;
-use pg_text::{Characters, Text};
+use pg_text::{Characters, Text, Texts};
 use std::alloc::Global;
 use std::test::Fail;
 
@@ -17,7 +17,8 @@ fn key(alloc: Global, text: &[char], excluded: &[(char, char)]) -> Result<Start,
 
 fn name(alloc: Global, reserved: &[Characters]) -> Result<Start, Fail> {
     let letters = Class::from_ranges(alloc, &[('a', 'z')])?;
-    let start = Start::word(alloc, &letters, &letters, reserved)?;
+    let reserved = Texts::of(alloc, reserved)?;
+    let start = Start::word(&letters, &letters, &reserved)?;
     Ok(start)
 }
 

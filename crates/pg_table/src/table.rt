@@ -12,7 +12,8 @@ ghost use Rattle.pg_table.specs.Tables.{is_prefix};
 
 use crate::fault::{AdmitFault, ExtendFault, InitialFault};
 use crate::limits::{PRECEDENCES, SYMBOL_LIMIT};
-use pg_form::{Decl, Role, Texts};
+use pg_form::{Decl, Role};
+use pg_text::Texts;
 use pg_value::Grammar;
 use std::alloc::{AllocError, Global};
 use std::marker::Model;
@@ -158,7 +159,7 @@ impl Table {
     {
         Ok(Table {
             operators: copied(alloc, self.operators())?,
-            reserved: self.reserved.copy(alloc)?,
+            reserved: self.reserved.share()?,
             most: self.most,
         })
     }
@@ -185,12 +186,12 @@ impl Table {
         match grammar.operators_item() {
             Some(item) => Ok(Table {
                 operators: Vec::new(alloc),
-                reserved: item.reserved.copy(alloc)?,
+                reserved: item.reserved.share()?,
                 most: item.max,
             }),
             None => Ok(Table {
                 operators: Vec::new(alloc),
-                reserved: Texts::new(Vec::new(alloc)),
+                reserved: Texts::new(alloc, Vec::new(alloc))?,
                 most: 0,
             }),
         }
@@ -209,10 +210,7 @@ impl Table {
     fn reserves(&self, symbol: &[char]) -> bool
         ensures { result ≡ list_any (λ s. bytes_eq s symbol.now) self.now.reserved }
     {
-        self.reserved
-            .as_slice()
-            .iter()
-            .any(|text| text.as_slice() == symbol)
+        self.reserved.contains(symbol)
     }
 
     /// Whether a prefix operator has the symbol.

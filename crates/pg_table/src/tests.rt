@@ -4,8 +4,8 @@
 ghost use Rattle.std.specs.Prelude.{◌<◌, length, IfOk};
 
 use super::*;
-use pg_form::{Decl, Role, Texts};
-use pg_text::Characters;
+use pg_form::{Decl, Role};
+use pg_text::{Characters, Texts};
 use std::alloc::{AllocError, Global};
 use std::test::Fail;
 
@@ -42,7 +42,8 @@ fn initial_table(
         decls.push(declared(alloc, *role, *symbol)?)?;
     }
     let most = most.min(64);
-    Ok(Table::of_declarations(alloc, Texts::new(reserved), most, decls.as_slice()))
+    let reserved = Texts::new(alloc, reserved)?;
+    Ok(Table::of_declarations(alloc, reserved, most, decls.as_slice()))
 }
 
 /// The table with these declarations.

@@ -1,5 +1,6 @@
 //! What no clause says: that calls succeed, and the printed texts.
 use super::*;
+use std::alloc::Global;
 use std::test::Fail;
 
 #[test]
@@ -65,5 +66,41 @@ fn keeps_characters(rt: HostRuntime) -> Result<(), Fail> {
     assert!(rt; !name.is_empty());
     assert_eq!(rt; name.as_slice(), ['€', 'x'].as_slice());
     assert_eq!(rt; name.into_vec().as_slice(), ['€', 'x'].as_slice());
+    Ok(())
+}
+
+/// So many texts of one character, which follow one another.
+fn some_texts(alloc: Global, count: u8) -> Result<Vec<Characters>, Fail> {
+    let mut texts = Vec::new(alloc);
+    for number in 0..count {
+        texts.push(Characters::new(vec![in alloc; (b'0' + number % 64) as char]?))?;
+    }
+    Ok(texts)
+}
+
+#[test]
+fn finds_texts(rt: HostRuntime) -> Result<(), Fail> {
+    for count in [0, 1, 16, 17, 40] {
+        let texts = Texts::new(rt.alloc(), some_texts(rt.alloc(), count)?)?;
+        let shared = texts.share()?;
+        drop(texts);
+        assert_eq!(rt; shared.as_slice().len(), usize::from(count));
+        assert_eq!(rt; shared.contains(&['0']), count > 0);
+        assert_eq!(rt; shared.contains(&['@']), count > 16);
+        assert!(rt; !shared.contains(&[]));
+        assert!(rt; !shared.contains(&['0', '0']));
+    }
+    Ok(())
+}
+
+#[test]
+fn keeps_texts_that_are_equal(rt: HostRuntime) -> Result<(), Fail> {
+    let mut twice = some_texts(rt.alloc(), 20)?;
+    twice.append(&mut some_texts(rt.alloc(), 20)?)?;
+    let texts = Texts::of(rt.alloc(), twice.as_slice())?;
+    assert_eq!(rt; texts.as_slice().len(), 40);
+    assert_eq!(rt; texts.as_slice()[39].as_slice(), ['C'].as_slice());
+    assert!(rt; texts.contains(&['C']));
+    assert!(rt; !texts.contains(&['D']));
     Ok(())
 }

@@ -6,7 +6,7 @@ ghost use Rattle.pg_language.specs.Answers.{given};
 ghost use Rattle.pg_pred.specs.Offer.{offer_of};
 ghost use Rattle.pg_turns.specs.Ready.{IsTapeReady};
 ghost use Rattle.pg_turns.specs.Tape.{tape_turn};
-ghost use Rattle.pg_turns.specs.View.{stack_of, tape_of};
+ghost use Rattle.pg_turns.specs.View.{tape_of};
 ghost use Rattle.pg_value.specs.Fits.{Fits};
 
 use crate::teller::Teller;
@@ -111,7 +111,7 @@ fn run_by<'a, W: Write>(
     writer: &mut W,
 ) -> Result<(), AllocError>
     requires fits { Fits (offer_of traced.now.registry.now) traced.now.grammar.now }
-    requires frames { stack_of machine.old.frames.items ≡ [] }
+    requires frames { machine.old.frames ≡ [] }
 {
     let most = traced.max_steps;
     let mut mode = Mode::At(start_of(traced.grammar), 0);

@@ -9,7 +9,7 @@ use pg_excerpt::positions;
 use pg_form::{Around, NodeId, RuleId};
 use pg_message_tape::MessageTape;
 use pg_text::{Pos, Text};
-use pg_turns::{Frame, Machine, Mode, Reply};
+use pg_turns::{FrameRef, Machine, Mode, Reply};
 use pg_value::Grammar;
 use std::alloc::{AllocError, Global};
 
@@ -146,7 +146,7 @@ impl<'a> Teller<'a> {
         if matches!(reply, Reply::EmptyRound) {
             return Ok(());
         }
-        match machine.frames.last() {
+        match machine.frames.top() {
             Some(frame) => self.tell_frame(&machine.lists.messages, frame, reply),
             None => Ok(()),
         }
@@ -155,28 +155,28 @@ impl<'a> Teller<'a> {
     fn tell_frame(
         &mut self,
         messages: &MessageTape<'_>,
-        frame: &Frame<'_>,
+        frame: FrameRef<'_, '_>,
         reply: Reply,
     ) -> Result<(), AllocError> {
         match frame {
-            Frame::Rule => self.leave(messages, reply),
-            Frame::Choice(choice) => self.tell_choice(
+            FrameRef::Rule => self.leave(messages, reply),
+            FrameRef::Choice(choice) => self.tell_choice(
                 messages,
                 choice.which as usize,
                 choice.start,
                 choice.rest,
                 reply,
             ),
-            Frame::Around(frame) => {
+            FrameRef::Around(frame) => {
                 self.give_back(frame.around, frame.start, reply);
                 Ok(())
             }
-            Frame::Parts(_)
-            | Frame::Rounds(_)
-            | Frame::First(_)
-            | Frame::Separator(_)
-            | Frame::Operand(_, _, _)
-            | Frame::Expression(_) => Ok(()),
+            FrameRef::Parts(_)
+            | FrameRef::Rounds(_)
+            | FrameRef::First(_)
+            | FrameRef::Separator(_)
+            | FrameRef::Operand(_)
+            | FrameRef::Expression(_) => Ok(()),
         }
     }
 

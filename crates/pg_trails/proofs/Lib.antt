@@ -1,3 +1,9 @@
-pub mod Found
+pub mod Ahead
+pub mod Counts
+pub mod Skipping
+pub mod Turns
+pub mod Members
+pub mod Texts
+pub mod Whole
 pub mod Parts
 pub mod Again

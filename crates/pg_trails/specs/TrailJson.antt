@@ -1,7 +1,7 @@
 -- The JSON of a trail: the value that it is, its text, and which bytes are the text of one.
 use Rattle.std.specs.Prelude.{◌≡◌, ℕ, List, map, codes, Some}
 use Rattle.std.specs.Str.{encode_utf8_all, IsUtf8}
-use Rattle.serde_json.specs.Data.{Data, unsigned, number, string, array, object, item, no_items, member, no_members}
+use Rattle.serde_json.specs.Data.{Data, unsigned, number, string, array, object, Items, item, no_items, member, no_members}
 use Rattle.serde_json.specs.View.{items_of}
 use Rattle.serde_json.specs.Read.{read}
 use Rattle.serde_json.specs.Written.{compact_text}
@@ -17,9 +17,13 @@ role Prefix = codes "prefix"
 role Infix = codes "infix"
 role Postfix = codes "postfix"
 
+-- two texts, one after another
+abbrev pub two_items : List ℕ × List ℕ → Items
+two_items texts = item (string texts.0) (item (string texts.1) no_items)
+
 -- an array of two texts
 abbrev pub two_texts : List ℕ → List ℕ → Data
-two_texts first second = array (item (string first) (item (string second) no_items))
+two_texts first second = array (two_items (first, second))
 
 -- an operator: its role and its symbol
 abbrev pub operator_value : AppliedOperator → Data

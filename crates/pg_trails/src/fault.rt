@@ -1,8 +1,9 @@
 //! Why bytes are no trail.
 
 ghost use Rattle.std.specs.Prelude.{◌≡◌};
-ghost use Rattle.pg_trails.specs.declared.fault.TrailFault.TheVariants.{Memory};
+ghost use Rattle.pg_trails.specs.declared.fault.TrailFault.TheVariants.{Memory, NotATrail};
 
+use json::Invalid;
 use std::alloc::{AllocError, AllocFailed};
 use thiserror::Error;
 
@@ -16,6 +17,14 @@ pub enum TrailFault {
     /// There was no memory for it.
     #[error("out of memory")]
     Memory,
+}
+
+impl From<Invalid> for TrailFault {
+    ghost from_gives = { λ _ e. e ≡ NotATrail };
+
+    fn from(_e: Invalid) -> TrailFault {
+        TrailFault::NotATrail
+    }
 }
 
 impl From<AllocError> for TrailFault {

@@ -163,8 +163,8 @@ impl Forest {
         Ok(Forest { store })
     }
 
-    /// Asks for the memory of so many times what the trees after the first `count` take, which the caller owes to be there, so
-    /// that want of it shows before they are made again. The trees stay. The only error is that memory ran out, or that so much
+    /// Asks for the memory of so many times what the trees after the first `count` take, which the caller owes to be there, with a
+    /// node above them, so that want of it shows before they are made again. The trees stay. The only error is that memory ran out, or that so much
     /// can't be counted.
     pub fn reserve(&mut self, count: usize, times: usize) -> Result<(), AllocError>
         requires { count ≤ length self.old }

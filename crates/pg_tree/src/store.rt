@@ -210,14 +210,15 @@ impl Store {
         })
     }
 
-    /// Asks for the memory of so many times what the trees after the first `count` take, in one piece of each list.
+    /// Asks for the memory of so many times what the trees after the first `count` take, and of a node above them, in one piece of
+    /// each list.
     pub(crate) fn reserve(&mut self, count: usize, times: usize) -> Result<(), AllocError>
         requires kept { Keeps self.old (kept_in self.old) }
         requires within { count ≤ length (kept_in self.old) }
         ensures { Keeps self.new (kept_in self.old) }
     {
         let size = self.size_after(count);
-        let entries = product(size.entries, times)?;
+        let entries = product(size.entries.saturating_add(1), times)?;
         let texts = product(size.texts, times)?;
         let labels = product(size.labels, times)?;
         self.entries.reserve(entries)?;

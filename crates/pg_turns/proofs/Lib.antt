@@ -1,4 +1,5 @@
 pub mod Stack
+pub mod KindLists
 pub mod ExpressionSteps
 pub mod Characters
 pub mod LeavesRead

@@ -9,5 +9,6 @@ pub mod Tape
 pub mod Ready
 pub mod ShowsLevels
 pub mod Shows
+pub mod ViewFrames
 pub mod View
 pub mod TapeRuns

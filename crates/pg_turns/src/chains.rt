@@ -7,11 +7,11 @@
 ghost use Rattle.std.specs.Prelude.{◌≡◌, ◌<◌, ◌+◌, ◌-◌, ◌^◌, true, length, take, reverse, IfOk, OnOk, Some};
 ghost use Rattle.pg_pred.specs.Offer.{offer_of, builder_shape};
 ghost use Rattle.pg_turns.specs.Tape.{tape_to_first, tape_to_separator, tape_to_operand, tape_ended, tape_linked, all_built, link_forest, link_waiting, link_left, end_tape_error, end_messages};
-ghost use Rattle.pg_turns.specs.View.{chain_of, links_of, on_lists, stack_of, tape_of};
+ghost use Rattle.pg_turns.specs.View.{chain_of, links_of, on_lists, tape_of};
 ghost use Rattle.pg_message_tape.specs.TapeErrors.{kept_at, merged_tape_error, merged_messages};
 ghost use Rattle.pg_turns.specs.declared.frame.Reply.TheVariants.{Succeeded};
 
-use crate::frame::{Before, ChainFrame, Frame, LinksFrame, Marks, Mode, Reply};
+use crate::frame::{Before, ChainFrame, Frame, LinksFrame, Marks, Mode, OperandFrame, Reply};
 use crate::machine::Machine;
 use pg_form::{BuilderUse, Side};
 use pg_lists::{Lists, RunForest, build_after};
@@ -127,8 +127,13 @@ impl<'a> Machine<'a> {
                 let kept = self.lists.messages.kept(error);
                 let trees = self.lists.forest.len();
                 let operand = links.chain.operand;
-                let frame = Frame::Operand(links, Before { consumed, kept }, trees);
-                self.enter_part(frame, operand, end)
+                let before = Before { consumed, kept };
+                let frame = OperandFrame {
+                    links,
+                    before,
+                    trees,
+                };
+                self.enter_part(Frame::Operand(frame), operand, end)
             }
             Reply::Failed { consumed, error } => {
                 self.end_links(registry, links, consumed, error)
@@ -143,16 +148,19 @@ impl<'a> Machine<'a> {
     pub(crate) fn hand_to_operand(
         &mut self,
         registry: &Registry,
-        links: Box<LinksFrame<'a>>,
-        before: Before,
-        trees: usize,
+        operand: OperandFrame<'a>,
         reply: Reply,
     ) -> Result<Mode, AllocError>
-        requires room { links.value.count < 2 ^ 64 - 1 }
-        requires offered { builder_shape (offer_of registry.now) links.value.chain.used.now.name ≡ Some links.value.chain.used.now.shape }
+        requires room { operand.links.value.count < 2 ^ 64 - 1 }
+        requires offered { builder_shape (offer_of registry.now) operand.links.value.chain.used.now.name ≡ Some operand.links.value.chain.used.now.shape }
         ensures { IfOk result (λ mode. tape_of mode self.new ≡
-            on_lists (tape_to_operand (links_of links.entry.value) before trees reply) self.old) }
+            on_lists (tape_to_operand (links_of operand.entry.links.value) operand.entry.before operand.entry.trees reply) self.old) }
     {
+        let OperandFrame {
+            links,
+            before,
+            trees,
+        } = operand;
         match reply {
             Reply::Succeeded {
                 consumed,
@@ -189,7 +197,7 @@ impl<'a> Machine<'a> {
         requires offered { builder_shape (offer_of registry.now) links.value.chain.used.now.name ≡ Some links.value.chain.used.now.shape }
         ensures { IfOk result (λ mode. tape_of mode self.new ≡
             tape_linked true (links_of links.entry.value) end trees (kept_at (length self.old.lists.messages) error)
-            (stack_of self.old.frames.items)
+            self.old.frames
             (link_forest links.entry.value.chain.side links.entry.value.chain.used.now.shape links.entry.value.left self.old.lists.forest)
             self.old.lists.trail.items self.old.lists.messages self.old.table) }
     {

@@ -4,7 +4,7 @@ ghost use Rattle.std.specs.Prelude.{◌≡◌, ◌<◌, ◌-◌, ◌^◌, ◌++�
 ghost use Rattle.pg_table.specs.Tables.{first_operators};
 ghost use Rattle.pg_turns.specs.Tape.{tape_with, tried_failure, tried_empty_ok, tape_to_choice, tape_next_alternative, tape_past_failed, tape_settled, tape_empty_ok, tried_kept, tried_messages, tried_with_failure, tried_with_empty_ok};
 ghost use Rattle.pg_lists.specs.RunTrees.{first_trees, hidden_after, rejoined};
-ghost use Rattle.pg_turns.specs.View.{tried_of, on_lists, stack_of, tape_of};
+ghost use Rattle.pg_turns.specs.View.{tried_of, on_lists, tape_of};
 ghost use Rattle.pg_message_tape.specs.TapeErrors.{kept_at, merged_tape_error, merged_messages};
 ghost use Rattle.pg_language.specs.declared.reading.Reading.TheVariants.{Report};
 ghost use Rattle.pg_turns.specs.declared.frame.Reply.TheVariants.{Succeeded};
@@ -201,7 +201,7 @@ impl<'a> Machine<'a> {
     #[inline(never)]
     fn restore(&mut self, ok: EmptyOk, marks: Marks, error: TapeError) -> Result<Mode, AllocError>
         ensures { IfOk result (λ mode. tape_of mode self.new ≡
-            tape_with (Succeeded false ok.end (merged_tape_error ok.kept error self.old.lists.messages)) (stack_of self.old.frames.items)
+            tape_with (Succeeded false ok.end (merged_tape_error ok.kept error self.old.lists.messages)) self.old.frames
             (rejoined ok.forest ok.hidden (first_trees marks.forest self.old.lists.forest)) (take marks.trail self.old.lists.trail.items ++ ok.trail.items) (merged_messages ok.kept error self.old.lists.messages)
             (first_operators marks.operators self.old.table)) }
     {

@@ -98,7 +98,7 @@ impl<'a> Machine<'a> {
     {
         let operator = declared.operator(alloc)?;
         if let Err(fault) = self.table.admit(&operator) {
-            let message = Message::NotAdmitted(declared.symbol, fault);
+            let message = Message::NotAdmitted(fault, declared.symbol);
             return self.fail(true, declared.place, message);
         }
         put_tree(alloc, &declared, &mut self.lists.forest)?;

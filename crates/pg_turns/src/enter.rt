@@ -8,7 +8,7 @@ ghost use Rattle.pg_language.specs.Leaves.{leaf_outcome};
 ghost use Rattle.pg_turns.specs.Tape.{tape_at, tape_enter_at, tape_enter, no_tried, tape_next_alternative, tape_seq, tape_many, tape_chain, tape_rule, tape_told, on_around, forest_in};
 ghost use Rattle.pg_turns.specs.Spots.{spot_at};
 ghost use Rattle.pg_lists.specs.RunTrees.{tree_count};
-ghost use Rattle.pg_turns.specs.View.{frame_of, on_lists, stack_of, tape_of};
+ghost use Rattle.pg_turns.specs.View.{frame_of, on_lists, tape_of};
 
 use crate::around::begin;
 use crate::frame::{AroundFrame, ChainFrame, Frame, Mode, PartsFrame, Reply, RoundsFrame, Tried};
@@ -116,7 +116,7 @@ impl<'a> Machine<'a> {
     ) -> Result<Mode, AllocError>
         ensures { IfOk result (λ mode. tape_of mode self.new ≡
             tape_at part place (on_around around.now place (tree_count self.old.lists.forest) (length self.old.table.operators)
-            ∷ stack_of self.old.frames.items)
+            ∷ self.old.frames)
             (forest_in around.now self.old.lists.forest) self.old.lists.trail.items self.old.lists.messages self.old.table) }
     {
         let frame = AroundFrame {
@@ -138,7 +138,7 @@ impl<'a> Machine<'a> {
         place: usize,
     ) -> Result<Mode, AllocError>
         ensures { IfOk result (λ mode. tape_of mode self.new ≡
-            tape_at part place (frame_of frame.entry ∷ stack_of self.old.frames.items)
+            tape_at part place (frame_of frame.entry ∷ self.old.frames)
             self.old.lists.forest self.old.lists.trail.items self.old.lists.messages self.old.table) }
     {
         self.push(frame)?;

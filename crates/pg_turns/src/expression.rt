@@ -9,7 +9,7 @@ ghost use Rattle.pg_pred.specs.Offer.{offer_of};
 ghost use Rattle.pg_value.specs.Fits.{BuildersFit};
 ghost use Rattle.pg_turns.specs.Tape.{tape_at, on_expression, tape_climbed, tape_expression, tape_failed, tape_to_expression};
 ghost use Rattle.pg_lists.specs.TapeLevels.{on_climb, on_failed};
-ghost use Rattle.pg_turns.specs.View.{on_lists, stack_of, tape_of};
+ghost use Rattle.pg_turns.specs.View.{on_lists, tape_of};
 ghost use Rattle.pg_lists.specs.ViewLevels.{failure_of, given_of, setting_of, stretch_of};
 
 use crate::frame::{Frame, Mode, Reply};
@@ -88,7 +88,7 @@ impl<'a> Machine<'a> {
     ) -> Result<Mode, AllocError>
         ensures { IfOk result (λ mode. tape_of mode self.new ≡
             tape_at frame.entry.value.setting.term place
-            (on_expression (setting_of frame.entry.value.setting) frame.entry.value.levels ∷ stack_of self.old.frames.items)
+            (on_expression (setting_of frame.entry.value.setting) frame.entry.value.levels ∷ self.old.frames)
             self.old.lists.forest self.old.lists.trail.items self.old.lists.messages self.old.table) }
     {
         let term = frame.setting.term;
@@ -145,7 +145,7 @@ impl<'a> Machine<'a> {
         ensures { IfOk result (λ mode. tape_of mode self.new ≡
             tape_climbed (given_of given.entry) (setting_of frame.entry.value.setting)
             (on_climb (given_of given.entry) (setting_of frame.entry.value.setting) frame.entry.value.levels (stretch_of stretch self.old.lists))
-            (stack_of self.old.frames.items) self.old.table) }
+            self.old.frames self.old.table) }
     {
         let ExpressionFrame { setting, levels } = &mut *frame;
         let climbed = self
@@ -172,7 +172,7 @@ impl<'a> Machine<'a> {
     ) -> Result<Mode, AllocError>
         ensures { IfOk result (λ mode. tape_of mode self.new ≡
             tape_failed (on_failed frame.old.levels (failure_of failure self.old.lists))
-            (stack_of self.old.frames.items) self.old.lists.forest self.old.lists.trail.items self.old.table) }
+            self.old.frames self.old.lists.forest self.old.lists.trail.items self.old.table) }
     {
         let failure = self.lists.fail_levels(&mut frame.levels, failure)?;
         Ok(Mode::With(Reply::Failed {

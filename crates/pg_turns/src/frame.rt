@@ -153,6 +153,16 @@ pub struct LinksFrame<'a> {
     pub marks: Marks,
 }
 
+/// An operand of a chain runs, after a separator that was ok.
+#[derive(Drop)]
+pub struct OperandFrame<'a> {
+    pub links: Box<LinksFrame<'a>>,
+    /// What came of the separator.
+    pub before: Before,
+    /// How many trees there were before the operand.
+    pub trees: usize,
+}
+
 /// The part of a form around it runs.
 #[derive(Clone, Copy)]
 pub struct AroundFrame<'a> {
@@ -174,10 +184,23 @@ pub enum Frame<'a> {
     First(ChainFrame<'a>),
     /// A separator runs.
     Separator(Box<LinksFrame<'a>>),
-    /// An operand runs, after a separator that was ok; so many trees were there before it.
-    Operand(Box<LinksFrame<'a>>, Before, usize),
+    Operand(OperandFrame<'a>),
     Rule,
     Around(AroundFrame<'a>),
     /// The term of an expression runs.
     Expression(Box<ExpressionFrame<'a>>),
+}
+
+/// A frame where it lies.
+#[derive(Clone, Copy)]
+pub enum FrameRef<'f, 'a> {
+    Parts(&'f PartsFrame<'a>),
+    Choice(&'f ChoiceFrame<'a>),
+    Rounds(&'f RoundsFrame),
+    First(&'f ChainFrame<'a>),
+    Separator(&'f Box<LinksFrame<'a>>),
+    Operand(&'f OperandFrame<'a>),
+    Rule,
+    Around(&'f AroundFrame<'a>),
+    Expression(&'f Box<ExpressionFrame<'a>>),
 }

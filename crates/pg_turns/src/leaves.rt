@@ -9,7 +9,7 @@ ghost use Rattle.pg_language.specs.Leaves.{taken, satisfy_outcome, string_outcom
 ghost use Rattle.pg_message_tape.specs.Messages.{tape_message_of};
 ghost use Rattle.pg_turns.specs.Spots.{spot_at};
 ghost use Rattle.pg_turns.specs.Tape.{tape_with, tape_leaf};
-ghost use Rattle.pg_turns.specs.View.{on_lists, stack_of, tape_of};
+ghost use Rattle.pg_turns.specs.View.{on_lists, tape_of};
 ghost use Rattle.pg_message_tape.specs.TapeErrors.{tape_error};
 ghost use Rattle.pg_turns.specs.declared.frame.Reply.TheVariants.{Succeeded, Failed};
 
@@ -114,7 +114,7 @@ impl<'a> Machine<'a> {
         ensures { IfOk result (λ mode. tape_of mode self.new ≡
             on_lists (tape_leaf (word_read item.now (spot_at self.old.table place) word.now)) self.old) }
     {
-        if is_reserved(item, word) {
+        if item.reserved.contains(word) {
             return self.fail(false, place, Message::Reserved(word));
         }
         self.take(word, place, place + word.len())
@@ -185,7 +185,7 @@ impl<'a> Machine<'a> {
     ) -> Result<Mode, AllocError>
         ensures { IfOk result (λ mode. tape_of mode self.new ≡
             tape_with (Failed consumed (tape_error place (length self.old.lists.messages)))
-            (stack_of self.old.frames.items) self.old.lists.forest self.old.lists.trail.items (self.old.lists.messages ++ tape_message_of message.entry ∷ [])
+            self.old.frames self.old.lists.forest self.old.lists.trail.items (self.old.lists.messages ++ tape_message_of message.entry ∷ [])
             self.old.table) }
     {
         let error = said(&mut self.lists.messages, place, message)?;
@@ -203,7 +203,7 @@ impl<'a> Machine<'a> {
     ) -> Result<Mode, AllocError>
         ensures { IfOk result (λ mode. tape_of mode self.new ≡
             tape_with (Failed consumed (tape_error place (length self.old.lists.messages)))
-            (stack_of self.old.frames.items) self.old.lists.forest self.old.lists.trail.items
+            self.old.frames self.old.lists.forest self.old.lists.trail.items
             (self.old.lists.messages ++ tape_message_of message.entry ∷ tape_message_of wanted.entry ∷ []) self.old.table) }
     {
         let error = both_said(&mut self.lists.messages, place, message, wanted)?;
@@ -215,7 +215,7 @@ impl<'a> Machine<'a> {
     fn stay(&mut self, place: usize, message: Message<'a>) -> Result<Mode, AllocError>
         ensures { IfOk result (λ mode. tape_of mode self.new ≡
             tape_with (Succeeded false place (tape_error place (length self.old.lists.messages)))
-            (stack_of self.old.frames.items) self.old.lists.forest self.old.lists.trail.items (self.old.lists.messages ++ tape_message_of message.entry ∷ [])
+            self.old.frames self.old.lists.forest self.old.lists.trail.items (self.old.lists.messages ++ tape_message_of message.entry ∷ [])
             self.old.table) }
     {
         let error = said(&mut self.lists.messages, place, message)?;
@@ -237,7 +237,7 @@ impl<'a> Machine<'a> {
     ) -> Result<Mode, AllocError>
         ensures { IfOk result (λ mode. tape_of mode self.new ≡
             tape_with (Succeeded false place (tape_error place (length self.old.lists.messages)))
-            (stack_of self.old.frames.items) self.old.lists.forest self.old.lists.trail.items
+            self.old.frames self.old.lists.forest self.old.lists.trail.items
             (self.old.lists.messages ++ tape_message_of message.entry ∷ tape_message_of wanted.entry ∷ []) self.old.table) }
     {
         let error = both_said(&mut self.lists.messages, place, message, wanted)?;
@@ -360,14 +360,4 @@ fn run_len(grammar: &Grammar, word: WordId, item: &WordItem, characters: &[char]
         count += 1;
     }
     count
-}
-
-/// Whether a word of the item is reserved.
-fn is_reserved(item: &WordItem, word: &[char]) -> bool
-    ensures { result ≡ list_any (λ reserved. bytes_eq reserved word.now) item.now.reserved }
-{
-    item.reserved
-        .as_slice()
-        .iter()
-        .any(|reserved| reserved.as_slice() == word)
 }

@@ -16,6 +16,8 @@ mod enter;
 mod errors;
 mod expression;
 mod frame;
+mod frame_lists;
+mod frames;
 mod leaves;
 mod machine;
 mod parts;
@@ -23,6 +25,7 @@ mod rounds;
 mod turn;
 
 pub use errors::error_at_end;
-pub use frame::{Frame, Mode, Reply};
+pub use frame::{FrameRef, Mode, Reply};
+pub use frames::Frames;
 pub use machine::Machine;
 pub use turn::Progress;

@@ -3,9 +3,10 @@
 ghost use Rattle.std.specs.Prelude.{◌≡◌, ◌∷◌, ◌++◌, [], length, take, IfOk, OnOk};
 ghost use Rattle.pg_table.specs.Tables.{first_operators};
 ghost use Rattle.pg_lists.specs.RunTrees.{no_run_trees, tree_count, first_trees};
-ghost use Rattle.pg_turns.specs.View.{frame_of, stack_of};
+ghost use Rattle.pg_turns.specs.View.{frame_of};
 
 use crate::frame::{Frame, LinksFrame, Marks};
+use crate::frames::Frames;
 use pg_lists::Lists;
 use pg_operators::InForce;
 use pg_table::Table;
@@ -16,7 +17,7 @@ use std::rc::Rc;
 /// The frames and the lists of all that runs, and the operator table in force. The topmost frame stands last.
 #[derive(Drop)]
 pub struct Machine<'a> {
-    pub frames: Vec<Frame<'a>>,
+    pub frames: Frames<'a>,
     pub lists: Lists<'a>,
     pub table: Table,
     /// What the links of a chain that ended lay in, for the next chain.
@@ -28,14 +29,14 @@ pub struct Machine<'a> {
 impl<'a> Machine<'a> {
     /// A machine in which nothing runs, under the table. It takes no memory.
     pub fn new(alloc: Global, table: Table) -> Machine<'a>
-        ensures frames { stack_of result.frames.items ≡ [] }
+        ensures frames { result.frames ≡ [] }
         ensures forest { result.lists.forest ≡ no_run_trees }
         ensures trail { result.lists.trail.items ≡ [] }
         ensures messages { result.lists.messages ≡ [] }
         ensures table { result.table ≡ table }
     {
         Machine {
-            frames: Vec::new(alloc),
+            frames: Frames::new(alloc),
             lists: Lists::new(alloc),
             table,
             spare_links: None,
@@ -45,17 +46,14 @@ impl<'a> Machine<'a> {
 
     /// Puts a frame on top.
     #[inline(always)]
-    #[tactic(auto, using(crate::proofs::Stack::stack_pushed))]
     pub(crate) fn push(&mut self, frame: Frame<'a>) -> Result<(), AllocError>
-        ensures frames { OnOk result (stack_of self.new.frames.items ≡ frame_of frame.entry ∷ stack_of self.old.frames.items) }
+        ensures frames { OnOk result (self.new.frames ≡ frame_of frame.entry ∷ self.old.frames) }
         ensures forest { OnOk result (self.new.lists.forest ≡ self.old.lists.forest) }
         ensures trail { OnOk result (self.new.lists.trail.items ≡ self.old.lists.trail.items) }
         ensures messages { OnOk result (self.new.lists.messages ≡ self.old.lists.messages) }
         ensures table { OnOk result (self.new.table ≡ self.old.table) }
     {
-        self.frames.reserve(1)?;
-        self.frames.push_reserved(frame);
-        Ok(())
+        self.frames.push(frame)
     }
 
     /// How many trees, items and operators there are. The only error is that items are too many to be counted.

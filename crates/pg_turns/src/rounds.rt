@@ -1,16 +1,51 @@
 //! Repetitions: rounds of one part, until one fails empty.
 
-ghost use Rattle.std.specs.Prelude.{◌≡◌, ◌<◌, ◌-◌, ◌^◌, IfOk};
-ghost use Rattle.pg_turns.specs.Tape.{tape_next_round, tape_rounds_end, tape_to_rounds};
-ghost use Rattle.pg_turns.specs.View.{on_lists, tape_of};
+ghost use Rattle.std.specs.Prelude.{◌≡◌, ◌<◌, ◌-◌, ◌^◌, take, IfOk, IfNone, IfSome};
+ghost use Rattle.pg_language.specs.Answers.{Given};
+ghost use Rattle.pg_turns.specs.Tape.{tape_next_round, tape_rounds_end, tape_to_rounds, tape_turn, tape_with};
+ghost use Rattle.pg_turns.specs.View.{frame_of, on_lists, tape_of};
+ghost use Rattle.pg_turns.specs.ViewFrames.{newest};
+ghost use Rattle.pg_turns.specs.declared.frame.Frame.TheVariants as frame;
+ghost use Rattle.pg_turns.specs.declared.frame.RoundsFrame.{RoundsFrame};
 
 use crate::frame::{Frame, Mode, Reply, RoundsFrame};
 use crate::machine::Machine;
+use pg_lists::Lists;
 use pg_message_tape::TapeError;
 use pg_value::TrailItem;
 use std::alloc::AllocError;
 
 impl<'a> Machine<'a> {
+    /// The turn, where a round of the topmost frame consumed: the frame stays where it lies, and the next round runs. Else nothing
+    /// is done.
+    #[inline(always)]
+    #[tactic(auto, using(crate::proofs::Stack::round_more))]
+    pub(crate) fn run_on(&mut self, reply: Reply) -> Result<Option<Mode>, AllocError>
+        requires { (rounds : RoundsFrame) → newest self.now.frames ≡ frame_of (frame.Rounds rounds) → rounds.count < 2 ^ 64 - 1 }
+        ensures some { IfOk result (λ next. IfSome next (λ mode. (G : Given) → tape_of mode self.new ≡
+            tape_turn G (on_lists (tape_with reply) self.old))) }
+        ensures none { IfOk result (λ next. IfNone next (on_lists (tape_with reply) self.new ≡ on_lists (tape_with reply) self.old)) }
+        ensures frames { IfOk result (λ next. IfNone next (self.new.frames ≡ self.old.frames)) }
+    {
+        let Reply::Succeeded {
+            consumed,
+            end,
+            error: _,
+        } = reply
+        else {
+            return Ok(None);
+        };
+        if !consumed || !self.frames.ends_in_rounds() {
+            return Ok(None);
+        }
+        let marks = self.marks()?;
+        let Some(before) = self.frames.renew_rounds(end, marks) else {
+            return Ok(None);
+        };
+        cut_messages(&mut self.lists, before.messages);
+        Ok(Some(Mode::At(before.part, end)))
+    }
+
     /// An answer of a round: after one that consumed the next one runs, and one that failed empty ends the repetition
     /// with its error alone.
     #[inline(always)]
@@ -85,5 +120,18 @@ impl<'a> Machine<'a> {
             end: rounds.start,
             error,
         }))
+    }
+}
+
+/// Cuts the messages back to so many. There are mostly no more.
+#[inline(always)]
+#[tactic(auto, using(std::proofs::lemmas::List::take_all))]
+fn cut_messages(lists: &mut Lists<'_>, most: usize)
+    ensures forest { lists.new.forest ≡ lists.old.forest }
+    ensures trail { lists.new.trail ≡ lists.old.trail }
+    ensures messages { lists.new.messages ≡ take most lists.old.messages }
+{
+    if most < lists.messages.len() {
+        lists.messages.cut(most);
     }
 }

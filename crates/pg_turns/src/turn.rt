@@ -8,9 +8,10 @@ ghost use Rattle.pg_lists.specs.ViewLevels.{given_of};
 ghost use Rattle.pg_turns.specs.Tape.{tape_turn, tape_hand, tape_is_last, tape_with};
 ghost use Rattle.pg_turns.specs.Ready.{AreReady, IsReady, IsTapeReady};
 ghost use Rattle.pg_turns.specs.TapeRuns.{IsAfter, IsTapeReadyFor};
-ghost use Rattle.pg_turns.specs.View.{frame_of, is_choice, is_rare, on_lists, IsTopmost, stack_of, tape_of};
+ghost use Rattle.pg_turns.specs.View.{frame_of, on_lists, tape_of};
 
-use crate::frame::{Frame, Mode, Reply};
+use crate::frame::{Mode, Reply};
+use crate::frame_lists::FrameKind;
 use crate::machine::Machine;
 use pg_language::Reading;
 use pg_lists::Given;
@@ -18,7 +19,6 @@ use pg_pred::Registry;
 use pg_text::Text;
 use pg_value::Grammar;
 use std::alloc::{AllocError, Global};
-use std::mem::forget;
 
 /// What some turns came to, and how many they were.
 #[derive(Clone, Copy)]
@@ -89,8 +89,7 @@ impl<'a> Machine<'a> {
         }
     }
 
-    /// Hands an answer to the topmost frame, if there is one. A small frame is read where it lies, so that no more of it is
-    /// loaded than its kind has.
+    /// Hands an answer to the topmost frame, if there is one. A repetition's stays where it lies while its rounds consume.
     #[inline(always)]
     fn hand_on(
         &mut self,
@@ -99,120 +98,67 @@ impl<'a> Machine<'a> {
         given: Given<'a>,
         reply: Reply,
     ) -> Result<Mode, AllocError>
-        requires { AreReady (offer_of registry.now) given.grammar.now (2 ^ 64 - 1) (stack_of self.now.frames.items) }
+        requires { AreReady (offer_of registry.now) given.grammar.now (2 ^ 64 - 1) self.now.frames }
         ensures { IfOk result (λ mode. tape_of mode self.new ≡ tape_turn (given_of given.entry) (on_lists (tape_with reply) self.old)) }
     {
-        let Some(top) = self.frames.last() else {
-            return Ok(Mode::With(reply));
-        };
-        match top {
-            Frame::Parts(parts) => {
-                let parts = *parts;
-                self.leave();
-                self.hand_to_parts(parts, reply)
-            }
-            Frame::Rounds(rounds) => {
-                let rounds = *rounds;
-                self.leave();
-                self.hand_to_rounds(rounds, reply)
-            }
-            Frame::Rule => {
-                self.leave();
-                Ok(Mode::With(reply))
-            }
-            Frame::Around(frame) => {
-                let frame = *frame;
-                self.leave();
-                self.hand_to_around(registry, given.text, frame, reply)
-            }
-            Frame::Choice(_) => self.hand_on_choice(alloc, given, reply),
-            Frame::First(_)
-            | Frame::Separator(_)
-            | Frame::Operand(_, _, _)
-            | Frame::Expression(_) => { self.hand_on_rare(alloc, registry, given, reply) }
+        if let Some(mode) = self.run_on(reply)? {
+            return Ok(mode);
         }
+        self.hand_off(alloc, registry, given, reply)
     }
 
-    /// Takes off the topmost frame, of which there is a copy.
+    /// Takes the topmost frame off, if there is one, and hands it an answer. No more of a frame is loaded than its kind has.
     #[inline(always)]
-    fn leave(&mut self)
-        ensures frames { self.new.frames.items ≡ take (length self.old.frames.items - 1) self.old.frames.items }
-        ensures forest { self.new.lists.forest ≡ self.old.lists.forest }
-        ensures trail { self.new.lists.trail.items ≡ self.old.lists.trail.items }
-        ensures messages { self.new.lists.messages ≡ self.old.lists.messages }
-        ensures table { self.new.table ≡ self.old.table }
-    {
-        forget(self.frames.pop());
-    }
-
-    /// Hands an answer to the topmost frame, which is a choice's.
-    #[inline(always)]
-    fn hand_on_choice(
-        &mut self,
-        alloc: Global,
-        given: Given<'a>,
-        reply: Reply,
-    ) -> Result<Mode, AllocError>
-        requires { IsTopmost is_choice self.now.frames.items }
-        ensures { IfOk result (λ mode. tape_of mode self.new ≡ tape_turn (given_of given.entry) (on_lists (tape_with reply) self.old)) }
-    {
-        let Some(frame) = self.frames.pop() else {
-            return Ok(Mode::With(reply));
-        };
-        let Frame::Choice(choice) = frame else {
-            unreachable!();
-        };
-        self.hand_to_choice(alloc, given.reading, choice, reply)
-    }
-
-    /// Hands an answer to the topmost frame, which is a chain's or an expression's.
-    #[inline(always)]
-    fn hand_on_rare(
+    fn hand_off(
         &mut self,
         alloc: Global,
         registry: &Registry,
         given: Given<'a>,
         reply: Reply,
     ) -> Result<Mode, AllocError>
-        requires top { IsTopmost is_rare self.now.frames.items }
-        requires ready { AreReady (offer_of registry.now) given.grammar.now (2 ^ 64 - 1) (stack_of self.now.frames.items) }
+        requires { AreReady (offer_of registry.now) given.grammar.now (2 ^ 64 - 1) self.now.frames }
         ensures { IfOk result (λ mode. tape_of mode self.new ≡ tape_turn (given_of given.entry) (on_lists (tape_with reply) self.old)) }
     {
-        match self.frames.pop() {
-            Some(frame) => self.hand_to_rare(alloc, registry, given, frame, reply),
-            None => Ok(Mode::With(reply)),
-        }
-    }
-
-    /// Hands an answer to a chain's or an expression's frame.
-    #[inline(always)]
-    fn hand_to_rare(
-        &mut self,
-        alloc: Global,
-        registry: &Registry,
-        given: Given<'a>,
-        frame: Frame<'a>,
-        reply: Reply,
-    ) -> Result<Mode, AllocError>
-        requires rare { is_rare frame ≡ true }
-        requires ready { IsReady (offer_of registry.now) given.grammar.now (2 ^ 64 - 1) (frame_of frame) }
-        ensures { IfOk result (λ mode. tape_of mode self.new ≡
-            on_lists (tape_hand (given_of given.entry) (frame_of frame.entry) reply) self.old) }
-    {
-        match frame {
-            Frame::First(chain) => self.hand_to_first(alloc, chain, reply),
-            Frame::Separator(links) => self.hand_to_separator(registry, links, reply),
-            Frame::Operand(links, before, trees) => {
-                self.hand_to_operand(registry, links, before, trees, reply)
-            }
-            Frame::Expression(frame) => {
-                self.hand_to_expression(alloc, registry, given, frame, reply)
-            }
-            Frame::Parts(_)
-            | Frame::Choice(_)
-            | Frame::Rounds(_)
-            | Frame::Rule
-            | Frame::Around(_) => unreachable!(),
+        let frames = &mut self.frames;
+        let Some(kind) = frames.kinds.pop() else {
+            return Ok(Mode::With(reply));
+        };
+        match kind {
+            FrameKind::Parts => match frames.lists.take_parts() {
+                Some(parts) => self.hand_to_parts(parts, reply),
+                None => Ok(Mode::With(reply)),
+            },
+            FrameKind::Choice => match frames.lists.take_choice() {
+                Some(choice) => self.hand_to_choice(alloc, given.reading, choice, reply),
+                None => Ok(Mode::With(reply)),
+            },
+            FrameKind::Rounds => match frames.lists.take_rounds() {
+                Some(rounds) => self.hand_to_rounds(rounds, reply),
+                None => Ok(Mode::With(reply)),
+            },
+            FrameKind::First => match frames.lists.take_first() {
+                Some(chain) => self.hand_to_first(alloc, chain, reply),
+                None => Ok(Mode::With(reply)),
+            },
+            FrameKind::Separator => match frames.lists.take_separator() {
+                Some(links) => self.hand_to_separator(registry, links, reply),
+                None => Ok(Mode::With(reply)),
+            },
+            FrameKind::Operand => match frames.lists.take_operand() {
+                Some(operand) => self.hand_to_operand(registry, operand, reply),
+                None => Ok(Mode::With(reply)),
+            },
+            FrameKind::Rule => Ok(Mode::With(reply)),
+            FrameKind::Around => match frames.lists.take_around() {
+                Some(around) => self.hand_to_around(registry, given.text, around, reply),
+                None => Ok(Mode::With(reply)),
+            },
+            FrameKind::Expression => match frames.lists.take_expression() {
+                Some(expression) => {
+                    self.hand_to_expression(alloc, registry, given, expression, reply)
+                }
+                None => Ok(Mode::With(reply)),
+            },
         }
     }
 

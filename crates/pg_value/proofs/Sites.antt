@@ -12,7 +12,7 @@ use Rattle.pg_form.specs.declared.class.ClassPart.{ClassPart}
 use Rattle.pg_form.specs.declared.operators_item.OperatorsItem.{OperatorsItem}
 use Rattle.pg_form.specs.declared.word_item.WordItem.{WordItem}
 use Rattle.pg_character_sets.specs.Contents.{Sets, operator_expressions, set_at, word_head, word_rest}
-use Rattle.pg_character_sets.specs.Sets.{IsSetOf, AreSetsOf}
+use Rattle.pg_character_sets.specs.Sets.{IsSetOf}
 use Rattle.pg_character_sets.specs.declared.site.ClassSite.{ClassSite}
 use Rattle.pg_character_sets.specs.declared.site.ClassSite.TheVariants as site
 use Rattle.pg_character_sets.proofs.Contents.{found_at, none_at}

@@ -6,7 +6,8 @@
 ghost use Rattle.std.specs.Prelude.{◌≡◌, ◌↔◌, ◌⊎◌, ◌∷◌, ℕ, [], length, IfOk, OnOk};
 ghost use Rattle.pg_own_starts.specs.Listed.{IsListed};
 ghost use Rattle.pg_own_starts.specs.OperatorStarts.{AreOperatorStarts};
-ghost use Rattle.pg_own_starts.specs.Words.{AreClassesOf, AreWordClasses};
+ghost use Rattle.pg_own_starts.specs.Own.{AreWordStarts};
+ghost use Rattle.pg_own_starts.specs.Words.{AreClassesOf};
 ghost use Rattle.pg_own_starts.specs.declared.listed.ListedStart.{ListedStart};
 ghost use Rattle.pg_sets.specs.Origins.{HoldsIt, IsThere};
 ghost use Rattle.pg_start.specs.declared.kind.StartKind.{StartKind};
@@ -22,7 +23,7 @@ use pg_certificate::{ClaimedStart, RuleClaim};
 use pg_character_sets::classes_of_items;
 use pg_class::Class;
 use pg_graph::Numbers;
-use pg_own_starts::{ListedStart, OperatorStarts, WordClasses, classes_of_words, operator_starts};
+use pg_own_starts::{ListedStart, OperatorStarts, WordStarts, operator_starts, starts_of_words};
 use pg_sets::{Listing, add_own, listed, origins_of_nodes};
 use pg_start::Start;
 use pg_value::Grammar;
@@ -39,8 +40,8 @@ pub(crate) fn claim_origins(
     ensures { IfOk result (λ listing. AreListedBy grammar.now claims.now listing.starts.items listing.origins.items) }
 {
     let classes = classes_of_items(alloc, grammar.class_items())?;
-    let words = classes_of_words(alloc, grammar, classes.as_slice())?;
-    list_origins(alloc, grammar, classes.as_slice(), words.as_slice(), claims)
+    let words = starts_of_words(alloc, grammar, classes.as_slice())?;
+    list_origins(alloc, grammar, classes.as_slice(), &words, claims)
 }
 
 /// The same, where these are the classes of the class items and of the word items.
@@ -48,11 +49,11 @@ fn list_origins(
     alloc: Global,
     grammar: &Grammar,
     classes: &[Class],
-    words: &[WordClasses],
+    words: &WordStarts,
     claims: &[RuleClaim],
 ) -> Result<Listing, AllocError>
     requires classes { AreClassesOf grammar.now classes.now }
-    requires words { AreWordClasses grammar.now words.now }
+    requires words { AreWordStarts grammar.now words.now }
     ensures { IfOk result (λ listing. AreListedBy grammar.now claims.now listing.starts.items listing.origins.items) }
 {
     let mut origins = origins_of_nodes(alloc, grammar, classes, words)?;
@@ -66,12 +67,12 @@ fn add_claims(
     alloc: Global,
     grammar: &Grammar,
     classes: &[Class],
-    words: &[WordClasses],
+    words: &WordStarts,
     claims: &[RuleClaim],
     origins: &mut BTreeMap<ListedStart, Numbers>,
 ) -> Result<(), AllocError>
     requires classes { AreClassesOf grammar.now classes.now }
-    requires words { AreWordClasses grammar.now words.now }
+    requires words { AreWordStarts grammar.now words.now }
     ensures held { OnOk result ((other : ListedStart) (v : ℕ) →
         HoldsIt origins.new other v ↔ (HoldsIt origins.old other v ⊎ ClaimsBelow grammar.now claims.now (length grammar.now.rules) other v)) }
     ensures there { OnOk result ((other : ListedStart) → IsThere origins.new other → IsThere origins.old other ⊎ IsListed grammar.now other) }
@@ -86,13 +87,13 @@ fn add_rules(
     alloc: Global,
     grammar: &Grammar,
     classes: &[Class],
-    words: &[WordClasses],
+    words: &WordStarts,
     operators: &Option<OperatorStarts>,
     claims: &[RuleClaim],
     origins: &mut BTreeMap<ListedStart, Numbers>,
 ) -> Result<(), AllocError>
     requires classes { AreClassesOf grammar.now classes.now }
-    requires words { AreWordClasses grammar.now words.now }
+    requires words { AreWordStarts grammar.now words.now }
     requires operators { AreOperatorStarts grammar.now operators.now }
     ensures held { OnOk result ((other : ListedStart) (v : ℕ) →
         HoldsIt origins.new other v ↔ (HoldsIt origins.old other v ⊎ ClaimsBelow grammar.now claims.now (length grammar.now.rules) other v)) }
@@ -113,14 +114,14 @@ fn add_rule(
     alloc: Global,
     grammar: &Grammar,
     classes: &[Class],
-    words: &[WordClasses],
+    words: &WordStarts,
     operators: &Option<OperatorStarts>,
     claims: &[RuleClaim],
     rule: usize,
     origins: &mut BTreeMap<ListedStart, Numbers>,
 ) -> Result<(), AllocError>
     requires classes { AreClassesOf grammar.now classes.now }
-    requires words { AreWordClasses grammar.now words.now }
+    requires words { AreWordStarts grammar.now words.now }
     requires operators { AreOperatorStarts grammar.now operators.now }
     ensures held { OnOk result ((other : ListedStart) (v : ℕ) →
         HoldsIt origins.new other v ↔ (HoldsIt origins.old other v ⊎ IsClaimOf grammar.now claims.now rule other v)) }

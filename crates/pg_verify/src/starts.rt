@@ -4,8 +4,8 @@
 
 ghost use Rattle.std.specs.Prelude.{◌≡◌, ◌↔◌, ◌∷◌, [], IfOk};
 ghost use Rattle.pg_own_starts.specs.OperatorStarts.{AreBothStarts, AreOperatorStarts};
-ghost use Rattle.pg_own_starts.specs.Own.{IsAmong};
-ghost use Rattle.pg_own_starts.specs.Words.{AreClassesOf, AreWordClasses};
+ghost use Rattle.pg_own_starts.specs.Own.{IsAmong, AreWordStarts};
+ghost use Rattle.pg_own_starts.specs.Words.{AreClassesOf};
 ghost use Rattle.pg_own_starts.specs.declared.listed.ListedStart.{ListedStart};
 ghost use Rattle.pg_start.specs.declared.kind.StartKind.{StartKind};
 ghost use Rattle.pg_verify.specs.Standing.{StandsAs, ListsClaims};
@@ -13,7 +13,7 @@ ghost use Rattle.pg_verify.specs.Standing.{StandsAs, ListsClaims};
 use pg_certificate::ClaimedStart;
 use pg_class::Class;
 use pg_form::{Form, Leaf, WordId};
-use pg_own_starts::{ListedStart, OperatorStarts, WordClasses, own_starts};
+use pg_own_starts::{ListedStart, OperatorStarts, WordStarts, own_starts};
 use pg_start::Start;
 use pg_text::Characters;
 use pg_value::Grammar;
@@ -24,12 +24,12 @@ pub(crate) fn starts_of_claims(
     alloc: Global,
     grammar: &Grammar,
     classes: &[Class],
-    words: &[WordClasses],
+    words: &WordStarts,
     operators: &Option<OperatorStarts>,
     claimed: &[ClaimedStart],
 ) -> Result<Vec<ListedStart>, AllocError>
     requires classes { AreClassesOf grammar.now classes.now }
-    requires words { AreWordClasses grammar.now words.now }
+    requires words { AreWordStarts grammar.now words.now }
     requires operators { AreOperatorStarts grammar.now operators.now }
     ensures { IfOk result (λ starts. ListsClaims grammar.now claimed.now starts.items) }
 {
@@ -47,12 +47,12 @@ fn starts_of_claim(
     alloc: Global,
     grammar: &Grammar,
     classes: &[Class],
-    words: &[WordClasses],
+    words: &WordStarts,
     operators: &Option<OperatorStarts>,
     claimed: &ClaimedStart,
 ) -> Result<Vec<ListedStart>, AllocError>
     requires classes { AreClassesOf grammar.now classes.now }
-    requires words { AreWordClasses grammar.now words.now }
+    requires words { AreWordStarts grammar.now words.now }
     requires operators { AreOperatorStarts grammar.now operators.now }
     ensures { IfOk result (λ starts. (listed : ListedStart) → IsAmong starts.items listed ↔ StandsAs grammar.now claimed.now listed) }
 {
@@ -79,11 +79,11 @@ fn word_starts(
     alloc: Global,
     grammar: &Grammar,
     classes: &[Class],
-    words: &[WordClasses],
+    words: &WordStarts,
     word: WordId,
 ) -> Result<Vec<ListedStart>, AllocError>
     requires classes { AreClassesOf grammar.now classes.now }
-    requires words { AreWordClasses grammar.now words.now }
+    requires words { AreWordStarts grammar.now words.now }
     ensures { IfOk result (λ starts. (listed : ListedStart) → IsAmong starts.items listed ↔ StandsAs grammar.now (ClaimedStart.Word word) listed) }
 {
     let leaf = Form::Leaf(Leaf::Word(word));

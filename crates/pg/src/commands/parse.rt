@@ -1,20 +1,26 @@
 //! Texts, parsed by a grammar.
+//!
+//! The grammar is loaded once, and then each text is read and run once, whatever is printed of it.
 
-ghost use Rattle.std.specs.Prelude.{◌≡◌, Some, false, IfOk};
+ghost use Rattle.std.specs.Prelude.{◌≡◌, ◌⊎◌, IfOk};
 ghost use Rattle.pg_pred.specs.Offer.{offer_of};
-ghost use Rattle.pg.specs.Status.{IsParseStatus};
+ghost use Rattle.pg_value.specs.Fits.{Fits};
+ghost use Rattle.pg_making.specs.Spells.{HasInitialTable};
+ghost use Rattle.pg.specs.Status.{IsParseStatus, IsTextStatus};
 
 use crate::NO_MEMORY;
-use pg_bench::{BenchFault, parse_bytes};
-use pg_explain_bench::outline_bytes;
+use pg_bench::{BenchFault, ParsedText, parse_checked, parsed_text};
+use pg_explain_bench::outline_success;
 use pg_pred::Registry;
+use pg_predict::Checked;
 use pg_report::{
-    Handle, Names, UNUSABLE, grammar_alone, inputs, opened, print_refusal, print_report, text_alone,
+    Handle, Names, UNUSABLE, grammar_alone, inputs, loaded, opened, print_report, text_alone,
 };
 use pg_request::Parsed;
 use pg_tree::{Meter, WriteFault};
+use pg_value::Grammar;
 use std::alloc::AllocError;
-use std::io::{Input, Read, Write};
+use std::io::{Input, Read};
 use std::rt::Files;
 use std::{cmp, io};
 
@@ -56,7 +62,51 @@ fn parse_file<R: AllocGlobal + Files + Input + Print + Eprint>(
     }
 }
 
-/// Parses several texts by the grammar of these bytes. What is wrong with the grammar is told once. After want of memory no more are parsed.
+/// Parses the text in an open file by the grammar of these bytes. For an outline the text is read before anything is said of the grammar.
+fn parse_open<F: Read + Drop, R: AllocGlobal + Print + Eprint>(
+    rt: &R,
+    bytes: &[u8],
+    file: F,
+    names: Names,
+    registry: &Registry,
+    parsed: Parsed,
+) -> Result<u8, AllocError> {
+    match parsed {
+        Parsed::Outline => match text_alone(rt, file, names)? {
+            Some(text) => parse_text(rt, bytes, text.as_slice(), names, registry, parsed),
+            None => Ok(UNUSABLE),
+        },
+        Parsed::ForestAndTrail | Parsed::Forest => {
+            parse_text(rt, bytes, file, names, registry, parsed)
+        }
+    }
+}
+
+/// Parses the text that a file gives by the grammar of these bytes.
+#[tactic(auto, using(crate::proofs::Statuses::loaded_status, crate::proofs::Statuses::not_loaded_status, crate::proofs::Statuses::loaded_table))]
+fn parse_text<F: Read + Drop, R: AllocGlobal + Print + Eprint>(
+    rt: &R,
+    bytes: &[u8],
+    file: F,
+    names: Names,
+    registry: &Registry,
+    parsed: Parsed,
+) -> Result<u8, AllocError>
+    ensures { IfOk result (IsParseStatus (offer_of registry.now) bytes.now (F.remaining file)) }
+{
+    match loaded(rt, bytes, names.grammar, registry) {
+        Ok(Ok(checked)) => {
+            let status = parse_loaded(rt, &checked, file, names, registry, parsed);
+            drop(checked);
+            status
+        }
+        Ok(Err(status)) => Ok(status),
+        Err(error) => Err(error),
+    }
+}
+
+/// Parses several texts by the grammar of these bytes. What is wrong with the grammar is told once.
+#[tactic(auto, using(crate::proofs::Statuses::loaded_table))]
 fn parse_each<R: AllocGlobal + Files + Input + Print + Eprint>(
     rt: &Handle<R>,
     bytes: &[u8],
@@ -65,22 +115,34 @@ fn parse_each<R: AllocGlobal + Files + Input + Print + Eprint>(
     registry: &Registry,
     parsed: Parsed,
 ) -> Result<u8, AllocError> {
-    if let Some(status) = print_refusal(rt, bytes, grammar, registry)? {
-        return Ok(status);
+    match loaded(rt, bytes, grammar, registry) {
+        Ok(Ok(checked)) => {
+            let status = parse_all(rt, &checked, grammar, texts, registry, parsed);
+            drop(checked);
+            status
+        }
+        Ok(Err(status)) => Ok(status),
+        Err(error) => Err(error),
     }
+}
+
+/// Parses several texts by a grammar that is loaded. After want of memory no more are parsed.
+fn parse_all<R: AllocGlobal + Files + Input + Print + Eprint>(
+    rt: &Handle<R>,
+    checked: &Checked,
+    grammar: &str,
+    texts: &[&str],
+    registry: &Registry,
+    parsed: Parsed,
+) -> Result<u8, AllocError>
+    requires fits { Fits (offer_of registry.now) checked.now.grammar }
+    requires table { HasInitialTable checked.now.grammar }
+{
     let mut greatest = 0;
     for text in texts {
+        let names = Names::of_text(grammar, text);
         let status = match opened(rt, text) {
-            Some(file) => {
-                parse_open(
-                    rt,
-                    bytes,
-                    file,
-                    Names::of_text(grammar, text),
-                    registry,
-                    parsed,
-                )?
-            }
+            Some(file) => parse_loaded(rt, checked, file, names, registry, parsed)?,
             None => UNUSABLE,
         };
         greatest = cmp::max(greatest, status);
@@ -91,71 +153,87 @@ fn parse_each<R: AllocGlobal + Files + Input + Print + Eprint>(
     Ok(greatest)
 }
 
-/// Parses the text in an open file by the grammar of these bytes.
-fn parse_open<F: Read + Drop, R: AllocGlobal + Print + Eprint>(
+/// Parses the text that a file gives by a grammar that is loaded, and prints what is asked of it.
+fn parse_loaded<F: Read + Drop, R: AllocGlobal + Print + Eprint>(
     rt: &R,
-    bytes: &[u8],
+    checked: &Checked,
     file: F,
     names: Names,
     registry: &Registry,
     parsed: Parsed,
-) -> Result<u8, AllocError> {
-    let with_trail = match parsed {
-        Parsed::Outline => {
-            return match text_alone(rt, file, names)? {
-                Some(text) => outline_text(rt, bytes, text.as_slice(), names, registry),
-                None => Ok(UNUSABLE),
-            };
-        }
-        Parsed::ForestAndTrail => true,
-        Parsed::Forest => false,
-    };
-    let mut writer = Meter::new(io::writer(rt));
-    parse_text(rt, bytes, file, names, registry, with_trail, &mut writer)
-}
-
-/// Prints the outline of the text's forest. Whether there is one says the parse, which is run first and prints nothing.
-fn outline_text<R: AllocGlobal + Print + Eprint>(
-    rt: &R,
-    bytes: &[u8],
-    text: &[u8],
-    names: Names,
-    registry: &Registry,
 ) -> Result<u8, AllocError>
-    ensures { IfOk result (IsParseStatus (offer_of registry.now) bytes.now (Some text.now)) }
+    requires fits { Fits (offer_of registry.now) checked.now.grammar }
+    requires table { HasInitialTable checked.now.grammar }
+    ensures { IfOk result (IsTextStatus checked.now.grammar (F.remaining file)) }
 {
-    let mut nothing = Meter::new(io::sink());
-    let status = parse_text(rt, bytes, text, names, registry, false, &mut nothing)?;
-    if status != 0 {
-        return Ok(status);
-    }
-    let mut writer = Meter::new(io::writer(rt));
-    match outline_bytes(rt.alloc(), bytes, registry, text, &mut writer) {
-        Ok(()) => Ok(status),
-        Err(WriteFault::Writer) => {
-            print_report(rt, BenchFault::Writer, names)?;
-            Ok(UNUSABLE)
-        }
-        Err(WriteFault::Memory) => Err(AllocError),
+    match parsed {
+        Parsed::Outline => outline_text(rt, checked, file, names, registry),
+        Parsed::ForestAndTrail => print_forest(rt, checked, file, names, registry, true),
+        Parsed::Forest => print_forest(rt, checked, file, names, registry, false),
     }
 }
 
-#[tactic(auto, using(crate::proofs::Statuses::parsed_status, crate::proofs::Statuses::parse_fault_status))]
-fn parse_text<F: Read + Drop, R: AllocGlobal + Print + Eprint, W: Write>(
+/// Prints the forest of a text, and its trail where that is asked for.
+fn print_forest<F: Read + Drop, R: AllocGlobal + Print + Eprint>(
     rt: &R,
-    bytes: &[u8],
+    checked: &Checked,
     file: F,
     names: Names,
     registry: &Registry,
     with_trail: bool,
-    writer: &mut Meter<W>,
 ) -> Result<u8, AllocError>
-    requires { writer.old.failed ≡ false }
-    ensures { IfOk result (IsParseStatus (offer_of registry.now) bytes.now (F.remaining file)) }
+    requires fits { Fits (offer_of registry.now) checked.now.grammar }
+    requires table { HasInitialTable checked.now.grammar }
+    ensures { IfOk result (IsTextStatus checked.now.grammar (F.remaining file)) }
 {
     let mut reader = Meter::new(file);
-    match parse_bytes(rt.alloc(), bytes, registry, &mut reader, writer, with_trail) {
+    let mut writer = Meter::new(io::writer(rt));
+    match parse_checked(
+        rt.alloc(),
+        checked,
+        registry,
+        &mut reader,
+        &mut writer,
+        with_trail,
+    ) {
         Ok(_) => Ok(0),
         Err(fault) => print_report(rt, fault, names),
+    }
+}
+
+/// Prints the outline of a text's forest.
+fn outline_text<F: Read + Drop, R: AllocGlobal + Print + Eprint>(
+    rt: &R,
+    checked: &Checked,
+    file: F,
+    names: Names,
+    registry: &Registry,
+) -> Result<u8, AllocError>
+    requires fits { Fits (offer_of registry.now) checked.now.grammar }
+    requires table { HasInitialTable checked.now.grammar }
+    ensures { IfOk result (IsTextStatus checked.now.grammar (F.remaining file)) }
+{
+    let mut reader = Meter::new(file);
+    match parsed_text(rt.alloc(), checked, registry, &mut reader) {
+        Ok(parsed) => print_outline(rt, checked.grammar(), parsed, names),
+        Err(fault) => print_report(rt, fault, names),
+    }
+}
+
+/// Prints the outline of a forest that a text has.
+fn print_outline<R: AllocGlobal + Print + Eprint>(
+    rt: &R,
+    grammar: &Grammar,
+    parsed: ParsedText,
+    names: Names,
+) -> Result<u8, AllocError>
+    ensures { IfOk result (λ status. (status ≡ 0) ⊎ (status ≡ UNUSABLE)) }
+{
+    let ParsedText { text, parse } = parsed;
+    let mut writer = Meter::new(io::writer(rt));
+    match outline_success(rt.alloc(), grammar, &text, parse.success, &mut writer) {
+        Ok(()) => Ok(0),
+        Err(WriteFault::Writer) => print_report(rt, BenchFault::Writer, names),
+        Err(WriteFault::Memory) => Err(AllocError),
     }
 }

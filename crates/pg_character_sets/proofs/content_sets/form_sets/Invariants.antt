@@ -3,5 +3,5 @@ use Rattle.pg_form.specs.Contents.{class_parts}
 use Rattle.pg_character_sets.specs.Sets.{AreSetsBy}
 use Rattle.pg_character_sets.proofs.content_sets.form_sets.Given as goal
 
-abbrev pub invariant-loop-form : goal.invariant-loop-form
-invariant-loop-form l = AreSetsBy l.items (map class_parts (take l.form-index l.forms)) l.sets.items
+abbrev pub invariant-loop-i : goal.invariant-loop-i
+invariant-loop-i l = AreSetsBy l.items (map class_parts (take l.i l.forms)) l.sets.items

@@ -2,7 +2,6 @@ use Rattle.std.proofs.Common.{◌∙◌, arith}
 use Rattle.std.proofs.lemmas.Result.{IfOk-weaker}
 use Rattle.pg_pred.specs.Offer.{offer_of}
 use Rattle.pg_language.specs.Answers.{given}
-use Rattle.pg_turns.specs.View.{stack_of}
 use Rattle.pg_machine.proofs.Running.{running_begins, running_after, running_ends}
 use Rattle.pg_machine.proofs.probing.probe.Goals as goal
 
@@ -10,7 +9,7 @@ pub turns-requires-clause-ready : goal.turns-requires-clause-ready
 turns-requires-clause-ready g c =
     let m = c.new-machine.result in
     let begins = running_begins (offer_of c.args.registry.now) (given c.args.reading c.args.grammar.now c.args.text.now) c.args.table.now c.args.max_steps c.start_of.result
-    (stack_of m.frames.items) m.lists.forest m.lists.trail.items m.lists.messages m.table c.start_of.ensures c.new-machine.ensures.frames c.new-machine.ensures.forest c.new-machine.ensures.trail c.new-machine.ensures.messages
+    m.frames m.lists.forest m.lists.trail.items m.lists.messages m.table c.start_of.ensures c.new-machine.ensures.frames c.new-machine.ensures.forest c.new-machine.ensures.trail c.new-machine.ensures.messages
     (c.new-machine.ensures.table ∙ c.in_ok-own.ensures) in
     (0, begins.ready, omega arith)
 
@@ -18,7 +17,7 @@ pub returns : goal.returns
 returns g c =
     let m = c.new-machine.result in
     let begins = running_begins (offer_of c.args.registry.now) (given c.args.reading c.args.grammar.now c.args.text.now) c.args.table.now c.args.max_steps c.start_of.result
-    (stack_of m.frames.items) m.lists.forest m.lists.trail.items m.lists.messages m.table c.start_of.ensures c.new-machine.ensures.frames c.new-machine.ensures.forest c.new-machine.ensures.trail c.new-machine.ensures.messages
+    m.frames m.lists.forest m.lists.trail.items m.lists.messages m.table c.start_of.ensures c.new-machine.ensures.frames c.new-machine.ensures.forest c.new-machine.ensures.trail c.new-machine.ensures.messages
     (c.new-machine.ensures.table ∙ c.in_ok-own.ensures) in
     let progress = c.in_ok-progress.progress in
     let run = running_after (offer_of c.args.registry.now) (given c.args.reading c.args.grammar.now c.args.text.now) c.args.table.now c.args.max_steps progress.steps _ _

@@ -27,3 +27,11 @@ returns-in-Ok-clause-follows g c =
       known = (rw c.requires.names at c.in_ok-head_parts.ensures.known, rw c.requires.names at c.in_ok-rest_parts.ensures.known);
       new = rw name at (word_is_new c.args.maker.now item none);
     }
+
+pub returns-in-Ok-clause-made : goal.returns-in-Ok-clause-made
+returns-in-Ok-clause-made g c =
+    let head = c.head_parts.view_is ∙ rw c.requires.names at c.in_ok-head_parts.ensures.meant in
+    let rest = c.rest_parts.view_is ∙ rw c.requires.names at c.in_ok-rest_parts.ensures.meant in
+    let name = c.in_ok-name.ensures ∙ c.as_slice.ensures in
+    let reserved = c.in_ok-texts.ensures in
+    rw (name, head, rest, reserved) at c.in-Ok.ensures.ok

@@ -10,7 +10,8 @@ returns-then-is_eq c =
     let texts = c.args.texts.now in
     let others = c.args.others.now in
     let equal = equal_is c.texts_order.result (sym c.is_eq.ensures ∙ c.if-is_eq.true) in
-    let same : texts ≡ others = same_texts texts others (sym c.texts_order.ensures ∙ equal) in
+    let lists = same_texts c.as_slice.result.now c.as_slice-2.result.now (sym c.texts_order.ensures ∙ equal) in
+    let same : texts ≡ others = sym c.as_slice.ensures ∙ (lists ∙ c.as_slice-2.ensures) in
     (λ e text. ap (λ ts. is_reserved ts text) same, λ is. c.if-is_eq.true)
 
 pub returns-then-all_among : goal.returns-then-all_among

@@ -1,5 +1,5 @@
-use Rattle.pg_sets.specs.Origins.{AreSoManyOrigins}
+use Rattle.pg_sets.specs.Origins.{AreMixedOrigins}
 use Rattle.pg_sets.proofs.origins.origins_of_nodes.Given as goal
 
 abbrev pub invariant-loop-number : goal.invariant-loop-number
-invariant-loop-number l = AreSoManyOrigins l.grammar l.number l.origins
+invariant-loop-number l = AreMixedOrigins l.grammar l.number l.origins

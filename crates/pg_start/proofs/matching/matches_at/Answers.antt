@@ -21,7 +21,7 @@ returns-then-begins_in c =
     let start = sym c.view.ensures.same ∙ c.in-Word.is in
     let begins = sym (ap (begins_in c.in-Word.heads) ahead) ∙ sym c.begins_in-in-Word.ensures ∙ c.if-begins_in.true in
     let prefix = c.word_prefix.ensures ∙ ap (word_prefix c.in-Word.rest) ahead in
-    word_tested _ _ _ _ _ _ _ start begins (c.has.ensures ∙ ap (is_reserved c.in-Word.reserved) prefix)
+    word_tested _ _ _ _ _ _ _ start begins (c.contains.ensures ∙ ap (is_reserved c.in-Word.reserved) prefix)
 
 pub returns-else-begins_in : goal.returns-else-begins_in
 returns-else-begins_in c =

@@ -1,7 +1,7 @@
 use Rattle.std.proofs.Common.{◌≤◌, ◌-◌, ◌^◌, arith}
 use Rattle.pg_pred.specs.Offer.{offer_of}
 use Rattle.pg_language.specs.Answers.{given}
-use Rattle.pg_turns.specs.View.{tape_of, stack_of}
+use Rattle.pg_turns.specs.View.{tape_of}
 use Rattle.pg_trace.proofs.Ready.{ready_begins, ready_turn, ready_within}
 use Rattle.pg_trace.proofs.run.run_by.Goals as goal
 
@@ -9,7 +9,7 @@ pub loop-steps-init : goal.loop-steps-init
 loop-steps-init g c =
     let m = c.args.machine.now in
     ready_begins (offer_of c.args.traced.now.registry.now) c.args.traced.now.grammar.now c.start_of.result
-    (stack_of m.frames.items) m.lists.forest m.lists.trail.items m.lists.messages m.table c.requires.frames
+    m.frames m.lists.forest m.lists.trail.items m.lists.messages m.table c.requires.frames
 
 pub turn-requires-clause-ready : goal.turn-requires-clause-ready
 turn-requires-clause-ready g c =

@@ -1,24 +1,43 @@
-use Rattle.std.proofs.Common.{◌∙◌, ◌+◌, [], map, take, sym, subst}
+use Rattle.std.proofs.Common.{◌≡◌, ◌<◌, length, Some, None, Err, sym, subst, arith}
 use Rattle.std.proofs.lemmas.Result.{err_from_is_err_and}
-use Rattle.serde_json.specs.View.{view}
-use Rattle.pg_trails.specs.Readings.{GivesEach}
+use Rattle.json.specs.Json.{after_end_array}
+use Rattle.pg_trails.specs.Ahead.{data_at}
+use Rattle.pg_trails.specs.Readings.{IsOnly, Takes}
 use Rattle.pg_trails.specs.TrailJson.{item_value}
-use Rattle.pg_trails.proofs.Found.{one_more, all_found, one_refused}
+use Rattle.pg_trails.proofs.Ahead.{data_shorter}
+use Rattle.pg_trails.proofs.Turns.{SoFar, more, all, refused}
 use Rattle.pg_trails.proofs.read.read_each_item.Goals as goal
-
-pub loop-value-init : goal.loop-value-init
-loop-value-init c = subst (λ found. GivesEach item_value [] found) (sym c.new-trail.ensures) tt
 
 pub returns-in_err-read_item : goal.returns-in_err-read_item
 returns-in_err-read_item c =
+    let l = c.items in
+    let going : (after_end_array l.reader ≡ None) × (c.take_end_array.new.self ≡ l.reader) = grind arith in
+    let e = c.in_err-read_item.field-0.0 in
+    let left = c.read_item.new.reader in
     let p = err_from_is_err_and c.from_residual.result c.from_residual.ensures.1 in
-    rw (p.1, p.2) (one_refused view item_value c.args.list.now c.loop-value.value-index c.value-item.result _ c.loop-value-test.true c.value-item.is c.in_err-read_item.ensures)
+    rw (p.1, p.2) (refused item_value 126 c.args.reader.now l.reader l.trail l.invariant going.0 e left (subst (λ ts. Takes item_value (data_at 126 ts) left (Err e)) going.1 c.in_err-read_item.ensures))
 
-pub loop-value-preserved : goal.loop-value-preserved
-loop-value-preserved c =
-    subst (λ found. GivesEach item_value (map view (take (c.loop-value.value-index + 1) c.args.list.now)) found) (sym c.in_ok-push.ensures.ok)
-    (one_more view item_value c.args.list.now c.loop-value.value-index c.value-item.result c.loop-value.trail c.in_ok-read_item.field-0 c.loop-value-test.true c.value-item.is
-    c.loop-value.invariant c.in_ok-read_item.ensures)
+pub items-preserved : goal.items-preserved
+items-preserved c =
+    let l = c.items in
+    let going : (after_end_array l.reader ≡ None) × (c.take_end_array.new.self ≡ l.reader) = grind arith in
+    let i = c.in_ok-read_item.field-0 in
+    let left = c.read_item.new.reader in
+    let this = subst (λ ts. (data_at 126 ts ≡ Some (item_value i, left)) × IsOnly item_value i) going.1 c.in_ok-read_item.ensures in
+    subst (λ found. SoFar item_value 126 c.args.reader.now left found) (sym c.in_ok-push.ensures.ok) (more item_value 126 c.args.reader.now l.reader l.trail l.invariant left i going.0 this)
+
+pub items-smaller : goal.items-smaller
+items-smaller c =
+    let l = c.items in
+    let going : (after_end_array l.reader ≡ None) × (c.take_end_array.new.self ≡ l.reader) = grind arith in
+    let i = c.in_ok-read_item.field-0 in
+    let left = c.read_item.new.reader in
+    let this = subst (λ ts. (data_at 126 ts ≡ Some (item_value i, left)) × IsOnly item_value i) going.1 c.in_ok-read_item.ensures in
+    let less : length left < length l.reader = data_shorter 126 l.reader left (item_value i) this.0 in
+    less
 
 pub returns : goal.returns
-returns c = all_found view item_value c.args.list.now c.loop-value.value-index c.loop-value.trail c.loop-value-test.false c.loop-value.invariant
+returns c =
+    let l = c.items in
+    let over : after_end_array l.reader ≡ Some c.take_end_array.new.self = grind arith in
+    all item_value 126 c.args.reader.now l.reader l.trail l.invariant c.take_end_array.new.self over

@@ -1,8 +1,10 @@
-use Rattle.std.proofs.Common.{map, take}
-use Rattle.serde_json.specs.View.{view}
-use Rattle.pg_trails.specs.Readings.{GivesEach}
+use Rattle.std.proofs.Common.{length}
 use Rattle.pg_trails.specs.TrailJson.{item_value}
+use Rattle.pg_trails.proofs.Turns.{SoFar}
 use Rattle.pg_trails.proofs.read.read_each_item.Given as goal
 
-abbrev pub invariant-loop-value : goal.invariant-loop-value
-invariant-loop-value l = GivesEach item_value (map view (take l.value-index l.list)) l.trail
+abbrev pub invariant-items : goal.invariant-items
+invariant-items l = SoFar item_value 126 l.fn.reader l.reader l.trail
+
+abbrev pub decreases-items : goal.decreases-items
+decreases-items l = length l.reader

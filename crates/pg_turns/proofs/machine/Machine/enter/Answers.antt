@@ -3,7 +3,6 @@ use Rattle.std.specs.Prelude.{Some, None, slice_get, option_copied}
 use Rattle.std.proofs.lemmas.Result.{IfOk-weaker}
 use Rattle.pg_language.specs.Answers.{given}
 use Rattle.pg_turns.specs.Tape.{tape_enter_at}
-use Rattle.pg_turns.specs.View.{stack_of}
 use Rattle.pg_turns.proofs.machine.Machine.enter.Goals as goal
 
 pub enter_form-requires : goal.enter_form-requires
@@ -18,11 +17,11 @@ returns-in-Some c =
     let there : slice_get c.args.grammar.now.nodes c.args.node ≡ Some c.in-Some.form.now =
     ap (λ ns. slice_get ns c.args.node) (sym c.nodes.ensures.all) ∙ ap (slice_get c.nodes.result.now) (sym c.index.ensures) ∙ sym c.item_at.ensures ∙ ap option_copied c.in-Some.is in
     IfOk-weaker c.enter_form.result _ _
-    (λ mode h. h ∙ ap (λ o. tape_enter_at (given c.args.reading c.args.grammar.now c.args.text.now) o c.args.place (stack_of m.frames.items) m.lists.forest m.lists.trail.items m.lists.messages m.table) (sym there)) c.enter_form.ensures
+    (λ mode h. h ∙ ap (λ o. tape_enter_at (given c.args.reading c.args.grammar.now c.args.text.now) o c.args.place m.frames m.lists.forest m.lists.trail.items m.lists.messages m.table) (sym there)) c.enter_form.ensures
 
 pub returns-in-None : goal.returns-in-None
 returns-in-None c =
     let m = c.args.self.now in
     let none : slice_get c.args.grammar.now.nodes c.args.node ≡ None =
     ap (λ ns. slice_get ns c.args.node) (sym c.nodes.ensures.all) ∙ ap (slice_get c.nodes.result.now) (sym c.index.ensures) ∙ sym c.item_at.ensures ∙ ap option_copied c.in-None.is in
-    ap (λ o. tape_enter_at (given c.args.reading c.args.grammar.now c.args.text.now) o c.args.place (stack_of m.frames.items) m.lists.forest m.lists.trail.items m.lists.messages m.table) (sym none)
+    ap (λ o. tape_enter_at (given c.args.reading c.args.grammar.now c.args.text.now) o c.args.place m.frames m.lists.forest m.lists.trail.items m.lists.messages m.table) (sym none)

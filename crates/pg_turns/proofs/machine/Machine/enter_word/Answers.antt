@@ -4,7 +4,6 @@ use Rattle.std.proofs.lemmas.Result.{IfOk-weaker}
 use Rattle.pg_language.specs.Leaves.{some_word_outcome}
 use Rattle.pg_turns.specs.Spots.{spot_at}
 use Rattle.pg_turns.specs.Tape.{tape_told}
-use Rattle.pg_turns.specs.View.{stack_of}
 use Rattle.pg_value.proofs.Sites.{class_at_head, class_at_rest}
 use Rattle.pg_turns.proofs.machine.Machine.enter_word.Goals as goal
 
@@ -26,11 +25,11 @@ returns-in-Some c =
     let there : slice_get c.args.grammar.now.words c.args.word ≡ Some c.in-Some.item.now =
     ap (λ ws. slice_get ws c.args.word) (sym c.word_items.ensures.all) ∙ ap (slice_get c.word_items.result.now) (sym c.index.ensures) ∙ sym c.item_at.ensures ∙ ap option_copied c.in-Some.is in
     IfOk-weaker c.word.result _ _
-    (λ mode h. h ∙ ap (λ o. tape_told (some_word_outcome c.args.grammar.now c.args.text.now (spot_at m.table c.args.place) o) (stack_of m.frames.items) m.lists.forest m.lists.trail.items m.lists.messages m.table) (sym there)) c.word.ensures
+    (λ mode h. h ∙ ap (λ o. tape_told (some_word_outcome c.args.grammar.now c.args.text.now (spot_at m.table c.args.place) o) m.frames m.lists.forest m.lists.trail.items m.lists.messages m.table) (sym there)) c.word.ensures
 
 pub returns-in-None : goal.returns-in-None
 returns-in-None c =
     let m = c.args.self.now in
     let none : slice_get c.args.grammar.now.words c.args.word ≡ None =
     ap (λ ws. slice_get ws c.args.word) (sym c.word_items.ensures.all) ∙ ap (slice_get c.word_items.result.now) (sym c.index.ensures) ∙ sym c.item_at.ensures ∙ ap option_copied c.in-None.is in
-    ap (λ o. tape_told (some_word_outcome c.args.grammar.now c.args.text.now (spot_at m.table c.args.place) o) (stack_of m.frames.items) m.lists.forest m.lists.trail.items m.lists.messages m.table) (sym none)
+    ap (λ o. tape_told (some_word_outcome c.args.grammar.now c.args.text.now (spot_at m.table c.args.place) o) m.frames m.lists.forest m.lists.trail.items m.lists.messages m.table) (sym none)

@@ -4,7 +4,7 @@ use Rattle.std.specs.List.{prefix_len}
 use Rattle.std.proofs.lemmas.Result.{IfOk-weaker}
 use Rattle.pg_form.specs.ClassItems.{has_character}
 use Rattle.pg_language.specs.Runs.{run_at}
-use Rattle.pg_turns.specs.View.{stack_of, tape_of}
+use Rattle.pg_turns.specs.View.{tape_of}
 use Rattle.pg_turns.proofs.Characters.{word_taken}
 use Rattle.pg_turns.proofs.LeavesRead.{word_told, word_fits}
 use Rattle.pg_turns.proofs.machine.Machine.word.Goals as goal
@@ -26,5 +26,5 @@ returns-else-not-begins_word c =
     let whole : take (c.run_len-count.result + 1) c.after.result.now ≡ c.in-Some.c ∷ run_at c.args.grammar.now c.args.text.now c.args.item.now.rest (suc c.args.place) =
     ap (take (c.run_len-count.result + 1)) all ∙ word_taken p c.args.text.now c.args.place c.in-Some.c c.run_len-count.result there count in
     IfOk-weaker c.read_word.result _ _
-    (λ mode h. word_told (stack_of m.frames.items) m.lists.forest m.lists.trail.items m.lists.messages m.table (tape_of mode c.read_word.new.self) c.args.grammar.now c.args.text.now c.args.item.now c.args.place c.in-Some.c
+    (λ mode h. word_told m.frames m.lists.forest m.lists.trail.items m.lists.messages m.table (tape_of mode c.read_word.new.self) c.args.grammar.now c.args.text.now c.args.item.now c.args.place c.in-Some.c
     (take (c.run_len-count.result + 1) c.after.result.now) there (sym c.begins_word.ensures ∙ c.if-not-begins_word.false) whole h) c.read_word.ensures

@@ -1,0 +1,90 @@
+-- What is said of a parse by a grammar that is loaded is said of the file that it was loaded from.
+use Rattle.std.proofs.Common.{◌≡◌, ℕ, List, Bool, Option}
+use Rattle.pg_message.specs.declared.error.ParseError as message
+use Rattle.pg_pred.specs.Offer.{Offer}
+use Rattle.pg_value.specs.Grammar.{Grammar}
+use Rattle.pg_making.specs.Spells.{SpellsWithinLimits}
+use Rattle.pg_predict.specs.Checked.{GrammarWithSets, IsChecked}
+use Rattle.pg_grammar_bench.specs.Files.{AreFindingsOf, IsFaultOfFile, SpellsSome}
+use Rattle.pg_grammar_bench.specs.Faults.{IfFile, IfRefused, IfParseError, IsBeforeReading}
+use Rattle.pg_grammar_bench.specs.declared.fault.BenchFault.{BenchFault}
+use Rattle.pg_grammar_bench.specs.declared.fault.BenchFault.TheVariants.{File, Refused, ParseError, Memory}
+use Rattle.pg_bench.specs.declared.done.Done.{Done}
+use Rattle.pg_bench.specs.Promise.{IsAccepted}
+use Rattle.pg_bench.specs.Parsed.{IsParsed, IsParsedBy, IsPartlyWritten, IsPartlyParsedBy, IsErrorOf, IsErrorBy}
+
+module _ (offer : Offer) (file : List ℕ) (checked : GrammarWithSets) (spelled : SpellsWithinLimits offer file checked.grammar) (is : IsChecked checked) where
+  pub accepted_file : SpellsSome IsAccepted offer file
+  accepted_file = (checked.grammar, spelled, record { faultless = is.faultless })
+
+  pub parsed_file : (reader left : Option (List ℕ)) (with_trail : Bool) (writer held : Option (List ℕ)) (done : Done)
+      → IsParsedBy checked.grammar reader left with_trail writer held done → IsParsed offer file reader left with_trail writer held done
+  parsed_file reader left with_trail writer held done h =
+      let read = h.parsed in
+      record {
+        forest = h.forest;
+        trail = h.trail;
+        parsed =
+            record {
+              grammar = checked.grammar;
+              spelled = spelled;
+              accepted = record { faultless = is.faultless };
+              bytes = read.0;
+              read = read.1;
+              end = read.2;
+              is = read.3;
+            };
+        written = h.written;
+        read = h.read;
+      }
+
+  pub partly_file : (reader left : Option (List ℕ)) (with_trail : Bool) (writer held : Option (List ℕ))
+      → IsPartlyParsedBy checked.grammar reader left with_trail writer held → IsPartlyWritten offer file reader left with_trail writer held
+  partly_file reader left with_trail writer held h =
+      let read = h.parsed in
+      record {
+        forest = h.forest;
+        trail = h.trail;
+        done = h.done;
+        parsed =
+            record {
+              grammar = checked.grammar;
+              spelled = spelled;
+              accepted = record { faultless = is.faultless };
+              bytes = read.0;
+              read = read.1;
+              end = read.2;
+              is = read.3;
+            };
+        written = h.written;
+      }
+
+  pub error_of_file : (reader left : Option (List ℕ)) (fault : BenchFault) → IfParseError (IsErrorBy checked.grammar reader left) fault
+      → IfParseError (IsErrorOf offer file reader left) fault
+  error_of_file reader left (ParseError error) h =
+      record {
+        grammar = checked.grammar;
+        spelled = spelled;
+        accepted = record { faultless = is.faultless };
+        bytes = h.0;
+        read = h.1;
+        end = h.2;
+        is = h.3;
+      }
+  error_of_file reader left _ h = tt
+
+-- ---- what isn't a fault of the file or of its grammar
+
+pub no_file_fault : (offer : Offer) (file : List ℕ) (fault : BenchFault) → IfFile (λ told. ⊥) fault → IfFile (IsFaultOfFile offer file) fault
+no_file_fault offer file (File told) h = absurd h
+no_file_fault offer file _ h = tt
+
+pub no_findings : (offer : Offer) (file : List ℕ) (fault : BenchFault) → IfRefused (λ findings. ⊥) fault → IfRefused (AreFindingsOf offer file) fault
+no_findings offer file (Refused refused) h = absurd h
+no_findings offer file _ h = tt
+
+-- comes once the reader is asked
+pub is_read : {Claim : Type 0} (fault : BenchFault) → IfFile (λ told. ⊥) fault → IfRefused (λ findings. ⊥) fault → IsBeforeReading fault → Claim
+is_read (File told) file findings before = absurd file
+is_read (Refused refused) file findings before = absurd findings
+is_read _ file findings before = absurd before

@@ -1,0 +1,14 @@
+-- What tells a part of a class expression, but for a predicate.
+use Rattle.std.specs.Prelude.{ℕ, List}
+use Rattle.pg_form.specs.declared.class.ClassPart.{ClassPart}
+use Rattle.pg_form.specs.declared.class.ClassPart.TheVariants as part
+use Rattle.pg_character_sets.specs.declared.alike.Kind.{Kind}
+use Rattle.pg_character_sets.specs.declared.alike.Kind.TheVariants as kind
+
+-- the part of a kind, with these characters or numbers
+abbrev pub part_of : Kind → List ℕ → ℕ → ℕ → ClassPart
+part_of kind.Literal characters first last = part.Literal characters
+part_of kind.Range characters first last = part.Range first last
+part_of kind.Union characters first last = part.Union first
+part_of kind.Complement characters first last = part.Complement
+part_of kind.Class characters first last = part.Class first

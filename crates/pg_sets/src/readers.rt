@@ -1,0 +1,88 @@
+//! The nodes that read words, item by item: their one start is put into a map once, however many nodes read it, since starts
+//! with many reserved texts take long to compare.
+ghost use Rattle.std.specs.Prelude.{◌≡◌, ◌↔◌, ◌⊎◌, ◌++◌, ℕ, true, length, IfOk, OnOk};
+ghost use Rattle.pg_graph.specs.Graphs.{has};
+ghost use Rattle.pg_own_starts.specs.Own.{IsAmong};
+ghost use Rattle.pg_own_starts.specs.declared.listed.ListedStart.{ListedStart};
+ghost use Rattle.pg_sets.specs.Origins.{HoldsIt, IsThere, item_read, AreReaders};
+
+use crate::origins::taken_sets;
+use pg_form::{Form, Leaf, Node, WordId};
+use pg_graph::{Numbers, empty_lists, join};
+use pg_own_starts::ListedStart;
+use pg_value::Grammar;
+use std::alloc::{AllocError, Global};
+use std::collections::BTreeMap;
+
+/// For each word item the nodes that read its words. The only error is that memory ran out.
+pub(crate) fn readers_of_words(alloc: Global, grammar: &Grammar) -> Result<Vec<Numbers>, AllocError>
+    ensures { IfOk result (λ readers. AreReaders grammar.now (length grammar.now.nodes) readers.items) }
+{
+    let mut readers = empty_lists(alloc, grammar.word_items().len())?;
+    for (number, node) in grammar.nodes().iter().enumerate() {
+        if let Some(item) = item_read(node) {
+            join(&mut readers, item, number)?;
+        }
+    }
+    Ok(readers)
+}
+
+/// The number of the word item whose words the node reads.
+pub(crate) fn item_read(node: &Node) -> Option<usize>
+    ensures { result ≡ item_read node.now }
+{
+    match node {
+        Form::Leaf(leaf) => item_of(leaf),
+        Form::Around(_, _)
+        | Form::Expression(_, _)
+        | Form::Seq(_)
+        | Form::Choice(_)
+        | Form::Many(_)
+        | Form::Chain(_, _, _, _)
+        | Form::Rule(_) => None,
+    }
+}
+
+/// The same of a leaf.
+fn item_of(leaf: &Leaf<WordId>) -> Option<usize>
+    ensures { result ≡ item_read (Form.Leaf leaf.now) }
+{
+    match leaf {
+        Leaf::Word(word) => Some(word.index()),
+        Leaf::Satisfy(_)
+        | Leaf::String(_)
+        | Leaf::Declare(_)
+        | Leaf::NotFollowedBy(_)
+        | Leaf::EndOfText => None,
+    }
+}
+
+/// Adds sets that hold a start by themselves; without any the map stays as it is. The only error is that memory ran out.
+pub(crate) fn add_readers(
+    alloc: Global,
+    origins: &mut BTreeMap<ListedStart, Numbers>,
+    listed: ListedStart,
+    readers: &[usize],
+) -> Result<(), AllocError>
+    ensures held { OnOk result ((other : ListedStart) (v : ℕ) →
+        HoldsIt origins.new other v ↔ (HoldsIt origins.old other v ⊎ ((listed ≡ other) × (has readers.now v ≡ true)))) }
+    ensures there { OnOk result ((other : ListedStart) → IsThere origins.new other → IsThere origins.old other ⊎ (listed ≡ other)) }
+{
+    if readers.is_empty() {
+        return Ok(());
+    }
+    let mut sets = taken_sets(alloc, origins, &listed);
+    push_all(&mut sets, readers)?;
+    origins.insert(listed, sets)?;
+    Ok(())
+}
+
+/// Adds numbers at the end. The only error is that memory ran out.
+fn push_all(numbers: &mut Numbers, more: &[usize]) -> Result<(), AllocError>
+    ensures { OnOk result (numbers.new ≡ numbers.old ++ more.now) }
+{
+    for number in more {
+        numbers.push(*number)?;
+    }
+    Ok(())
+}
