@@ -9,6 +9,7 @@ HERE = os.path.dirname(os.path.realpath(__file__))
 SUITES = {
     "run": [],
     "faults": [],
+    "names": ["0", "500"],
     "prints": [],
     "documents": [],
     "sets": [],

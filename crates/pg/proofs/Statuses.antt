@@ -1,5 +1,5 @@
 -- What is answered from bytes to bytes has the exit status that says so.
-use Rattle.std.proofs.Common.{◌≡◌, ◌⊎◌, ℕ, List, Bool, true, false, Option, Result, Ok, Err, codes, sym, subst, inl, inr}
+use Rattle.std.proofs.Common.{◌≡◌, ◌⊎◌, ℕ, List, Bool, true, false, Option, Some, [], append-nil, refl, Result, Ok, Err, codes, sym, subst, inl, inr}
 use Rattle.std.specs.Prelude.{IfErr, OnOk}
 use Rattle.std.specs.String.{string_bytes}
 use Rattle.pg_tree.specs.Trees.{Tree}
@@ -7,7 +7,7 @@ use Rattle.pg_tree.specs.Meter.{Metered}
 use Rattle.pg_pred.specs.Offer.{Offer}
 use Rattle.pg_value.specs.Grammar.{Grammar}
 use Rattle.pg_value.specs.declared.trail.TrailItem.{TrailItem}
-use Rattle.pg_making.specs.Spells.{HasInitialTable}
+use Rattle.pg_making.specs.Spells.{HasInitialTable, SpellsWithinLimits}
 use Rattle.pg_language.specs.declared.reading.Reading.{Reading}
 use Rattle.pg_predict.specs.Checked.{GrammarWithSets}
 use Rattle.pg_predict.specs.Findings.{lines_of}
@@ -15,20 +15,21 @@ use Rattle.pg_grammar_bench.specs.Checking.{IsChecked, is_accepted, is_refused}
 use Rattle.pg_explain_bench.specs.Explaining.{IsExplainedFile}
 use Rattle.pg_json_bench.specs.Listing.{IsListedFile}
 use Rattle.pg_explain_bench.specs.declared.explain.Explained.TheVariants as told
-use Rattle.pg_grammar_bench.specs.Faults.{IsFileRefusal, IsGrammarRefusal, IsPageRefusal, IsVerifyRefusal, IfNotVerified, IfRefused, IfParseError}
+use Rattle.pg_grammar_bench.specs.Faults.{IsFileRefusal, IsGrammarRefusal, IsPageRefusal, IsWriteRefusal, IsVerifyRefusal, IfNotVerified, IfRefused, IfParseError}
 use Rattle.pg_grammar_bench.specs.Files.{AreFindingsOf}
 use Rattle.pg_bench.specs.declared.done.Done.{Done}
-use Rattle.pg_bench.specs.Parsed.{IsParsedBy, IsForestBy, IsErrorBy}
-use Rattle.pg_bench.specs.Refusals.{IsTextFault}
+use Rattle.pg_bench.specs.Parsed.{IsParsedBy, IsForestBy, IsErrorBy, IsSpelledBy}
+use Rattle.pg_bench.specs.Refusals.{IsTextFault, IsTextRefusal}
 use Rattle.pg_grammar_bench.specs.Printing.{IsPrinted}
-use Rattle.pg_bench.specs.Probing.{IsProbed}
+use Rattle.pg_bench.specs.Probing.{IsProbed, IsTextProbed, IsShownOfText}
+use Rattle.pg_bench.specs.Showing.{IsShownOf}
 use Rattle.pg_bench.specs.Replaying.{IsReplayed}
 use Rattle.pg_grammar_bench.specs.Showing.{IsShownFile}
 use Rattle.pg_grammar_bench.specs.Verifying.{IsVerifiedFile, IsVerdictOf}
 use Rattle.pg_grammar_bench.specs.declared.fault.BenchFault.{BenchFault}
 use Rattle.pg_grammar_bench.specs.declared.fault.BenchFault.TheVariants.{File, Refused, Reader, NotUtf8, TooLong, NotATrail, NotVerified, ParseError, Writer, Memory}
 use Rattle.pg_report.specs.Status.{status_of, status_of_verdict, IsLoaded, IsRefusedWith}
-use Rattle.pg.specs.Status.{IsStatus, yes, no, unusable, out_of_memory, IsCheckStatus, IsParseStatus, IsTextStatus, IsProbeStatus, IsReplayStatus, IsPrintStatus, IsVerifyStatus}
+use Rattle.pg.specs.Status.{IsStatus, yes, no, unusable, out_of_memory, IsCheckStatus, IsParseStatus, IsTextStatus, IsProbeStatus, IsRunStatus, IsTracedStatus, IsReplayStatus, IsPrintStatus, IsVerifyStatus}
 
 -- ---- a check
 
@@ -206,6 +207,81 @@ ok_status offer file reader left writer held name most reading h = yes (left, h.
 pub other_status : (offer : Offer) (file : List ℕ) (reader left writer held : Option (List ℕ)) (name : List ℕ) (most : ℕ) (reading : Reading)
     → IsProbed offer file reader left name most reading writer held false → IsProbeStatus offer file reader name most reading 1
 other_status offer file reader left writer held name most reading h = no (left, h.said, h.shown)
+
+-- by a grammar that is read already
+module _ (g : Grammar) (reader : Option (List ℕ)) (name : List ℕ) (most : ℕ) (reading : Reading) where
+  -- and by the file that spells it
+  pub run_status : (offer : Offer) (file : List ℕ) (status : ℕ) → SpellsWithinLimits offer file g → IsRunStatus g reader name most reading status
+      → IsProbeStatus offer file reader name most reading status
+  run_status offer file status spelled h = own status h
+    where
+      own : (n : ℕ) → IsRunStatus g reader name most reading n → IsProbeStatus offer file reader name most reading n
+      own _ (yes h) =
+          let read = h.2 in
+          yes (h.0, h.1, record { grammar = g; spelled = spelled; bytes = read.0; read = read.1; end = read.2; shown = read.3 })
+      own _ (no h) =
+          let read = h.2 in
+          no (h.0, h.1, record { grammar = g; spelled = spelled; bytes = read.0; read = read.1; end = read.2; shown = read.3 })
+      own _ unusable = unusable
+      own _ out_of_memory = out_of_memory
+
+pub spelled_table : (offer : Offer) (file : List ℕ) (g : Grammar) → SpellsWithinLimits offer file g → HasInitialTable g
+spelled_table offer file g h = h.spells.spelled.grammar.admitted
+
+-- where the file spells no grammar
+pub unread_status : (Yes No : Type 0) (fault : BenchFault) (status : ℕ) → IsFileRefusal fault → status ≡ status_of fault → IsStatus Yes No status
+unread_status Yes No fault status h is = subst (IsStatus Yes No) (sym is) (own fault h)
+  where
+    own : (f : BenchFault) → IsFileRefusal f → IsStatus Yes No (status_of f)
+    own (File f) h = unusable
+    own Memory h = out_of_memory
+    own _ h = absurd h
+
+-- of a text that is read before
+module _ (g : Grammar) (text name : List ℕ) (most : ℕ) (reading : Reading) where
+  pub ok_traced_status : (writer held : Option (List ℕ)) → IsTextProbed g text name most reading writer held true → IsTracedStatus g text name most reading 0
+  ok_traced_status writer held h = yes (h.said, h.shown)
+
+  pub other_traced_status : (writer held : Option (List ℕ)) → IsTextProbed g text name most reading writer held false → IsTracedStatus g text name most reading 1
+  other_traced_status writer held h = no (h.said, h.shown)
+
+  -- where the run couldn't be told
+  pub told_status : (status told : ℕ) → IsTracedStatus g text name most reading status → (told ≡ status) ⊎ (told ≡ 2) → IsTracedStatus g text name most reading told
+  told_status status told h (inl same) = subst (IsTracedStatus g text name most reading) (sym same) h
+  told_status status told h (inr failed) = subst (IsTracedStatus g text name most reading) (sym failed) unusable
+
+  pub traced_fault_status : (fault : BenchFault) (status : ℕ) → IsWriteRefusal fault → status ≡ status_of fault → IsTracedStatus g text name most reading status
+  traced_fault_status fault status h is = subst (IsTracedStatus g text name most reading) (sym is) (own fault h)
+    where
+      own : (f : BenchFault) → IsWriteRefusal f → IsTracedStatus g text name most reading (status_of f)
+      own Writer h = unusable
+      own Memory h = out_of_memory
+      own _ h = absurd h
+
+pub text_unread_status : (g : Grammar) (bytes name : List ℕ) (most : ℕ) (reading : Reading) (fault : BenchFault) (status : ℕ) → IsTextRefusal bytes fault
+    → status ≡ status_of fault → IsRunStatus g (Some bytes) name most reading status
+text_unread_status g bytes name most reading fault status h is = subst (IsRunStatus g (Some bytes) name most reading) (sym is) (own fault h)
+  where
+    own : (f : BenchFault) → IsTextRefusal bytes f → IsRunStatus g (Some bytes) name most reading (status_of f)
+    own NotUtf8 h = unusable
+    own TooLong h = unusable
+    own Memory h = out_of_memory
+    own _ h = absurd h
+
+-- of the bytes that spell the text
+pub traced_status : (g : Grammar) (bytes text name : List ℕ) (most : ℕ) (reading : Reading) (status : ℕ) → IsSpelledBy bytes text
+    → IsTracedStatus g text name most reading status → IsRunStatus g (Some bytes) name most reading status
+traced_status g bytes text name most reading status spelled h = own status h
+  where
+    shown : (accepted : Bool) (said : List ℕ) → IsShownOfText g name most reading text accepted said → IsShownOf (IsShownOfText g name most reading) bytes accepted said
+    shown accepted said is =
+        record { utf8 = spelled.utf8; within = spelled.within; shows = subst (λ (t : List ℕ). IsShownOfText g name most reading t accepted said) spelled.same is }
+
+    own : (n : ℕ) → IsTracedStatus g text name most reading n → IsRunStatus g (Some bytes) name most reading n
+    own _ (yes h) = yes (Some [], h.0, (bytes, sym (append-nil bytes), refl, shown true h.0 h.1))
+    own _ (no h) = no (Some [], h.0, (bytes, sym (append-nil bytes), refl, shown false h.0 h.1))
+    own _ unusable = unusable
+    own _ out_of_memory = out_of_memory
 
 -- ---- a replay
 

@@ -12,8 +12,8 @@ use Rattle.pg_grammar_bench.specs.Files.{AreFindingsOf, SpellsAny}
 use Rattle.pg_grammar_bench.specs.Verifying.{IsVerifiedFile, IsVerdictOf}
 use Rattle.pg_bench.specs.declared.done.Done.{Done}
 use Rattle.pg_bench.specs.Parsed.{IsForestOf, IsForestBy, IsErrorOf, IsErrorBy}
-use Rattle.pg_bench.specs.Probing.{IsShown}
-use Rattle.pg_bench.specs.Showing.{IsShownBy}
+use Rattle.pg_bench.specs.Probing.{IsShown, IsShownOfText}
+use Rattle.pg_bench.specs.Showing.{IsShownBy, IsShownTo}
 use Rattle.pg_bench.specs.Replaying.{IsReplayOfText}
 
 -- the exit status of a command: yes, no, something can't be used, or memory ran out
@@ -70,6 +70,22 @@ AnswersReader offer file reader name most reading accepted =
 abbrev pub IsProbeStatus : Offer → List ℕ → Option (List ℕ) → List ℕ → ℕ → Reading → ℕ → Type 0
 IsProbeStatus offer file reader name most reading =
     IsStatus (AnswersReader offer file reader name most reading true) (AnswersReader offer file reader name most reading false)
+
+-- a grammar's start rule gives an answer, or none, to the reader's text: whether that is ok
+abbrev pub AnswersBy : Grammar → Option (List ℕ) → List ℕ → ℕ → Reading → Bool → Type 0
+AnswersBy g reader name most reading accepted =
+    (left : Option (List ℕ)) × (said : List ℕ) × IsShownTo (IsShownOfText g name most reading) reader left accepted said
+
+-- of a probe by a grammar, once it is read
+abbrev pub IsRunStatus : Grammar → Option (List ℕ) → List ℕ → ℕ → Reading → ℕ → Type 0
+IsRunStatus g reader name most reading = IsStatus (AnswersBy g reader name most reading true) (AnswersBy g reader name most reading false)
+
+-- the same of a text that is read already
+abbrev pub AnswersText : Grammar → List ℕ → List ℕ → ℕ → Reading → Bool → Type 0
+AnswersText g text name most reading accepted = (said : List ℕ) × IsShownOfText g name most reading text accepted said
+
+abbrev pub IsTracedStatus : Grammar → List ℕ → List ℕ → ℕ → Reading → ℕ → Type 0
+IsTracedStatus g text name most reading = IsStatus (AnswersText g text name most reading true) (AnswersText g text name most reading false)
 
 -- going along the trail that these bytes are leads to a forest of the reader's text, or stops
 abbrev pub ReplaysReader : Offer → List ℕ → Option (List ℕ) → List ℕ → List ℕ → Bool → Type 0

@@ -3,3 +3,4 @@ pub mod Loaded
 pub mod Shown
 pub mod ShownTexts
 pub mod Replayed
+pub mod Watched

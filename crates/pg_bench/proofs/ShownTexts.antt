@@ -5,12 +5,12 @@ use Rattle.pg_tree.specs.Meter.{Metered}
 use Rattle.pg_pred.specs.Offer.{Offer}
 use Rattle.pg_value.specs.Grammar.{Grammar}
 use Rattle.pg_making.specs.Spells.{SpellsWithinLimits}
-use Rattle.pg_grammar_bench.specs.Files.{IsFaultOfFile}
+use Rattle.pg_grammar_bench.specs.Files.{IsFaultOfFile, SpellsAny}
 use Rattle.pg_grammar_bench.specs.Faults.{IsFileRefusal, IsMemory, IfFile}
 use Rattle.pg_grammar_bench.specs.declared.fault.BenchFault.{BenchFault}
 use Rattle.pg_grammar_bench.specs.declared.fault.BenchFault.TheVariants.{File, Reader, NotUtf8, TooLong, NotATrail, Memory}
 use Rattle.pg_bench.specs.Parsed.{IsSpelledBy, ReadsText}
-use Rattle.pg_bench.specs.Showing.{IsShownBy, IsShownOf}
+use Rattle.pg_bench.specs.Showing.{IsShownBy, IsShownOf, IsWrittenBy, IsWrittenTo, IsPartlyWrittenBy, IsPartlyWrittenTo}
 use Rattle.pg_bench.specs.Refusals.{IsWell, IsReadRefusal, IsTextRefusal, IsShowRefusal, IsBytesRefusal, IsShowFault, IsShownRefusal}
 
 pub memory_unshown : (NoTrail : Type 0) (fault : BenchFault) → IsMemory fault → IsShowRefusal NoTrail fault
@@ -77,3 +77,23 @@ pub shown_file : (Shows : Grammar → List ℕ → Bool → List ℕ → Type 0)
     → ReadsText reader left (λ bytes. IsShownOf (Shows g) bytes accepted said) → IsShownBy Shows offer file reader left accepted said
 shown_file Shows offer file reader left g accepted said spelled h =
     record { grammar = g; spelled = spelled; bytes = h.0; read = h.1; end = h.2; shown = h.3 }
+
+-- ---- what is written of a text by a grammar is written by the file that spells it
+
+module _ (Shows : Grammar → List ℕ → Bool → List ℕ → Type 0) (offer : Offer) (file : List ℕ) (g : Grammar) (spelled : SpellsWithinLimits offer file g)
+    (reader left writer held : Option (List ℕ)) where
+  pub written_file : (accepted : Bool) → IsWrittenTo (Shows g) reader left writer held accepted → IsWrittenBy Shows offer file reader left writer held accepted
+  written_file accepted h =
+      record { said = h.said; shown = shown_file Shows offer file reader left g accepted h.said spelled h.shown; written = h.written }
+
+  pub partly_written_file : IsPartlyWrittenTo (Shows g) reader left writer held → IsPartlyWrittenBy Shows offer file reader left writer held
+  partly_written_file h =
+      record {
+        accepted = h.accepted;
+        said = h.said;
+        shown = shown_file Shows offer file reader left g h.accepted h.said spelled h.shown;
+        written = h.written;
+      }
+
+pub spelled_file : (offer : Offer) (file : List ℕ) (g : Grammar) → SpellsWithinLimits offer file g → SpellsAny offer file
+spelled_file offer file g spelled = (g, spelled, tt)

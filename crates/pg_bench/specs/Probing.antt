@@ -1,6 +1,8 @@
 -- What is told by a run of a grammar's start rule from bytes to bytes.
 use Rattle.std.specs.Prelude.{◌≡◌, ◌≤◌, ◌<◌, ◌+◌, ◌*◌, ℕ, List, ◌++◌, Bool, true, false, Option, Some, None, codes}
 use Rattle.std.specs.Fmt.{decimal}
+use Rattle.std.specs.Io.KnownBytes.{Appends}
+use Rattle.pg_tree.specs.Bytes.{AppendsPrefix}
 use Rattle.pg_message.specs.Printed.{printed}
 use Rattle.pg_message.specs.declared.error.ParseError.{ParseError}
 use Rattle.pg_tree.specs.Json.{json}
@@ -16,7 +18,7 @@ use Rattle.pg_language.specs.Outcomes.{Outcome, ok, failed, empty_round}
 use Rattle.pg_language.specs.declared.reading.Reading.{Reading}
 use Rattle.pg_machine.specs.declared.answer.Success.{Success}
 use Rattle.pg_machine.specs.declared.answer.Outcome as ended
-use Rattle.pg_bench.specs.Showing.{IsShownBy, IsWrittenBy, IsPartlyWrittenBy}
+use Rattle.pg_bench.specs.Showing.{IsShownBy, IsWrittenBy, IsPartlyWrittenBy, IsWrittenTo, IsPartlyWrittenTo}
 use Rattle.pg_machine.specs.declared.answer.Outcome.TheVariants.{Answered, StepsUsed, EmptyRound}
 
 abbrev pub consumption : Bool → List ℕ
@@ -65,6 +67,25 @@ IsProbed offer file reader left name most reading writer held = IsWrittenBy (λ 
 abbrev pub IsPartlyProbed : Offer → List ℕ → Option (List ℕ) → Option (List ℕ) → List ℕ → ℕ → Reading → Option (List ℕ) → Option (List ℕ) → Type 0
 IsPartlyProbed offer file reader left name most reading writer held =
     IsPartlyWrittenBy (λ g. IsShownOfText g name most reading) offer file reader left writer held
+
+-- the same by a grammar that is read already
+abbrev pub IsProbedBy : Grammar → Option (List ℕ) → Option (List ℕ) → List ℕ → ℕ → Reading → Option (List ℕ) → Option (List ℕ) → Bool → Type 0
+IsProbedBy g reader left name most reading writer held = IsWrittenTo (IsShownOfText g name most reading) reader left writer held
+
+abbrev pub IsPartlyProbedBy : Grammar → Option (List ℕ) → Option (List ℕ) → List ℕ → ℕ → Reading → Option (List ℕ) → Option (List ℕ) → Type 0
+IsPartlyProbedBy g reader left name most reading writer held = IsPartlyWrittenTo (IsShownOfText g name most reading) reader left writer held
+
+-- the same of a text that is read already
+pub record IsTextProbed (g : Grammar) (text name : List ℕ) (most : ℕ) (reading : Reading) (writer held : Option (List ℕ)) (accepted : Bool) : Type 0 where
+  pub said : List ℕ
+  pub shown : IsShownOfText g name most reading text accepted said
+  pub written : Appends writer held said
+
+pub record IsTextPartlyProbed (g : Grammar) (text name : List ℕ) (most : ℕ) (reading : Reading) (writer held : Option (List ℕ)) : Type 0 where
+  pub accepted : Bool
+  pub said : List ℕ
+  pub shown : IsShownOfText g name most reading text accepted said
+  pub written : AppendsPrefix writer held said
 
 -- ---- the page of an outcome of the machine
 

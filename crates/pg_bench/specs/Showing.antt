@@ -7,6 +7,7 @@ use Rattle.pg_tree.specs.Bytes.{AppendsPrefix}
 use Rattle.pg_pred.specs.Offer.{Offer}
 use Rattle.pg_value.specs.Grammar.{Grammar}
 use Rattle.pg_making.specs.Spells.{SpellsWithinLimits}
+use Rattle.pg_bench.specs.Parsed.{ReadsText}
 
 -- the bytes spell a text, not too long, and this is shown of it
 pub record IsShownOf (Shows : List ℕ → Bool → List ℕ → Type 0) (bytes : List ℕ) (accepted : Bool) (said : List ℕ) : Type 0 where
@@ -37,4 +38,23 @@ pub record IsPartlyWrittenBy (Shows : Grammar → List ℕ → Bool → List ℕ
   pub accepted : Bool
   pub said : List ℕ
   pub shown : IsShownBy Shows offer file reader left accepted said
+  pub written : AppendsPrefix writer held said
+
+-- ---- by a grammar that is read already
+
+-- this is shown of the reader's whole bytes
+abbrev pub IsShownTo : (List ℕ → Bool → List ℕ → Type 0) → Option (List ℕ) → Option (List ℕ) → Bool → List ℕ → Type 0
+IsShownTo Shows reader left accepted said = ReadsText reader left (λ bytes. IsShownOf Shows bytes accepted said)
+
+-- and it was written
+pub record IsWrittenTo (Shows : List ℕ → Bool → List ℕ → Type 0) (reader left writer held : Option (List ℕ)) (accepted : Bool) : Type 0 where
+  pub said : List ℕ
+  pub shown : IsShownTo Shows reader left accepted said
+  pub written : Appends writer held said
+
+-- or a prefix of it
+pub record IsPartlyWrittenTo (Shows : List ℕ → Bool → List ℕ → Type 0) (reader left writer held : Option (List ℕ)) : Type 0 where
+  pub accepted : Bool
+  pub said : List ℕ
+  pub shown : IsShownTo Shows reader left accepted said
   pub written : AppendsPrefix writer held said

@@ -31,7 +31,7 @@ pub fn read_text<R: Read>(alloc: Global, reader: &mut Meter<R>) -> Result<Vec<u8
     }
 }
 
-/// The text that bytes spell.
+/// The text that bytes spell. The faults are `NotUtf8`, `TooLong`, where it has more than 1,048,576 characters, and that memory ran out.
 pub fn text_of(alloc: Global, bytes: &[u8]) -> Result<Text, BenchFault>
     ensures ok { IfOk result (IsSpelledBy bytes.now) }
     ensures err { IfErr result (IsTextRefusal bytes.now) }

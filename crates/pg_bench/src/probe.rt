@@ -4,16 +4,19 @@ ghost use Rattle.std.specs.Prelude.{◌≡◌, ◌≤◌, ◌<◌, ◌+◌, ◌*
 ghost use Rattle.std.specs.Str.{chars, IsUtf8};
 ghost use Rattle.pg_pred.specs.Offer.{offer_of};
 ghost use Rattle.pg_tree.specs.Meter.{saturating_sum};
+ghost use Rattle.pg_value.specs.Fits.{Fits};
+ghost use Rattle.pg_making.specs.Spells.{HasInitialTable};
 ghost use Rattle.pg_grammar_bench.specs.Files.{IsFaultOfFile, SpellsAny};
 ghost use Rattle.pg_bench.specs.Parsed.{ReadsText};
-ghost use Rattle.pg_grammar_bench.specs.Faults.{IsAfterFile, IsAfterReading, IsFileFault, IfFile, IfParseError, IfRefused, IfNotATrail, IfNotVerified, IsMemory, IsBeforeWriting};
-ghost use Rattle.pg_bench.specs.Probing.{IsProbed, IsPartlyProbed, is_ok_outcome, outcome_text};
+ghost use Rattle.pg_grammar_bench.specs.Faults.{IsAfterFile, IsAfterReading, IsFileFault, IfFile, IfParseError, IfRefused, IfNotATrail, IfNotVerified, IsMemory, IsBeforeWriting, IsWriteRefusal};
+ghost use Rattle.pg_bench.specs.Probing.{IsProbed, IsProbedBy, IsPartlyProbed, IsPartlyProbedBy, IsTextProbed, IsTextPartlyProbed, IsShownOfText, is_ok_outcome, outcome_text};
 
+use crate::initial::initial_table;
 use crate::page::{is_ok, page_of};
-use crate::showing::{Shown, ShowsText, shown_of_files, write_shown};
-use pg_grammar_bench::BenchFault;
+use crate::showing::{Shown, ShowsText, shown_of_reader, write_shown};
+use pg_grammar_bench::{BenchFault, grammar_of};
 use pg_language::Reading;
-use pg_machine::{Outcome, probe};
+use pg_machine::{Outcome, Run, Watcher, probe, probe_watched};
 use pg_pred::Registry;
 use pg_table::Table;
 use pg_text::{LIMIT, Text};
@@ -32,6 +35,7 @@ use std::io::{Read, Write};
 /// Both meters have to be fresh of failures. Any grammar is run. The faults come in the order of [`BenchFault`], without
 /// `Refused`, `ParseError`, `NotATrail` and `NotVerified`: a fault of the file before the reader is asked at all; then the
 /// reader's, then those of its bytes, and the writer's. Before the last, and where memory runs out, nothing is written.
+#[tactic(auto, using(crate::proofs::ShownTexts::written_file, crate::proofs::ShownTexts::partly_written_file, crate::proofs::ShownTexts::spelled_file, crate::proofs::Loaded::no_file_fault, crate::proofs::Loaded::is_read))]
 pub fn probe_bytes<R: Read, W: Write>(
     alloc: Global,
     grammar: &[u8],
@@ -85,23 +89,149 @@ pub fn probe_bytes<R: Read, W: Write>(
 
     ensures asked { reader.new.calls ≤ saturating_sum reader.old.calls (4 * LIMIT + 1) }
 {
+    let grammar = grammar_of(alloc, grammar, registry)?;
+    let probed = probe_grammar(
+        alloc, &grammar, registry, name, reader, writer, max_steps, reading,
+    );
+    drop(grammar);
+    match probed {
+        Ok(accepted) => Ok(accepted),
+        Err(fault) => Err(fault),
+    }
+}
+
+/// Does what [`probe_bytes`] does by a grammar that is read already. The caller owes that the grammar has what it names in the registry, and an
+/// initial operator table. Faults of a file don't come.
+pub fn probe_grammar<R: Read, W: Write>(
+    alloc: Global,
+    grammar: &Grammar,
+    registry: &Registry,
+    name: &str,
+    reader: &mut Meter<R>,
+    writer: &mut Meter<W>,
+    max_steps: u64,
+    reading: Reading,
+) -> Result<bool, BenchFault>
+    requires fits { Fits (offer_of registry.now) grammar.now }
+    requires table { HasInitialTable grammar.now }
+    requires reader { reader.old.failed ≡ false }
+    requires writer { writer.old.failed ≡ false }
+
+    // The whole of the reader's bytes is a text, and what the start rule answers to it was written.
+    ensures ok { IfOk result (IsProbedBy grammar.now (R.remaining reader.old.inner) (R.remaining reader.new.inner)
+        name.now max_steps reading (W.contents writer.old.inner) (W.contents writer.new.inner)) }
+
+    // No file is read.
+    ensures no_file { IfErr result (IfFile (λ fault. ⊥)) }
+
+    // The reader failed, or gave more than the limit.
+    ensures reader { IsErrOf result BenchFault.Reader →
+        (reader.new.failed ≡ true) ⊎ (saturating_sum reader.old.bytes (4 * LIMIT + 1) ≤ reader.new.bytes) }
+
+    // What is wrong with the bytes that the reader gave, in this order.
+    ensures not_utf8 { IsErrOf result BenchFault.NotUtf8 →
+        ReadsText (R.remaining reader.old.inner) (R.remaining reader.new.inner) (λ bytes. ¬ (IsUtf8 bytes)) }
+    ensures too_long { IsErrOf result BenchFault.TooLong →
+        ReadsText (R.remaining reader.old.inner) (R.remaining reader.new.inner) (λ bytes. IsUtf8 bytes × (LIMIT < length (chars bytes))) }
+
+    // No grammar is refused, and that a parser answers an error is no fault.
+    ensures unchecked { IfErr result (IfRefused (λ findings. ⊥)) }
+    ensures parsed { IfErr result (IfParseError (λ error. ⊥)) }
+    ensures no_trail { IfErr result (IfNotATrail ⊥) }
+    ensures no_certificate { IfErr result (IfNotVerified (λ verdict. ⊥)) }
+
+    // In every other case the reader didn't fail, and didn't give more.
+    ensures reader_stays { OnOk result (reader.new.failed ≡ false) }
+    ensures reader_well { IfErr result (λ fault. IsAfterReading fault → reader.new.failed ≡ false) }
+    ensures short { OnOk result (reader.new.bytes ≤ saturating_sum reader.old.bytes (4 * LIMIT)) }
+    ensures short_too { IfErr result (λ fault. IsAfterReading fault → reader.new.bytes ≤ saturating_sum reader.old.bytes (4 * LIMIT)) }
+
+    // The writer failed after a prefix of what it was to be given, and in every other case was given nothing.
+    ensures writer { IsErrOf result BenchFault.Writer → writer.new.failed ≡ true }
+    ensures prefix { IsErrOf result BenchFault.Writer → IsPartlyProbedBy grammar.now (R.remaining reader.old.inner)
+        (R.remaining reader.new.inner) name.now max_steps reading (W.contents writer.old.inner) (W.contents writer.new.inner) }
+    ensures writer_stays { OnOk result (writer.new.failed ≡ false) }
+    ensures unwritten { IfErr result (λ fault. IsBeforeWriting fault → writer.new ≡ writer.old) }
+
+    ensures asked { reader.new.calls ≤ saturating_sum reader.old.calls (4 * LIMIT + 1) }
+{
     let probing = Probing {
         name,
         max_steps,
         reading,
     };
-    match shown_of_files(alloc, grammar, registry, &probing, reader) {
+    match shown_of_reader(alloc, grammar, registry, &probing, reader) {
         Ok(shown) => write_shown(&shown, writer),
         Err(fault) => Err(fault),
     }
 }
 
+/// Does what [`probe_grammar`] does with a text that is read already, while a watcher sees the run, so that what it tells is told of the run that is
+/// answered. The only faults are the writer's and that memory ran out, for the run or for the watcher, which comes before anything is written.
+#[tactic(auto, using(crate::proofs::Watched::written_text, crate::proofs::Watched::partly_written_text))]
+pub fn probe_text<O: Watcher, W: Write>(
+    alloc: Global,
+    grammar: &Grammar,
+    registry: &Registry,
+    text: &Text,
+    probing: &Probing,
+    watcher: &mut O,
+    writer: &mut Meter<W>,
+) -> Result<bool, BenchFault>
+    requires fits { Fits (offer_of registry.now) grammar.now }
+    requires table { HasInitialTable grammar.now }
+    requires writer { writer.old.failed ≡ false }
+    ensures ok { IfOk result (IsTextProbed grammar.now text.now probing.now.name.now probing.now.max_steps probing.now.reading
+        (W.contents writer.old.inner) (W.contents writer.new.inner)) }
+    ensures err { IfErr result IsWriteRefusal }
+    ensures writer { IsErrOf result BenchFault.Writer → writer.new.failed ≡ true }
+    ensures prefix { IsErrOf result BenchFault.Writer → IsTextPartlyProbed grammar.now text.now probing.now.name.now probing.now.max_steps
+        probing.now.reading (W.contents writer.old.inner) (W.contents writer.new.inner) }
+    ensures writer_stays { OnOk result (writer.new.failed ≡ false) }
+    ensures unwritten { IsErrOf result BenchFault.Memory → writer.new ≡ writer.old }
+{
+    let shown = shown_of_watched(alloc, grammar, registry, text, probing, watcher)?;
+    write_shown(&shown, writer)
+}
+
+/// What is printed of a text, of which the run is watched.
+#[tactic(auto, using(crate::proofs::Shown::shown_text))]
+fn shown_of_watched<O: Watcher>(
+    alloc: Global,
+    grammar: &Grammar,
+    registry: &Registry,
+    text: &Text,
+    probing: &Probing,
+    watcher: &mut O,
+) -> Result<Shown, BenchFault>
+    requires fits { Fits (offer_of registry.now) grammar.now }
+    requires table { HasInitialTable grammar.now }
+    ensures ok { IfOk result (λ shown. IsShownOfText grammar.now probing.now.name.now probing.now.max_steps probing.now.reading text.now shown.accepted shown.page.items) }
+    ensures err { IfErr result IsMemory }
+{
+    let table = initial_table(alloc, grammar)?;
+    let run = Run {
+        grammar,
+        text,
+        registry,
+        reading: probing.reading,
+    };
+    match probe_watched(alloc, &run, &table, probing.max_steps, watcher) {
+        Ok(outcome) => {
+            let shown = shown_of_outcome(alloc, &outcome, probing.name);
+            drop(outcome);
+            shown
+        }
+        Err(_) => Err(BenchFault::Memory),
+    }
+}
+
 /// A probe in so many steps at most, in this reading, of a text of this name.
-#[derive(Drop)]
-struct Probing<'a> {
-    name: &'a str,
-    max_steps: u64,
-    reading: Reading,
+#[derive(Clone, Copy)]
+pub struct Probing<'a> {
+    pub name: &'a str,
+    pub max_steps: u64,
+    pub reading: Reading,
 }
 
 impl ShowsText for Probing<'_> {

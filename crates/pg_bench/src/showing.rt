@@ -103,7 +103,7 @@ pub fn shown_of_files<S: ShowsText, R: Read>(
 
 /// What is printed of the text that a reader gives.
 #[tactic(auto, using(crate::proofs::ShownTexts::read_unshown, crate::proofs::ShownTexts::bytes_unshown))]
-fn shown_of_reader<S: ShowsText, R: Read>(
+pub fn shown_of_reader<S: ShowsText, R: Read>(
     alloc: Global,
     grammar: &Grammar,
     registry: &Registry,

@@ -3,6 +3,7 @@ use Rattle.std.proofs.Common.{◌≡◌, ◌≤◌, ◌+◌, ℕ, List, [], ◌�
 use Rattle.std.specs.Prelude.{◌&&◌, if◌then◌else◌}
 use Rattle.std.specs.Option.{option_map_or}
 use Rattle.std.proofs.lemmas.Bool.{and_parts}
+use Rattle.pg_form.specs.Contents.{is_try}
 use Rattle.pg_form.specs.Forms.{Node, parts_of}
 use Rattle.pg_form.specs.declared.class.ClassPart.{ClassPart}
 use Rattle.pg_form.specs.declared.form.Form.TheVariants as form
@@ -13,7 +14,7 @@ use Rattle.pg_value.specs.Grammar.{Grammar}
 use Rattle.pg_graph.specs.Marks.{is_marked}
 use Rattle.pg_heads.specs.Parts.{up_to_unmarked}
 use Rattle.pg_costs.specs.Steps.{steps_of_all}
-use Rattle.pg_costs.specs.Costs.{is_at, is_string, is_not_followed_by, is_ended_string, is_try, tries_ended_string, node_cost}
+use Rattle.pg_costs.specs.Costs.{is_at, is_string, is_not_followed_by, is_ended_string, tries_ended_string, node_cost}
 use Rattle.pg_costs.specs.StepCost.{own_steps}
 
 pub record IsEndedString (nodes : List Node) (q : ℕ) : Type 0 where

@@ -1,16 +1,15 @@
 //! Numbers, marks and texts, in a JSON value and under a key of an object.
 
-ghost use Rattle.std.specs.Prelude.{◌≡◌, ◌↔◌, IfOk, IsTrue};
-ghost use Rattle.std.specs.Str.{chars};
+ghost use Rattle.std.specs.Prelude.{◌≡◌, ◌↔◌, IsTrue};
 ghost use Rattle.serde_json.specs.Data.{string};
 ghost use Rattle.serde_json.specs.View.{view};
 ghost use Rattle.pg_certificate.specs.Claims.{key_count, SaysUnder, SaysFlag, SaysNumber, SaysRank, SaysText};
 ghost use Rattle.pg_certificate.specs.Readings.{Gives};
 
 use crate::fault::CertificateFault;
-use pg_text::Characters;
+use pg_text::{Characters, characters_of};
 use serde_json::Value;
-use std::alloc::{AllocError, Global};
+use std::alloc::Global;
 
 /// How many keys an object has; none for what is no object.
 pub fn key_count(value: &Value) -> usize
@@ -107,12 +106,6 @@ fn read_characters(alloc: Global, text: &str) -> Result<Characters, CertificateF
 {
     let characters = characters_of(alloc, text)?;
     Ok(Characters::new(characters))
-}
-
-fn characters_of(alloc: Global, text: &str) -> Result<Vec<char>, AllocError>
-    ensures { IfOk result (λ characters. characters.items ≡ chars text.now) }
-{
-    text.chars().collect(alloc)
 }
 
 /// Whether two texts are the same.

@@ -1,6 +1,6 @@
 //! The text in JSON of starts, and of sets of starts.
 
-ghost use Rattle.std.specs.Prelude.{◌≡◌, ◌++◌, codes, string_bytes, IfOk, OnOk};
+ghost use Rattle.std.specs.Prelude.{◌≡◌, ◌++◌, codes, OnOk};
 ghost use Rattle.std.specs.List.{AllByRecursion};
 ghost use Rattle.std.specs.Str.{encode_utf8_all, IsUtf8};
 ghost use Rattle.serde_json.specs.Written.{compact_text};
@@ -12,7 +12,7 @@ use crate::certificate::ClaimedStart;
 use itoa::Buffer;
 use pg_class::Class;
 use pg_form::WordId;
-use pg_text::Characters;
+use pg_text::{Characters, utf8};
 use pg_value::Grammar;
 use serde_json::Value;
 use std::alloc::{AllocError, Global};
@@ -177,15 +177,8 @@ pub fn push_text(
     ensures text { OnOk result (text.new.items ≡ text.old.items ++ compact_text (text_value characters.now)) }
     ensures utf8 { OnOk result (IsUtf8 (encode_utf8_all characters.now)) }
 {
-    let characters = utf8_of(alloc, characters)?;
+    let characters = utf8(alloc, characters.as_slice())?;
     let quoted = Value::String(characters).to_string(alloc)?;
     text.extend_from_slice(quoted.as_bytes())?;
     Ok(())
-}
-
-/// The text with these characters.
-fn utf8_of(alloc: Global, characters: &Characters) -> Result<String, AllocError>
-    ensures { IfOk result (λ text. string_bytes text ≡ encode_utf8_all characters.now) }
-{
-    format!(in alloc; "{characters}")
 }

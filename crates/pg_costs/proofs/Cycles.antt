@@ -4,6 +4,7 @@ use Rattle.std.specs.Prelude.{if◌then◌else◌}
 use Rattle.std.specs.Option.{option_map_or, is_some}
 use Rattle.std.proofs.lemmas.Bool.{and_parts}
 use Rattle.std.proofs.lemmas.Option.{same_Some}
+use Rattle.pg_form.specs.Contents.{is_try}
 use Rattle.pg_form.specs.Forms.{Node}
 use Rattle.pg_form.specs.declared.form.Around.{Around}
 use Rattle.pg_form.specs.declared.form.Form.TheVariants as form
@@ -17,7 +18,7 @@ use Rattle.pg_heads.specs.Reached.{ReachedIn, ReachedPart, ReachesUse, Heads}
 use Rattle.pg_sets.specs.Sets.{Sets, AreSets}
 use Rattle.pg_value.specs.Grammar.{Grammar}
 use Rattle.pg_costs.specs.Steps.{number_at, steps_of_all, body_steps}
-use Rattle.pg_costs.specs.Costs.{is_string, is_not_followed_by, is_at, is_ended_string, is_try, tries_ended_string, node_cost, AreCosts}
+use Rattle.pg_costs.specs.Costs.{is_string, is_not_followed_by, is_at, is_ended_string, tries_ended_string, node_cost, AreCosts}
 use Rattle.pg_costs.specs.StepCost.{IsStepCost}
 
 -- each nullable node is marked

@@ -1,11 +1,11 @@
 -- The cost of a node: how many steps a run of it that consumes nothing takes at most.
 use Rattle.std.specs.Prelude.{◌≡◌, ◌+◌, ◌&&◌, ℕ, Bool, true, false, if◌then◌else◌, List, [], ◌∷◌, Some, length, slice_get}
 use Rattle.std.specs.Option.{option_map_or}
+use Rattle.pg_form.specs.Contents.{is_try, sequence_in}
 use Rattle.pg_form.specs.Forms.{Node}
 use Rattle.pg_form.specs.declared.form.Form.TheVariants as form
 use Rattle.pg_form.specs.declared.form.Leaf.TheVariants as leaf
 use Rattle.pg_form.specs.declared.form.Around.{Around}
-use Rattle.pg_form.specs.declared.form.Around.TheVariants as around
 use Rattle.pg_heads.specs.Parts.{up_to_unmarked}
 use Rattle.pg_value.specs.Grammar.{Grammar}
 use Rattle.pg_costs.specs.Steps.{number_at, steps_of_all, body_steps, leaf_steps, row_steps}
@@ -24,14 +24,14 @@ is_not_followed_by _ = false
 abbrev pub is_at : (Node → Bool) → List Node → ℕ → Bool
 is_at is nodes p = option_map_or is (slice_get nodes p) false
 
--- a sequence of a string and a class that doesn't follow it
-abbrev pub is_ended_string : List Node → Node → Bool
-is_ended_string nodes (form.Seq (first ∷ second ∷ [])) = is_at is_string nodes first && is_at is_not_followed_by nodes second
-is_ended_string nodes _ = false
+-- the parts are a string and a class that doesn't follow it
+abbrev pub are_ended_string : List Node → List ℕ → Bool
+are_ended_string nodes (first ∷ second ∷ []) = is_at is_string nodes first && is_at is_not_followed_by nodes second
+are_ended_string nodes _ = false
 
-abbrev pub is_try : Around → Bool
-is_try around.Try = true
-is_try _ = false
+-- a sequence of the two
+abbrev pub is_ended_string : List Node → Node → Bool
+is_ended_string nodes n = option_map_or (are_ended_string nodes) (sequence_in n) false
 
 -- the form around this part is such a `try`
 abbrev pub tries_ended_string : List Node → Around → ℕ → Bool

@@ -1,9 +1,9 @@
 -- The step cost of a grammar: a parse of a text of n characters takes at most so many steps, times n + 1.
-use Rattle.std.specs.Prelude.{◌≡◌, ◌+◌, ◌*◌, ℕ, max, Bool, List, [], ◌∷◌, Some, length, slice_get}
+use Rattle.std.specs.Prelude.{◌≡◌, ◌+◌, ◌*◌, ℕ, max, Bool, if◌then◌else◌, List, [], ◌∷◌, Some, length, slice_get}
+use Rattle.pg_form.specs.Contents.{is_declaration}
 use Rattle.pg_form.specs.Forms.{Node, parts_of}
 use Rattle.pg_form.specs.declared.form.Form.TheVariants as form
 use Rattle.pg_form.specs.declared.form.Leaf.{Leaf}
-use Rattle.pg_form.specs.declared.form.Leaf.TheVariants as leaf
 use Rattle.pg_value.specs.Grammar.{Grammar}
 use Rattle.pg_value.specs.declared.grammar.Rule.{Rule}
 use Rattle.pg_costs.specs.Steps.{number_at, steps_of_all, body_steps, leaf_steps, row_steps}
@@ -36,12 +36,7 @@ greatest_size size least (rule ∷ rules) = greatest_size size (max least (size 
 -- ---- levels
 
 abbrev pub leaf_levels : Leaf ℕ → ℕ
-leaf_levels (leaf.Satisfy class) = 0
-leaf_levels (leaf.String text) = 0
-leaf_levels (leaf.Word word) = 0
-leaf_levels (leaf.NotFollowedBy class) = 0
-leaf_levels leaf.EndOfText = 0
-leaf_levels (leaf.Declare class) = 4
+leaf_levels leaf = if is_declaration leaf then 4 else 0
 
 -- how many runs that a node begins may stand in one another before anything is consumed: of a round, of a first operand and a
 -- round behind it, of the rows of an expression, of what a declaration reads

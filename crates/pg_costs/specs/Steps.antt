@@ -1,8 +1,8 @@
 -- Steps: turns of the machine's loop. A node takes one where it is entered and one where its answer is handed on.
-use Rattle.std.specs.Prelude.{◌+◌, ◌-◌, ◌*◌, ◌^◌, ℕ, min, List, [], ◌∷◌, Option, Some, None, slice_get, slice_index_or}
+use Rattle.std.specs.Prelude.{◌+◌, ◌-◌, ◌*◌, ◌^◌, ℕ, min, if◌then◌else◌, List, [], ◌∷◌, Option, Some, None, slice_get, slice_index_or}
 use Rattle.std.specs.Option.{option_map_or}
+use Rattle.pg_form.specs.Contents.{is_declaration}
 use Rattle.pg_form.specs.declared.form.Leaf.{Leaf}
-use Rattle.pg_form.specs.declared.form.Leaf.TheVariants as leaf
 use Rattle.pg_form.specs.declared.operators_item.OperatorsItem.{OperatorsItem}
 use Rattle.pg_value.specs.Grammar.{Grammar}
 use Rattle.pg_value.specs.declared.grammar.Rule.{Rule}
@@ -26,12 +26,7 @@ body_steps rules steps r = option_map_or (λ rule. steps rule.body) (slice_get r
 
 -- the steps of a leaf
 abbrev pub leaf_steps : Leaf ℕ → ℕ
-leaf_steps (leaf.Satisfy class) = 2
-leaf_steps (leaf.String text) = 2
-leaf_steps (leaf.Word word) = 2
-leaf_steps (leaf.NotFollowedBy class) = 2
-leaf_steps leaf.EndOfText = 2
-leaf_steps (leaf.Declare class) = 40
+leaf_steps leaf = if is_declaration leaf then 40 else 2
 
 -- how many operators a table may hold: none without an operators item
 abbrev pub operator_limit : Option OperatorsItem → ℕ

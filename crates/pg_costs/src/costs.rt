@@ -2,9 +2,9 @@
 //!
 //! Each number begins at 0 and grows, in rounds over all nodes, as long as the numbers of other nodes ask for more. A node's
 //! parts stand after it, so a round goes from the last node to the first, and only the heads of rules take more rounds.
-ghost use Rattle.std.specs.Prelude.{◌≡◌, ◌<◌, ◌↔◌, ℕ, length, IfOk};
+ghost use Rattle.std.specs.Prelude.{◌≡◌, ◌<◌, ℕ, length, IfOk};
 ghost use Rattle.std.specs.Bool.{OnTrue, OnFalse};
-ghost use Rattle.pg_costs.specs.Costs.{is_string, is_not_followed_by, is_at, is_ended_string, tries_ended_string, around_cost, node_cost};
+ghost use Rattle.pg_costs.specs.Costs.{is_string, is_not_followed_by, is_at, are_ended_string, is_ended_string, tries_ended_string, around_cost, node_cost};
 ghost use Rattle.pg_costs.specs.Rounds.{AreLow, IsSettled, AreCutCosts, room};
 ghost use Rattle.pg_costs.specs.Steps.{number_at, cut_off};
 
@@ -83,13 +83,16 @@ pub fn around_cost(grammar: &Grammar, costs: &[u64], around: &Around, part: Node
 fn tries_ended_string(nodes: &[Node], around: &Around, part: NodeId) -> bool
     ensures { result ≡ tries_ended_string nodes.now around.now part }
 {
-    match around {
-        Around::Try => match nodes.get(part.index()) {
-            Some(node) => is_ended_string(nodes, node),
-            None => false,
-        },
-        Around::Text | Around::Skip | Around::Build(_, _) | Around::Label(_) | Around::Local =>
-            false,
+    around.is_try() && is_ended_string_at(nodes, part)
+}
+
+/// Whether a string that a class doesn't follow stands there.
+fn is_ended_string_at(nodes: &[Node], node: NodeId) -> bool
+    ensures { result ≡ is_at (is_ended_string nodes.now) nodes.now node }
+{
+    match nodes.get(node.index()) {
+        Some(node) => is_ended_string(nodes, node),
+        None => false,
     }
 }
 
@@ -97,18 +100,19 @@ fn tries_ended_string(nodes: &[Node], around: &Around, part: NodeId) -> bool
 fn is_ended_string(nodes: &[Node], node: &Node) -> bool
     ensures { result ≡ is_ended_string nodes.now node.now }
 {
-    match node {
-        Form::Seq(parts) => match parts.as_slice() {
-            [first, second] => is_string_at(nodes, *first) && is_not_followed_by_at(nodes, *second),
-            _ => false,
-        },
-        Form::Leaf(_)
-        | Form::Choice(_)
-        | Form::Many(_)
-        | Form::Chain(_, _, _, _)
-        | Form::Rule(_)
-        | Form::Expression(_, _)
-        | Form::Around(_, _) => false,
+    match node.sequence() {
+        Some(parts) => are_ended_string(nodes, parts.as_slice()),
+        None => false,
+    }
+}
+
+/// Whether these are a string and a class that doesn't follow it.
+fn are_ended_string(nodes: &[Node], parts: &[NodeId]) -> bool
+    ensures { result ≡ are_ended_string nodes.now parts.now }
+{
+    match parts {
+        [first, second] => is_string_at(nodes, *first) && is_not_followed_by_at(nodes, *second),
+        _ => false,
     }
 }
 

@@ -118,12 +118,5 @@ fn node_levels(node: &Node) -> u64
 fn leaf_levels(leaf: &Leaf<WordId>) -> u64
     ensures { result ≡ leaf_levels leaf.now }
 {
-    match leaf {
-        Leaf::Declare(_) => 4,
-        Leaf::Satisfy(_)
-        | Leaf::String(_)
-        | Leaf::Word(_)
-        | Leaf::NotFollowedBy(_)
-        | Leaf::EndOfText => 0,
-    }
+    if leaf.is_declaration() { 4 } else { 0 }
 }

@@ -56,14 +56,7 @@ pub(crate) fn body_steps(grammar: &Grammar, steps: &[u64], rule: RuleId) -> u64
 pub fn leaf_steps(leaf: &Leaf<WordId>) -> u64
     ensures { result ≡ leaf_steps leaf.now }
 {
-    match leaf {
-        Leaf::Satisfy(_)
-        | Leaf::String(_)
-        | Leaf::Word(_)
-        | Leaf::NotFollowedBy(_)
-        | Leaf::EndOfText => 2,
-        Leaf::Declare(_) => 40,
-    }
+    if leaf.is_declaration() { 40 } else { 2 }
 }
 
 /// What the rows of an expression take for each operator and each term.

@@ -10,7 +10,8 @@ use pg_form::NodeId;
 use pg_items::Item;
 use pg_parser::{SyntaxError, read_items};
 use pg_predict::ViolationKind;
-use pg_tokens::{Lexeme, lex, utf8};
+use pg_text::utf8;
+use pg_tokens::{Lexeme, lex};
 use std::alloc::{AllocError, Global};
 
 /// The most characters of a file for which a cure is looked for.

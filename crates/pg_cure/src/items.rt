@@ -2,7 +2,8 @@
 
 use pg_draft::{Changed, item_spans, slice_of};
 use pg_items::Span;
-use pg_tokens::{lex, utf8};
+use pg_text::utf8;
+use pg_tokens::lex;
 use std::alloc::{AllocError, Global};
 
 /// The items that are changed or new, from the first token of each to its semicolon, as they stand in the changed text. The only error is

@@ -9,7 +9,7 @@ use pg_items::Span;
 use pg_making::PlacedGrammar;
 use pg_pred::Registry;
 use pg_predict::{CheckFault, Refused, check};
-use pg_tokens::utf8;
+use pg_text::utf8;
 use std::alloc::{AllocError, Global};
 
 /// What a cure does.

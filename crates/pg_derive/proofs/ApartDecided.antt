@@ -7,7 +7,8 @@ use Rattle.std.proofs.lemmas.Bool.Decides.{leb_tells}
 use Rattle.std.proofs.lemmas.Option.{same_Some, none-some}
 use Rattle.pg_class.specs.Ranges.{Range, AreDisjoint, IsWithin, has}
 use Rattle.pg_start.specs.Apart.{Apart, KeysApart, differ, other_goes_on, key_goes_on, KeyWordApart, begins_outside, goes_on, ends}
-use Rattle.pg_start.specs.Prefixes.{begins_in, IsPrefix, word_prefix, is_reserved}
+use Rattle.pg_text.specs.Texts.{is_among}
+use Rattle.pg_start.specs.Prefixes.{begins_in, IsPrefix, word_prefix}
 use Rattle.pg_start.specs.Starts.{HasAt}
 use Rattle.pg_start.specs.declared.kind.StartKind.{StartKind}
 use Rattle.pg_start.specs.declared.kind.StartKind.TheVariants.{Class, Key, Word, End}
@@ -80,17 +81,17 @@ key_word_decided : (key : List ℕ) (excluded heads rest : List Range) (reserved
 key_word_decided key excluded heads rest reserved =
     decided_as there back (
     decided_either (decided_false (begins_in heads key))
-    (decided_both (decided_true (is_reserved reserved (word_prefix rest key)))
+    (decided_both (decided_true (is_among reserved (word_prefix rest key)))
     (decided_either (decided_not (decided_same (word_prefix rest key) key)) (within_decided rest excluded)))
     )
   where
-    there : (begins_in heads key ≡ false) ⊎ ((is_reserved reserved (word_prefix rest key) ≡ true) × (((word_prefix rest key ≡ key) → ⊥) ⊎ IsWithin rest excluded)) →
+    there : (begins_in heads key ≡ false) ⊎ ((is_among reserved (word_prefix rest key) ≡ true) × (((word_prefix rest key ≡ key) → ⊥) ⊎ IsWithin rest excluded)) →
         KeyWordApart key excluded heads rest reserved
     there (inl h) = begins_outside h
     there (inr h) = elim h.1 [ inl n ↦ goes_on h.0 n | inr w ↦ ends h.0 w ]
 
     back : KeyWordApart key excluded heads rest reserved →
-        (begins_in heads key ≡ false) ⊎ ((is_reserved reserved (word_prefix rest key) ≡ true) × (((word_prefix rest key ≡ key) → ⊥) ⊎ IsWithin rest excluded))
+        (begins_in heads key ≡ false) ⊎ ((is_among reserved (word_prefix rest key) ≡ true) × (((word_prefix rest key ≡ key) → ⊥) ⊎ IsWithin rest excluded))
     back (begins_outside h) = inl h
     back (goes_on h n) = inr (h, inl n)
     back (ends h w) = inr (h, inr w)

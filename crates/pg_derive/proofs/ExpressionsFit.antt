@@ -13,7 +13,8 @@ use Rattle.pg_form.specs.declared.form.Form.TheVariants as form
 use Rattle.pg_form.specs.declared.operators_item.OperatorsItem.{OperatorsItem}
 use Rattle.pg_form.specs.declared.used.OperatorBuilders.{OperatorBuilders}
 use Rattle.pg_value.specs.Grammar.{Grammar, IsGrammar}
-use Rattle.pg_start.specs.Prefixes.{run, is_reserved}
+use Rattle.pg_text.specs.Texts.{is_among}
+use Rattle.pg_start.specs.Prefixes.{run}
 use Rattle.pg_start.specs.Starts.{MatchesAt}
 use Rattle.pg_start.specs.declared.kind.StartKind.{StartKind}
 use Rattle.pg_start.proofs.Meeting.{never_meet, scalar_at}
@@ -103,7 +104,7 @@ module _ (g : Grammar) (sets : Sets) (are : AreSets g sets) (acyclic : (r : ℕ)
         head = begins.head;
         there = begins.there;
         member = is.members begins.head scalar ∙ begins.member;
-        free = ap (is_reserved reserved) whole ∙ same_reserved reads h.operator.symbol ∙ free_in g h.table also at h.comes h.operator h.among;
+        free = ap (is_among reserved) whole ∙ same_reserved reads h.operator.symbol ∙ free_in g h.table also at h.comes h.operator h.among;
       }
 
   module _ (p term : ℕ) (builders : OperatorBuilders) (e : slice_get g.nodes p ≡ Some (form.Expression builders term)) where

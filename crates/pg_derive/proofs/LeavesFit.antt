@@ -24,7 +24,8 @@ use Rattle.pg_form.specs.declared.operators_item.OperatorsItem.{OperatorsItem}
 use Rattle.pg_form.specs.declared.used.OperatorBuilders.{OperatorBuilders}
 use Rattle.pg_form.specs.declared.word_item.WordItem.{WordItem}
 use Rattle.pg_start.proofs.Meeting.{scalar_at}
-use Rattle.pg_start.specs.Prefixes.{run, is_reserved}
+use Rattle.pg_text.specs.Texts.{is_among}
+use Rattle.pg_start.specs.Prefixes.{run}
 use Rattle.pg_start.specs.Starts.{MatchesAt}
 use Rattle.pg_start.specs.declared.kind.StartKind.{StartKind}
 use Rattle.pg_start.specs.declared.kind.StartKind.TheVariants.{Class, Key, Word}
@@ -58,7 +59,7 @@ same_run f h (x ∷ xs) s agree =
     ∙ sym (take_while-cons h x xs)))
 
 -- the texts that are reserved in a start are those of the words
-pub same_reserved : {g : Grammar} {heads rest : List Range} {texts reserved : List (List ℕ)} → ReservedAs g heads rest texts reserved → (text : List ℕ) → is_reserved reserved text ≡ is_reserved texts text
+pub same_reserved : {g : Grammar} {heads rest : List Range} {texts reserved : List (List ℕ)} → ReservedAs g heads rest texts reserved → (text : List ℕ) → is_among reserved text ≡ is_among texts text
 same_reserved (own.as_item reads first) text = reads.texts text
 same_reserved (own.as_written none) text = refl
 
@@ -138,12 +139,12 @@ module _ (g : Grammar) (grammar : IsGrammar g) (sets : Sets) (are : AreSets g se
           same_run (has rest) (has_character g.classes also.rest) (drop (suc place) text) (scalars_after text (suc place) scalars) goes.members in
           let whole : there.head ∷ run rest (drop (suc place) text) ≡ h.word =
           ap (λ t. there.head ∷ t) (runs ∙ ap (λ (i : WordItem). run_at g text i.rest (suc place)) one) ∙ sym there.whole in
-          let free : is_reserved also.reserved h.word ≡ false = ap (λ (i : WordItem). is_reserved i.reserved h.word) one ∙ there.free in
+          let free : is_among also.reserved h.word ≡ false = ap (λ (i : WordItem). is_among i.reserved h.word) one ∙ there.free in
           matched p (form.Leaf (leaf.Word w)) e (Word heads rest reserved) (own.word at begins goes is) text place (record {
             head = there.head;
             there = there.there;
             member = begins.members there.head scalar ∙ member;
-            free = ap (is_reserved reserved) whole ∙ (same_reserved is h.word ∙ free);
+            free = ap (is_among reserved) whole ∙ (same_reserved is h.word ∙ free);
           })
 
   -- the keyword of a declaration

@@ -1,28 +1,11 @@
 //! The alternatives of a choice that meet.
 
-use pg_form::{Form, NodeId};
+use pg_form::NodeId;
 use pg_known::Known;
 use std::alloc::{AllocError, Global};
 
 /// How many alternatives are told of at most.
 pub(crate) const MOST: usize = 8;
-
-/// The alternatives of a choice; none of another form.
-pub(crate) fn alternatives<'k>(known: &'k Known, node: NodeId) -> &'k [NodeId] {
-    match known.form(node) {
-        Some(Form::Choice(parts)) => parts.as_slice(),
-        Some(
-            Form::Leaf(_)
-            | Form::Seq(_)
-            | Form::Many(_)
-            | Form::Chain(_, _, _, _)
-            | Form::Rule(_)
-            | Form::Expression(_, _)
-            | Form::Around(_, _),
-        )
-        | None => &[],
-    }
-}
 
 /// The numbers, from 1, of the alternatives that can begin with a start. The only error is that memory ran out.
 pub(crate) fn beginning_with(
@@ -32,7 +15,7 @@ pub(crate) fn beginning_with(
     start: usize,
 ) -> Result<Vec<usize>, AllocError> {
     let mut numbers = Vec::new(alloc);
-    for (before, part) in alternatives(known, node).iter().enumerate() {
+    for (before, part) in known.alternatives(node).iter().enumerate() {
         if known.sets.first(*part).contains(start) {
             numbers.push(before.saturating_add(1))?;
         }
@@ -47,7 +30,7 @@ pub(crate) fn begin_alike(
     these: (usize, usize),
     those: (usize, usize),
 ) -> bool {
-    let parts = alternatives(known, node);
+    let parts = known.alternatives(node);
     let (one, other) = those;
     both_alike(known, parts, these, (one, other)) || both_alike(known, parts, these, (other, one))
 }
@@ -70,7 +53,7 @@ pub(crate) fn pairs(known: &Known, node: NodeId, one: usize, other: usize) -> us
     let mut with_one: usize = 0;
     let mut with_other: usize = 0;
     let mut with_both: usize = 0;
-    for part in alternatives(known, node) {
+    for part in known.alternatives(node) {
         let first = known.sets.first(*part);
         with_one = with_one.saturating_add(usize::from(first.contains(one)));
         with_other = with_other.saturating_add(usize::from(first.contains(other)));

@@ -2,7 +2,7 @@
 
 use crate::quoted::push_quoted;
 use pg_class::Class;
-use pg_form::{ClassExpression, ClassPart, Form, Leaf, Node, NodeId};
+use pg_form::{ClassExpression, ClassPart, Leaf, Node, NodeId};
 use pg_known::{Known, text_of};
 use pg_tree::Label;
 use std::alloc::{AllocError, Global};
@@ -70,22 +70,13 @@ fn predicate_of<'k>(known: &'k Known, start: usize) -> Option<&'k Label> {
 
 /// The name of the predicate that a leaf asks alone, if it does.
 fn lone_predicate(node: &Node) -> Option<&Label> {
-    match node {
-        Form::Leaf(Leaf::Satisfy(class)) => predicate_in(class),
-        Form::Leaf(
-            Leaf::String(_)
-            | Leaf::Word(_)
-            | Leaf::NotFollowedBy(_)
-            | Leaf::EndOfText
-            | Leaf::Declare(_),
-        )
-        | Form::Seq(_)
-        | Form::Choice(_)
-        | Form::Many(_)
-        | Form::Chain(_, _, _, _)
-        | Form::Rule(_)
-        | Form::Expression(_, _)
-        | Form::Around(_, _) => None,
+    match node.leaf()? {
+        Leaf::Satisfy(class) => predicate_in(class),
+        Leaf::String(_)
+        | Leaf::Word(_)
+        | Leaf::NotFollowedBy(_)
+        | Leaf::EndOfText
+        | Leaf::Declare(_) => None,
     }
 }
 

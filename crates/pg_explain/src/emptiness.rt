@@ -77,21 +77,12 @@ fn tell_rule(
     node: NodeId,
     steps: &mut Steps,
 ) -> Result<(), AllocError> {
-    match known.form(node) {
-        Some(Form::Rule(rule)) => {
+    match known.rule_used(node) {
+        Some(rule) => {
             let name = rule_name(alloc, known, rule.index())?;
             steps.tell_at(alloc, known, name, body_place(known, rule.index()))
         }
-        Some(
-            Form::Leaf(_)
-            | Form::Seq(_)
-            | Form::Choice(_)
-            | Form::Many(_)
-            | Form::Chain(_, _, _, _)
-            | Form::Expression(_, _)
-            | Form::Around(_, _),
-        )
-        | None => Ok(()),
+        None => Ok(()),
     }
 }
 

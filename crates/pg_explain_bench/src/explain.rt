@@ -16,7 +16,7 @@ use pg_grammar_bench::{BenchFault, placed_of, write_page};
 use pg_making::PlacedGrammar;
 use pg_pred::Registry;
 use pg_predict::{CheckFault, Checked, Refused, check};
-use pg_tokens::characters_of;
+use pg_text::characters_of;
 use pg_tree::Meter;
 use pg_value::Grammar;
 use std::alloc::{AllocError, Global};

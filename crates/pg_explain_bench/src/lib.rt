@@ -17,4 +17,4 @@ mod witnesses;
 
 pub use explain::{Explained, explain_bytes};
 pub use placing::{Places, PlacingWriter, places_of};
-pub use runs::{Tracing, outline_success, trace_bytes};
+pub use runs::outline_success;

@@ -1,6 +1,6 @@
 //! What of a grammar is used.
 
-use pg_form::{ClassExpression, ClassPart, Form, Leaf, Node, OperatorsItem};
+use pg_form::{ClassExpression, ClassPart, Form, Node, OperatorsItem};
 use pg_value::Grammar;
 use std::alloc::{AllocError, Global};
 
@@ -75,19 +75,11 @@ fn body_from(grammar: &Grammar, rule: usize) -> usize {
 
 /// Marks the classes and the word item of a leaf.
 fn mark_leaf(node: &Node, classes: &mut [bool], words: &mut [bool]) {
-    match node {
-        Form::Leaf(Leaf::Satisfy(class) | Leaf::NotFollowedBy(class) | Leaf::Declare(class)) => {
-            mark_classes(class, classes);
-        }
-        Form::Leaf(Leaf::Word(word)) => mark(words, word.index()),
-        Form::Leaf(Leaf::String(_) | Leaf::EndOfText)
-        | Form::Seq(_)
-        | Form::Choice(_)
-        | Form::Many(_)
-        | Form::Chain(_, _, _, _)
-        | Form::Rule(_)
-        | Form::Expression(_, _)
-        | Form::Around(_, _) => {}
+    if let Some(class) = node.class() {
+        mark_classes(class, classes);
+    }
+    if let Some(word) = node.named_word() {
+        mark(words, word.index());
     }
 }
 

@@ -9,8 +9,8 @@ use crate::unknown::{push_no_such_rule, push_unknown};
 use pg_excerpt::{Mark, positions, push_excerpt};
 use pg_file::{FaultKind, FileFault};
 use pg_table::AdmitFault;
-use pg_text::Pos;
-use pg_tokens::{characters_of, is_word, lex};
+use pg_text::{Pos, characters_of};
+use pg_tokens::{is_word, lex};
 use std::alloc::{AllocError, Global};
 
 /// The line in which the fault of a grammar file of this name stands, and what is wrong there, for people (ours). The fault is the one with which the

@@ -6,7 +6,8 @@ use crate::nearest::nearest;
 use crate::parsec::in_place_of;
 use crate::shown::{push_line, quoted};
 use crate::tokens::Tokens;
-use pg_tokens::{characters_of, is_word};
+use pg_text::characters_of;
+use pg_tokens::is_word;
 use std::alloc::{AllocError, Global};
 
 /// Pushes what the name at a token stands for elsewhere, and which it could be. The only error is that memory ran out.

@@ -7,11 +7,12 @@ ghost use Rattle.std.specs.List.{list_any};
 ghost use Rattle.pg_file.specs.declared.error.ReadError.TheVariants.{Memory};
 ghost use Rattle.pg_file.specs.Answers.{IsFault};
 ghost use Rattle.pg_file.specs.Refusals.{IsErrorAt, IsKindAt};
+ghost use Rattle.pg_making.specs.Making.{IsRefusal};
 ghost use Rattle.pg_parser.specs.Given as given;
 ghost use Rattle.pg_tokens.specs.View.{is_bad_at};
 
 use crate::fault::FaultKind;
-use crate::names::NameFaultKind;
+use pg_making::{GrammarError, NameFaultKind};
 use pg_parser::{SyntaxError, SyntaxFault};
 use pg_tokens::{Lexeme, has_bad_at};
 use std::alloc::{AllocError, AllocFailed};
@@ -70,6 +71,17 @@ fn unexpected_kind(place: Option<usize>, lexemes: &[Lexeme]) -> FaultKind
     match place {
         Some(place) if has_bad_at(lexemes, place) => FaultKind::BadToken,
         Some(_) | None => FaultKind::UnexpectedToken,
+    }
+}
+
+/// Why no grammar is made of items.
+pub fn grammar_error(error: GrammarError) -> ReadError
+    ensures fault { IsFault result → IsRefusal error }
+    ensures kind { IsErrorAt (λ place. ⊥) result }
+{
+    match error {
+        GrammarError::Memory => ReadError::Memory,
+        GrammarError::Refused(fault) => ReadError::Fault(kind_of_name(fault.kind), fault.place),
     }
 }
 

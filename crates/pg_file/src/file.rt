@@ -18,16 +18,14 @@ ghost use Rattle.pg_parser.specs.Items.{AreItems, OnlyItems};
 ghost use Rattle.pg_file.specs.Answers.{IsAnswered, IsFault};
 ghost use Rattle.pg_file.specs.Refusals.{IsBadAt, IsErrorAt, IsNotUtf8After, IsRefusalOf, shown_error, shown_position};
 
-use crate::error::{ReadError, kind_of, kind_of_name, syntax_error};
+use crate::error::{ReadError, grammar_error, kind_of, syntax_error};
 use crate::fault::{FaultKind, FileError, FileFault};
-use crate::names::name_fault;
 use pg_items::Item;
 use pg_making::{PlacedGrammar, grammar_of};
-use pg_meaning::MakingError;
 use pg_parser::{SyntaxError, read_items};
 use pg_pred::Registry;
-use pg_text::position_in;
-use pg_tokens::{Lexeme, characters_of, lex, lex_up_to};
+use pg_text::{characters_of, position_in};
+use pg_tokens::{Lexeme, lex, lex_up_to};
 use pg_value::Grammar;
 use std::alloc::Global;
 
@@ -100,8 +98,7 @@ fn grammar_in(
     let items = items_of(alloc, lexemes.as_slice())?;
     match grammar_of(alloc, registry, items.as_slice()) {
         Ok(read) => Ok(read),
-        Err(MakingError::Memory) => Err(ReadError::Memory),
-        Err(MakingError::Refused) => Err(refusal(alloc, registry, items.as_slice())),
+        Err(error) => Err(grammar_error(error)),
     }
 }
 
@@ -115,18 +112,6 @@ fn items_of(alloc: Global, lexemes: &[Lexeme]) -> Result<Vec<Item>, ReadError>
     match read_items(alloc, lexemes) {
         Ok(items) => Ok(items),
         Err(error) => Err(syntax_error(error, lexemes)),
-    }
-}
-
-/// Why no grammar can be made of the items: the first fault of a name or an initial operator, or else that there is no
-/// start.
-fn refusal(alloc: Global, registry: &Registry, items: &[Item]) -> ReadError
-    ensures { IsErrorAt (λ place. ⊥) result }
-{
-    match name_fault(alloc, registry, items) {
-        Ok(Some(fault)) => ReadError::Fault(kind_of_name(fault.kind), Some(fault.place)),
-        Ok(None) => ReadError::Fault(FaultKind::NoStart, None),
-        Err(_) => ReadError::Memory,
     }
 }
 

@@ -1,16 +1,14 @@
 //! From the bytes of a grammar file to its grammar, and the faults on the way; and back to bytes.
 //!
-//! The crates below cut the file into tokens, read items from them and make the grammar. Here they stand after one another
-//! (`file`), a fault is named and placed (`names`, `initials`, `fault`), and what is read and what is printed meet (`laws`,
-//! `printing`). `read` answers exactly the grammar that a file spells, where there is one within the limits.
+//! The crates below cut the file into tokens, read items from them and make the grammar, each with its faults. Here they
+//! stand after one another (`file`), a fault is named and placed (`error`, `fault`), and what is read and what is printed
+//! meet (`laws`, `printing`). `read` answers exactly the grammar that a file spells, where there is one within the limits.
 #![tactic(auto)]
 
 mod error;
 mod fault;
 mod file;
-mod initials;
 mod laws;
-mod names;
 mod printing;
 
 pub use fault::{FaultKind, FileError, FileFault};

@@ -1,7 +1,6 @@
 //! The line of a fault.
 
 use crate::fields::{push_number, push_text};
-use crate::said::halves;
 use pg_text::Pos;
 use std::alloc::{AllocError, Global};
 
@@ -17,8 +16,16 @@ pub fn fault_line(
     push_text(alloc, &mut line, "{\"file\":", name)?;
     push_number(alloc, &mut line, ",\"line\":", position.line as usize)?;
     push_number(alloc, &mut line, ",\"column\":", position.column as usize)?;
-    push_text(alloc, &mut line, ",\"code\":", halves(message, ' ').0)?;
+    push_text(alloc, &mut line, ",\"code\":", code_of(message))?;
     push_text(alloc, &mut line, ",\"message\":", message)?;
     line.push_str("}\n")?;
     Ok(line)
+}
+
+/// The code that a message begins with.
+fn code_of(message: &str) -> &str {
+    match message.split_once(' ') {
+        Some((code, _)) => code,
+        None => message,
+    }
 }

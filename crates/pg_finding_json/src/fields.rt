@@ -14,6 +14,17 @@ pub(crate) fn quoted(alloc: Global, text: &str) -> Result<String, AllocError>
     Value::String(text).to_string(alloc)
 }
 
+/// The text with the escapes of JSON, as it stands between double quotes: those of one part and then of another are those of both.
+/// The only error is that memory ran out.
+pub(crate) fn escaped(alloc: Global, text: &str) -> Result<String, AllocError> {
+    let quoted = quoted(alloc, text)?;
+    let inner = quoted
+        .as_str()
+        .strip_prefix('"')
+        .and_then(|rest| rest.strip_suffix('"'));
+    String::from_str(alloc, inner.unwrap_or(""))
+}
+
 /// Pushes what stands before a text, and that in double quotes. The only error is that memory ran out.
 pub(crate) fn push_text(
     alloc: Global,

@@ -1,79 +1,68 @@
 //! The line of a finding.
 
-use crate::fields::{push_number, push_text};
-use crate::found::Found;
 use crate::listing::Listing;
-use crate::said::{Said, parts_of};
-use pg_predict::ViolationKind;
-use pg_text::Pos;
-use std::alloc::{AllocError, Global};
+use pg_pieces::Piece;
+use pg_predict::{Finding, ViolationKind};
 
-/// Pushes the line of a finding, which a check writes as this line. The only error is that memory ran out.
-pub(crate) fn push_finding(
-    alloc: Global,
-    page: &mut String,
-    listing: &Listing,
-    found: &Found,
-    line: &str,
-) -> Result<(), AllocError> {
-    let said = parts_of(line);
-    push_place(alloc, page, listing, found)?;
-    push_head(alloc, page, &said)?;
-    push_alternatives(alloc, page, &found.kind)?;
-    push_starts(page, listing, &found.kind)?;
-    push_text(alloc, page, "],\"message\":", said.message)?;
-    page.push_str("}\n")
+/// The line of a finding, with its line feed.
+pub(crate) fn line_of<'p>(listing: &'p Listing, finding: &Finding) -> [Piece<'p>; 38] {
+    let (first, last) = listing.ends(finding.node());
+    let code = Piece::Text(finding.code());
+    let [one, and, other] = alternatives(finding.kind());
+    let [open, start, between, second, close] = starts(listing, finding.kind());
+    let [a, b, c, d, e, f, g, h] = listing.texts.words(finding.kind());
+    [
+        Piece::Text("{\"file\":"),
+        Piece::Text(listing.file.as_str()),
+        Piece::Text(",\"line\":"),
+        Piece::Number(first.line as usize),
+        Piece::Text(",\"column\":"),
+        Piece::Number(first.column as usize),
+        Piece::Text(",\"last_line\":"),
+        Piece::Number(last.line as usize),
+        Piece::Text(",\"last_column\":"),
+        Piece::Number(last.column as usize),
+        Piece::Text(",\"rule\":\""),
+        Piece::Text(listing.texts.name(finding.rule())),
+        Piece::Text("\",\"node\":"),
+        Piece::Number(finding.number()),
+        Piece::Text(",\"code\":\""),
+        code,
+        Piece::Text("\",\"alternatives\":["),
+        one,
+        and,
+        other,
+        Piece::Text("],\"starts\":["),
+        open,
+        start,
+        between,
+        second,
+        close,
+        Piece::Text("],\"message\":\""),
+        code,
+        Piece::Text(" "),
+        a,
+        b,
+        c,
+        d,
+        e,
+        f,
+        g,
+        h,
+        Piece::Text("\"}\n"),
+    ]
 }
 
-/// Pushes where the finding's form stands.
-fn push_place(
-    alloc: Global,
-    page: &mut String,
-    listing: &Listing,
-    found: &Found,
-) -> Result<(), AllocError> {
-    let (first, last) = listing.ends(found.node);
-    page.push_str("{\"file\":")?;
-    page.push_str(listing.file.as_str())?;
-    push_position(alloc, page, first, ",\"line\":", ",\"column\":")?;
-    push_position(alloc, page, last, ",\"last_line\":", ",\"last_column\":")
-}
-
-/// Pushes a line and a column, each behind its key.
-fn push_position(
-    alloc: Global,
-    page: &mut String,
-    position: Pos,
-    line: &str,
-    column: &str,
-) -> Result<(), AllocError> {
-    push_number(alloc, page, line, position.line as usize)?;
-    push_number(alloc, page, column, position.column as usize)
-}
-
-/// Pushes the rule, the number of the node, and the code.
-fn push_head(alloc: Global, page: &mut String, said: &Said) -> Result<(), AllocError> {
-    push_text(alloc, page, ",\"rule\":", said.rule)?;
-    page.push_str(",\"node\":")?;
-    page.push_str(said.node)?;
-    push_text(alloc, page, ",\"code\":", said.code)
-}
-
-/// Pushes the alternatives that a finding names.
-fn push_alternatives(
-    alloc: Global,
-    page: &mut String,
-    kind: &ViolationKind<usize>,
-) -> Result<(), AllocError> {
-    page.push_str(",\"alternatives\":[")?;
+/// The alternatives that a finding names, with commas between them.
+fn alternatives<'p>(kind: &ViolationKind<usize>) -> [Piece<'p>; 3] {
+    let nothing = Piece::Text("");
     match kind {
         ViolationKind::EmptyAlternative(number)
         | ViolationKind::AlternativeMeetsFollow(number, _, _) => {
-            push_number(alloc, page, "", *number)
+            [Piece::Number(*number), nothing, nothing]
         }
         ViolationKind::AlternativesMeet(one, other, _, _) => {
-            push_number(alloc, page, "", *one)?;
-            push_number(alloc, page, ",", *other)
+            [Piece::Number(*one), Piece::Text(","), Piece::Number(*other)]
         }
         ViolationKind::LeftRecursion
         | ViolationKind::EmptyRound
@@ -82,32 +71,48 @@ fn push_alternatives(
         | ViolationKind::OperandMeetsOperators(_)
         | ViolationKind::FollowMeetsOperators(_)
         | ViolationKind::GapMeets(_)
-        | ViolationKind::StepCostOver => Ok(()),
+        | ViolationKind::StepCostOver => [nothing, nothing, nothing],
     }
 }
 
-/// Pushes the starts that meet.
-fn push_starts(
-    page: &mut String,
-    listing: &Listing,
-    kind: &ViolationKind<usize>,
-) -> Result<(), AllocError> {
-    page.push_str("],\"starts\":[")?;
+/// The starts that meet, in double quotes, with commas between them.
+fn starts<'p>(listing: &'p Listing, kind: &ViolationKind<usize>) -> [Piece<'p>; 5] {
     match kind {
         ViolationKind::AlternativesMeet(_, _, one, other)
         | ViolationKind::AlternativeMeetsFollow(_, one, other)
-        | ViolationKind::RoundMeetsFollow(one, other) => {
-            page.push_str(listing.start(*one))?;
-            page.push_str(",")?;
-            page.push_str(listing.start(*other))
-        }
+        | ViolationKind::RoundMeetsFollow(one, other) => two_starts(listing, *one, *other),
         ViolationKind::OperandMeetsOperators(start)
         | ViolationKind::FollowMeetsOperators(start)
-        | ViolationKind::GapMeets(start) => page.push_str(listing.start(*start)),
+        | ViolationKind::GapMeets(start) => one_start(listing, *start),
         ViolationKind::LeftRecursion
         | ViolationKind::EmptyRound
         | ViolationKind::EmptyAlternative(_)
         | ViolationKind::EmptyOperand
-        | ViolationKind::StepCostOver => Ok(()),
+        | ViolationKind::StepCostOver => no_start(),
     }
+}
+
+fn two_starts<'p>(listing: &'p Listing, one: usize, other: usize) -> [Piece<'p>; 5] {
+    [
+        Piece::Text("\""),
+        Piece::Text(listing.texts.start(one)),
+        Piece::Text("\",\""),
+        Piece::Text(listing.texts.start(other)),
+        Piece::Text("\""),
+    ]
+}
+
+fn one_start<'p>(listing: &'p Listing, start: usize) -> [Piece<'p>; 5] {
+    [
+        Piece::Text("\""),
+        Piece::Text(listing.texts.start(start)),
+        Piece::Text("\""),
+        Piece::Text(""),
+        Piece::Text(""),
+    ]
+}
+
+fn no_start<'p>() -> [Piece<'p>; 5] {
+    let nothing = Piece::Text("");
+    [nothing, nothing, nothing, nothing, nothing]
 }

@@ -1,24 +1,22 @@
 //! What is asked of a grammar and its file while findings are listed.
 
-use crate::fields::quoted;
+use crate::fields::{escaped, quoted};
 use pg_excerpt::positions;
 use pg_form::NodeId;
 use pg_items::Span;
 use pg_own_starts::{ListedStart, operator_starts, printed_start};
-use pg_predict::Refused;
+use pg_predict::{Refused, Texts};
 use pg_text::Pos;
-use pg_value::Grammar;
+use pg_value::{Grammar, Rule};
 use std::alloc::{AllocError, Global};
 
-/// A grammar's file, and its starts.
+/// A grammar's file, and what is said of its rules and starts.
 #[derive(Drop)]
 pub(crate) struct Listing<'l> {
     /// The file's name, in double quotes.
     pub(crate) file: String,
-    /// The starts of the sets as findings have them, in double quotes.
-    starts: Vec<String>,
-    /// That of operators, in double quotes.
-    operator: String,
+    /// The names of rules, and starts in words, as they stand in a text of JSON.
+    pub(crate) texts: Texts,
     /// The line and the column of each place of the file, and of its end.
     positions: Vec<Pos>,
     /// The characters of the form that was written for each node.
@@ -35,24 +33,14 @@ impl<'l> Listing<'l> {
         spans: &'l [Span],
     ) -> Result<Listing<'l>, AllocError> {
         let file = quoted(alloc, name)?;
-        let starts = quoted_starts(alloc, refused)?;
-        let operator = quoted_operator(alloc, refused.grammar())?;
+        let texts = escaped_texts(alloc, refused)?;
         let positions = positions(alloc, text)?;
         Ok(Listing {
             file,
-            starts,
-            operator,
+            texts,
             positions,
             spans,
         })
-    }
-
-    /// The start with this number, in double quotes: one of the sets, or that of operators.
-    pub(crate) fn start(&self, number: usize) -> &str {
-        match self.starts.get(number) {
-            Some(start) => start.as_str(),
-            None => self.operator.as_str(),
-        }
     }
 
     /// Where the form of a node has its first and its last character.
@@ -75,29 +63,44 @@ impl<'l> Listing<'l> {
     }
 }
 
-/// The starts of the sets, each in double quotes.
-fn quoted_starts(alloc: Global, refused: &Refused) -> Result<Vec<String>, AllocError> {
+/// The names of rules, and starts in words, as they stand in a text of JSON. The only error is that memory ran out.
+fn escaped_texts(alloc: Global, refused: &Refused) -> Result<Texts, AllocError> {
+    let names = escaped_names(alloc, refused.grammar().rules())?;
+    let listed = escaped_starts(alloc, refused)?;
+    let own = escaped_operator(alloc, refused.grammar())?;
+    Ok(Texts { names, listed, own })
+}
+
+fn escaped_names(alloc: Global, rules: &[Rule]) -> Result<Vec<String>, AllocError> {
+    let mut names = Vec::new(alloc);
+    for rule in rules {
+        let name = format!(in alloc; "{}", rule.name)?;
+        names.push(escaped(alloc, name.as_str())?)?;
+    }
+    Ok(names)
+}
+
+fn escaped_starts(alloc: Global, refused: &Refused) -> Result<Vec<String>, AllocError> {
     let mut starts = Vec::new(alloc);
     for listed in refused.sets().starts() {
-        starts.push(quoted_start(alloc, refused.grammar(), listed)?)?;
+        starts.push(escaped_start(alloc, refused.grammar(), listed)?)?;
     }
     Ok(starts)
 }
 
-/// The start of operators in double quotes; that of the end, where there are none, as findings have it.
-fn quoted_operator(alloc: Global, grammar: &Grammar) -> Result<String, AllocError> {
+/// The start of operators; the end, where there are none, as findings have it.
+fn escaped_operator(alloc: Global, grammar: &Grammar) -> Result<String, AllocError> {
     match operator_starts(alloc, grammar)? {
-        Some(both) => quoted_start(alloc, grammar, &both.operator),
-        None => quoted(alloc, "end"),
+        Some(both) => escaped_start(alloc, grammar, &both.operator),
+        None => escaped(alloc, "end"),
     }
 }
 
-/// A start in double quotes.
-fn quoted_start(
+fn escaped_start(
     alloc: Global,
     grammar: &Grammar,
     listed: &ListedStart,
 ) -> Result<String, AllocError> {
     let text = printed_start(alloc, grammar, listed)?;
-    quoted(alloc, text.as_str())
+    escaped(alloc, text.as_str())
 }

@@ -1,5 +1,5 @@
 -- What stands in a form beside its parts.
-use Rattle.std.specs.Prelude.{◌∷◌, ℕ, List, [], Option, Some, None, unwrap_or}
+use Rattle.std.specs.Prelude.{◌∷◌, ℕ, Bool, true, false, List, [], Option, Some, None, option_and_then, unwrap_or}
 use Rattle.std.specs.Str.{chars}
 use Rattle.pg_form.specs.Names.{Name}
 use Rattle.pg_form.specs.declared.class.ClassPart.{ClassPart}
@@ -16,6 +16,23 @@ use Rattle.pg_form.specs.declared.form.Form.TheVariants as form
 abbrev pub all_builders : OperatorBuilders → List BuilderUse
 all_builders builders = builders.«infix» ∷ builders.prefix ∷ builders.postfix ∷ []
 
+-- ---- what a leaf has
+
+-- the string that a leaf reads
+abbrev pub string_of : {W : Type 0} → Leaf W → Option (List ℕ)
+string_of (leaf.String text) = Some text
+string_of _ = None
+
+-- the word item that a leaf reads a word of
+abbrev pub word_of : {W : Type 0} → Leaf W → Option W
+word_of (leaf.Word word) = Some word
+word_of _ = None
+
+-- whether a leaf reads a declaration of an operator
+abbrev pub is_declaration : {W : Type 0} → Leaf W → Bool
+is_declaration (leaf.Declare class) = true
+is_declaration _ = false
+
 -- the class expression that stands in a leaf
 abbrev pub class_of : {W : Type 0} → Leaf W → Option (List ClassPart)
 class_of (leaf.Satisfy class) = Some class
@@ -23,14 +40,53 @@ class_of (leaf.NotFollowedBy class) = Some class
 class_of (leaf.Declare class) = Some class
 class_of _ = None
 
+-- ---- what a form is
+
+-- the leaf that a form is
+abbrev pub leaf_in : {R W P L : Type 0} → Form R W P L → Option (Leaf W)
+leaf_in (form.Leaf leaf) = Some leaf
+leaf_in _ = None
+
+-- the parts of a sequence
+abbrev pub sequence_in : {R W P L : Type 0} → Form R W P L → Option L
+sequence_in (form.Seq parts) = Some parts
+sequence_in _ = None
+
+-- the alternatives of a choice
+abbrev pub alternatives_in : {R W P L : Type 0} → Form R W P L → Option L
+alternatives_in (form.Choice parts) = Some parts
+alternatives_in _ = None
+
+-- the rule that a form is a use of
+abbrev pub rule_in : {R W P L : Type 0} → Form R W P L → Option R
+rule_in (form.Rule rule) = Some rule
+rule_in _ = None
+
+-- the term of an expression
+abbrev pub term_in : {R W P L : Type 0} → Form R W P L → Option P
+term_in (form.Expression builders term) = Some term
+term_in _ = None
+
+-- the string that a form reads
+abbrev pub string_in : {R W P L : Type 0} → Form R W P L → Option (List ℕ)
+string_in f = option_and_then string_of (leaf_in f)
+
+-- the word item that a form reads a word of
+abbrev pub word_in : {R W P L : Type 0} → Form R W P L → Option W
+word_in f = option_and_then word_of (leaf_in f)
+
 -- the class expression that stands in a form
 abbrev pub class_in : {R W P L : Type 0} → Form R W P L → Option (List ClassPart)
-class_in (form.Leaf leaf) = class_of leaf
-class_in _ = None
+class_in f = option_and_then class_of (leaf_in f)
 
 -- its parts, or nothing
 abbrev pub class_parts : {R W P L : Type 0} → Form R W P L → List ClassPart
 class_parts f = unwrap_or (class_in f) []
+
+-- whether a form around a part is a `try`
+abbrev pub is_try : Around → Bool
+is_try around.Try = true
+is_try _ = false
 
 -- the builder that stands around a part
 abbrev pub builder_of : Around → Option BuilderUse
@@ -53,6 +109,4 @@ literal_in _ = []
 
 -- the name of a rule or word item that stands in a form, or none
 abbrev pub name_in : {P L : Type 0} → Form Name Name P L → Name
-name_in (form.Leaf (leaf.Word name)) = name
-name_in (form.Rule name) = name
-name_in _ = []
+name_in f = unwrap_or (rule_in f) (unwrap_or (word_in f) [])

@@ -1,10 +1,11 @@
 -- Forms as they are handed in, and the nodes that a grammar holds for them: their parts, and what is judged of them.
-use Rattle.std.specs.Prelude.{◌≡◌, ◌<◌, ℕ, suc, Bool, true, false, ◌==◌, not, ◌||◌, nat_lt, List, [], ◌∷◌, length, map, take}
+use Rattle.std.specs.Prelude.{◌≡◌, ◌<◌, ℕ, suc, Bool, false, true, ◌==◌, not, ◌||◌, nat_lt, is_some, List, [], ◌∷◌, length, map, take}
 use Rattle.std.specs.List.{list_any}
+use Rattle.std.specs.Option.{option_map_or}
 use Rattle.std.specs.Str.{chars}
 use Rattle.pg_form.specs.Preorder.{SpellForms, roots}
 use Rattle.pg_form.specs.Classes.{descends, is_long, lacks_item}
-use Rattle.pg_form.specs.Contents.{class_parts, builders_in, literal_in, name_in}
+use Rattle.pg_form.specs.Contents.{class_parts, builders_in, is_declaration, leaf_in, literal_in, name_in, string_in, term_in}
 use Rattle.pg_form.specs.Names.{Name, name_at, has_name}
 use Rattle.pg_form.specs.declared.used.BuilderUse.{BuilderUse}
 use Rattle.pg_form.specs.declared.form.NextForm.{NextForm}
@@ -96,8 +97,7 @@ pub record IsBody (forms : List BaseForm) : Type 0 where
 
 -- whether a string is empty
 abbrev pub is_empty_string : BaseForm → Bool
-is_empty_string (form.Leaf (leaf.String text)) = length text == 0
-is_empty_string _ = false
+is_empty_string form = option_map_or (λ text. length text == 0) (string_in form) false
 
 -- whether a string is empty, or a range descends
 abbrev pub has_bad_literal : BaseForm → Bool
@@ -125,6 +125,4 @@ has_unknown_class count form = list_any (lacks_item count) (class_parts form)
 
 -- whether operators are read or declared
 abbrev pub uses_operators : BaseForm → Bool
-uses_operators (form.Leaf (leaf.Declare class)) = true
-uses_operators (form.Expression builders part) = true
-uses_operators _ = false
+uses_operators form = is_some (term_in form) || option_map_or is_declaration (leaf_in form) false

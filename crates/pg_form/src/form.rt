@@ -6,7 +6,7 @@
 //! stands for all forms without parts, and one for all forms around one part.
 
 ghost use Rattle.std.specs.Prelude.{◌≡◌, IfOk, option_copied};
-ghost use Rattle.pg_form.specs.Contents.{builder_of, class_of, class_in};
+ghost use Rattle.pg_form.specs.Contents.{alternatives_in, builder_of, class_of, class_in, is_declaration, is_try, leaf_in, rule_in, sequence_in, string_in, string_of, term_in, word_in, word_of};
 ghost use Rattle.pg_form.specs.Forms.{part_count};
 
 use crate::class::ClassExpression;
@@ -99,12 +99,12 @@ impl<R, W, P> Form<R, W, P, usize> {
 }
 
 impl<R, W, P, L> Form<R, W, P, L> {
-    /// The class expression that stands in it, if one does.
-    pub fn class(&self) -> Option<&ClassExpression>
-        ensures { option_copied result ≡ class_in self.now }
+    /// The leaf that it is, if it has no parts and isn't a use of a rule.
+    pub fn leaf(&self) -> Option<&Leaf<W>>
+        ensures { option_copied result ≡ leaf_in self.now }
     {
         match self {
-            Form::Leaf(leaf) => leaf.class(),
+            Form::Leaf(leaf) => Some(leaf),
             Form::Seq(_)
             | Form::Choice(_)
             | Form::Many(_)
@@ -114,9 +114,136 @@ impl<R, W, P, L> Form<R, W, P, L> {
             | Form::Around(_, _) => None,
         }
     }
+
+    /// The parts of a sequence, if it is one.
+    pub fn sequence(&self) -> Option<&L>
+        ensures { option_copied result ≡ sequence_in self.now }
+    {
+        match self {
+            Form::Seq(parts) => Some(parts),
+            Form::Leaf(_)
+            | Form::Choice(_)
+            | Form::Many(_)
+            | Form::Chain(_, _, _, _)
+            | Form::Rule(_)
+            | Form::Expression(_, _)
+            | Form::Around(_, _) => None,
+        }
+    }
+
+    /// The alternatives of a choice, if it is one.
+    pub fn alternatives(&self) -> Option<&L>
+        ensures { option_copied result ≡ alternatives_in self.now }
+    {
+        match self {
+            Form::Choice(parts) => Some(parts),
+            Form::Leaf(_)
+            | Form::Seq(_)
+            | Form::Many(_)
+            | Form::Chain(_, _, _, _)
+            | Form::Rule(_)
+            | Form::Expression(_, _)
+            | Form::Around(_, _) => None,
+        }
+    }
+
+    /// The rule that it uses, if it is a use of one.
+    pub fn named_rule(&self) -> Option<&R>
+        ensures { option_copied result ≡ rule_in self.now }
+    {
+        match self {
+            Form::Rule(rule) => Some(rule),
+            Form::Leaf(_)
+            | Form::Seq(_)
+            | Form::Choice(_)
+            | Form::Many(_)
+            | Form::Chain(_, _, _, _)
+            | Form::Expression(_, _)
+            | Form::Around(_, _) => None,
+        }
+    }
+
+    /// The term of an expression, if it is one.
+    pub fn term(&self) -> Option<&P>
+        ensures { option_copied result ≡ term_in self.now }
+    {
+        match self {
+            Form::Expression(_, term) => Some(term),
+            Form::Leaf(_)
+            | Form::Seq(_)
+            | Form::Choice(_)
+            | Form::Many(_)
+            | Form::Chain(_, _, _, _)
+            | Form::Rule(_)
+            | Form::Around(_, _) => None,
+        }
+    }
+
+    /// The string that it reads, if it reads one.
+    pub fn string(&self) -> Option<&Characters>
+        ensures { option_copied result ≡ string_in self.now }
+    {
+        self.leaf()?.string()
+    }
+
+    /// The word item that it reads a word of, if it reads one.
+    pub fn named_word(&self) -> Option<&W>
+        ensures { option_copied result ≡ word_in self.now }
+    {
+        self.leaf()?.named_word()
+    }
+
+    /// The class expression that stands in it, if one does.
+    pub fn class(&self) -> Option<&ClassExpression>
+        ensures { option_copied result ≡ class_in self.now }
+    {
+        self.leaf()?.class()
+    }
 }
 
 impl<W> Leaf<W> {
+    /// The string that it reads, if it reads one.
+    pub fn string(&self) -> Option<&Characters>
+        ensures { option_copied result ≡ string_of self.now }
+    {
+        match self {
+            Leaf::String(text) => Some(text),
+            Leaf::Satisfy(_)
+            | Leaf::Word(_)
+            | Leaf::NotFollowedBy(_)
+            | Leaf::EndOfText
+            | Leaf::Declare(_) => None,
+        }
+    }
+
+    /// The word item that it reads a word of, if it reads one.
+    pub fn named_word(&self) -> Option<&W>
+        ensures { option_copied result ≡ word_of self.now }
+    {
+        match self {
+            Leaf::Word(word) => Some(word),
+            Leaf::Satisfy(_)
+            | Leaf::String(_)
+            | Leaf::NotFollowedBy(_)
+            | Leaf::EndOfText
+            | Leaf::Declare(_) => None,
+        }
+    }
+
+    /// Whether it reads a declaration of an operator.
+    pub fn is_declaration(&self) -> bool
+        ensures { result ≡ is_declaration self.now }
+    {
+        match self {
+            Leaf::Declare(_) => true,
+            Leaf::Satisfy(_)
+            | Leaf::String(_)
+            | Leaf::Word(_)
+            | Leaf::NotFollowedBy(_)
+            | Leaf::EndOfText => false,
+        }
+    }
+
     /// The class expression that stands in it, if one does.
     pub fn class(&self) -> Option<&ClassExpression>
         ensures { option_copied result ≡ class_of self.now }
@@ -129,6 +256,17 @@ impl<W> Leaf<W> {
 }
 
 impl Around {
+    /// Whether it is a `try`.
+    pub fn is_try(&self) -> bool
+        ensures { result ≡ is_try self.now }
+    {
+        match self {
+            Around::Try => true,
+            Around::Text | Around::Skip | Around::Build(_, _) | Around::Label(_) | Around::Local =>
+                { false }
+        }
+    }
+
     /// The builder that stands in it, if one does.
     pub fn builder(&self) -> Option<&BuilderUse>
         ensures { option_copied result ≡ builder_of self.now }

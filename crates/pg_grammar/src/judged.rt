@@ -3,11 +3,12 @@
 //! Each judgement is over what stands in the form: its class expression, its builders, its literal and its name. A maker
 //! relies on them for F4, F7 and F8.
 
-ghost use Rattle.std.specs.Prelude.{◌≡◌, not, length, map};
+ghost use Rattle.std.specs.Prelude.{◌≡◌, false, not, [], length, map, unwrap_or};
 ghost use Rattle.pg_form.specs.Names.{has_name};
 ghost use Rattle.std.specs.List.{list_any};
+ghost use Rattle.std.specs.Option.{option_map_or};
 ghost use Rattle.pg_form.specs.Classes.{descends, is_long, lacks_item};
-ghost use Rattle.pg_form.specs.Contents.{class_parts, builders_in, literal_in, name_in, all_builders};
+ghost use Rattle.pg_form.specs.Contents.{class_parts, builders_in, is_declaration, leaf_in, literal_in, name_in, word_in, all_builders};
 ghost use Rattle.pg_form.specs.Forms.{has_bad_literal, has_long_name, has_long_text, has_unknown_name, has_unknown_class, is_empty_string, uses_operators};
 ghost use Rattle.pg_form.specs.WordItems.{word_name};
 
@@ -39,16 +40,9 @@ fn has_descending_range(form: &BaseForm) -> bool
 fn is_empty_string(form: &BaseForm) -> bool
     ensures { result ≡ is_empty_string form.now }
 {
-    match form {
-        Form::Leaf(Leaf::String(text)) => text.is_empty(),
-        Form::Leaf(_)
-        | Form::Seq(_)
-        | Form::Choice(_)
-        | Form::Many(_)
-        | Form::Chain(_, _, _, _)
-        | Form::Rule(_)
-        | Form::Expression(_, _)
-        | Form::Around(_, _) => false,
+    match form.string() {
+        Some(text) => text.is_empty(),
+        None => false,
     }
 }
 
@@ -129,15 +123,19 @@ fn literal_length(form: &BaseForm) -> usize
 fn name_length(form: &BaseForm) -> usize
     ensures { result ≡ length (name_in form.now) }
 {
-    match form {
-        Form::Leaf(Leaf::Word(name)) | Form::Rule(name) => name.len(),
-        Form::Leaf(_)
-        | Form::Seq(_)
-        | Form::Choice(_)
-        | Form::Many(_)
-        | Form::Chain(_, _, _, _)
-        | Form::Expression(_, _)
-        | Form::Around(_, _) => 0,
+    match form.named_rule() {
+        Some(name) => name.len(),
+        None => word_length(form),
+    }
+}
+
+/// How many characters the name of its word item has.
+fn word_length(form: &BaseForm) -> usize
+    ensures { result ≡ length (unwrap_or (word_in form.now) []) }
+{
+    match form.named_word() {
+        Some(name) => name.len(),
+        None => 0,
     }
 }
 
@@ -179,15 +177,19 @@ fn has_unknown_class(count: usize, form: &BaseForm) -> bool
 fn uses_operators(form: &BaseForm) -> bool
     ensures { result ≡ uses_operators form.now }
 {
-    match form {
-        Form::Leaf(Leaf::Declare(_)) | Form::Expression(_, _) => true,
-        Form::Leaf(_)
-        | Form::Seq(_)
-        | Form::Choice(_)
-        | Form::Many(_)
-        | Form::Chain(_, _, _, _)
-        | Form::Rule(_)
-        | Form::Around(_, _) => false,
+    match form.term() {
+        Some(_) => true,
+        None => declares(form),
+    }
+}
+
+/// Whether it reads a declaration of an operator.
+fn declares(form: &BaseForm) -> bool
+    ensures { result ≡ option_map_or is_declaration (leaf_in form.now) false }
+{
+    match form.leaf() {
+        Some(leaf) => leaf.is_declaration(),
+        None => false,
     }
 }
 

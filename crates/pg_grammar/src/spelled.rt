@@ -9,7 +9,7 @@ ghost use Rattle.std.specs.List.{list_any};
 ghost use Rattle.std.specs.Str.{all_scalars};
 ghost use Rattle.pg_value.specs.Grammar.{is_misspelled};
 
-use pg_form::{BaseForm, Form, Leaf};
+use pg_form::BaseForm;
 
 /// Goes through the strings of forms.
 pub(crate) fn go_through_strings(forms: &[BaseForm])
@@ -24,16 +24,9 @@ pub(crate) fn go_through_strings(forms: &[BaseForm])
 fn go_through_string(form: &BaseForm)
     ensures { is_misspelled form.now ≡ false }
 {
-    match form {
-        Form::Leaf(Leaf::String(text)) => go_through(text.as_slice()),
-        Form::Leaf(_)
-        | Form::Seq(_)
-        | Form::Choice(_)
-        | Form::Many(_)
-        | Form::Chain(_, _, _, _)
-        | Form::Rule(_)
-        | Form::Expression(_, _)
-        | Form::Around(_, _) => (),
+    match form.string() {
+        Some(text) => go_through(text.as_slice()),
+        None => (),
     }
 }
 

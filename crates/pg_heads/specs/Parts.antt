@@ -1,5 +1,7 @@
 -- What the marks of nullable nodes show of the parts that are reached, and which rules are used where.
 use Rattle.std.specs.Prelude.{ℕ, suc, Bool, if◌then◌else◌, List, [], ◌∷◌}
+use Rattle.std.specs.Option.{option_map_or}
+use Rattle.pg_form.specs.Contents.{rule_in}
 use Rattle.pg_form.specs.Forms.{Node}
 use Rattle.pg_form.specs.declared.form.Form.TheVariants as form
 use Rattle.pg_graph.specs.Graphs.{joined_each}
@@ -23,14 +25,7 @@ reached_parts marks (form.Expression builders term) = term ∷ []
 
 -- the rule that a node uses, or none
 abbrev pub used_rules : Node → List ℕ
-used_rules (form.Leaf leaf) = []
-used_rules (form.Seq parts) = []
-used_rules (form.Choice parts) = []
-used_rules (form.Many part) = []
-used_rules (form.Chain side used operand separator) = []
-used_rules (form.Around around part) = []
-used_rules (form.Rule rule) = rule ∷ []
-used_rules (form.Expression builders term) = []
+used_rules n = option_map_or (λ rule. rule ∷ []) (rule_in n) []
 
 -- the lists, with the number of each node at the end of those lists that it names, the first node having the number p
 abbrev pub all_joined : (Node → List ℕ) → ℕ → List Node → List (List ℕ) → List (List ℕ)

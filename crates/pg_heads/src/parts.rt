@@ -97,14 +97,8 @@ fn join_all(graph: &mut [Numbers], number: usize, parts: &[NodeId]) -> Result<()
 fn used_rule(node: &Node) -> Option<RuleId>
     ensures { MatchOption result (used_rules node.now ≡ []) (λ rule. used_rules node.now ≡ rule ∷ []) }
 {
-    match node {
-        Form::Rule(rule) => Some(*rule),
-        Form::Leaf(_)
-        | Form::Seq(_)
-        | Form::Choice(_)
-        | Form::Many(_)
-        | Form::Chain(_, _, _, _)
-        | Form::Around(_, _)
-        | Form::Expression(_, _) => None,
+    match node.named_rule() {
+        Some(rule) => Some(*rule),
+        None => None,
     }
 }

@@ -53,15 +53,6 @@ impl WrittenClass {
         WrittenClass { parts }
     }
 
-    /// Its parts, in the order in which they are written, moved out.
-    pub fn into_parts(self) -> Vec<WrittenPart>
-        ensures same { result.items ≡ self }
-        ensures whole { IsClass self }
-    {
-        let WrittenClass { parts } = self;
-        parts
-    }
-
     /// Its parts, in the order in which they are written.
     pub fn parts(&self) -> &[WrittenPart]
         ensures same { result.now ≡ self.now }

@@ -2,7 +2,8 @@
 use Rattle.std.proofs.Common.{◌≡◌, ℕ, List, Bool, false, Option, sym, subst}
 use Rattle.pg_value.specs.Grammar.{Grammar}
 use Rattle.pg_predict.specs.Refusals.{RefusedGrammar, IsRefused}
-use Rattle.pg_json_bench.specs.Listing.{IsListed, IsPartlyListed, WritesPage, WritesPartOfPage}
+use Rattle.pg_finding_json.specs.Pages.{WritesPage, WritesPartOfPage}
+use Rattle.pg_json_bench.specs.Listing.{IsListed, IsPartlyListed}
 
 module _ (g : Grammar) (refused : RefusedGrammar) (writer held : Option (List ℕ)) (is : IsRefused g refused) where
   pub listed_refused : (accepted : Bool) → accepted ≡ false → WritesPage writer held → IsListed g writer held accepted

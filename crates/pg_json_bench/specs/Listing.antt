@@ -36,10 +36,3 @@ pub record IsPartlyListedFile (offer : Offer) (file : List ℕ) (writer held : O
   pub grammar : Grammar
   pub spelled : SpellsWithinLimits offer file grammar
   pub listed : IsPartlyListed grammar writer held
-
--- some page was written, or a prefix of one
-abbrev pub WritesPage : Option (List ℕ) → Option (List ℕ) → Type 0
-WritesPage writer held = (page : List ℕ) × Appends writer held page
-
-abbrev pub WritesPartOfPage : Option (List ℕ) → Option (List ℕ) → Type 0
-WritesPartOfPage writer held = (page : List ℕ) × AppendsPrefix writer held page

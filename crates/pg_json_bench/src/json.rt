@@ -2,18 +2,19 @@
 
 ghost use Rattle.std.specs.Prelude.{◌≡◌, false, true, IfOk, IfErr, OnOk, IsErrOf};
 ghost use Rattle.pg_pred.specs.Offer.{offer_of};
-ghost use Rattle.pg_json_bench.specs.Listing.{IsListed, IsPartlyListed, IsListedFile, IsPartlyListedFile, WritesPage, WritesPartOfPage};
+ghost use Rattle.pg_json_bench.specs.Listing.{IsListed, IsPartlyListed, IsListedFile, IsPartlyListedFile};
+ghost use Rattle.pg_finding_json.specs.Pages.{WritesPage, WritesPartOfPage};
 ghost use Rattle.pg_grammar_bench.specs.Files.{IsFaultOfFile};
 ghost use Rattle.pg_grammar_bench.specs.Faults.{IfFile, IsBeforeWriting, IsPageRefusal, IsWriteRefusal};
 
-use pg_finding_json::findings_page;
-use pg_grammar_bench::{BenchFault, placed_of, write_page};
+use pg_finding_json::write_listing;
+use pg_grammar_bench::{BenchFault, placed_of};
 use pg_items::Span;
 use pg_making::PlacedGrammar;
 use pg_pred::Registry;
 use pg_predict::{CheckFault, Checked, Refused, check};
-use pg_tokens::characters_of;
-use pg_tree::Meter;
+use pg_text::characters_of;
+use pg_tree::{Meter, WriteFault};
 use pg_value::Grammar;
 use std::alloc::{AllocError, Global};
 use std::io::Write;
@@ -134,9 +135,9 @@ fn list_refused<W: Write>(
     ensures failed { IsErrOf result BenchFault.Writer → writer.new.failed ≡ true }
     ensures prefix { IsErrOf result BenchFault.Writer → WritesPartOfPage (W.contents writer.old.inner) (W.contents writer.new.inner) }
 {
-    let Ok(page) = findings_page(alloc, refused, file.name, file.text, file.spans) else {
-        return Err(BenchFault::Memory);
-    };
-    write_page(page.as_bytes(), writer)?;
-    Ok(false)
+    match write_listing(alloc, refused, file.name, file.text, file.spans, writer) {
+        Ok(()) => Ok(false),
+        Err(WriteFault::Writer) => Err(BenchFault::Writer),
+        Err(WriteFault::Memory) => Err(BenchFault::Memory),
+    }
 }

@@ -2,6 +2,7 @@
 use Rattle.std.specs.Prelude.{◌+◌, ◌-◌, ℕ, zero, suc, Bool, true, false, ◌&&◌, nat_eq, nat_lt, if◌then◌else◌, List, [], ◌∷◌, ◌++◌, length, Option, Some, None, slice_get, slice_index_or}
 use Rattle.std.specs.Option.{option_and_then, option_map_or, option_or}
 use Rattle.pg_value.specs.Grammar.{Grammar}
+use Rattle.pg_form.specs.Contents.{is_declaration}
 use Rattle.pg_form.specs.Forms.{Node}
 use Rattle.pg_form.specs.declared.form.Form.TheVariants as form
 use Rattle.pg_bit_set.specs.Numbers.{set_at}
@@ -16,7 +17,6 @@ use Rattle.pg_judge.specs.declared.operator_facts.OperatorFacts.{OperatorFacts}
 use Rattle.pg_start.specs.declared.kind.StartKind.TheVariants.{End}
 use Rattle.pg_judge.specs.WithStarts.{Starts}
 use Rattle.pg_form.specs.declared.form.Leaf.{Leaf}
-use Rattle.pg_form.specs.declared.form.Leaf.TheVariants as leaf
 
 -- ---- what is asked
 
@@ -151,12 +151,7 @@ noted_expression facts p term =
 -- ---- leaves
 
 abbrev pub noted_leaf : Facts → ℕ → Leaf ℕ → List (Violation ℕ)
-noted_leaf facts p (leaf.Satisfy class) = []
-noted_leaf facts p (leaf.String text) = []
-noted_leaf facts p (leaf.Word word) = []
-noted_leaf facts p (leaf.NotFollowedBy class) = []
-noted_leaf facts p leaf.EndOfText = []
-noted_leaf facts p (leaf.Declare class) = noted_gap (gap_met facts None p) p
+noted_leaf facts p l = if is_declaration l then noted_gap (gap_met facts None p) p else []
 
 -- ---- all forms
 

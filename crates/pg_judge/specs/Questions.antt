@@ -2,6 +2,8 @@
 -- a rule heads itself, and then what is asked of the form. Of a choice one series asks for empty alternatives, then one of each
 -- alternative whether it meets those after it, and a last one for what follows; elsewhere each question is a series.
 use Rattle.std.specs.Prelude.{◌+◌, ◌-◌, ℕ, zero, suc, ◌&&◌, nat_lt, if◌then◌else◌, List, [], ◌∷◌, length, Option, Some, None}
+use Rattle.std.specs.Option.{option_map_or}
+use Rattle.pg_form.specs.Contents.{alternatives_in}
 use Rattle.pg_form.specs.Forms.{Node}
 use Rattle.pg_form.specs.declared.form.Form.TheVariants as form
 use Rattle.pg_bit_set.specs.Numbers.{set_at}
@@ -89,14 +91,7 @@ choice_questions facts parts (suc j) =
     if nat_lt j (length parts) then (if is_marked facts.suspects (part_at parts j) then length parts else 0) else length parts - 1
 
 abbrev pub form_questions : Facts → Node → ℕ → ℕ
-form_questions facts (form.Leaf l) j = 1
-form_questions facts (form.Seq parts) j = 1
-form_questions facts (form.Choice parts) j = choice_questions facts parts j
-form_questions facts (form.Many part) j = 1
-form_questions facts (form.Chain side used operand separator) j = 1
-form_questions facts (form.Rule rule) j = 1
-form_questions facts (form.Expression builders term) j = 1
-form_questions facts (form.Around around part) j = 1
+form_questions facts n j = option_map_or (λ parts. choice_questions facts parts j) (alternatives_in n) 1
 
 abbrev pub node_questions : Facts → Node → ℕ → ℕ
 node_questions facts n zero = 1

@@ -16,12 +16,9 @@ pub(crate) fn ask_leaf(
 ) -> Option<ViolationKind<usize>>
     ensures { found_at node result ≡ noted_leaf judge.now node leaf.now }
 {
-    match leaf {
-        Leaf::Declare(_) => gap_meets(judge.gap_met(None, node), node),
-        Leaf::Satisfy(_)
-        | Leaf::String(_)
-        | Leaf::Word(_)
-        | Leaf::NotFollowedBy(_)
-        | Leaf::EndOfText => None,
+    if leaf.is_declaration() {
+        gap_meets(judge.gap_met(None, node), node)
+    } else {
+        None
     }
 }

@@ -10,7 +10,6 @@ ghost use Rattle.pg_judge.specs.Conditions.{claimed_facts};
 ghost use Rattle.pg_judge.specs.Shown.{AreWellFormed, AreBySets, AreFacts, AreLeastFacts};
 
 use crate::costly::costly_body;
-use crate::marks::is_marked;
 use crate::meetings::{Meeting, earlier, first_meeting, first_met};
 use crate::met_starts::met_starts;
 use crate::operator_facts::{OperatorFacts, operator_facts};
@@ -19,6 +18,7 @@ use crate::suspects::suspects;
 use pg_bit_set::BitSet;
 use pg_costs::step_cost;
 use pg_form::NodeId;
+use pg_graph::is_marked;
 use pg_own_starts::ListedStart;
 use pg_sets::Sets;
 use pg_value::Grammar;

@@ -40,15 +40,9 @@ pub fn node_questions(judge: &Judge, form: &Node, series: usize) -> usize
 fn form_questions(judge: &Judge, form: &Node, series: usize) -> usize
     ensures { result ≡ form_questions judge.now form.now series }
 {
-    match form {
-        Form::Choice(parts) => choice_questions(judge, parts.as_slice(), series),
-        Form::Many(_)
-        | Form::Chain(_, _, _, _)
-        | Form::Leaf(_)
-        | Form::Expression(_, _)
-        | Form::Seq(_)
-        | Form::Rule(_)
-        | Form::Around(_, _) => 1,
+    match form.alternatives() {
+        Some(parts) => choice_questions(judge, parts.as_slice(), series),
+        None => 1,
     }
 }
 

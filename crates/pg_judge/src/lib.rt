@@ -13,7 +13,6 @@ mod declarations;
 mod expressions;
 mod judge;
 mod judging;
-mod marks;
 mod meetings;
 mod met_starts;
 mod noting;

@@ -27,19 +27,7 @@ pub fn front_use(
 
 /// Whether a node is a use of this rule.
 fn is_use(known: &Known, node: NodeId, rule: RuleId) -> bool {
-    match known.form(node) {
-        Some(Form::Rule(used)) => *used == rule,
-        Some(
-            Form::Leaf(_)
-            | Form::Seq(_)
-            | Form::Choice(_)
-            | Form::Many(_)
-            | Form::Chain(_, _, _, _)
-            | Form::Expression(_, _)
-            | Form::Around(_, _),
-        )
-        | None => false,
-    }
+    known.rule_used(node) == Some(rule)
 }
 
 /// Opens the parts that a node can begin with, so that the first of them is the next one.

@@ -5,7 +5,7 @@ use crate::grammar_file::GrammarFile;
 use pg_character_sets::classes_of_items;
 use pg_class::Class;
 use pg_excerpt::positions;
-use pg_form::{Form, Node, NodeId};
+use pg_form::{Form, Node, NodeId, RuleId};
 use pg_graph::Numbers;
 use pg_own_starts::{ListedStart, OperatorStarts, operator_starts};
 use pg_predict::Refused;
@@ -65,6 +65,27 @@ impl<'g> Known<'g> {
         self.grammar.nodes().get(node.index())
     }
 
+    /// The alternatives of a choice; none of another form.
+    pub fn alternatives(&self, node: NodeId) -> &[NodeId] {
+        match self.form(node) {
+            Some(form) => match form.alternatives() {
+                Some(parts) => parts.as_slice(),
+                None => &[],
+            },
+            None => &[],
+        }
+    }
+
+    /// The rule that is used at a node, if one is.
+    pub fn rule_used(&self, node: NodeId) -> Option<RuleId> {
+        self.form(node)?.named_rule().copied()
+    }
+
+    /// The term of an expression, if one stands at a node.
+    pub fn term(&self, node: NodeId) -> Option<NodeId> {
+        self.form(node)?.term().copied()
+    }
+
     /// The rule with this number, if it is there.
     pub fn rule(&self, number: usize) -> Option<&Rule> {
         self.grammar.rules().get(number)
@@ -88,21 +109,9 @@ impl<'g> Known<'g> {
 
     /// The alternative with this number, from 1; the node itself, if it has none.
     pub fn alternative(&self, node: NodeId, number: usize) -> NodeId {
-        match self.form(node) {
-            Some(Form::Choice(parts)) => match parts.as_slice().get(number.saturating_sub(1)) {
-                Some(part) => *part,
-                None => node,
-            },
-            Some(
-                Form::Leaf(_)
-                | Form::Seq(_)
-                | Form::Many(_)
-                | Form::Chain(_, _, _, _)
-                | Form::Rule(_)
-                | Form::Expression(_, _)
-                | Form::Around(_, _),
-            )
-            | None => node,
+        match self.alternatives(node).get(number.saturating_sub(1)) {
+            Some(part) => *part,
+            None => node,
         }
     }
 
@@ -126,18 +135,9 @@ impl<'g> Known<'g> {
 
     /// Whether what stands at a node is an expression whose term begins with this start.
     pub fn begins_term(&self, node: NodeId, start: usize) -> bool {
-        match self.form(node) {
-            Some(Form::Expression(_, term)) => self.sets.first(*term).contains(start),
-            Some(
-                Form::Leaf(_)
-                | Form::Seq(_)
-                | Form::Choice(_)
-                | Form::Many(_)
-                | Form::Chain(_, _, _, _)
-                | Form::Rule(_)
-                | Form::Around(_, _),
-            )
-            | None => false,
+        match self.term(node) {
+            Some(term) => self.sets.first(term).contains(start),
+            None => false,
         }
     }
 

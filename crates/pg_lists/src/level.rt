@@ -75,8 +75,6 @@ pub struct Setting<'a> {
     pub in_force: Rc<InForce>,
     /// Where the trail has its item.
     pub slot: usize,
-    /// How many trees there were before those of the expression.
-    pub forest: usize,
 }
 
 /// The term of an expression runs, over these levels, of which the innermost is that of the tightest row that has begun.

@@ -2,7 +2,7 @@
 
 ghost use Rattle.std.specs.Prelude.{◌≡◌, [], length, slice_set, IfOk, OnOk};
 ghost use Rattle.pg_message_tape.specs.TapeErrors.{tape_error, tape_error_after, messages_after};
-ghost use Rattle.pg_lists.specs.RunTrees.{no_run_trees, first_trees};
+ghost use Rattle.pg_lists.specs.RunTrees.{no_run_trees};
 
 use crate::run_forest::RunForest;
 use pg_message_tape::{KeptError, MessageTape, TapeError};
@@ -29,16 +29,6 @@ impl<'a> Lists<'a> {
             trail: Vec::new(alloc),
             messages: MessageTape::new(alloc),
         }
-    }
-
-    /// Drops the trees after the first `count`. It takes no memory.
-    #[inline(always)]
-    pub fn cut_forest(&mut self, count: usize)
-        ensures forest { self.new.forest ≡ first_trees count self.old.forest }
-        ensures trail { self.new.trail ≡ self.old.trail }
-        ensures messages { self.new.messages ≡ self.old.messages }
-    {
-        self.forest.cut(count);
     }
 
     /// The error without messages at the place, in characters.

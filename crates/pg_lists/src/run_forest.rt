@@ -201,11 +201,11 @@ impl RunForest {
     }
 
     /// The trees that are kept, as one forest. It takes no memory.
-    pub fn into_forest(self) -> Result<Forest, AllocError>
-        ensures { IfOk result (λ forest. forest ≡ self.kept) }
+    pub fn into_forest(self) -> Forest
+        ensures { result ≡ self.kept }
     {
         let RunForest { tape, .. } = self;
-        Ok(tape)
+        tape
     }
 }
 

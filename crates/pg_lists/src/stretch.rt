@@ -14,9 +14,9 @@ use crate::lists::Lists;
 use crate::run_forest::RunForest;
 use crate::said::{Said, merge_said};
 use pg_form::BuilderUse;
-use pg_message_tape::{KeptError, utf8};
+use pg_message_tape::KeptError;
 use pg_pred::Registry;
-use pg_text::Characters;
+use pg_text::{Characters, utf8};
 use pg_value::{AppliedOperator, AppliedOperators, Fixity, TrailItem};
 use std::alloc::{AllocError, Global};
 

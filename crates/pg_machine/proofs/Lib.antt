@@ -4,3 +4,4 @@ pub mod Enough
 pub mod Whole
 pub mod FewSteps
 pub mod Probed
+pub mod OneTurn

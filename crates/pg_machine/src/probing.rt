@@ -121,7 +121,7 @@ fn success(alloc: Global, machine: &mut Machine<'_>, end: usize) -> Result<Succe
 {
     let table = machine.table.copy(alloc)?;
     let trees = replace(&mut machine.lists.forest, RunForest::new(alloc));
-    let forest = trees.into_forest()?;
+    let forest = trees.into_forest();
     let trail = replace(&mut machine.lists.trail, Vec::new(alloc));
     Ok(Success {
         place: end,

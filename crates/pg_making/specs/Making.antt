@@ -12,6 +12,8 @@ use Rattle.pg_items.specs.Entries.{Entry, class, word, operators, table, start, 
 use Rattle.pg_meaning.specs.Names.{is_predicate_name, ClassIsKnown, FormIsKnown}
 use Rattle.pg_meaning.specs.Bodies.{parts_meant, body_meant}
 use Rattle.pg_making.specs.Spells.{made_classes, max_meant, HasInitialTable}
+use Rattle.pg_making.specs.declared.fault.GrammarError.{GrammarError}
+use Rattle.pg_making.specs.declared.fault.GrammarError.TheVariants.{Memory, Refused}
 
 -- what was handed in, and an entry more
 abbrev pub with_entry : Offer → Made → Entry → Made
@@ -83,3 +85,8 @@ MakeNoGrammar offer entries = (g : Grammar) → IsGrammarOfEntries offer entries
 abbrev pub LeadsNowhere : Offer → Made → Entry → Type 0
 LeadsNowhere offer made entry =
     (entries : List Entry) (g : Grammar) → MayFollow offer made entry → Says (with_entries offer (with_entry offer made entry) entries) g → ⊥
+
+-- the items are refused, and it isn't that memory ran out
+abbrev pub IsRefusal : GrammarError → Type 0
+IsRefusal Memory = ⊥
+IsRefusal (Refused fault) = Unit {0}

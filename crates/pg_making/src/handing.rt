@@ -1,8 +1,8 @@
 //! Items handed to a maker, one function for each kind.
 //!
 //! Class items are named by their numbers there, so the names of those that were handed in are kept beside the maker. A
-//! refusal says that no grammar can come of what was handed in and this item; which name is at fault is found out by who
-//! reports it.
+//! refusal says that no grammar can come of what was handed in and this item; which name is at fault was found out before
+//! (`names`).
 
 ghost use Rattle.std.specs.Prelude.{◌≡◌, ◌+◌, ◌↔◌, ◌<◌, ◌≤◌, length, None, IfOk, OnOk, IsErrOf, IfSome, IsSome};
 ghost use Rattle.pg_pred.specs.Offer.{offer_of};

@@ -1,14 +1,21 @@
-//! Whether the initial operators of a grammar are admitted, each by those above it.
+//! Whether the initial operators of a grammar are admitted, each by those above it, and which one isn't.
 //!
-//! The crate of operator tables judges them.
+//! The crate of operator tables judges them: all of a grammar at the end, and each as its item is gone through, so that the
+//! first that isn't admitted is known with its place.
 
 ghost use Rattle.std.specs.Prelude.{OnOk, IsErrOf};
 ghost use Rattle.pg_making.specs.Spells.{HasInitialTable};
 
+use crate::fault::{NameFault, NameFaultKind};
+use crate::handing::{declaration, texts};
+use crate::scope::fault;
+use pg_form::OPERATOR_LIMIT;
+use pg_items::Item;
 use pg_meaning::MakingError;
 use pg_table::{InitialFault, Table};
+use pg_text::Characters;
 use pg_value::Grammar;
-use std::alloc::Global;
+use std::alloc::{AllocError, Global};
 
 /// Whether a grammar has an initial table. Refused where it has none.
 pub fn has_initial_table(alloc: Global, grammar: &Grammar) -> Result<(), MakingError>
@@ -20,4 +27,54 @@ pub fn has_initial_table(alloc: Global, grammar: &Grammar) -> Result<(), MakingE
         Err(InitialFault::NotAdmitted { .. }) => Err(MakingError::Refused),
         Err(InitialFault::Memory) => Err(MakingError::Memory),
     }
+}
+
+/// The table of the first operators item, if there is one, before any initial operator comes into it.
+pub fn table_without_initials(alloc: Global, items: &[Item]) -> Result<Option<Table>, AllocError> {
+    for item in items {
+        if let Item::Operators { reserved, most, .. } = item {
+            let most = most.unwrap_or(OPERATOR_LIMIT);
+            return Ok(Some(table_with(alloc, reserved.as_slice(), most)?));
+        }
+    }
+    Ok(None)
+}
+
+/// The table without operators in which these symbols are reserved and which may hold so many, 64 at most.
+fn table_with(alloc: Global, reserved: &[Characters], most: usize) -> Result<Table, AllocError> {
+    let reserved = texts(alloc, reserved)?;
+    match Table::of_declarations(alloc, reserved, most.min(OPERATOR_LIMIT), &[]) {
+        Ok(table) => Ok(table),
+        Err(_) => Err(AllocError),
+    }
+}
+
+/// The fault of an item that is an initial operator: there is no operators item, or the operators above don't admit it. Else
+/// it comes into the table.
+pub fn initial_fault(
+    alloc: Global,
+    table: &mut Option<Table>,
+    item: &Item,
+) -> Result<Option<NameFault>, AllocError> {
+    let Item::Table {
+        role,
+        precedence,
+        symbol,
+        place,
+        symbol_place,
+    } = item
+    else {
+        return Ok(None);
+    };
+    let Some(table) = table else {
+        return Ok(fault(NameFaultKind::Unknown, *place));
+    };
+    let Some(declaration) = declaration(alloc, *role, *precedence, symbol)? else {
+        return Ok(None);
+    };
+    if let Err(reason) = table.admit(&declaration) {
+        return Ok(fault(NameFaultKind::NotAdmitted(reason), *symbol_place));
+    }
+    table.extend(declaration)?;
+    Ok(None)
 }

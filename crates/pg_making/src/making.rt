@@ -1,19 +1,21 @@
 //! The grammar of a file's items, with what the registry has for their names.
 //!
-//! The items are handed to a maker in file order, and the spans of the base forms are kept beside it. Whatever stands in
-//! the way of a grammar refuses the items as a whole; at which name it stands is found out by who reports it. The
-//! limits have been kept by then, so the maker refuses no item for its size.
+//! The names of each item are looked up, and it is handed to a maker, in file order; the spans of the base forms are kept
+//! beside it. Whatever stands in the way of a grammar refuses the items as a whole, and the first fault of a name is told.
+//! The limits have been kept by then, so the maker refuses no item for its size.
 
-ghost use Rattle.std.specs.Prelude.{◌≡◌, ◌+◌, length, IfOk, OnOk, IsErrOf};
+ghost use Rattle.std.specs.Prelude.{◌≡◌, ◌+◌, length, IfOk, IfErr, OnOk, IsErrOf};
 ghost use Rattle.pg_pred.specs.Offer.{offer_of};
 ghost use Rattle.pg_items.specs.Entries.{entry_of, entries_of};
 ghost use Rattle.pg_making.specs.Spells.{made_classes};
-ghost use Rattle.pg_making.specs.Making.{with_entry, MayFollow, LeadsNowhere, IsProperEntry, AreProperEntries, IsGrammarOfEntries, MakeNoGrammar};
+ghost use Rattle.pg_making.specs.Making.{with_entry, MayFollow, LeadsNowhere, IsProperEntry, AreProperEntries, IsGrammarOfEntries, MakeNoGrammar, IsRefusal};
 
+use crate::fault::GrammarError;
 use crate::handing::{
     class_item, operators_item, rule_item, start_item, table_item, unmade, word_item,
 };
 use crate::initials::has_initial_table;
+use crate::names::Names;
 use pg_grammar::Maker;
 use pg_items::{Item, Span};
 use pg_meaning::MakingError;
@@ -31,10 +33,31 @@ pub struct PlacedGrammar {
 }
 
 /// The grammar of items as a file may have them, none of which passes a limit. Refused where they make none: a name stands
-/// for nothing or comes twice, no start names a rule, or an initial operator isn't admitted.
+/// for nothing or comes twice, no start names a rule, or an initial operator isn't admitted. The first such fault in file
+/// order is told.
 pub fn grammar_of(
     alloc: Global,
     registry: &Registry,
+    items: &[Item],
+) -> Result<PlacedGrammar, GrammarError>
+    requires { AreProperEntries (entries_of items.now) }
+    ensures ok { IfOk result (λ made. IsGrammarOfEntries (offer_of registry.now) (entries_of items.now) made.grammar) }
+    ensures spans { IfOk result (λ made. length made.spans.items ≡ length made.grammar.nodes) }
+    ensures refused { IfErr result (λ e. IsRefusal e → MakeNoGrammar (offer_of registry.now) (entries_of items.now)) }
+{
+    let mut names = Names::of(alloc, items)?;
+    match made_of(alloc, registry, &mut names, items) {
+        Ok(made) => Ok(made),
+        Err(MakingError::Memory) => Err(GrammarError::Memory),
+        Err(MakingError::Refused) => Err(GrammarError::Refused(names.first_fault())),
+    }
+}
+
+/// The grammar that these items make, whose names are looked up on the way.
+fn made_of(
+    alloc: Global,
+    registry: &Registry,
+    names: &mut Names<'_>,
     items: &[Item],
 ) -> Result<PlacedGrammar, MakingError>
     requires { AreProperEntries (entries_of items.now) }
@@ -46,6 +69,7 @@ pub fn grammar_of(
     let mut classes = Vec::new(alloc);
     let mut spans = Vec::new(alloc);
     for item in items {
+        names.look_up(alloc, registry, item)?;
         hand_in(alloc, registry, &mut maker, &mut classes, &mut spans, item)?;
     }
     let grammar = match maker.finish() {

@@ -15,8 +15,8 @@ use crate::error::MakingError;
 use pg_form::{BuilderUse, ClassExpression, ClassId, ClassPart, OperatorBuilders, PredicateUse};
 use pg_items::{WrittenClass, WrittenPart};
 use pg_pred::Registry;
-use pg_text::Characters;
-use pg_tokens::{copied, utf8};
+use pg_text::{Characters, utf8};
+use pg_tokens::copied;
 use pg_tree::Label;
 use std::alloc::{AllocError, Global};
 

@@ -12,6 +12,6 @@ mod message_tape;
 mod repeated;
 mod texts;
 
-pub use message::{Message, Sided, utf8};
+pub use message::{Message, Sided};
 pub use message_tape::{KeptError, MessageTape, TapeError};
 pub use texts::told;

@@ -4,7 +4,6 @@
 //! grammar and in the text that is parsed.
 
 ghost use Rattle.std.specs.Prelude.{◌≡◌, ◌++◌, codes, string_bytes, IfOk};
-ghost use Rattle.std.specs.Str.{encode_utf8_all};
 ghost use Rattle.pg_language.specs.Declarations.{not_admitted};
 ghost use Rattle.pg_language.specs.Errors.{quote, next_text};
 ghost use Rattle.pg_language.specs.OperatorReads.{ambiguous_words};
@@ -12,6 +11,7 @@ ghost use Rattle.pg_message_tape.specs.Messages.{message_kind, message_text, is_
 
 use pg_message::MessageKind;
 use pg_table::AdmitFault;
+use pg_text::utf8;
 use serde_json::Value;
 use std::alloc::{AllocError, Global};
 
@@ -128,17 +128,6 @@ fn ambiguous(side: Sided) -> &'static str
         Sided::Right => "ambiguous use of a right associative operator",
         Sided::Neither => "ambiguous use of a non associative operator",
     }
-}
-
-/// The text with these characters. The only error is that memory ran out.
-pub fn utf8(alloc: Global, characters: &[char]) -> Result<String, AllocError>
-    ensures { IfOk result (λ text. string_bytes text ≡ encode_utf8_all characters.now) }
-{
-    let mut text = String::new(alloc);
-    for c in characters {
-        text.push(*c)?;
-    }
-    Ok(text)
 }
 
 /// The characters in double quotes, with the escapes of JSON.

@@ -122,16 +122,6 @@ impl<'a> MessageTape<'a> {
         again
     }
 
-    /// Puts these messages at the end. The only error is that memory ran out.
-    pub fn push_all(&mut self, messages: &[Message<'a>]) -> Result<(), AllocError>
-        ensures { OnOk result (self.new ≡ self.old ++ map tape_message_of messages.now) }
-    {
-        for message in messages {
-            self.push(*message)?;
-        }
-        Ok(())
-    }
-
     /// Drops all but so many of the first messages, or none where there are fewer.
     #[inline(always)]
     pub fn cut(&mut self, count: usize)

@@ -2,7 +2,7 @@
 
 use crate::beginnings::{Beginnings, Name};
 use crate::declared::parts_of_declaration;
-use pg_form::{Around, BuilderUse, Form, Leaf, NodeId, OperatorBuilders};
+use pg_form::{Around, BuilderUse, Form, NodeId, OperatorBuilders};
 use pg_replay::{Closing, Replayer, RoundsTask, ShortTask, Task};
 use pg_table::Table;
 use pg_text::Text;
@@ -131,15 +131,9 @@ impl<'a> Walk<'a> {
     ) -> Result<(), AllocError> {
         match grammar.nodes().get(node.index()) {
             Some(Form::Chain(_, _, _, _) | Form::Expression(_, _)) => self.begin(place),
-            Some(Form::Leaf(Leaf::Declare(_))) => self.declare(grammar, text, place),
+            Some(Form::Leaf(leaf)) if leaf.is_declaration() => self.declare(grammar, text, place),
             Some(
-                Form::Leaf(
-                    Leaf::Satisfy(_)
-                    | Leaf::String(_)
-                    | Leaf::Word(_)
-                    | Leaf::NotFollowedBy(_)
-                    | Leaf::EndOfText,
-                )
+                Form::Leaf(_)
                 | Form::Seq(_)
                 | Form::Choice(_)
                 | Form::Many(_)

@@ -9,7 +9,7 @@ use Rattle.pg_class.specs.Ranges.{Range}
 use Rattle.pg_class.proofs.Unique.{same_class}
 use Rattle.pg_value.specs.Grammar.{Grammar}
 use Rattle.pg_form.specs.declared.class.ClassPart.{ClassPart}
-use Rattle.pg_start.specs.Prefixes.{is_reserved}
+use Rattle.pg_text.specs.Texts.{is_among}
 use Rattle.pg_own_starts.specs.OwnStarts.{IsClassOf, SameTexts}
 
 -- a class expression has one class
@@ -18,30 +18,30 @@ one_class {g} {expression} {class} {other} is also = same_class class other is.r
 
 -- ---- texts
 
-pub all_reserved : (texts others : List (List ℕ)) → list_all (is_reserved others) texts ≡ true → (text : List ℕ) → is_reserved texts text ≡ true → is_reserved others text ≡ true
+pub all_reserved : (texts others : List (List ℕ)) → list_all (is_among others) texts ≡ true → (text : List ℕ) → is_among texts text ≡ true → is_among others text ≡ true
 all_reserved [] others all text is = absurd (true≢false (sym is))
 all_reserved (t ∷ ts) others all text is =
-    elim (or_cases (bytes_eq t text) (is_reserved ts text) is) [
-      | inl same ↦ subst (λ s. is_reserved others s ≡ true) ((bytes_eq-Decides t text).0 same) (first_so (is_reserved others t) (list_all (is_reserved others) ts) all)
-      | inr later ↦ all_reserved ts others (second_so (is_reserved others t) (list_all (is_reserved others) ts) all) text later
+    elim (or_cases (bytes_eq t text) (is_among ts text) is) [
+      | inl same ↦ subst (λ s. is_among others s ≡ true) ((bytes_eq-Decides t text).0 same) (first_so (is_among others t) (list_all (is_among others) ts) all)
+      | inr later ↦ all_reserved ts others (second_so (is_among others t) (list_all (is_among others) ts) all) text later
     ]
 
-pub reserved_all : (texts others : List (List ℕ)) → ((text : List ℕ) → is_reserved texts text ≡ true → is_reserved others text ≡ true) → list_all (is_reserved others) texts ≡ true
+pub reserved_all : (texts others : List (List ℕ)) → ((text : List ℕ) → is_among texts text ≡ true → is_among others text ≡ true) → list_all (is_among others) texts ≡ true
 reserved_all [] others each = refl
 reserved_all (t ∷ ts) others each =
-    and_from (is_reserved others t) (list_all (is_reserved others) ts) (each t (or_left (bytes_eq t t) (is_reserved ts t) ((bytes_eq-Decides t t).1 refl)))
-    (reserved_all ts others (λ text is. each text (or_right (bytes_eq t text) (is_reserved ts text) is)))
+    and_from (is_among others t) (list_all (is_among others) ts) (each t (or_left (bytes_eq t t) (is_among ts t) ((bytes_eq-Decides t t).1 refl)))
+    (reserved_all ts others (λ text is. each text (or_right (bytes_eq t text) (is_among ts text) is)))
 
-pub same_from_both : (texts others : List (List ℕ)) → list_all (is_reserved others) texts ≡ true → list_all (is_reserved texts) others ≡ true → SameTexts texts others
+pub same_from_both : (texts others : List (List ℕ)) → list_all (is_among others) texts ≡ true → list_all (is_among texts) others ≡ true → SameTexts texts others
 same_from_both texts others there back text =
-    elim (cases_Bool (is_reserved texts text)) [
+    elim (cases_Bool (is_among texts text)) [
       | inl is ↦ is ∙ sym (all_reserved texts others there text is)
       | inr not ↦
-          elim (cases_Bool (is_reserved others text)) [
-            | inl also ↦ absurd (both_ways (is_reserved texts text) not (all_reserved others texts back text also))
+          elim (cases_Bool (is_among others text)) [
+            | inl also ↦ absurd (both_ways (is_among texts text) not (all_reserved others texts back text also))
             | inr none ↦ not ∙ sym none
           ]
     ]
 
-pub both_from_same : (texts others : List (List ℕ)) → SameTexts texts others → list_all (is_reserved others) texts ≡ true
+pub both_from_same : (texts others : List (List ℕ)) → SameTexts texts others → list_all (is_among others) texts ≡ true
 both_from_same texts others same = reserved_all texts others (λ text is. sym (same text) ∙ is)

@@ -15,7 +15,7 @@ use Rattle.pg_form.specs.declared.operators_item.OperatorsItem.{OperatorsItem}
 use Rattle.pg_form.specs.declared.used.OperatorBuilders.{OperatorBuilders}
 use Rattle.pg_form.specs.declared.word_item.WordItem.{WordItem}
 use Rattle.pg_graph.specs.Marks.{is_marked}
-use Rattle.pg_start.specs.Prefixes.{is_reserved}
+use Rattle.pg_text.specs.Texts.{is_among}
 use Rattle.pg_start.specs.declared.kind.StartKind.{StartKind}
 use Rattle.pg_start.specs.declared.kind.StartKind.TheVariants.{Class, Key, Word}
 
@@ -35,7 +35,7 @@ pub record IsExcludedBy (g : Grammar) (expression : List ClassPart) (class : Lis
 
 -- the texts are the same, in whatever order and however often each stands
 abbrev pub SameTexts : List (List ℕ) → List (List ℕ) → Type 0
-SameTexts texts others = (text : List ℕ) → is_reserved texts text ≡ is_reserved others text
+SameTexts texts others = (text : List ℕ) → is_among texts text ≡ is_among others text
 
 -- words of these classes, these texts reserved, are those of the word item
 pub record ReadsWords (g : Grammar) (heads rest : List Range) (reserved : List (List ℕ)) (w : ℕ) : Type 0 where

@@ -3,7 +3,7 @@
 //! Word items that read the same words, and the operators where they are read as a word item says, are one start.
 ghost use Rattle.std.specs.Prelude.{◌≡◌, ◌↔◌, ℕ, List, true, IfOk};
 ghost use Rattle.std.specs.List.{list_all};
-ghost use Rattle.pg_start.specs.Prefixes.{is_reserved};
+ghost use Rattle.pg_text.specs.Texts.{is_among};
 ghost use Rattle.pg_own_starts.specs.OwnStarts.{IsClassOf, SameTexts};
 ghost use Rattle.pg_own_starts.specs.Listed.{IsFirstReader};
 ghost use Rattle.pg_own_starts.specs.Words.{AreClassesOf, AreWordClasses, ListsWords};
@@ -135,7 +135,7 @@ fn are_same(texts: &Texts, others: &Texts) -> bool
 
 /// Whether each text is one of the others.
 fn all_among(texts: &Texts, others: &Texts) -> bool
-    ensures { result ≡ list_all (is_reserved others.now) texts.now }
+    ensures { result ≡ list_all (is_among others.now) texts.now }
 {
     texts
         .as_slice()

@@ -1,46 +1,39 @@
--- How conditions are broken, kept one after another up to so many.
-use Rattle.std.proofs.Common.{◌≡◌, ℕ, zero, suc, ◌+◌, ◌-◌, ◌^◌, ◌≤◌, min, List, [], ◌∷◌, ◌++◌, take, length, append_assoc, refl, sym, ap, ◌∙◌, arith}
-use Rattle.std.proofs.Math.Numerals.{add-one}
-use Rattle.std.proofs.lemmas.List.{map-append, length-append, length-map}
-use Rattle.pg_judge.specs.Judged.{all_below}
+-- How conditions are broken at a node, kept or counted as they are found.
+use Rattle.std.proofs.Common.{◌≡◌, ℕ, ◌+◌, ◌-◌, ◌^◌, ◌≤◌, min, List, [], ◌∷◌, ◌++◌, take, length, append_assoc, append-nil, refl, sym, ap, ◌∙◌, arith}
+use Rattle.std.proofs.lemmas.List.{length-map, take_all, take-append-le}
 use Rattle.pg_judge.specs.Violations.{Violation, kinds_of, counted}
 use Rattle.pg_judge.specs.declared.violation.ViolationKind.{ViolationKind}
 
--- keeping so many of what comes after those that were kept
-take_on : (n : ℕ) (xs ys : List (ViolationKind ℕ)) → take n (take n xs ++ ys) ≡ take n (xs ++ ys)
-take_on zero xs ys = refl
-take_on (suc n) [] ys = refl
-take_on (suc n) (x ∷ xs) ys = ap (λ (zs : List (ViolationKind ℕ)). x ∷ zs) (take_on n xs ys)
+-- ---- kept
 
--- first some, then others
-pub kept_both : (n : ℕ) (old before after : List (ViolationKind ℕ)) (xs ys : List (Violation ℕ)) → before ≡ take n (old ++ kinds_of xs) → after ≡ take n (before ++ kinds_of ys)
-    → after ≡ take n (old ++ kinds_of (xs ++ ys))
-kept_both n old before after xs ys first then =
-    then ∙ ap (λ (zs : List (ViolationKind ℕ)). take n (zs ++ kinds_of ys)) first ∙ take_on n (old ++ kinds_of xs) (kinds_of ys)
-    ∙ ap (take n) (append_assoc old (kinds_of xs) (kinds_of ys) ∙ ap (λ (zs : List (ViolationKind ℕ)). old ++ zs) (sym (map-append (λ (v : Violation ℕ). v.kind) xs ys)))
+-- one more
+pub kept_more : (kinds after all : List (ViolationKind ℕ)) (rest more : List (Violation ℕ)) (v : Violation ℕ) → kinds ++ kinds_of rest ≡ all → rest ≡ v ∷ more
+    → after ≡ kinds ++ v.kind ∷ [] → after ++ kinds_of more ≡ all
+kept_more kinds after all rest more v so_far e then =
+    ap (λ (ks : List (ViolationKind ℕ)). ks ++ kinds_of more) then ∙ append_assoc kinds (v.kind ∷ []) (kinds_of more)
+    ∙ ap (λ (vs : List (Violation ℕ)). kinds ++ kinds_of vs) (sym e) ∙ so_far
 
--- what is found for the next number
-pub kept_next : (f : ℕ → List (Violation ℕ)) (k n : ℕ) (old before after : List (ViolationKind ℕ)) → before ≡ take n (old ++ kinds_of (all_below f k))
-    → after ≡ take n (before ++ kinds_of (f k)) → after ≡ take n (old ++ kinds_of (all_below f (k + 1)))
-kept_next f k n old before after first then =
-    kept_both n old before after (all_below f k) (f k) first then ∙ ap (λ (m : ℕ). take n (old ++ kinds_of (all_below f m))) (sym (add-one k))
+-- all
+pub kept_all : (most : ℕ) (kinds all : List (ViolationKind ℕ)) (rest : List (Violation ℕ)) → kinds ++ kinds_of rest ≡ all → rest ≡ [] → length kinds ≤ most → kinds ≡ take most all
+kept_all most kinds all rest so_far e few =
+    sym (take_all most kinds few) ∙ ap (take most) (sym (append-nil kinds) ∙ ap (λ (vs : List (Violation ℕ)). kinds ++ kinds_of vs) (sym e) ∙ so_far)
 
--- ---- how many there are
+-- as many as are wanted
+pub kept_most : (most : ℕ) (kinds all : List (ViolationKind ℕ)) (rest : List (Violation ℕ)) → kinds ++ kinds_of rest ≡ all → length kinds ≤ most → most ≤ length kinds → kinds ≡ take most all
+kept_most most kinds all rest so_far few many =
+    sym (take_all most kinds few) ∙ sym (take-append-le most kinds (kinds_of rest) many) ∙ ap (take most) so_far
 
--- of some and then others
-pub counted_both : {A : Type 0} (xs ys : List A) (one other both : ℕ) → one ≡ counted xs → other ≡ counted ys → both ≡ min (one + other) (2 ^ 64 - 1) → both ≡ counted (xs ++ ys)
-counted_both xs ys one other both first then sum =
-    let long : length (xs ++ ys) ≡ length xs + length ys = length-append xs ys in
-    capped (length xs) (length ys) one other both first then sum ∙ ap (λ (n : ℕ). min n (2 ^ 64 - 1)) (sym long)
-  where
-    capped : (m n one other both : ℕ) → one ≡ min m (2 ^ 64 - 1) → other ≡ min n (2 ^ 64 - 1) → both ≡ min (one + other) (2 ^ 64 - 1) → both ≡ min (m + n) (2 ^ 64 - 1)
-    capped m n one other both first then sum = omega arith
+-- ---- counted
 
--- of what is found for the next number
-pub counted_next : (f : ℕ → List (Violation ℕ)) (k one other both : ℕ) → one ≡ counted (all_below f k) → other ≡ counted (f k) → both ≡ min (one + other) (2 ^ 64 - 1)
-    → both ≡ counted (all_below f (k + 1))
-counted_next f k one other both first then sum =
-    counted_both (all_below f k) (f k) one other both first then sum ∙ ap (λ (m : ℕ). counted (all_below f m)) (sym (add-one k))
+pub counted_none : (all : List (Violation ℕ)) → min (0 + length all) (2 ^ 64 - 1) ≡ counted all
+counted_none all = let same : 0 + length all ≡ length all = omega arith in ap (λ (n : ℕ). min n (2 ^ 64 - 1)) same
+
+pub counted_more : (count next total : ℕ) (rest more : List (Violation ℕ)) (v : Violation ℕ) → min (count + length rest) (2 ^ 64 - 1) ≡ total → rest ≡ v ∷ more
+    → next ≡ min (count + 1) (2 ^ 64 - 1) → min (next + length more) (2 ^ 64 - 1) ≡ total
+counted_more count next total rest more v so_far e sum = let one : length rest ≡ length more + 1 = ap length e ∙ omega arith in omega arith
+
+pub counted_all : (count total : ℕ) (rest : List (Violation ℕ)) → min (count + length rest) (2 ^ 64 - 1) ≡ total → rest ≡ [] → count ≤ 2 ^ 64 - 1 → count ≡ total
+counted_all count total rest so_far e small = let none : length rest ≡ 0 = ap length e in omega arith
 
 -- kinds are as many as violations
 pub counted_kinds : (vs : List (Violation ℕ)) → counted (kinds_of vs) ≡ counted vs

@@ -5,11 +5,11 @@ pub mod Sound
 pub mod Complete
 pub mod Violations
 pub mod Standing
-pub mod Puts
-pub mod Pieces
 pub mod Series
+pub mod Rest
 pub mod Told
 pub mod Below
-pub mod FirstBroken
 pub mod Kept
+pub mod FirstBroken
 pub mod AtNode
+pub mod Codes

@@ -16,7 +16,7 @@ use Rattle.pg_judge.proofs.Unsuspected.{none_noted}
 -- ---- one number after another
 
 -- the first is apart
-below_after_first : (f : ℕ → List (Violation ℕ)) (n : ℕ) → all_below f (suc n) ≡ f 0 ++ all_below (λ k. f (suc k)) n
+pub below_after_first : (f : ℕ → List (Violation ℕ)) (n : ℕ) → all_below f (suc n) ≡ f 0 ++ all_below (λ k. f (suc k)) n
 below_after_first f zero = sym (append-nil (f 0))
 below_after_first f (suc n) = ap (λ xs. xs ++ f (suc n)) (below_after_first f n) ∙ append_assoc (f 0) (all_below (λ k. f (suc k)) n) (f (suc n))
 

@@ -2,20 +2,18 @@
 use Rattle.std.proofs.Common.{◌≡◌, ℕ, zero, suc, List, [], ◌∷◌, ◌++◌, Option, Some, None, map, get_or, slice_get, string_bytes, append_assoc, refl, sym, ap, ◌∙◌}
 use Rattle.std.specs.Prelude.{codes}
 use Rattle.std.specs.Fmt.{decimal}
-use Rattle.std.specs.List.{flat_map}
 use Rattle.std.specs.Option.{option_map, option_map_or}
 use Rattle.std.proofs.Math.ListN.{get_or-map}
-use Rattle.std.proofs.lemmas.List.Folds.{flat_map-map}
 use Rattle.pg_value.specs.Grammar.{Grammar}
 use Rattle.pg_start.specs.declared.kind.StartKind.TheVariants.{End}
 use Rattle.pg_own_starts.specs.PrintedStarts.{start_text}
 use Rattle.pg_own_starts.specs.declared.listed.ListedStart.{ListedStart}
 use Rattle.pg_judge.specs.Violations.{Violation}
 use Rattle.pg_judge.specs.WithStarts.{Starts, start_at, kind_with_starts, with_starts}
-use Rattle.pg_predict.specs.Findings.{rule_of, name_of, name_text, number_in_rule, placed_text, kind_text, violation_text, finding_of, line_of, lines_of}
-use Rattle.pg_judge.specs.Judged.{Facts, all_starts, noted_grammar}
-use Rattle.pg_predict.specs.Refusals.{findings_noted}
-use Rattle.pg_predict.specs.Texts.{place_at, name_at, start_text_at, AreTexts, IsSource, line_said, lines_said}
+use Rattle.pg_predict.specs.Findings.{Finding, rule_of, name_of, name_text, number_in_rule, placed_text, condition_number, code_text, words_text, kind_text, violation_text, finding_of, line_of, lines_of}
+use Rattle.pg_judge.specs.Judged.{Facts, all_starts}
+use Rattle.pg_predict.specs.Found.{Found, IsThere, found_by, found_there, violations_of, findings_of, lines_found}
+use Rattle.pg_predict.specs.Texts.{name_at, start_text_at, AreTexts, IsSource}
 use Rattle.pg_judge.specs.declared.operator_facts.OperatorFacts.{OperatorFacts}
 use Rattle.pg_predict.specs.declared.places.Place.{Place}
 use Rattle.pg_predict.specs.declared.source.Source.{Source}
@@ -65,58 +63,82 @@ both_same g starts texts are front s t =
     ap (λ bs. front ++ (bs ++ (codes " and " ++ start_text_at texts t))) (start_same g starts texts are s)
     ∙ ap (λ bs. front ++ (start_text g (start_at starts s) ++ (codes " and " ++ bs))) (start_same g starts texts are t)
 
+words_same : (g : Grammar) (starts : Starts) (texts : Texts) → AreTexts g starts texts → (kind : ViolationKind ℕ)
+    → words_text (start_text_at texts) kind ≡ words_text (start_text g) (kind_with_starts starts kind)
+words_same g starts texts are LeftRecursion = refl
+words_same g starts texts are EmptyRound = refl
+words_same g starts texts are (EmptyAlternative k) = refl
+words_same g starts texts are (AlternativesMeet j k s t) =
+    ap (λ bs. codes "alternatives " ++ (decimal j ++ (codes " and " ++ (decimal k ++ bs)))) (both_same g starts texts are (codes " meet at ") s t)
+words_same g starts texts are (AlternativeMeetsFollow k s t) =
+    ap (λ bs. codes "alternative " ++ (decimal k ++ bs)) (both_same g starts texts are (codes " meets the follow set at ") s t)
+words_same g starts texts are (RoundMeetsFollow s t) = both_same g starts texts are (codes "repetition meets its follow set at ") s t
+words_same g starts texts are EmptyOperand = refl
+words_same g starts texts are (OperandMeetsOperators s) = ap (λ bs. codes "operand meets operators at " ++ bs) (start_same g starts texts are s)
+words_same g starts texts are (FollowMeetsOperators s) = ap (λ bs. codes "follow set meets operators at " ++ bs) (start_same g starts texts are s)
+words_same g starts texts are (GapMeets s) = ap (λ bs. codes "gap meets " ++ bs) (start_same g starts texts are s)
+words_same g starts texts are StepCostOver = refl
+
+number_same : (starts : Starts) (kind : ViolationKind ℕ) → condition_number kind ≡ condition_number (kind_with_starts starts kind)
+number_same starts LeftRecursion = refl
+number_same starts EmptyRound = refl
+number_same starts (EmptyAlternative k) = refl
+number_same starts (AlternativesMeet j k s t) = refl
+number_same starts (AlternativeMeetsFollow k s t) = refl
+number_same starts (RoundMeetsFollow s t) = refl
+number_same starts EmptyOperand = refl
+number_same starts (OperandMeetsOperators s) = refl
+number_same starts (FollowMeetsOperators s) = refl
+number_same starts (GapMeets s) = refl
+number_same starts StepCostOver = refl
+
 kind_same : (g : Grammar) (starts : Starts) (texts : Texts) → AreTexts g starts texts → (kind : ViolationKind ℕ)
     → kind_text (start_text_at texts) kind ≡ violation_text g (kind_with_starts starts kind)
-kind_same g starts texts are LeftRecursion = refl
-kind_same g starts texts are EmptyRound = refl
-kind_same g starts texts are (EmptyAlternative k) = refl
-kind_same g starts texts are (AlternativesMeet j k s t) =
-    ap (λ bs. codes "C4 alternatives " ++ (decimal j ++ (codes " and " ++ (decimal k ++ bs)))) (both_same g starts texts are (codes " meet at ") s t)
-kind_same g starts texts are (AlternativeMeetsFollow k s t) =
-    ap (λ bs. codes "C5 alternative " ++ (decimal k ++ bs)) (both_same g starts texts are (codes " meets the follow set at ") s t)
-kind_same g starts texts are (RoundMeetsFollow s t) = both_same g starts texts are (codes "C6 repetition meets its follow set at ") s t
-kind_same g starts texts are EmptyOperand = refl
-kind_same g starts texts are (OperandMeetsOperators s) = ap (λ bs. codes "C7 operand meets operators at " ++ bs) (start_same g starts texts are s)
-kind_same g starts texts are (FollowMeetsOperators s) = ap (λ bs. codes "C8 follow set meets operators at " ++ bs) (start_same g starts texts are s)
-kind_same g starts texts are (GapMeets s) = ap (λ bs. codes "C9 gap meets " ++ bs) (start_same g starts texts are s)
-kind_same g starts texts are StepCostOver = refl
+kind_same g starts texts are kind =
+    ap (λ n. code_text n ++ (codes " " ++ words_text (start_text_at texts) kind)) (number_same starts kind)
+    ∙ ap (λ bs. code_text (condition_number (kind_with_starts starts kind)) ++ (codes " " ++ bs)) (words_same g starts texts are kind)
 
--- ---- the lines
+-- ---- findings
 
-line_same : (g : Grammar) (starts : Starts) (texts : Texts) → AreTexts g starts texts → (v : Violation ℕ)
-    → placed_text (name_at texts (rule_of g.rules v.node)) (number_in_rule g.rules v.node) (kind_text (start_text_at texts) v.kind) ++ 10 ∷ [] ≡ line_of (finding_of g (with_starts starts v))
-line_same g starts texts are v =
-    ap (λ name. placed_text name (number_in_rule g.rules v.node) (kind_text (start_text_at texts) v.kind) ++ 10 ∷ []) (name_same g starts texts are (rule_of g.rules v.node))
-    ∙ ap (λ text. placed_text (name_of g.rules (rule_of g.rules v.node)) (number_in_rule g.rules v.node) text ++ 10 ∷ []) (kind_same g starts texts are v.kind)
+-- the code of a finding is that of its condition
+pub code_same : (source : Source) (place : Place) (kind : ViolationKind ℕ) → code_text (condition_number kind) ≡ code_text (found_there source place kind).finding.number
+code_same source place kind = ap code_text (number_same (all_starts source.judge) kind)
 
-flat_same : {X : Type 0} (f h : X → List ℕ) (xs : List X) → ((x : X) → f x ≡ h x) → flat_map f xs ≡ flat_map h xs
-flat_same f h [] same = refl
-flat_same f h (x ∷ xs) same = ap (λ bs. bs ++ flat_map f xs) (same x) ∙ ap (λ bs. h x ++ bs) (flat_same f h xs same)
-
-pub lines_same : (source : Source) → IsSource source
-    → lines_said source (noted_grammar source.grammar source.judge) ≡ lines_of (findings_noted source.grammar source.judge)
-lines_same source is =
+-- the line is what stands before the words, and these
+pub line_pieces : (source : Source) (place : Place) (kind : ViolationKind ℕ) (code front words : List ℕ) → IsThere source place → code ≡ code_text (condition_number kind)
+    → front ≡ name_at source.texts place.rule ++ (codes ":" ++ (decimal place.number ++ (codes ": " ++ (code ++ codes " ")))) → words ≡ words_text (start_text_at source.texts) kind
+    → front ++ words ≡ (found_there source place kind).finding.line
+line_pieces source place kind code front words is code_is front_is words_is =
     let g = source.grammar in
+    let texts = source.texts in
     let starts = all_starts source.judge in
-    let vs = noted_grammar g source.judge in
-    flat_same (line_said source) (λ v. line_of (finding_of g (with_starts starts v))) vs (λ v. line_same g starts source.texts is.texts v)
-    ∙ sym (flat_map-map (λ v. line_of (finding_of g v)) (with_starts starts) vs)
-    ∙ sym (flat_map-map line_of (finding_of g) (map (with_starts starts) vs))
-
--- a line in three parts
-pub line_parts : (source : Source) (place : Place) (kind : ViolationKind ℕ) → place ≡ place_at source.grammar.rules place.node
-    → line_said source (record { node = place.node; kind = kind })
-    ≡ (name_at source.texts place.rule ++ (codes ":" ++ (decimal place.number ++ codes ": "))) ++ (kind_text (start_text_at source.texts) kind ++ 10 ∷ [])
-line_parts source place kind is =
-    let text = kind_text (start_text_at source.texts) kind in
-    let rule : place.rule ≡ rule_of source.grammar.rules place.node = ap (λ (q : Place). q.rule) is in
-    let number : place.number ≡ number_in_rule source.grammar.rules place.node = ap (λ (q : Place). q.number) is in
-    ap (λ r. placed_text (name_at source.texts r) (number_in_rule source.grammar.rules place.node) text ++ 10 ∷ []) (sym rule)
-    ∙ ap (λ n. placed_text (name_at source.texts place.rule) n text ++ 10 ∷ []) (sym number)
-    ∙ regroup (name_at source.texts place.rule) (codes ":") (decimal place.number) (codes ": ") text (10 ∷ [])
+    let text = kind_text (start_text_at texts) kind in
+    let rule : place.rule ≡ rule_of g.rules place.node = ap (λ (q : Place). q.rule) is.stands in
+    let number : place.number ≡ number_in_rule g.rules place.node = ap (λ (q : Place). q.number) is.stands in
+    ap (λ bs. bs ++ words) (front_is ∙ ap (λ bs. name_at texts place.rule ++ (codes ":" ++ (decimal place.number ++ (codes ": " ++ (bs ++ codes " "))))) code_is)
+    ∙ ap (λ bs. (name_at texts place.rule ++ (codes ":" ++ (decimal place.number ++ (codes ": " ++ (code_text (condition_number kind) ++ codes " "))))) ++ bs) words_is
+    ∙ regroup (name_at texts place.rule) (codes ":") (decimal place.number) (codes ": ") (code_text (condition_number kind)) (codes " ") (words_text (start_text_at texts) kind)
+    ∙ ap (λ r. placed_text (name_at texts r) place.number text) rule
+    ∙ ap (λ n. placed_text (name_at texts (rule_of g.rules place.node)) n text) number
+    ∙ ap (λ name. placed_text name (number_in_rule g.rules place.node) text) (name_same g starts texts is.is_source.texts (rule_of g.rules place.node))
+    ∙ ap (placed_text (name_of g.rules (rule_of g.rules place.node)) (number_in_rule g.rules place.node)) (kind_same g starts texts is.is_source.texts kind)
   where
-    regroup : (a b c d e f : List ℕ) → (a ++ (b ++ (c ++ (d ++ e)))) ++ f ≡ (a ++ (b ++ (c ++ d))) ++ (e ++ f)
-    regroup a b c d e f =
-        append_assoc a (b ++ (c ++ (d ++ e))) f
-        ∙ ap (λ x. a ++ x) (append_assoc b (c ++ (d ++ e)) f ∙ ap (λ x. b ++ x) (append_assoc c (d ++ e) f ∙ ap (λ x. c ++ x) (append_assoc d e f)))
-        ∙ sym (append_assoc a (b ++ (c ++ d)) (e ++ f) ∙ ap (λ x. a ++ x) (append_assoc b (c ++ d) (e ++ f) ∙ ap (λ x. b ++ x) (append_assoc c d (e ++ f))))
+    regroup : (a b c d e f w : List ℕ) → (a ++ (b ++ (c ++ (d ++ (e ++ f))))) ++ w ≡ a ++ (b ++ (c ++ (d ++ (e ++ (f ++ w)))))
+    regroup a b c d e f w = simp append_assoc
+
+-- with its line feed
+pub line_parts : (f : Found) (front words : List ℕ) → front ++ words ≡ f.finding.line → line_of f.finding ≡ front ++ (words ++ 10 ∷ [])
+line_parts f front words e = ap (λ bs. bs ++ 10 ∷ []) (sym e) ∙ append_assoc front words (10 ∷ [])
+
+-- all of them
+pub violations_found : (source : Source) (vs : List (Violation ℕ)) → violations_of (map (found_by source) vs) ≡ vs
+violations_found source [] = refl
+violations_found source (v ∷ vs) = ap (λ (ws : List (Violation ℕ)). v ∷ ws) (violations_found source vs)
+
+pub findings_found : (source : Source) (vs : List (Violation ℕ)) → findings_of (map (found_by source) vs) ≡ map (finding_of source.grammar) (map (with_starts (all_starts source.judge)) vs)
+findings_found source [] = refl
+findings_found source (v ∷ vs) = ap (λ (fs : List Finding). finding_of source.grammar (with_starts (all_starts source.judge) v) ∷ fs) (findings_found source vs)
+
+pub lines_same : (found : List Found) → lines_found found ≡ lines_of (findings_of found)
+lines_same [] = refl
+lines_same (f ∷ fs) = ap (λ bs. line_of f.finding ++ bs) (lines_same fs)

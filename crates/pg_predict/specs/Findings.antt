@@ -69,19 +69,27 @@ AreViolations g = AreViolationsBy g (least_facts g)
 abbrev pub meeting_text : {S : Type 0} → (S → List ℕ) → S → S → List ℕ
 meeting_text text s t = text s ++ (codes " and " ++ text t)
 
--- what is wrong, with a text for each start
+-- the code of a condition
+abbrev pub code_text : ℕ → List ℕ
+code_text number = codes "C" ++ decimal number
+
+-- what is wrong in words, with a text for each start
+abbrev pub words_text : {S : Type 0} → (S → List ℕ) → ViolationKind S → List ℕ
+words_text text LeftRecursion = codes "left recursion"
+words_text text EmptyRound = codes "repeated part can be empty"
+words_text text (EmptyAlternative k) = codes "alternative " ++ (decimal k ++ codes " can be empty and is not last")
+words_text text (AlternativesMeet j k s t) = codes "alternatives " ++ (decimal j ++ (codes " and " ++ (decimal k ++ (codes " meet at " ++ meeting_text text s t))))
+words_text text (AlternativeMeetsFollow k s t) = codes "alternative " ++ (decimal k ++ (codes " meets the follow set at " ++ meeting_text text s t))
+words_text text (RoundMeetsFollow s t) = codes "repetition meets its follow set at " ++ meeting_text text s t
+words_text text EmptyOperand = codes "operand can be empty"
+words_text text (OperandMeetsOperators s) = codes "operand meets operators at " ++ text s
+words_text text (FollowMeetsOperators s) = codes "follow set meets operators at " ++ text s
+words_text text (GapMeets s) = codes "gap meets " ++ text s
+words_text text StepCostOver = codes "step cost over 4294967296"
+
+-- the code, and what is wrong
 abbrev pub kind_text : {S : Type 0} → (S → List ℕ) → ViolationKind S → List ℕ
-kind_text text LeftRecursion = codes "C1 left recursion"
-kind_text text EmptyRound = codes "C2 repeated part can be empty"
-kind_text text (EmptyAlternative k) = codes "C3 alternative " ++ (decimal k ++ codes " can be empty and is not last")
-kind_text text (AlternativesMeet j k s t) = codes "C4 alternatives " ++ (decimal j ++ (codes " and " ++ (decimal k ++ (codes " meet at " ++ meeting_text text s t))))
-kind_text text (AlternativeMeetsFollow k s t) = codes "C5 alternative " ++ (decimal k ++ (codes " meets the follow set at " ++ meeting_text text s t))
-kind_text text (RoundMeetsFollow s t) = codes "C6 repetition meets its follow set at " ++ meeting_text text s t
-kind_text text EmptyOperand = codes "C7 operand can be empty"
-kind_text text (OperandMeetsOperators s) = codes "C7 operand meets operators at " ++ text s
-kind_text text (FollowMeetsOperators s) = codes "C8 follow set meets operators at " ++ text s
-kind_text text (GapMeets s) = codes "C9 gap meets " ++ text s
-kind_text text StepCostOver = codes "C11 step cost over 4294967296"
+kind_text text kind = code_text (condition_number kind) ++ (codes " " ++ words_text text kind)
 
 -- with each start as it is printed
 abbrev pub violation_text : Grammar → ViolationKind ListedStart → List ℕ

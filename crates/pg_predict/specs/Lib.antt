@@ -7,6 +7,7 @@ pub mod Findings
 pub mod Places
 pub mod Broken
 pub mod Texts
-pub mod Writing
+pub mod Rest
+pub mod Found
 pub mod Refusals
 pub mod Checked

@@ -41,14 +41,3 @@ pub record IsSource (source : Source) : Type 0 where
   pub grammar : IsGrammar source.grammar
   pub facts : AreFacts source.grammar (least_facts source.grammar) source.judge
   pub texts : AreTexts source.grammar (all_starts source.judge) source.texts
-
--- the line of a violation, with its line feed
-abbrev pub line_said : Source → Violation ℕ → List ℕ
-line_said source v =
-    placed_text (name_at source.texts (rule_of source.grammar.rules v.node)) (number_in_rule source.grammar.rules v.node)
-    (kind_text (start_text_at source.texts) v.kind)
-    ++ 10 ∷ []
-
--- and those of more
-abbrev pub lines_said : Source → List (Violation ℕ) → List ℕ
-lines_said source = flat_map (line_said source)

@@ -43,8 +43,8 @@ fn rule_of(rules: &[Rule], node: usize) -> usize
     count.saturating_sub(1)
 }
 
-/// The number of the node that is a rule's body.
-fn body_of(rules: &[Rule], rule: usize) -> usize
+/// The number of the node that is the body of the rule with this number; 0, if there is no such rule.
+pub fn body_of(rules: &[Rule], rule: usize) -> usize
     ensures { result ≡ body_of rules.now rule }
 {
     match rules.get(rule) {

@@ -1,15 +1,17 @@
 //! A grammar that isn't accepted, and all that is wrong with it.
 //!
-//! The findings can be very many, as those of each two alternatives of a choice. So they are computed one by one as they are
-//! written, from the grammar and its sets, and never stand in memory together.
+//! The findings can be very many, as those of each two alternatives of a choice. So they are found one by one as somebody goes through
+//! them (`findings.rt`), and never stand in memory together.
 ghost use Rattle.std.specs.Prelude.{◌≡◌, ◌<◌, false, true, length, take, IfOk, OnOk, OnErr, IsErrOf};
 ghost use Rattle.std.specs.Io.KnownBytes.{Appends};
 ghost use Rattle.pg_tree.specs.Bytes.{AppendsPrefix};
 ghost use Rattle.pg_predict.specs.Findings.{lines_of};
+ghost use Rattle.pg_predict.specs.Found.{findings_of, violations_of};
 ghost use Rattle.pg_predict.specs.Refusals.{kinds_at};
 ghost use Rattle.pg_judge.specs.Violations.{counted};
 
 use crate::at_node::{count_kinds, first_kinds};
+use crate::findings::Findings;
 use crate::lines::write_lines;
 use crate::source::Source;
 use pg_form::NodeId;
@@ -68,6 +70,14 @@ impl Refused {
         self.source.judge.sets()
     }
 
+    /// The way through all findings, from the first on (ours). It takes no memory.
+    pub fn findings(&self) -> Findings<'_>
+        ensures violations { violations_of result ≡ self.now.violations }
+        ensures findings { findings_of result ≡ self.now.findings }
+    {
+        Findings::of(&self.source)
+    }
+
     /// What is wrong at a node, in the order of conditions and alternatives, and no more than so many. A start is known by its number
     /// in the sets; that of operators, which needn't be one of theirs, by the number after all of those. The only error is that
     /// memory ran out.
@@ -89,21 +99,6 @@ impl Refused {
         ensures { result ≡ counted (kinds_at node self.now.violations) }
     {
         count_kinds(&self.source, node)
-    }
-
-    /// The grammar, as it was handed in.
-    pub fn into_grammar(self) -> Grammar
-        ensures { result ≡ self.grammar }
-    {
-        let Refused { source } = self;
-        let Source {
-            grammar,
-            judge,
-            texts,
-        } = source;
-        drop(judge);
-        drop(texts);
-        grammar
     }
 
     /// Writes a line for each finding, with the rule's name, the node's number in it and the text of what is wrong, in as many
@@ -132,7 +127,7 @@ impl Refused {
         let Ok(mut buffer) = Vec::with_capacity(alloc, BUFFER) else {
             return Err(WriteFault::Memory);
         };
-        match write_lines(&self.source, &mut buffer, writer) {
+        match write_lines(&mut self.findings(), &mut buffer, writer) {
             Ok(()) => Ok(()),
             Err(_) => Err(WriteFault::Writer),
         }

@@ -1,26 +1,29 @@
-//! The texts of violations: the one place where they are written.
+//! The words of violations: the one place where they are written.
 //!
 //! The names of rules and the printed starts are made before, so that a line is put together from pieces, and takes no memory.
 ghost use Rattle.std.specs.Prelude.{◌≡◌, ◌++◌, IfOk, map, decimal, string_bytes};
 ghost use Rattle.pg_own_starts.specs.PrintedStarts.{start_text};
 ghost use Rattle.pg_judge.specs.Judged.{all_starts};
 ghost use Rattle.pg_judge.specs.declared.violation.ViolationKind.TheVariants.{AlternativesMeet, AlternativeMeetsFollow, RoundMeetsFollow};
-ghost use Rattle.pg_predict.specs.Findings.{name_text, kind_text};
+ghost use Rattle.pg_predict.specs.Findings.{name_text, words_text};
 ghost use Rattle.pg_predict.specs.Texts.{AreTexts, name_at, start_text_at};
-ghost use Rattle.pg_predict.specs.Writing.{pieces_bytes};
+ghost use Rattle.pg_pieces.specs.Writing.{pieces_bytes};
 
-use crate::output::Piece;
 use pg_judge::{Judge, ViolationKind};
 use pg_own_starts::{ListedStart, printed_start};
+use pg_pieces::Piece;
 use pg_value::{Grammar, Rule};
 use std::alloc::{AllocError, Global};
 
-/// The names of a grammar's rules, and its starts in words: those of the sets by their numbers, and that of operators.
+/// Texts for a grammar's rules and starts, from which what is said of a violation is put together (ours).
 #[derive(Drop)]
-pub(crate) struct Texts {
-    pub(crate) names: Vec<String>,
-    pub(crate) listed: Vec<String>,
-    pub(crate) own: String,
+pub struct Texts {
+    /// The names, by the numbers of rules.
+    pub names: Vec<String>,
+    /// The starts of the sets.
+    pub listed: Vec<String>,
+    /// The start of operators; the end, where there are none.
+    pub own: String,
 }
 
 /// The texts of a grammar. The only error is that memory ran out.
@@ -71,8 +74,8 @@ fn own_text(alloc: Global, grammar: &Grammar, judge: &Judge) -> Result<String, A
 }
 
 impl Texts {
-    /// The name of a rule.
-    pub(crate) fn name(&self, rule: usize) -> &str
+    /// The name of a rule; nothing, where there is no such rule (ours).
+    pub fn name(&self, rule: usize) -> &str
         ensures { result.now ≡ name_at self.now rule }
     {
         match self.names.get(rule) {
@@ -81,8 +84,8 @@ impl Texts {
         }
     }
 
-    /// The start with this number, in words.
-    fn start(&self, number: usize) -> &str
+    /// The start with this number: one of the sets, or that of operators (ours).
+    pub fn start(&self, number: usize) -> &str
         ensures { result.now ≡ start_text_at self.now number }
     {
         match self.listed.get(number) {
@@ -91,15 +94,15 @@ impl Texts {
         }
     }
 
-    /// What is wrong, in words.
-    pub(crate) fn said(&self, kind: &ViolationKind<usize>) -> [Piece<'_>; 8]
-        ensures { pieces_bytes result ≡ kind_text (start_text_at self.now) kind.now }
+    /// What is wrong, in words (ours).
+    pub fn words(&self, kind: &ViolationKind<usize>) -> [Piece<'_>; 8]
+        ensures { pieces_bytes result ≡ words_text (start_text_at self.now) kind.now }
     {
         match kind {
-            ViolationKind::LeftRecursion => alone("C1 left recursion"),
-            ViolationKind::EmptyRound => alone("C2 repeated part can be empty"),
+            ViolationKind::LeftRecursion => alone("left recursion"),
+            ViolationKind::EmptyRound => alone("repeated part can be empty"),
             ViolationKind::EmptyAlternative(k) => {
-                numbered("C3 alternative ", *k, " can be empty and is not last")
+                numbered("alternative ", *k, " can be empty and is not last")
             }
             ViolationKind::AlternativesMeet(j, k, one, other) => {
                 self.alternatives_meet(*j, *k, *one, *other)
@@ -108,24 +111,24 @@ impl Texts {
                 self.alternative_meets_follow(*k, *one, *other)
             }
             ViolationKind::RoundMeetsFollow(one, other) => self.round_meets_follow(*one, *other),
-            ViolationKind::EmptyOperand => alone("C7 operand can be empty"),
+            ViolationKind::EmptyOperand => alone("operand can be empty"),
             ViolationKind::OperandMeetsOperators(start) => {
-                ended("C7 operand meets operators at ", self.start(*start))
+                ended("operand meets operators at ", self.start(*start))
             }
             ViolationKind::FollowMeetsOperators(start) => {
-                ended("C8 follow set meets operators at ", self.start(*start))
+                ended("follow set meets operators at ", self.start(*start))
             }
-            ViolationKind::GapMeets(start) => ended("C9 gap meets ", self.start(*start)),
-            ViolationKind::StepCostOver => alone("C11 step cost over 4294967296"),
+            ViolationKind::GapMeets(start) => ended("gap meets ", self.start(*start)),
+            ViolationKind::StepCostOver => alone("step cost over 4294967296"),
         }
     }
 
     /// That two alternatives of a choice meet.
     fn alternatives_meet(&self, j: usize, k: usize, one: usize, other: usize) -> [Piece<'_>; 8]
-        ensures { pieces_bytes result ≡ kind_text (start_text_at self.now) (AlternativesMeet j k one other) }
+        ensures { pieces_bytes result ≡ words_text (start_text_at self.now) (AlternativesMeet j k one other) }
     {
         [
-            Piece::Text("C4 alternatives "),
+            Piece::Text("alternatives "),
             Piece::Number(j),
             Piece::Text(" and "),
             Piece::Number(k),
@@ -138,10 +141,10 @@ impl Texts {
 
     /// That an alternative of a choice meets what follows the choice.
     fn alternative_meets_follow(&self, k: usize, one: usize, other: usize) -> [Piece<'_>; 8]
-        ensures { pieces_bytes result ≡ kind_text (start_text_at self.now) (AlternativeMeetsFollow k one other) }
+        ensures { pieces_bytes result ≡ words_text (start_text_at self.now) (AlternativeMeetsFollow k one other) }
     {
         [
-            Piece::Text("C5 alternative "),
+            Piece::Text("alternative "),
             Piece::Number(k),
             Piece::Text(" meets the follow set at "),
             Piece::Text(self.start(one)),
@@ -154,10 +157,10 @@ impl Texts {
 
     /// That a round of a repetition meets what follows it.
     fn round_meets_follow(&self, one: usize, other: usize) -> [Piece<'_>; 8]
-        ensures { pieces_bytes result ≡ kind_text (start_text_at self.now) (RoundMeetsFollow one other) }
+        ensures { pieces_bytes result ≡ words_text (start_text_at self.now) (RoundMeetsFollow one other) }
     {
         [
-            Piece::Text("C6 repetition meets its follow set at "),
+            Piece::Text("repetition meets its follow set at "),
             Piece::Text(self.start(one)),
             Piece::Text(" and "),
             Piece::Text(self.start(other)),

@@ -1,7 +1,7 @@
-//! Conditions by their numbers.
+//! Conditions by their numbers and their codes.
 
 ghost use Rattle.std.specs.Prelude.{◌≡◌};
-ghost use Rattle.pg_predict.specs.Findings.{condition_number};
+ghost use Rattle.pg_predict.specs.Findings.{code_text, condition_number};
 
 use pg_form::NodeId;
 use pg_judge::ViolationKind;
@@ -30,5 +30,24 @@ pub(crate) fn condition_number(kind: &ViolationKind<usize>) -> u8
         ViolationKind::FollowMeetsOperators(_) => 8,
         ViolationKind::GapMeets(_) => 9,
         ViolationKind::StepCostOver => 11,
+    }
+}
+
+/// The code of the condition that is broken: its number behind a C.
+#[tactic(auto, using(crate::proofs::Codes::code_1, crate::proofs::Codes::code_2, crate::proofs::Codes::code_3, crate::proofs::Codes::code_4, crate::proofs::Codes::code_5, crate::proofs::Codes::code_6, crate::proofs::Codes::code_7, crate::proofs::Codes::code_8, crate::proofs::Codes::code_9, crate::proofs::Codes::code_11))]
+pub(crate) fn code(kind: &ViolationKind<usize>) -> &'static str
+    ensures { result.now ≡ code_text (condition_number kind.now) }
+{
+    match kind {
+        ViolationKind::LeftRecursion => "C1",
+        ViolationKind::EmptyRound => "C2",
+        ViolationKind::EmptyAlternative(_) => "C3",
+        ViolationKind::AlternativesMeet(_, _, _, _) => "C4",
+        ViolationKind::AlternativeMeetsFollow(_, _, _) => "C5",
+        ViolationKind::RoundMeetsFollow(_, _) => "C6",
+        ViolationKind::EmptyOperand | ViolationKind::OperandMeetsOperators(_) => "C7",
+        ViolationKind::FollowMeetsOperators(_) => "C8",
+        ViolationKind::GapMeets(_) => "C9",
+        ViolationKind::StepCostOver => "C11",
     }
 }

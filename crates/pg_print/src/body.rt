@@ -18,8 +18,8 @@ use crate::levels::{Ending, Level, enter, put_end};
 use pg_form::{
     Around, BuilderUse, ClassExpression, Form, Leaf, Node, OperatorBuilders, RuleId, Side, WordId,
 };
-use pg_text::Characters;
-use pg_tokens::{Mark, characters_of, copied};
+use pg_text::{Characters, characters_of};
+use pg_tokens::{Mark, copied};
 use pg_value::Grammar;
 use std::alloc::{AllocError, Global};
 use std::collections::VecDeque;

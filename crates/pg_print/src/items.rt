@@ -16,8 +16,8 @@ use crate::body::{put_body, rule_name};
 use crate::class::put_class;
 use crate::layout::Layout;
 use pg_form::{ClassItem, Decl, OperatorsItem, Role, WordItem};
-use pg_text::Texts;
-use pg_tokens::{Mark, utf8};
+use pg_text::{Texts, utf8};
+use pg_tokens::Mark;
 use pg_value::Grammar;
 use std::alloc::{AllocError, Global};
 

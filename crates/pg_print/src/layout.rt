@@ -10,7 +10,8 @@ ghost use Rattle.pg_tokens.specs.Tokens as tokens;
 ghost use Rattle.pg_print.specs.Printed.{escaped, quoted};
 ghost use Rattle.pg_print.specs.Layout.{comes_before_class, nothing_laid, with_token, printed_mark, mark_edge, edge_after, space, mark_space};
 
-use pg_tokens::{Mark, characters_of, is_word};
+use pg_text::characters_of;
+use pg_tokens::{Mark, is_word};
 use std::alloc::{AllocError, Global};
 use std::marker::Model;
 

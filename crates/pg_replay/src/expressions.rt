@@ -7,13 +7,13 @@ ghost use Rattle.pg_replay.specs.View.{state_of, loose_of, waiting_of, task_of};
 
 use crate::fault::Mismatch;
 use crate::looseness::{newest_waiting, wait_before};
-use crate::operators::{operator_end, utf8};
+use crate::operators::operator_end;
 use crate::replayer::Replayer;
 use crate::step::build;
 use crate::task::{Halt, Looseness, ShortTask, Task};
 use pg_fitting::{Step, fitting_steps};
 use pg_form::{BuilderUse, NodeId, OperatorBuilders};
-use pg_text::Text;
+use pg_text::{Text, utf8};
 use pg_value::{AppliedOperator, Fixity, Grammar, TrailItem};
 use std::alloc::{AllocError, Global};
 

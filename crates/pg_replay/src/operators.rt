@@ -1,8 +1,7 @@
 //! Operators in a text, and their symbols in trees.
 
-ghost use Rattle.std.specs.Prelude.{◌≡◌, ◌≤◌, Some, length, IfOk, string_bytes};
+ghost use Rattle.std.specs.Prelude.{◌≡◌, ◌≤◌, Some, length};
 ghost use Rattle.std.specs.List.{take_while};
-ghost use Rattle.std.specs.Str.{encode_utf8_all};
 ghost use Rattle.pg_form.specs.ClassItems.{has_character};
 ghost use Rattle.pg_value.specs.Sites.{class_at};
 ghost use Rattle.pg_replay.specs.Tasks.{operator_end};
@@ -12,7 +11,6 @@ use pg_character_sets::ClassSite;
 use pg_form::OperatorsItem;
 use pg_text::Text;
 use pg_value::Grammar;
-use std::alloc::{AllocError, Global};
 
 /// Where an operator with this symbol ends, with the gap after it, if it stands at the place.
 pub(crate) fn operator_end(
@@ -71,15 +69,4 @@ fn run_length(grammar: &Grammar, class: ClassSite, characters: &[char]) -> usize
         .iter()
         .take_while(|c| grammar.contains(class, **c))
         .count()
-}
-
-/// The text with these characters. The only error is that memory ran out.
-pub(crate) fn utf8(alloc: Global, characters: &[char]) -> Result<String, AllocError>
-    ensures { IfOk result (λ text. string_bytes text ≡ encode_utf8_all characters.now) }
-{
-    let mut text = String::new(alloc);
-    for c in characters {
-        text.push(*c)?;
-    }
-    Ok(text)
 }

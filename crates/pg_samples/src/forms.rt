@@ -1,6 +1,6 @@
 //! What stands at nodes, and where parts stand in it.
 
-use pg_form::{Form, Node, NodeId, RuleId};
+use pg_form::{Node, NodeId, Parts, RuleId};
 use pg_value::Grammar;
 
 /// What stands at a node, if it is there.
@@ -32,31 +32,12 @@ pub(crate) fn around(parts: &[NodeId], part: NodeId) -> (&[NodeId], &[NodeId]) {
 
 /// The alternatives of a choice; none of another form.
 pub fn alternatives(grammar: &Grammar, node: NodeId) -> &[NodeId] {
-    match form_at(grammar, node) {
-        Some(Form::Choice(parts)) => parts.as_slice(),
-        Some(
-            Form::Leaf(_)
-            | Form::Seq(_)
-            | Form::Many(_)
-            | Form::Chain(_, _, _, _)
-            | Form::Rule(_)
-            | Form::Expression(_, _)
-            | Form::Around(_, _),
-        )
-        | None => &[],
+    match choice_at(grammar, node) {
+        Some(parts) => parts.as_slice(),
+        None => &[],
     }
 }
 
-/// The term of an expression.
-pub(crate) fn term_of(form: &Node) -> Option<NodeId> {
-    match form {
-        Form::Expression(_, term) => Some(*term),
-        Form::Leaf(_)
-        | Form::Seq(_)
-        | Form::Choice(_)
-        | Form::Many(_)
-        | Form::Chain(_, _, _, _)
-        | Form::Rule(_)
-        | Form::Around(_, _) => None,
-    }
+fn choice_at(grammar: &Grammar, node: NodeId) -> Option<&Parts> {
+    form_at(grammar, node)?.alternatives()
 }

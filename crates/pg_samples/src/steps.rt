@@ -1,7 +1,7 @@
 //! The steps of a draft along its way, and what it does at the way's end.
 
 use crate::drafting::Draft;
-use crate::forms::{alternatives, around, form_at, term_of};
+use crate::forms::{alternatives, around, form_at};
 use crate::target::{Pick, Target, Task, Want};
 use pg_form::{Form, Node, NodeId, Role};
 
@@ -139,7 +139,7 @@ impl<'g> Draft<'g> {
 
     /// An operator with its operands.
     fn applied(&mut self, form: &Node, operator: usize, one: Want, other: Want) {
-        let Some(term) = term_of(form) else {
+        let Some(term) = form.term().copied() else {
             return;
         };
         let table = self.field.table;

@@ -1,10 +1,10 @@
 -- Which sets are contained in which: as edges of a graph whose vertices are the first and the follow sets of nodes.
 use Rattle.std.specs.Prelude.{ℕ, suc, ◌+◌, nat_lt, Bool, if◌then◌else◌, List, [], ◌∷◌, ◌++◌, slice_get}
 use Rattle.std.specs.Option.{option_map_or}
+use Rattle.pg_form.specs.Contents.{is_try}
 use Rattle.pg_form.specs.Forms.{Node}
 use Rattle.pg_form.specs.declared.form.Form.TheVariants as form
 use Rattle.pg_form.specs.declared.form.Around.{Around}
-use Rattle.pg_form.specs.declared.form.Around.TheVariants as kind
 use Rattle.pg_value.specs.declared.grammar.Rule.{Rule}
 use Rattle.pg_graph.specs.Graphs.{joined}
 use Rattle.pg_graph.specs.Marks.{is_marked}
@@ -67,12 +67,7 @@ try_flows keys count p q = if is_marked keys p then (follow_of count p, follow_o
 
 -- of a form around a part
 abbrev pub around_flows : List Bool → ℕ → ℕ → Around → ℕ → List Flow
-around_flows keys count p kind.Try q = try_flows keys count p q
-around_flows keys count p kind.Text q = flows_of_only count p q
-around_flows keys count p kind.Skip q = flows_of_only count p q
-around_flows keys count p (kind.Build used symbol) q = flows_of_only count p q
-around_flows keys count p (kind.Label message) q = flows_of_only count p q
-around_flows keys count p kind.Local q = flows_of_only count p q
+around_flows keys count p around q = if is_try around then try_flows keys count p q else flows_of_only count p q
 
 -- of a use of a rule
 abbrev pub flows_of_use : List Rule → ℕ → ℕ → ℕ → List Flow

@@ -1,8 +1,9 @@
 -- Which sets hold which starts by themselves, as a map from starts to the numbers of sets.
-use Rattle.std.specs.Prelude.{◌≡◌, ◌↔◌, ◌⊎◌, ◌<◌, ℕ, true, List, [], Option, Some, None, slice_get, length, unwrap_or, is_some}
+use Rattle.std.specs.Prelude.{◌≡◌, ◌↔◌, ◌⊎◌, ◌<◌, ℕ, true, List, [], Option, Some, slice_get, length, unwrap_or, is_some}
 use Rattle.std.specs.BTreeMap.{BTreeMap, get}
 use Rattle.std.specs.List.Sorted.{IsStrictlySortedBy}
 use Rattle.pg_value.specs.Grammar.{Grammar}
+use Rattle.pg_form.specs.Contents.{word_in}
 use Rattle.pg_form.specs.Forms.{Node}
 use Rattle.pg_form.specs.declared.form.Form.TheVariants as form
 use Rattle.pg_form.specs.declared.form.Leaf.TheVariants as leaf
@@ -57,8 +58,7 @@ pub record AreSoManyOrigins (g : Grammar) (count : ℕ) (origins : Origins) : Ty
 
 -- the number of the word item whose words the node reads
 abbrev pub item_read : Node → Option ℕ
-item_read (form.Leaf (leaf.Word w)) = Some w
-item_read _ = None
+item_read n = word_in n
 
 -- the node with this number reads the words of the item
 abbrev pub ReadsItem : Grammar → ℕ → ℕ → Type 0

@@ -88,11 +88,10 @@ fn join_around(
     requires { count ≤ 8192 }
     ensures { OnOk result (graph.new ≡ with_flows graph.old (around_flows keys.now count number around.now part)) }
 {
-    match around {
-        Around::Try => join_try(graph, keys, count, number, part),
-        Around::Text | Around::Skip | Around::Build(_, _) | Around::Label(_) | Around::Local => {
-            join_only(graph, count, number, part)
-        }
+    if around.is_try() {
+        join_try(graph, keys, count, number, part)
+    } else {
+        join_only(graph, count, number, part)
     }
 }
 

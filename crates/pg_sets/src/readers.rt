@@ -2,12 +2,11 @@
 //! with many reserved texts take long to compare.
 ghost use Rattle.std.specs.Prelude.{◌≡◌, ◌↔◌, ◌⊎◌, ◌++◌, ℕ, true, length, IfOk, OnOk};
 ghost use Rattle.pg_graph.specs.Graphs.{has};
-ghost use Rattle.pg_own_starts.specs.Own.{IsAmong};
 ghost use Rattle.pg_own_starts.specs.declared.listed.ListedStart.{ListedStart};
 ghost use Rattle.pg_sets.specs.Origins.{HoldsIt, IsThere, item_read, AreReaders};
 
 use crate::origins::taken_sets;
-use pg_form::{Form, Leaf, Node, WordId};
+use pg_form::Node;
 use pg_graph::{Numbers, empty_lists, join};
 use pg_own_starts::ListedStart;
 use pg_value::Grammar;
@@ -31,29 +30,9 @@ pub(crate) fn readers_of_words(alloc: Global, grammar: &Grammar) -> Result<Vec<N
 pub(crate) fn item_read(node: &Node) -> Option<usize>
     ensures { result ≡ item_read node.now }
 {
-    match node {
-        Form::Leaf(leaf) => item_of(leaf),
-        Form::Around(_, _)
-        | Form::Expression(_, _)
-        | Form::Seq(_)
-        | Form::Choice(_)
-        | Form::Many(_)
-        | Form::Chain(_, _, _, _)
-        | Form::Rule(_) => None,
-    }
-}
-
-/// The same of a leaf.
-fn item_of(leaf: &Leaf<WordId>) -> Option<usize>
-    ensures { result ≡ item_read (Form.Leaf leaf.now) }
-{
-    match leaf {
-        Leaf::Word(word) => Some(word.index()),
-        Leaf::Satisfy(_)
-        | Leaf::String(_)
-        | Leaf::Declare(_)
-        | Leaf::NotFollowedBy(_)
-        | Leaf::EndOfText => None,
+    match node.named_word() {
+        Some(word) => Some(word.index()),
+        None => None,
     }
 }
 

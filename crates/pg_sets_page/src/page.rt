@@ -6,13 +6,14 @@
 ghost use Rattle.std.specs.Prelude.{◌≡◌, ◌++◌, ◌+◌, ◌^◌, ◌<◌, ◌≤◌, codes, length, map, string_bytes, IfOk, OnOk};
 ghost use Rattle.std.specs.List.{filter, join_by, range_with_len};
 ghost use Rattle.pg_bit_set.specs.Numbers.{contains};
-ghost use Rattle.pg_predict.specs.Findings.{name_text, body_of};
+ghost use Rattle.pg_predict.specs.Findings.{name_text};
 ghost use Rattle.pg_own_starts.specs.PrintedStarts.{start_text};
 ghost use Rattle.pg_sets_page.specs.SetsPage.{IsSetsPage, text_at, list_text, set_text, leaf_word, chain_word, around_word, form_word, word_of, nullable_text, place_text, sets_text, node_line, rank_text, rule_line, end_of, node_lines, rule_text, page_text};
 
 use pg_bit_set::BitSet;
 use pg_form::{Around, Form, Leaf, Node, NodeId, RuleId, Side, WordId};
 use pg_own_starts::{ListedStart, printed_start};
+use pg_predict::body_of;
 use pg_sets::Sets;
 use pg_value::{Grammar, Rule};
 use std::alloc::{AllocError, Global};
@@ -71,16 +72,6 @@ fn page_of(
         push_node_lines(alloc, &mut page, grammar, starts, sets, body, end)?;
     }
     Ok(page)
-}
-
-/// The node that is a rule's body.
-fn body_of(rules: &[Rule], rule: usize) -> usize
-    ensures { result ≡ body_of rules.now rule }
-{
-    match rules.get(rule) {
-        Some(rule) => rule.body.index(),
-        None => 0,
-    }
 }
 
 /// The node after the last of a rule.

@@ -3,7 +3,8 @@ use Rattle.std.proofs.Common.{◌≡◌, ℕ, zero, suc, ◌+◌, ◌<◌, true,
 use Rattle.std.proofs.lemmas.Bool.{false≢true}
 use Rattle.std.proofs.lemmas.List.{drop-drop}
 use Rattle.pg_class.specs.Ranges.{Range, has}
-use Rattle.pg_start.specs.Prefixes.{begins_in, IsPrefix, word_prefix, is_reserved}
+use Rattle.pg_text.specs.Texts.{is_among}
+use Rattle.pg_start.specs.Prefixes.{begins_in, IsPrefix, word_prefix}
 use Rattle.pg_start.specs.Starts.{HasAt, IsKeyAt, IsWordAt}
 
 -- from the place of a character on
@@ -54,19 +55,19 @@ ends_from_key text i key class h = ap (begins_in class) (drop-drop (length key) 
 -- ---- a word
 
 pub word_from_ahead : (text : List ℕ) (i : ℕ) (heads rest : List Range) (reserved : List (List ℕ)) → begins_in heads (drop i text) ≡ true
-    → is_reserved reserved (word_prefix rest (drop i text)) ≡ false → IsWordAt text i heads rest reserved
+    → is_among reserved (word_prefix rest (drop i text)) ≡ false → IsWordAt text i heads rest reserved
 word_from_ahead text i heads rest reserved e f =
     let h = has_from_begins text i heads e in
     record {
       head = h.character;
       there = h.there;
       member = h.member;
-      free = sym (ap (λ a. is_reserved reserved (word_prefix rest a)) (drop_at text i h.character h.there)) ∙ f;
+      free = sym (ap (λ a. is_among reserved (word_prefix rest a)) (drop_at text i h.character h.there)) ∙ f;
     }
 
 pub head_of_word : (text : List ℕ) (i : ℕ) (heads rest : List Range) (reserved : List (List ℕ)) → IsWordAt text i heads rest reserved → HasAt text i heads
 head_of_word text i heads rest reserved w = record { character = w.head; there = w.there; member = w.member }
 
 pub free_of_word : (text : List ℕ) (i : ℕ) (heads rest : List Range) (reserved : List (List ℕ)) → IsWordAt text i heads rest reserved
-    → is_reserved reserved (word_prefix rest (drop i text)) ≡ false
-free_of_word text i heads rest reserved w = ap (λ a. is_reserved reserved (word_prefix rest a)) (drop_at text i w.head w.there) ∙ w.free
+    → is_among reserved (word_prefix rest (drop i text)) ≡ false
+free_of_word text i heads rest reserved w = ap (λ a. is_among reserved (word_prefix rest a)) (drop_at text i w.head w.there) ∙ w.free

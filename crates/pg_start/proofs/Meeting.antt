@@ -7,7 +7,8 @@ use Rattle.std.specs.Char.{IsScalar}
 use Rattle.std.specs.Str.{all_scalars}
 use Rattle.pg_class.specs.Ranges.{Range, AreDisjoint, has}
 use Rattle.pg_class.proofs.Disjoint.{AreDisjoint-swap}
-use Rattle.pg_start.specs.Prefixes.{begins_in, IsPrefix, is_reserved}
+use Rattle.pg_text.specs.Texts.{is_among}
+use Rattle.pg_start.specs.Prefixes.{begins_in, IsPrefix}
 use Rattle.pg_start.specs.Starts.{HasAt, IsKeyAt, IsWordAt, MatchesAt}
 use Rattle.pg_start.specs.Apart.{Apart, KeysApart, differ, other_goes_on, key_goes_on, KeyWordApart, begins_outside, goes_on, ends}
 use Rattle.pg_start.specs.declared.kind.StartKind.{StartKind}
@@ -95,11 +96,11 @@ key_word_never key excluded heads rest reserved text i (begins_outside e) s k w 
     class_key_never heads key excluded text i e (head_of_word text i heads rest reserved w) k
 key_word_never key excluded heads rest reserved text i (goes_on r n) s k w =
     let same = word_inside rest key (drop i text) k.spelled k.there n in
-    false≢true (sym (free_of_word text i heads rest reserved w) ∙ ap (is_reserved reserved) same ∙ r)
+    false≢true (sym (free_of_word text i heads rest reserved w) ∙ ap (is_among reserved) same ∙ r)
 key_word_never key excluded heads rest reserved text i (ends r within) s k w =
     let after = ends_from_key text i key rest (rest_ends key excluded rest text i within s k) in
     let same = word_ends rest key (drop i text) k.spelled k.there after in
-    false≢true (sym (free_of_word text i heads rest reserved w) ∙ ap (is_reserved reserved) same ∙ r)
+    false≢true (sym (free_of_word text i heads rest reserved w) ∙ ap (is_among reserved) same ∙ r)
 
 class_end_never : (a : List Range) (text : List ℕ) (i : ℕ) → HasAt text i a → i ≡ length text → ⊥
 class_end_never a text i h e = let within = slice_get_within text i h.character h.there in omega arith

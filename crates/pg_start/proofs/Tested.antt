@@ -3,7 +3,8 @@ use Rattle.std.proofs.Common.{◌≡◌, ℕ, ◌-◌, Bool, true, false, not, L
 use Rattle.std.proofs.lemmas.Bool.{false≢true, not-true, not_from_false}
 use Rattle.std.proofs.lemmas.List.{take_all, length-drop}
 use Rattle.pg_class.specs.Ranges.{Range}
-use Rattle.pg_start.specs.Prefixes.{begins_in, IsPrefix, word_prefix, is_reserved}
+use Rattle.pg_text.specs.Texts.{is_among}
+use Rattle.pg_start.specs.Prefixes.{begins_in, IsPrefix, word_prefix}
 use Rattle.pg_start.specs.Starts.{IsStart, MatchesAt}
 use Rattle.pg_start.specs.declared.kind.StartKind.{StartKind}
 use Rattle.pg_start.specs.declared.kind.StartKind.TheVariants.{Class, Key, Word}
@@ -38,7 +39,7 @@ key_tested start text i key excluded k ahead r e is f g told =
 
 -- where the text goes on with a head
 pub word_tested : (start : StartKind) (text : List ℕ) (i : ℕ) (heads rest : List Range) (reserved : List (List ℕ)) (r : Bool)
-    → start ≡ Word heads rest reserved → begins_in heads (drop i text) ≡ true → r ≡ is_reserved reserved (word_prefix rest (drop i text))
+    → start ≡ Word heads rest reserved → begins_in heads (drop i text) ≡ true → r ≡ is_among reserved (word_prefix rest (drop i text))
     → (not r ≡ true → MatchesAt start text i) × (MatchesAt start text i → not r ≡ true)
 word_tested start text i heads rest reserved r e begins is =
     subst (λ (s : StartKind). (not r ≡ true → MatchesAt s text i) × (MatchesAt s text i → not r ≡ true)) (sym e) (

@@ -1,7 +1,8 @@
 -- When two starts are apart, so that no place of a text has both.
 use Rattle.std.specs.Prelude.{◌≡◌, ◌≢◌, ℕ, false, true, List, length}
 use Rattle.pg_class.specs.Ranges.{Range, AreDisjoint, IsWithin}
-use Rattle.pg_start.specs.Prefixes.{begins_in, IsPrefix, word_prefix, is_reserved}
+use Rattle.pg_text.specs.Texts.{is_among}
+use Rattle.pg_start.specs.Prefixes.{begins_in, IsPrefix, word_prefix}
 use Rattle.pg_start.specs.Starts.{HasAt}
 use Rattle.pg_start.specs.declared.kind.StartKind.{StartKind}
 use Rattle.pg_start.specs.declared.kind.StartKind.TheVariants.{Class, Key, Word, End}
@@ -19,9 +20,9 @@ pub data KeyWordApart (key : List ℕ) (excluded heads rest : List Range) (reser
   -- the key doesn't begin with a head
   begins_outside : begins_in heads key ≡ false → KeyWordApart key excluded heads rest reserved
   -- the word that the key begins with is reserved, and isn't the whole key
-  goes_on : is_reserved reserved (word_prefix rest key) ≡ true → word_prefix rest key ≢ key → KeyWordApart key excluded heads rest reserved
+  goes_on : is_among reserved (word_prefix rest key) ≡ true → word_prefix rest key ≢ key → KeyWordApart key excluded heads rest reserved
   -- the word that the key begins with is reserved, and the key excludes whatever a word may go on with
-  ends : is_reserved reserved (word_prefix rest key) ≡ true → IsWithin rest excluded → KeyWordApart key excluded heads rest reserved
+  ends : is_among reserved (word_prefix rest key) ≡ true → IsWithin rest excluded → KeyWordApart key excluded heads rest reserved
 
 -- two starts are apart
 abbrev pub Apart : StartKind → StartKind → Type 0

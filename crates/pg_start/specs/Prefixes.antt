@@ -1,7 +1,6 @@
 -- What a text begins with.
 use Rattle.std.specs.Prelude.{◌≡◌, ℕ, Bool, false, List, [], ◌∷◌, length, take}
-use Rattle.std.specs.List.{list_any, take_while}
-use Rattle.std.specs.Str.{bytes_eq}
+use Rattle.std.specs.List.{take_while}
 use Rattle.pg_class.specs.Ranges.{Range, has}
 
 -- whether a text begins with a character of a class
@@ -21,7 +20,3 @@ run class text = take_while (has class) text
 abbrev pub word_prefix : List Range → List ℕ → List ℕ
 word_prefix rest [] = []
 word_prefix rest (c ∷ cs) = c ∷ run rest cs
-
--- whether a text is among those that are reserved
-abbrev pub is_reserved : List (List ℕ) → List ℕ → Bool
-is_reserved reserved text = list_any (λ s. bytes_eq s text) reserved

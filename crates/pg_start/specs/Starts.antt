@@ -1,7 +1,8 @@
 -- What a start matches at a place of a text.
 use Rattle.std.specs.Prelude.{◌≡◌, ◌<◌, ◌+◌, ℕ, suc, false, true, List, ◌∷◌, Some, length, drop, slice_get}
 use Rattle.pg_class.specs.Ranges.{Range, has}
-use Rattle.pg_start.specs.Prefixes.{IsPrefix, run, is_reserved}
+use Rattle.pg_text.specs.Texts.{is_among}
+use Rattle.pg_start.specs.Prefixes.{IsPrefix, run}
 use Rattle.pg_start.specs.declared.kind.StartKind.{StartKind}
 use Rattle.pg_start.specs.declared.kind.StartKind.TheVariants.{Class, Key, Word, End}
 
@@ -29,7 +30,7 @@ pub record IsWordAt (text : List ℕ) (place : ℕ) (heads rest : List Range) (r
   pub head : ℕ
   pub there : slice_get text place ≡ Some head
   pub member : has heads head ≡ true
-  pub free : is_reserved reserved (head ∷ run rest (drop (suc place) text)) ≡ false
+  pub free : is_among reserved (head ∷ run rest (drop (suc place) text)) ≡ false
 
 -- the start matches at the place
 abbrev pub MatchesAt : StartKind → List ℕ → ℕ → Type 0

@@ -36,13 +36,6 @@ impl Characters {
         self.characters.as_slice()
     }
 
-    /// Gives the characters back, in the memory that they lie in.
-    pub fn into_vec(self) -> Vec<char>
-        ensures { result.items ≡ self }
-    {
-        self.characters
-    }
-
     /// How many characters there are; the bytes that they print as may be more.
     pub fn len(&self) -> usize
         ensures { result ≡ length self.now }

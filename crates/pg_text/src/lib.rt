@@ -1,12 +1,12 @@
 //! Texts of characters, and the positions of places in them.
 //!
-//! A text is at most `LIMIT` characters, decoded from UTF-8 once and then only read. `Characters` is an
-//! owned list of characters of any length, for the names and literals of a grammar file, and `Texts` are some of
-//! these, in which a text is found. Places count
-//! characters from 0; lines and columns count from 1.
+//! A text is at most `LIMIT` characters, decoded from UTF-8 once and then only read. `Characters` is an owned list of
+//! characters of any length, for the names and literals of a grammar file, and `Texts` are some of these, in which a
+//! text is found. Places count characters from 0; lines and columns count from 1.
 #![tactic(auto)]
 
 mod characters;
+mod encoded;
 mod position;
 #[cfg(test)]
 mod tests;
@@ -14,6 +14,7 @@ mod text;
 mod texts;
 
 pub use characters::Characters;
-pub use position::{Pos, position_in};
+pub use encoded::{characters_of, utf8};
+pub use position::{Pos, advanced, position_in};
 pub use text::{LIMIT, Text, TextFault};
 pub use texts::Texts;

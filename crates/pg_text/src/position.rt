@@ -27,26 +27,25 @@ pub fn position_in(characters: &[char], place: usize) -> Pos
     position
 }
 
-fn advanced(position: Pos, c: char) -> Pos
-    requires line { position.line < 2 ^ 31 }
-    requires column { position.column < 2 ^ 31 }
-    ensures value { result ≡ advance position c }
+/// The position after a character that stands at this one. A line or column that can't be counted any more stays.
+pub fn advanced(position: Pos, c: char) -> Pos
+    ensures value { position.line < 2 ^ 31 → position.column < 2 ^ 31 → result ≡ advance position c }
     ensures line { result.line ≤ position.line + 1 }
     ensures column { result.column ≤ position.column + 8 }
 {
     let Pos { line, column } = position;
     match c {
         '\n' => Pos {
-            line: line + 1,
+            line: line.saturating_add(1),
             column: 1,
         },
         '\t' => Pos {
             line,
-            column: column + 8 - column.saturating_sub(1) % 8,
+            column: column.saturating_add(8 - column.saturating_sub(1) % 8),
         },
         _ => Pos {
             line,
-            column: column + 1,
+            column: column.saturating_add(1),
         },
     }
 }

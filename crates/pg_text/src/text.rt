@@ -6,8 +6,9 @@
 ghost use Rattle.std.specs.Prelude.{◌≡◌, ◌==◌, ◌<◌, ◌≤◌, ◌↔◌, length, slice_get, IfOk, IsErrOf, true};
 ghost use Rattle.std.specs.Str.{chars, IsUtf8, all_scalars};
 
+use crate::encoded::characters_of;
 use crate::position::{Pos, position_in};
-use std::alloc::{AllocError, Global};
+use std::alloc::Global;
 use std::marker::Model;
 use thiserror::Error;
 
@@ -112,11 +113,4 @@ fn count_of(text: &str) -> usize
     ensures { result ≡ length (chars text.now) }
 {
     text.chars().count()
-}
-
-fn characters_of(alloc: Global, text: &str) -> Result<Vec<char>, AllocError>
-    ensures value { IfOk result (λ v. v.items ≡ chars text.now) }
-    ensures scalars { IfOk result (λ v. all_scalars v.items ≡ true) }
-{
-    text.chars().collect(alloc)
 }

@@ -8,6 +8,6 @@ mod characters;
 mod lexer;
 mod token;
 
-pub use characters::{characters_of, copied, is_word, utf8};
+pub use characters::{copied, is_word};
 pub use lexer::{lex, lex_up_to};
 pub use token::{Lexeme, Mark, Token, has_bad_at};

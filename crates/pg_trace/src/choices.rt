@@ -1,6 +1,6 @@
 //! Which form of its rule a choice is.
 
-use pg_form::{Form, Node, NodeId, RuleId};
+use pg_form::{Node, NodeId, Parts, RuleId};
 use pg_value::Grammar;
 
 /// The number, from 1 in preorder, that the choice has in the body of a rule of which this node is the alternative after the one with
@@ -26,17 +26,12 @@ fn choice_before(nodes: &[Node], which: usize, next: NodeId) -> usize {
 
 /// Whether the node is a choice that has this alternative after so many.
 fn has_alternative(node: Option<&Node>, which: usize, next: NodeId) -> bool {
-    match node {
-        Some(Form::Choice(parts)) => parts.as_slice().get(which) == Some(&next),
-        Some(
-            Form::Leaf(_)
-            | Form::Seq(_)
-            | Form::Many(_)
-            | Form::Chain(_, _, _, _)
-            | Form::Rule(_)
-            | Form::Expression(_, _)
-            | Form::Around(_, _),
-        )
-        | None => false,
+    match choice(node) {
+        Some(parts) => parts.as_slice().get(which) == Some(&next),
+        None => false,
     }
+}
+
+fn choice(node: Option<&Node>) -> Option<&Parts> {
+    node?.alternatives()
 }

@@ -3,7 +3,7 @@
 use crate::choices::number_of;
 use crate::lines::{push_answer, push_characters, push_error, push_front, push_lost, push_stop};
 use crate::quoted::push_taken;
-use crate::replies::{gives_back, has_taken, loses, rule_used};
+use crate::replies::{has_taken, loses, rule_used};
 use crate::stretch::{between, failing};
 use pg_excerpt::positions;
 use pg_form::{Around, NodeId, RuleId};
@@ -183,7 +183,7 @@ impl<'a> Teller<'a> {
     /// What `try` gives back of what was read.
     fn give_back(&mut self, around: &Around, start: usize, reply: Reply) {
         match reply {
-            Reply::Failed { .. } if gives_back(around) => self.reached = start,
+            Reply::Failed { .. } if around.is_try() => self.reached = start,
             Reply::Failed { .. } | Reply::Succeeded { .. } | Reply::EmptyRound => {}
         }
     }

@@ -6,7 +6,7 @@ ghost use Rattle.json.specs.Reads.{token_of};
 ghost use Rattle.json.specs.Token.{begin_array, string as string_token};
 ghost use Rattle.serde_json.specs.Data.{string};
 ghost use Rattle.serde_json.specs.View.{items_of};
-ghost use Rattle.std.specs.Str.{encode_utf8_all, chars};
+ghost use Rattle.std.specs.Str.{encode_utf8_all};
 ghost use Rattle.pg_value.specs.declared.trail.Fixity.{Fixity as SpecFixity};
 ghost use Rattle.pg_trails.specs.Ahead.{after, data_at, items_at};
 ghost use Rattle.pg_trails.specs.Readings.{Finds, IsOnly, Reads, Skips, pair_of, seen};
@@ -15,7 +15,7 @@ ghost use Rattle.pg_trails.specs.TrailJson.{role, two_texts, two_items, operator
 use crate::fault::TrailFault;
 use crate::skip::{skip_items, skip_rest};
 use json::{Reader, Token};
-use pg_text::Characters;
+use pg_text::{Characters, characters_of};
 use pg_value::{AppliedOperator, AppliedOperators, Fixity};
 use std::alloc::{AllocError, Global};
 
@@ -214,10 +214,4 @@ fn read_symbol(alloc: Global, text: &str) -> Result<Characters, AllocError>
 {
     let characters = characters_of(alloc, text)?;
     Ok(Characters::new(characters))
-}
-
-fn characters_of(alloc: Global, text: &str) -> Result<Vec<char>, AllocError>
-    ensures { IfOk result (λ characters. characters.items ≡ chars text.now) }
-{
-    text.chars().collect(alloc)
 }

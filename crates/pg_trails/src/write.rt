@@ -3,7 +3,7 @@
 //! It is compact, and is pushed piece by piece at the end of one buffer. The symbols of operators have the escapes that
 //! `serde_json` writes, so it writes them.
 
-ghost use Rattle.std.specs.Prelude.{◌≡◌, ◌<◌, ◌^◌, ◌++◌, decimal, string_bytes, IfOk, OnOk};
+ghost use Rattle.std.specs.Prelude.{◌≡◌, ◌<◌, ◌^◌, ◌++◌, decimal, IfOk, OnOk};
 ghost use Rattle.serde_json.specs.Data.{string};
 ghost use Rattle.serde_json.specs.Written.{compact_text};
 ghost use Rattle.pg_trails.specs.TrailJson.{role, operator_value, operators_value, item_value, trail_value, trail_json, IsTrailText};
@@ -11,7 +11,7 @@ ghost use Rattle.pg_trails.specs.Storable.{IsSymbolText, AreSymbolsText, IsStora
 ghost use Rattle.std.specs.Str.{encode_utf8_all, IsUtf8};
 
 use itoa::Buffer;
-use pg_text::Characters;
+use pg_text::{Characters, utf8};
 use pg_value::{AppliedOperator, Fixity, Trail, TrailItem};
 use serde_json::Value;
 use std::alloc::{AllocError, Global};
@@ -135,15 +135,8 @@ fn push_symbol(alloc: Global, symbol: &Characters, text: &mut Vec<u8>) -> Result
     ensures text { OnOk result (text.new.items ≡ text.old.items ++ compact_text (string (encode_utf8_all symbol.now))) }
     ensures storable { OnOk result (IsUtf8 (encode_utf8_all symbol.now)) }
 {
-    let symbol = utf8_of(alloc, symbol)?;
+    let symbol = utf8(alloc, symbol.as_slice())?;
     let quoted = Value::String(symbol).to_string(alloc)?;
     text.extend_from_slice(quoted.as_bytes())?;
     Ok(())
-}
-
-/// The text with these characters.
-fn utf8_of(alloc: Global, characters: &Characters) -> Result<String, AllocError>
-    ensures { IfOk result (λ text. string_bytes text ≡ encode_utf8_all characters.now) }
-{
-    format!(in alloc; "{characters}")
 }

@@ -63,14 +63,12 @@ impl<'a> Machine<'a> {
         let none = AppliedOperators::new(alloc, Vec::new(alloc))?;
         self.lists.trail.push(TrailItem::Ops(none))?;
         let rows = in_force.rows();
-        let forest = self.lists.forest.len();
         let setting = Setting {
             item,
             builders,
             term,
             in_force,
             slot,
-            forest,
         };
         let mut levels = Levels::new(alloc);
         let place = self

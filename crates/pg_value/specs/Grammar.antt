@@ -1,17 +1,17 @@
 -- A grammar as the definitions see it.
 use Rattle.std.specs.Prelude.{◌≡◌, ◌<◌, ◌≤◌, ℕ, Bool, false, not, List, length, map, Option}
 use Rattle.std.specs.List.{AllByRecursion, list_any}
+use Rattle.std.specs.Option.{option_map_or}
 use Rattle.std.specs.Str.{all_scalars}
 use Rattle.pg_form.specs.Preorder.{roots}
 use Rattle.pg_form.specs.Names.{Name, AreDistinct}
+use Rattle.pg_form.specs.Contents.{string_in}
 use Rattle.pg_form.specs.Forms.{BaseForm, Node, node_part_count, form_of, has_bad_literal, has_unknown_class, lacks_alternative, InPreorder, NamesRule, NamesWord}
 use Rattle.pg_form.specs.ClassItems.{AreClasses}
 use Rattle.pg_form.specs.WordItems.{word_name, AreWords}
 use Rattle.pg_form.specs.Operators.{Operator, IsOperator}
 use Rattle.pg_form.specs.OperatorsItems.{lacks_operators, AreOperators}
 use Rattle.pg_form.specs.declared.class_item.ClassItem.{ClassItem}
-use Rattle.pg_form.specs.declared.form.Form.TheVariants as form
-use Rattle.pg_form.specs.declared.form.Leaf.TheVariants as leaf
 use Rattle.pg_value.specs.declared.grammar.Rule.{Rule}
 use Rattle.pg_form.specs.declared.operators_item.OperatorsItem.{OperatorsItem}
 use Rattle.pg_form.specs.declared.word_item.WordItem.{WordItem}
@@ -49,8 +49,7 @@ forms_of g = map (form_of (rule_names g) (word_names g)) g.nodes
 
 -- whether a string has a number that is no character; none has, since strings are of characters
 abbrev pub is_misspelled : BaseForm → Bool
-is_misspelled (form.Leaf (leaf.String text)) = not (all_scalars text)
-is_misspelled _ = false
+is_misspelled form = option_map_or (λ text. not (all_scalars text)) (string_in form) false
 
 -- every number names something, and what stands there is what a file may say
 pub record IsGrammar (g : Grammar) : Type 0 where

@@ -1,8 +1,9 @@
 -- Which sets are contained in which by the claims: as edges of a graph whose vertices are the first and the follow sets of nodes, and
 -- of each rule what is claimed to be first, what is claimed to follow, and what stands behind its uses.
 use Rattle.std.specs.Prelude.{◌+◌, ◌*◌, ℕ, suc, nat_lt, Bool, if◌then◌else◌, List, [], ◌∷◌, ◌++◌, replicate, length}
+use Rattle.std.specs.Option.{option_map_or}
+use Rattle.pg_form.specs.Contents.{rule_in}
 use Rattle.pg_form.specs.Forms.{Node}
-use Rattle.pg_form.specs.declared.form.Form.TheVariants as form
 use Rattle.pg_sets.specs.Flows.{Flow, follow_of, with_flows, node_flows}
 use Rattle.pg_value.specs.Grammar.{Grammar}
 use Rattle.pg_value.specs.declared.grammar.Rule.{Rule}
@@ -28,14 +29,8 @@ rule_set count rules kind r = if nat_lt r rules then count + count + 1 + kind * 
 
 -- those that a use of a rule tells: what is claimed to be first begins it, and what follows it stands behind the rule
 abbrev pub use_flows : ℕ → ℕ → ℕ → Node → List Flow
-use_flows count rules p (form.Leaf leaf) = []
-use_flows count rules p (form.Seq parts) = []
-use_flows count rules p (form.Choice parts) = []
-use_flows count rules p (form.Many part) = []
-use_flows count rules p (form.Chain side used operand separator) = []
-use_flows count rules p (form.Rule rule) = (rule_set count rules of_first rule, p) ∷ (follow_of count p, rule_set count rules of_behind rule) ∷ []
-use_flows count rules p (form.Expression builders term) = []
-use_flows count rules p (form.Around around part) = []
+use_flows count rules p n =
+    option_map_or (λ rule. (rule_set count rules of_first rule, p) ∷ (follow_of count p, rule_set count rules of_behind rule) ∷ []) (rule_in n) []
 
 -- those that a node tells, whose number is p
 abbrev pub claim_flows : List Bool → List Bool → ℕ → ℕ → ℕ → Node → List Flow

@@ -93,15 +93,9 @@ fn join_use(
     requires rules { rules ≤ 512 }
     ensures { OnOk result (graph.new ≡ with_flows graph.old (use_flows count rules number node.now)) }
 {
-    match node {
-        Form::Rule(rule) => join_rule(graph, count, rules, number, *rule),
-        Form::Leaf(_)
-        | Form::Seq(_)
-        | Form::Choice(_)
-        | Form::Many(_)
-        | Form::Chain(_, _, _, _)
-        | Form::Expression(_, _)
-        | Form::Around(_, _) => Ok(()),
+    match node.named_rule() {
+        Some(rule) => join_rule(graph, count, rules, number, *rule),
+        None => Ok(()),
     }
 }
 

@@ -1,18 +1,24 @@
 //! Runs of any grammar on a text, as Parsec would.
 
-ghost use Rattle.std.specs.Prelude.{◌≡◌, Some, IfOk};
+ghost use Rattle.std.specs.Prelude.{◌≡◌, ◌⊎◌, Some, IfOk};
 ghost use Rattle.pg_pred.specs.Offer.{offer_of};
-ghost use Rattle.pg.specs.Status.{IsProbeStatus};
+ghost use Rattle.pg_value.specs.Fits.{Fits};
+ghost use Rattle.pg_making.specs.Spells.{HasInitialTable};
+ghost use Rattle.pg.specs.Status.{IsProbeStatus, IsRunStatus, IsTracedStatus};
 
 use crate::commands::NO;
-use pg_bench::probe_bytes;
-use pg_explain_bench::{Tracing, trace_bytes};
+use pg_bench::{probe_bytes, text_of};
+use pg_form::RuleId;
+use pg_grammar_bench::grammar_of;
 use pg_language::Reading;
 use pg_pred::Registry;
 use pg_report::{
     ErrorWriter, Handle, Names, UNUSABLE, inputs, print_report, tell_nearest, text_alone,
 };
-use pg_tree::{Meter, WriteFault};
+use pg_text::Text;
+use pg_trace::{Tracer, rule_named};
+use pg_tree::Meter;
+use pg_value::Grammar;
 use std::alloc::AllocError;
 use std::io;
 use std::io::{Input, Read};
@@ -71,8 +77,8 @@ fn trace_file<F: Read + Drop, R: AllocGlobal + Print + Eprint>(
     }
 }
 
-/// The same on the text of these bytes. Where grammar or text can't be used, nothing is told, and the probe says why. Where standard error takes no more,
-/// the probe answers all the same, with the status of what can't be written.
+/// The same on the text of these bytes, by a grammar that is read once. Where grammar or text can't be used, nothing is told but why.
+#[tactic(auto, using(crate::proofs::Statuses::run_status, crate::proofs::Statuses::spelled_table))]
 fn trace_text<R: AllocGlobal + Print + Eprint>(
     rt: &R,
     bytes: &[u8],
@@ -83,27 +89,90 @@ fn trace_text<R: AllocGlobal + Print + Eprint>(
 ) -> Result<u8, AllocError>
     ensures { IfOk result (IsProbeStatus (offer_of registry.now) bytes.now (Some text.now) names.entry.text.now probing.entry.max_steps probing.entry.reading) }
 {
-    let Probing {
-        max_steps,
-        reading,
-        only,
-        ..
-    } = probing;
-    let tracing = Tracing {
-        only,
-        max_steps,
-        reading,
-    };
-    let mut writer = ErrorWriter { rt };
-    match trace_bytes(rt.alloc(), bytes, registry, text, tracing, &mut writer) {
-        Ok(true) => probe_text(rt, bytes, text, names, registry, max_steps, reading),
-        Err(WriteFault::Writer) => {
-            probe_text(rt, bytes, text, names, registry, max_steps, reading)?;
-            Ok(UNUSABLE)
+    match grammar_of(rt.alloc(), bytes, registry) {
+        Ok(grammar) => {
+            let status = trace_run(rt, &grammar, bytes, text, names, registry, probing);
+            drop(grammar);
+            status
         }
-        Ok(false) => tell_nearest(rt, bytes, names.grammar, only),
-        Err(WriteFault::Memory) => Err(AllocError),
+        Err(fault) => print_report(rt, fault, names),
     }
+}
+
+/// The same by the grammar that the bytes spell. Where it has no such rule, that is told before anything is said of the text.
+fn trace_run<R: AllocGlobal + Print + Eprint>(
+    rt: &R,
+    grammar: &Grammar,
+    bytes: &[u8],
+    text: &[u8],
+    names: Names,
+    registry: &Registry,
+    probing: Probing,
+) -> Result<u8, AllocError>
+    requires fits { Fits (offer_of registry.now) grammar.now }
+    requires table { HasInitialTable grammar.now }
+    ensures { IfOk result (IsRunStatus grammar.now (Some text.now) names.entry.text.now probing.entry.max_steps probing.entry.reading) }
+{
+    let only = rule_named(rt.alloc(), grammar, probing.only)?;
+    if only.is_none() && !probing.only.is_empty() {
+        return tell_nearest(rt, bytes, names.grammar, probing.only);
+    }
+    match text_of(rt.alloc(), text) {
+        Ok(text) => {
+            let status = trace_probe(rt, grammar, &text, names, registry, probing, only);
+            drop(text);
+            status
+        }
+        Err(fault) => print_report(rt, fault, names),
+    }
+}
+
+/// The same on this text, of one rule or of all. The run that is told is the one that answers. Where standard error takes no more, the answer comes
+/// all the same, with the status of what can't be written.
+fn trace_probe<R: AllocGlobal + Print + Eprint>(
+    rt: &R,
+    grammar: &Grammar,
+    text: &Text,
+    names: Names,
+    registry: &Registry,
+    probing: Probing,
+    only: Option<RuleId>,
+) -> Result<u8, AllocError>
+    requires fits { Fits (offer_of registry.now) grammar.now }
+    requires table { HasInitialTable grammar.now }
+    ensures { IfOk result (IsTracedStatus grammar.now text.now names.entry.text.now probing.entry.max_steps probing.entry.reading) }
+{
+    let asked = pg_bench::Probing {
+        name: names.text,
+        max_steps: probing.max_steps,
+        reading: probing.reading,
+    };
+    let mut errors = ErrorWriter { rt };
+    let mut tracer = Tracer::new(rt.alloc(), grammar, text, only, &mut errors)?;
+    let mut writer = Meter::new(io::writer(rt));
+    let probed = pg_bench::probe_text(
+        rt.alloc(),
+        grammar,
+        registry,
+        text,
+        &asked,
+        &mut tracer,
+        &mut writer,
+    );
+    let is_told = tracer.writes();
+    drop(tracer);
+    match probed {
+        Ok(true) => Ok(told(0, is_told)),
+        Ok(false) => Ok(told(NO, is_told)),
+        Err(fault) => print_report(rt, fault, names),
+    }
+}
+
+/// The status of an answer with this one, where the run could be told, and else that of what can't be written.
+fn told(status: u8, is_told: bool) -> u8
+    ensures { (result ≡ status) ⊎ (result ≡ UNUSABLE) }
+{
+    if is_told { status } else { UNUSABLE }
 }
 
 #[tactic(auto, using(crate::proofs::Statuses::ok_status, crate::proofs::Statuses::other_status, crate::proofs::Statuses::shown_fault_status))]

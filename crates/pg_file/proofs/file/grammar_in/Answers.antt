@@ -1,10 +1,8 @@
-use Rattle.std.proofs.Common.{◌≡◌, true, List, Result, Err, length, ap, sym, subst, ◌∙◌}
+use Rattle.std.proofs.Common.{◌≡◌, true, List, length, ap, sym, subst, ◌∙◌}
 use Rattle.std.specs.List.{list_any}
 use Rattle.std.proofs.lemmas.Result.{err_from_is_err_and}
 use Rattle.pg_pred.specs.Offer.{offer_of}
 use Rattle.pg_grammar.proofs.Unique.{same_grammar}
-use Rattle.pg_meaning.specs.declared.error.MakingError.{MakingError}
-use Rattle.pg_making.specs.declared.making.PlacedGrammar.{PlacedGrammar}
 use Rattle.pg_items.specs.declared.item.Item.{Item}
 use Rattle.pg_tokens.specs.declared.token.Lexeme.{Lexeme}
 use Rattle.pg_tokens.specs.View.{tokens_of, placed_tokens_of, is_bad_at}
@@ -19,9 +17,6 @@ use Rattle.pg_parser.specs.Items.{AreItems, OnlyItems}
 use Rattle.pg_file.proofs.ReadLemmas.Spelled.{is_spelled, spelled_items, spelled_grammar}
 use Rattle.pg_file.proofs.ReadLemmas.Fitting.{grammar_fits}
 use Rattle.pg_file.proofs.file.grammar_in.Goals as goal
-
-abbrev err : MakingError → Result PlacedGrammar MakingError
-err e = Err e
 
 pub returns-in_err-items-clause-refused : goal.returns-in_err-items-clause-refused
 returns-in_err-items-clause-refused g c =
@@ -58,6 +53,4 @@ pub returns-clause-refused : goal.returns-clause-refused
 returns-clause-refused g c =
     let only = subst (λ (ls : List Lexeme). OnlySpelled c.args.characters.now (tokens_of ls)) (sym c.as_slice.ensures.value) c.in_ok-lexemes.ensures.only in
     let items = subst (λ (is : List Item). OnlyItems (tokens_of c.as_slice.result.now) (entries_of is)) (sym c.as_slice-2.ensures.value) c.in_ok-items.ensures.only in
-    let none = c.in-Err-Refused.ensures in
-    let same = c.in-Err-Refused.field-0-is in
-    λ fault g' h. c.in-Err-Refused.ensures.refused (ap err same) g' (spelled_grammar _ _ _ _ g' only items h)
+    λ fault g' h. c.in-Err.ensures.refused (c.grammar_error.ensures.fault fault) g' (spelled_grammar _ _ _ _ g' only items h)

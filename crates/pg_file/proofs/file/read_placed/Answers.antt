@@ -20,7 +20,7 @@ err_has P r x e h = subst (λ (r : Result PlacedGrammar ReadError). IfErr r P) e
 pub returns-in-Ok-read-clause-ok : goal.returns-in-Ok-read-clause-ok
 returns-in-Ok-read-clause-ok g c =
     let cases = c.in-Ok.ensures.cases in
-    let are = c.as_slice-characters.ensures.value ∙ c.in_ok-characters.ensures in
+    let are = c.as_slice-characters.ensures.value ∙ c.in_ok-characters.ensures.value in
     elim c.match-limit_place.branch [
       | in-None w ↦
           let found = ok_has _ _ _ (sym w.read-is ∙ c.in-Ok-read.is) w.grammar_in-read.ensures.ok in
@@ -32,7 +32,7 @@ returns-in-Ok-read-clause-ok g c =
 pub returns-in-Ok-read-clause-only : goal.returns-in-Ok-read-clause-only
 returns-in-Ok-read-clause-only g c =
     let cases = c.in-Ok.ensures.cases in
-    let are = c.as_slice-characters.ensures.value ∙ c.in_ok-characters.ensures in
+    let are = c.as_slice-characters.ensures.value ∙ c.in_ok-characters.ensures.value in
     elim c.match-limit_place.branch [
       | in-None w ↦ λ g' h. ok_has _ _ _ (sym w.read-is ∙ c.in-Ok-read.is) w.grammar_in-read.ensures.only g' (spelled_within _ _ _ _ _ cases.0 are h)
       | in-Some w ↦ let q = sym w.read-is ∙ c.in-Ok-read.is in absurd cc
@@ -41,7 +41,7 @@ returns-in-Ok-read-clause-only g c =
 pub returns-clause-refused : goal.returns-clause-refused
 returns-clause-refused g c =
     let cases = c.in-Ok.ensures.cases in
-    let are = c.as_slice-characters.ensures.value ∙ c.in_ok-characters.ensures in
+    let are = c.as_slice-characters.ensures.value ∙ c.in_ok-characters.ensures.value in
     elim c.match-limit_place.branch [
       | in-None w ↦
           let none = err_has _ _ _ (sym w.read-is ∙ c.in-Err-read.is) w.grammar_in-read.ensures.refused in
@@ -55,7 +55,7 @@ returns-clause-refused g c =
 pub returns-clause-err : goal.returns-clause-err
 returns-clause-err g c =
     let cases = c.in-Ok.ensures.cases in
-    let are = c.as_slice-characters.ensures.value ∙ c.in_ok-characters.ensures ∙ ap chars cases.0 in
+    let are = c.as_slice-characters.ensures.value ∙ c.in_ok-characters.ensures.value ∙ ap chars cases.0 in
     elim c.match-limit_place.branch [
       | in-None w ↦
           let error = err_has _ _ _ (sym w.read-is ∙ c.in-Err-read.is) w.grammar_in-read.ensures.err in

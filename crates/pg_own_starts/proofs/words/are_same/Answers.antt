@@ -1,6 +1,6 @@
 use Rattle.std.proofs.Common.{◌≡◌, sym, ap, ◌∙◌}
 use Rattle.std.proofs.lemmas.Bool.{both_ways}
-use Rattle.pg_start.specs.Prefixes.{is_reserved}
+use Rattle.pg_text.specs.Texts.{is_among}
 use Rattle.pg_own_starts.proofs.Ordered.{equal_is, same_texts}
 use Rattle.pg_own_starts.proofs.Reading.{same_from_both, both_from_same}
 use Rattle.pg_own_starts.proofs.words.are_same.Goals as goal
@@ -12,7 +12,7 @@ returns-then-is_eq c =
     let equal = equal_is c.texts_order.result (sym c.is_eq.ensures ∙ c.if-is_eq.true) in
     let lists = same_texts c.as_slice.result.now c.as_slice-2.result.now (sym c.texts_order.ensures ∙ equal) in
     let same : texts ≡ others = sym c.as_slice.ensures ∙ (lists ∙ c.as_slice-2.ensures) in
-    (λ e text. ap (λ ts. is_reserved ts text) same, λ is. c.if-is_eq.true)
+    (λ e text. ap (λ ts. is_among ts text) same, λ is. c.if-is_eq.true)
 
 pub returns-then-all_among : goal.returns-then-all_among
 returns-then-all_among c =

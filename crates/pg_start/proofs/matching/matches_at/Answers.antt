@@ -1,5 +1,6 @@
 use Rattle.std.proofs.Common.{drop, ap, sym, ◌∙◌}
-use Rattle.pg_start.specs.Prefixes.{begins_in, word_prefix, is_reserved}
+use Rattle.pg_text.specs.Texts.{is_among}
+use Rattle.pg_start.specs.Prefixes.{begins_in, word_prefix}
 use Rattle.pg_start.proofs.Tested.{from_place, class_tested, key_tested, word_tested, no_word_tested}
 use Rattle.pg_start.proofs.matching.matches_at.Goals as goal
 
@@ -21,7 +22,7 @@ returns-then-begins_in c =
     let start = sym c.view.ensures.same ∙ c.in-Word.is in
     let begins = sym (ap (begins_in c.in-Word.heads) ahead) ∙ sym c.begins_in-in-Word.ensures ∙ c.if-begins_in.true in
     let prefix = c.word_prefix.ensures ∙ ap (word_prefix c.in-Word.rest) ahead in
-    word_tested _ _ _ _ _ _ _ start begins (c.contains.ensures ∙ ap (is_reserved c.in-Word.reserved) prefix)
+    word_tested _ _ _ _ _ _ _ start begins (c.contains.ensures ∙ ap (is_among c.in-Word.reserved) prefix)
 
 pub returns-else-begins_in : goal.returns-else-begins_in
 returns-else-begins_in c =

@@ -1,0 +1,25 @@
+//! Characters as texts, and texts as characters.
+
+ghost use Rattle.std.specs.Prelude.{◌≡◌, string_bytes, IfOk, true};
+ghost use Rattle.std.specs.Str.{chars, all_scalars, encode_utf8_all};
+
+use std::alloc::{AllocError, Global};
+
+/// The characters of a text. The only error is that memory ran out.
+pub fn characters_of(alloc: Global, text: &str) -> Result<Vec<char>, AllocError>
+    ensures value { IfOk result (λ characters. characters.items ≡ chars text.now) }
+    ensures scalars { IfOk result (λ characters. all_scalars characters.items ≡ true) }
+{
+    text.chars().collect(alloc)
+}
+
+/// The text with these characters. The only error is that memory ran out.
+pub fn utf8(alloc: Global, characters: &[char]) -> Result<String, AllocError>
+    ensures { IfOk result (λ text. string_bytes text ≡ encode_utf8_all characters.now) }
+{
+    let mut text = String::new(alloc);
+    for c in characters {
+        text.push(*c)?;
+    }
+    Ok(text)
+}
