@@ -10,6 +10,7 @@ SUITES = {
     "run": [],
     "faults": [],
     "names": ["0", "500"],
+    "typos": ["0", "2"],
     "prints": [],
     "documents": [],
     "sets": [],

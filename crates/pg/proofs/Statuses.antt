@@ -7,16 +7,18 @@ use Rattle.pg_tree.specs.Meter.{Metered}
 use Rattle.pg_pred.specs.Offer.{Offer}
 use Rattle.pg_value.specs.Grammar.{Grammar}
 use Rattle.pg_value.specs.declared.trail.TrailItem.{TrailItem}
-use Rattle.pg_making.specs.Spells.{HasInitialTable, SpellsWithinLimits}
+use Rattle.pg_making.specs.Spells.{SpellsWithinLimits}
 use Rattle.pg_language.specs.declared.reading.Reading.{Reading}
-use Rattle.pg_predict.specs.Checked.{GrammarWithSets}
 use Rattle.pg_predict.specs.Findings.{lines_of}
 use Rattle.pg_grammar_bench.specs.Checking.{IsChecked, is_accepted, is_refused}
-use Rattle.pg_explain_bench.specs.Explaining.{IsExplainedFile}
+use Rattle.pg_placed_bench.specs.Placing.{IsJudgedBehind, IsPlacedFile, accepted_behind, refused_behind}
+use Rattle.pg_explain_bench.specs.Explaining.{IsExplained}
 use Rattle.pg_json_bench.specs.Listing.{IsListedFile}
 use Rattle.pg_explain_bench.specs.declared.explain.Explained.TheVariants as told
 use Rattle.pg_grammar_bench.specs.Faults.{IsFileRefusal, IsGrammarRefusal, IsPageRefusal, IsWriteRefusal, IsVerifyRefusal, IfNotVerified, IfRefused, IfParseError}
 use Rattle.pg_grammar_bench.specs.Files.{AreFindingsOf}
+use Rattle.pg_grammar_bench.specs.Loading.{judged_grammar, IsLoadedFrom}
+use Rattle.pg_grammar_bench.specs.declared.loaded.LoadedFile.{LoadedFile}
 use Rattle.pg_bench.specs.declared.done.Done.{Done}
 use Rattle.pg_bench.specs.Parsed.{IsParsedBy, IsForestBy, IsErrorBy, IsSpelledBy}
 use Rattle.pg_bench.specs.Refusals.{IsTextFault, IsTextRefusal}
@@ -26,10 +28,11 @@ use Rattle.pg_bench.specs.Showing.{IsShownOf}
 use Rattle.pg_bench.specs.Replaying.{IsReplayed}
 use Rattle.pg_grammar_bench.specs.Showing.{IsShownFile}
 use Rattle.pg_grammar_bench.specs.Verifying.{IsVerifiedFile, IsVerdictOf}
+use Rattle.pg_grammar_bench.specs.declared.grammar_file.AcceptedGrammar.{AcceptedGrammar}
 use Rattle.pg_grammar_bench.specs.declared.fault.BenchFault.{BenchFault}
 use Rattle.pg_grammar_bench.specs.declared.fault.BenchFault.TheVariants.{File, Refused, Reader, NotUtf8, TooLong, NotATrail, NotVerified, ParseError, Writer, Memory}
 use Rattle.pg_report.specs.Status.{status_of, status_of_verdict, IsLoaded, IsRefusedWith}
-use Rattle.pg.specs.Status.{IsStatus, yes, no, unusable, out_of_memory, IsCheckStatus, IsParseStatus, IsTextStatus, IsProbeStatus, IsRunStatus, IsTracedStatus, IsReplayStatus, IsPrintStatus, IsVerifyStatus}
+use Rattle.pg.specs.Status.{IsStatus, yes, no, unusable, out_of_memory, Judges, IsJudgedStatus, IsCheckStatus, IsParseStatus, IsTextStatus, IsProbeStatus, IsRunStatus, IsTracedStatus, IsReplayStatus, IsPrintStatus, IsVerifyStatus}
 
 -- ---- a check
 
@@ -60,17 +63,36 @@ file_fault_status offer file fault status h is = subst (IsCheckStatus offer file
 
 -- ---- what is told for people
 
-pub faultless_status : (offer : Offer) (file : List ℕ) (writer held : Option (List ℕ)) → IsExplainedFile offer file writer held told.Accepted → IsCheckStatus offer file 0
-faultless_status offer file writer held h =
-    yes (false, codes "accepted\n", record { grammar = h.grammar; spelled = h.spelled; judged = is_accepted h.explained.tells.0 })
+-- of a grammar that is judged
+pub faultless_grammar : (g : Grammar) (writer held : Option (List ℕ)) → IsExplained g writer held told.Accepted → IsJudgedStatus g 0
+faultless_grammar g writer held h = yes (false, codes "accepted\n", is_accepted h.tells.0)
 
-pub faulty_status : (offer : Offer) (file : List ℕ) (writer held : Option (List ℕ)) → IsExplainedFile offer file writer held told.Refused → IsCheckStatus offer file 1
-faulty_status offer file writer held h =
-    let tells = h.explained.tells in
-    no (false, lines_of tells.0, record { grammar = h.grammar; spelled = h.spelled; judged = is_refused tells.1 tells.2 })
+pub faulty_grammar : (g : Grammar) (writer held : Option (List ℕ)) → IsExplained g writer held told.Refused → IsJudgedStatus g 1
+faulty_grammar g writer held h =
+    let tells = h.tells in
+    no (false, lines_of tells.0, is_refused tells.1 tells.2)
 
-pub check_unusable : (offer : Offer) (file : List ℕ) (status : ℕ) → status ≡ 2 → IsCheckStatus offer file status
-check_unusable offer file status is = subst (IsCheckStatus offer file) (sym is) unusable
+pub unusable_grammar : (g : Grammar) (status : ℕ) → status ≡ 2 → IsJudgedStatus g status
+unusable_grammar g status is = subst (IsJudgedStatus g) (sym is) unusable
+
+pub write_fault_status : (g : Grammar) (fault : BenchFault) (status : ℕ) → IsWriteRefusal fault → status ≡ status_of fault → IsJudgedStatus g status
+write_fault_status g fault status h is = subst (IsJudgedStatus g) (sym is) (own fault h)
+  where
+    own : (f : BenchFault) → IsWriteRefusal f → IsJudgedStatus g (status_of f)
+    own Writer h = unusable
+    own Memory h = out_of_memory
+    own _ h = absurd h
+
+-- and of the file that it is loaded from
+pub judged_status : (offer : Offer) (file : List ℕ) (loaded : LoadedFile) (status : ℕ) → IsLoadedFrom offer file loaded
+    → IsJudgedStatus (judged_grammar loaded.judgement) status → IsCheckStatus offer file status
+judged_status offer file loaded status is h = own status h
+  where
+    own : (n : ℕ) → IsJudgedStatus (judged_grammar loaded.judgement) n → IsCheckStatus offer file n
+    own _ (yes h) = yes (h.0, h.1, record { grammar = judged_grammar loaded.judgement; spelled = is.spelled; judged = h.2 })
+    own _ (no h) = no (h.0, h.1, record { grammar = judged_grammar loaded.judgement; spelled = is.spelled; judged = h.2 })
+    own _ unusable = unusable
+    own _ out_of_memory = out_of_memory
 
 -- ---- findings as JSON
 
@@ -82,6 +104,21 @@ pub listed_some_status : (offer : Offer) (file : List ℕ) (writer held : Option
 listed_some_status offer file writer held h =
     let lists = h.listed.lists in
     no (false, lines_of lists.0, record { grammar = h.grammar; spelled = h.spelled; judged = is_refused lists.1 lists.2 })
+
+-- ---- findings behind their places
+
+pub placed_yes_status : (offer : Offer) (file : List ℕ) (asked : Bool) (writer held : Option (List ℕ)) → IsPlacedFile offer file asked writer held true → IsCheckStatus offer file 0
+placed_yes_status offer file asked writer held h = yes (own h.placed.judged)
+  where
+    own : {page : List ℕ} → IsJudgedBehind h.grammar asked true page → Judges offer file true
+    own (accepted_behind {said = said} front judged) = (asked, said, record { grammar = h.grammar; spelled = h.spelled; judged = judged })
+
+pub placed_no_status : (offer : Offer) (file : List ℕ) (asked : Bool) (writer held : Option (List ℕ)) → IsPlacedFile offer file asked writer held false → IsCheckStatus offer file 1
+placed_no_status offer file asked writer held h = no (own h.placed.judged)
+  where
+    own : {page : List ℕ} → IsJudgedBehind h.grammar asked false page → Judges offer file false
+    own (refused_behind {refused = refused} front is fronted) =
+        (false, lines_of refused.findings, record { grammar = h.grammar; spelled = h.spelled; judged = is_refused is.findings is.some })
 
 -- ---- a judgement of a certificate
 
@@ -145,14 +182,11 @@ text_fault_status g before after reader left fault status h is = subst (IsTextSt
 
 -- ---- and by the file that it is loaded from
 
-pub loaded_table : (offer : Offer) (file : List ℕ) (checked : GrammarWithSets) → IsLoaded offer file checked → HasInitialTable checked.grammar
-loaded_table offer file checked h = h.spelled.spells.spelled.grammar.admitted
-
-pub loaded_status : (offer : Offer) (file : List ℕ) (checked : GrammarWithSets) (reader : Option (List ℕ)) (status : ℕ) → IsLoaded offer file checked
-    → IsTextStatus checked.grammar reader status → IsParseStatus offer file reader status
-loaded_status offer file checked reader status is h = own status h
+pub loaded_status : (offer : Offer) (file : List ℕ) (loaded : AcceptedGrammar) (reader : Option (List ℕ)) (status : ℕ) → IsLoaded offer file loaded
+    → IsTextStatus loaded.checked.grammar reader status → IsParseStatus offer file reader status
+loaded_status offer file loaded reader status is h = own status h
   where
-    own : (n : ℕ) → IsTextStatus checked.grammar reader n → IsParseStatus offer file reader n
+    own : (n : ℕ) → IsTextStatus loaded.checked.grammar reader n → IsParseStatus offer file reader n
     own _ (yes h) =
         let read = h.4 in
         yes (
@@ -161,7 +195,7 @@ loaded_status offer file checked reader status is h = own status h
           h.2,
           h.3,
           record {
-            grammar = checked.grammar;
+            grammar = loaded.checked.grammar;
             spelled = is.spelled;
             accepted = record { faultless = is.accepted.faultless };
             bytes = read.0;
@@ -176,7 +210,7 @@ loaded_status offer file checked reader status is h = own status h
           h.0,
           h.1,
           record {
-            grammar = checked.grammar;
+            grammar = loaded.checked.grammar;
             spelled = is.spelled;
             accepted = record { faultless = is.accepted.faultless };
             bytes = read.0;
@@ -224,9 +258,6 @@ module _ (g : Grammar) (reader : Option (List ℕ)) (name : List ℕ) (most : �
           no (h.0, h.1, record { grammar = g; spelled = spelled; bytes = read.0; read = read.1; end = read.2; shown = read.3 })
       own _ unusable = unusable
       own _ out_of_memory = out_of_memory
-
-pub spelled_table : (offer : Offer) (file : List ℕ) (g : Grammar) → SpellsWithinLimits offer file g → HasInitialTable g
-spelled_table offer file g h = h.spells.spelled.grammar.admitted
 
 -- where the file spells no grammar
 pub unread_status : (Yes No : Type 0) (fault : BenchFault) (status : ℕ) → IsFileRefusal fault → status ≡ status_of fault → IsStatus Yes No status

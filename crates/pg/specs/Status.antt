@@ -7,7 +7,7 @@ use Rattle.pg_value.specs.declared.trail.TrailItem.{TrailItem}
 use Rattle.pg_pred.specs.Offer.{Offer}
 use Rattle.pg_language.specs.declared.reading.Reading.{Reading}
 use Rattle.pg_predict.specs.Findings.{Finding}
-use Rattle.pg_grammar_bench.specs.Checking.{IsJudgedFile}
+use Rattle.pg_grammar_bench.specs.Checking.{IsJudged, IsJudgedFile}
 use Rattle.pg_grammar_bench.specs.Files.{AreFindingsOf, SpellsAny}
 use Rattle.pg_grammar_bench.specs.Verifying.{IsVerifiedFile, IsVerdictOf}
 use Rattle.pg_bench.specs.declared.done.Done.{Done}
@@ -22,6 +22,14 @@ pub data IsStatus (Yes No : Type 0) : ℕ → Type 0 where
   no : No → IsStatus Yes No 1
   unusable : IsStatus Yes No 2
   out_of_memory : IsStatus Yes No 3
+
+-- the check of a grammar says this
+abbrev pub JudgesGrammar : Grammar → Bool → Type 0
+JudgesGrammar g accepted = (asked : Bool) × (said : List ℕ) × IsJudged g asked accepted said
+
+-- of a check of a grammar: whether it is accepted
+abbrev pub IsJudgedStatus : Grammar → ℕ → Type 0
+IsJudgedStatus g = IsStatus (JudgesGrammar g true) (JudgesGrammar g false)
 
 -- the check of a grammar file says this
 abbrev pub Judges : Offer → List ℕ → Bool → Type 0

@@ -19,7 +19,7 @@ use pg_report::{
     Handle, STANDARD_INPUT, UNUSABLE, cannot_write, null_file, print_page, refuse, say,
 };
 use pg_request::{command, is_quiet, request_of};
-use std::alloc::AllocError;
+use std::alloc::{AllocError, Global};
 use std::io::Input;
 use std::process::ExitCode;
 use std::rt::{Env, Files};
@@ -56,13 +56,13 @@ fn run<R: AllocGlobal + Env + Files + Input + Print + Eprint>(rt: &R) -> Result<
     obey(rt, words.as_slice())
 }
 
-/// Does what the words ask. The page of a code is printed by itself, since to the command line a code is no command.
+/// Does what the words ask. The pages of codes are printed by themselves, since to the command line a code is no command.
 fn obey<R: AllocGlobal + Files + Input + Print + Eprint>(
     rt: &R,
     words: &[String],
 ) -> Result<u8, AllocError> {
-    if let Some(page) = page_asked(words) {
-        return print_page(rt, page);
+    if let Some(pages) = pages_asked(rt.alloc(), words)? {
+        return print_page(rt, pages.as_str());
     }
     if words
         .iter()
@@ -86,12 +86,29 @@ fn obey<R: AllocGlobal + Files + Input + Print + Eprint>(
     }
 }
 
-/// The page of a code, where the words ask for it as `help CODE`.
-fn page_asked(words: &[String]) -> Option<&'static str> {
+/// The pages of codes, one after another, where the words ask for them as `help CODE ..`.
+fn pages_asked(alloc: Global, words: &[String]) -> Result<Option<String>, AllocError> {
     match words {
-        [_, help, code] if help.as_str() == "help" => page(code.as_str()),
-        _ => None,
+        [_, help, codes @ ..] if help.as_str() == "help" && !codes.is_empty() => pages_of(
+            alloc, codes,
+        ),
+        _ => Ok(None),
     }
+}
+
+/// The pages of codes, with a blank line between; none, if one of them is no code.
+fn pages_of(alloc: Global, codes: &[String]) -> Result<Option<String>, AllocError> {
+    let mut pages = String::new(alloc);
+    for code in codes {
+        let Some(page) = page(code.as_str()) else {
+            return Ok(None);
+        };
+        if !pages.is_empty() {
+            pages.push_str("\n")?;
+        }
+        pages.push_str(page)?;
+    }
+    Ok(Some(pages))
 }
 
 /// Does what is asked by words that the command line takes.

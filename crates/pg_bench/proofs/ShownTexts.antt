@@ -1,21 +1,17 @@
 -- What showing a text gives and refuses with, by its steps.
-use Rattle.std.proofs.Common.{◌≡◌, ℕ, List, Bool, Option, refl, subst}
+use Rattle.std.proofs.Common.{ℕ, List, Bool, Option, refl, subst}
 use Rattle.std.specs.Io.KnownBytes.{Consumes, IsAtEnd}
 use Rattle.pg_tree.specs.Meter.{Metered}
 use Rattle.pg_pred.specs.Offer.{Offer}
 use Rattle.pg_value.specs.Grammar.{Grammar}
 use Rattle.pg_making.specs.Spells.{SpellsWithinLimits}
 use Rattle.pg_grammar_bench.specs.Files.{IsFaultOfFile, SpellsAny}
-use Rattle.pg_grammar_bench.specs.Faults.{IsFileRefusal, IsMemory, IfFile}
+use Rattle.pg_grammar_bench.specs.Faults.{IsFileRefusal, IfFile}
 use Rattle.pg_grammar_bench.specs.declared.fault.BenchFault.{BenchFault}
 use Rattle.pg_grammar_bench.specs.declared.fault.BenchFault.TheVariants.{File, Reader, NotUtf8, TooLong, NotATrail, Memory}
 use Rattle.pg_bench.specs.Parsed.{IsSpelledBy, ReadsText}
 use Rattle.pg_bench.specs.Showing.{IsShownBy, IsShownOf, IsWrittenBy, IsWrittenTo, IsPartlyWrittenBy, IsPartlyWrittenTo}
 use Rattle.pg_bench.specs.Refusals.{IsWell, IsReadRefusal, IsTextRefusal, IsShowRefusal, IsBytesRefusal, IsShowFault, IsShownRefusal}
-
-pub memory_unshown : (NoTrail : Type 0) (fault : BenchFault) → IsMemory fault → IsShowRefusal NoTrail fault
-memory_unshown NoTrail Memory h = tt
-memory_unshown NoTrail _ h = absurd h
 
 -- ---- the text that bytes spell
 

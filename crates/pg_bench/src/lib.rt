@@ -10,7 +10,6 @@
 #![tactic(auto)]
 
 mod done;
-mod initial;
 mod input;
 mod laws;
 mod page;

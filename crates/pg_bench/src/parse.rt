@@ -13,20 +13,18 @@ ghost use Rattle.pg_value.specs.Fits.{Fits};
 ghost use Rattle.pg_tree.specs.Json.{json};
 ghost use Rattle.pg_tree.specs.Meter.{saturating_sum};
 ghost use Rattle.pg_tree.specs.Bytes.{AppendsPrefix};
-ghost use Rattle.pg_making.specs.Spells.{HasInitialTable};
+ghost use Rattle.pg_table.specs.Tables.{initial, whole};
 ghost use Rattle.pg_bench.specs.Promise.{IsAccepted, IsForestOfText};
 ghost use Rattle.pg_grammar_bench.specs.Files.{AreFindingsOf, IsFaultOfFile, SpellsSome};
 ghost use Rattle.pg_bench.specs.Parsed.{IsParsed, IsParsedBy, IsForestBy, IsForestOfBytes, IsErrorOf, IsErrorBy, IsSpelledBy, ReadsText, IsPartlyWritten, IsPartlyParsedBy, after_forest, parse_text, IfRead};
-ghost use Rattle.pg_grammar_bench.specs.Faults.{IfRefused, IfParseError, IfNotATrail, IfNotVerified, IsWriteRefusal, IsBeforeReading, IsAfterFile, IsAfterReading, IfFile, IsBeforeWriting, IsMemory};
+ghost use Rattle.pg_grammar_bench.specs.Faults.{IfRefused, IfParseError, IfNotATrail, IfNotVerified, IsWriteRefusal, IsBeforeReading, IsAfterFile, IsAfterReading, IfFile, IsBeforeWriting};
 ghost use Rattle.pg_bench.specs.Refusals.{IsErrorOfAnswer, IsTextFault, IsParseRefusal, IsRunRefusal, IsWell};
 
 use crate::done::Done;
-use crate::initial::initial_table;
 use crate::input::{read_text, text_of};
-use pg_grammar_bench::{BenchFault, checked_of};
+use pg_grammar_bench::{AcceptedGrammar, BenchFault, accepted_of};
 use pg_machine::{Answer, Success, run};
 use pg_pred::Registry;
-use pg_predict::Checked;
 use pg_text::{LIMIT, Text};
 use pg_trails::write_trail;
 use pg_tree::{Forest, Meter, WriteFault, write_bytes, write_json};
@@ -121,9 +119,9 @@ pub fn parse_bytes<R: Read, W: Write>(
 
     ensures asked { reader.new.calls ≤ saturating_sum reader.old.calls (4 * LIMIT + 1) }
 {
-    let checked = checked_of(alloc, grammar, registry)?;
-    let done = parse_checked(alloc, &checked, registry, reader, writer, with_trail);
-    drop(checked);
+    let accepted = accepted_of(alloc, grammar, registry)?;
+    let done = parse_checked(alloc, &accepted, registry, reader, writer, with_trail);
+    drop(accepted);
     match done {
         Ok(done) => Ok(done),
         Err(fault) => Err(fault),
@@ -131,23 +129,23 @@ pub fn parse_bytes<R: Read, W: Write>(
 }
 
 /// Does what [`parse_bytes`] does by a grammar that is loaded already, so that many texts are parsed by one that is read and checked once. The
-/// caller owes that the grammar has what it names in the registry, and an initial operator table. Faults of a file and findings don't come.
+/// caller owes that the grammar has what it names in the registry, and that the table is its own. Faults of a file and findings don't come.
 pub fn parse_checked<R: Read, W: Write>(
     alloc: Global,
-    checked: &Checked,
+    accepted: &AcceptedGrammar,
     registry: &Registry,
     reader: &mut Meter<R>,
     writer: &mut Meter<W>,
     with_trail: bool,
 ) -> Result<Done, BenchFault>
-    requires fits { Fits (offer_of registry.now) checked.now.grammar }
-    requires table { HasInitialTable checked.now.grammar }
+    requires fits { Fits (offer_of registry.now) accepted.now.checked.grammar }
+    requires table { initial accepted.now.checked.grammar ≡ whole accepted.now.table }
     requires reader { reader.old.failed ≡ false }
     requires writer { writer.old.failed ≡ false }
 
     // The whole of the reader's bytes is a text that the grammar derives, in one way, and its forest was written, with the trail
     // where it is asked for. The steps that it took are within the grammar's step cost for each character and for the end.
-    ensures ok { IfOk result (IsParsedBy checked.now.grammar (R.remaining reader.old.inner) (R.remaining reader.new.inner) with_trail
+    ensures ok { IfOk result (IsParsedBy accepted.now.checked.grammar (R.remaining reader.old.inner) (R.remaining reader.new.inner) with_trail
         (W.contents writer.old.inner) (W.contents writer.new.inner)) }
 
     // No file is read, and no grammar is refused.
@@ -165,7 +163,7 @@ pub fn parse_checked<R: Read, W: Write>(
         ReadsText (R.remaining reader.old.inner) (R.remaining reader.new.inner) (λ bytes. IsUtf8 bytes × (LIMIT < length (chars bytes))) }
 
     // Nothing derives the text, and the error is the start rule's, or that of the end after it.
-    ensures parse_error { IfErr result (IfParseError (IsErrorBy checked.now.grammar
+    ensures parse_error { IfErr result (IfParseError (IsErrorBy accepted.now.checked.grammar
         (R.remaining reader.old.inner) (R.remaining reader.new.inner))) }
 
     // No trail is read.
@@ -180,14 +178,14 @@ pub fn parse_checked<R: Read, W: Write>(
 
     // The writer failed after a prefix of what it was to be given, and in every other case was given nothing.
     ensures writer { IsErrOf result BenchFault.Writer → writer.new.failed ≡ true }
-    ensures prefix { IsErrOf result BenchFault.Writer → IsPartlyParsedBy checked.now.grammar (R.remaining reader.old.inner) (R.remaining reader.new.inner) with_trail
+    ensures prefix { IsErrOf result BenchFault.Writer → IsPartlyParsedBy accepted.now.checked.grammar (R.remaining reader.old.inner) (R.remaining reader.new.inner) with_trail
         (W.contents writer.old.inner) (W.contents writer.new.inner) }
     ensures writer_stays { OnOk result (writer.new.failed ≡ false) }
     ensures unwritten { IfErr result (λ fault. IsBeforeWriting fault → writer.new ≡ writer.old) }
 
     ensures asked { reader.new.calls ≤ saturating_sum reader.old.calls (4 * LIMIT + 1) }
 {
-    match parsed_text(alloc, checked, registry, reader) {
+    match parsed_text(alloc, accepted, registry, reader) {
         Ok(parsed) => match write_parse(alloc, &parsed.parse.success, with_trail, writer) {
             Ok(()) => {
                 let done = parsed.parse.done;
@@ -209,44 +207,44 @@ pub fn parse_checked<R: Read, W: Write>(
 #[tactic(auto, using(crate::proofs::Parses::read_refused, crate::proofs::Parses::parse_refused))]
 pub fn parsed_text<R: Read>(
     alloc: Global,
-    checked: &Checked,
+    accepted: &AcceptedGrammar,
     registry: &Registry,
     reader: &mut Meter<R>,
 ) -> Result<ParsedText, BenchFault>
-    requires fits { Fits (offer_of registry.now) checked.now.grammar }
-    requires table { HasInitialTable checked.now.grammar }
+    requires fits { Fits (offer_of registry.now) accepted.now.checked.grammar }
+    requires table { initial accepted.now.checked.grammar ≡ whole accepted.now.table }
     requires reader { reader.old.failed ≡ false }
 
     // The whole of the reader's bytes is this text, which the grammar derives, in one way, to this forest.
-    ensures ok { IfOk result (λ p. IsForestBy checked.now.grammar (R.remaining reader.old.inner) (R.remaining reader.new.inner)
+    ensures ok { IfOk result (λ p. IsForestBy accepted.now.checked.grammar (R.remaining reader.old.inner) (R.remaining reader.new.inner)
         p.parse.success.forest p.parse.success.trail p.parse.done) }
     ensures text { IfOk result (λ p. ReadsText (R.remaining reader.old.inner) (R.remaining reader.new.inner) (λ bytes. IsSpelledBy bytes p.text)) }
 
     // The reader didn't fail, and didn't give more than the limit.
     ensures well { OnOk result (IsWell reader.old reader.new) }
-    ensures err { IfErr result (IsTextFault checked.now.grammar reader.old reader.new (R.remaining reader.old.inner) (R.remaining reader.new.inner)) }
+    ensures err { IfErr result (IsTextFault accepted.now.checked.grammar reader.old reader.new (R.remaining reader.old.inner) (R.remaining reader.new.inner)) }
     ensures asked { reader.new.calls ≤ saturating_sum reader.old.calls (4 * LIMIT + 1) }
 {
     let bytes = read_text(alloc, reader)?;
-    parse_of(alloc, checked, registry, bytes.as_slice())
+    parse_of(alloc, accepted, registry, bytes.as_slice())
 }
 
 /// The text that bytes spell, with its parse.
 #[tactic(auto, using(crate::proofs::Parses::bytes_forest, crate::proofs::Parses::bytes_refused, crate::proofs::Parses::text_refused))]
 fn parse_of(
     alloc: Global,
-    checked: &Checked,
+    accepted: &AcceptedGrammar,
     registry: &Registry,
     bytes: &[u8],
 ) -> Result<ParsedText, BenchFault>
-    requires fits { Fits (offer_of registry.now) checked.now.grammar }
-    requires table { HasInitialTable checked.now.grammar }
-    ensures ok { IfOk result (λ p. IsForestOfBytes checked.now.grammar bytes.now p.parse.success.forest p.parse.success.trail p.parse.done) }
+    requires fits { Fits (offer_of registry.now) accepted.now.checked.grammar }
+    requires table { initial accepted.now.checked.grammar ≡ whole accepted.now.table }
+    ensures ok { IfOk result (λ p. IsForestOfBytes accepted.now.checked.grammar bytes.now p.parse.success.forest p.parse.success.trail p.parse.done) }
     ensures text { IfOk result (λ p. IsSpelledBy bytes.now p.text) }
-    ensures err { IfErr result (IsParseRefusal checked.now.grammar bytes.now) }
+    ensures err { IfErr result (IsParseRefusal accepted.now.checked.grammar bytes.now) }
 {
     let text = text_of(alloc, bytes)?;
-    match parse_of_text(alloc, checked, registry, &text) {
+    match parse_of_text(alloc, accepted, registry, &text) {
         Ok(parse) => Ok(ParsedText { text, parse }),
         Err(fault) => {
             drop(text);
@@ -256,21 +254,20 @@ fn parse_of(
 }
 
 /// The parse of a text.
-#[tactic(auto, using(crate::proofs::Parses::found_forest, crate::proofs::Parses::found_refused))]
+#[tactic(auto, using(crate::proofs::Parses::found_forest, crate::proofs::Parses::found_refused, pg_table::proofs::Added::own_table))]
 fn parse_of_text(
     alloc: Global,
-    checked: &Checked,
+    accepted: &AcceptedGrammar,
     registry: &Registry,
     text: &Text,
 ) -> Result<Parse, BenchFault>
-    requires fits { Fits (offer_of registry.now) checked.now.grammar }
-    requires table { HasInitialTable checked.now.grammar }
-    ensures ok { IfOk result (λ p. IsForestOfText checked.now.grammar text.now p.success.forest p.success.trail p.done) }
-    ensures err { IfErr result (IsRunRefusal checked.now.grammar text.now) }
+    requires fits { Fits (offer_of registry.now) accepted.now.checked.grammar }
+    requires table { initial accepted.now.checked.grammar ≡ whole accepted.now.table }
+    ensures ok { IfOk result (λ p. IsForestOfText accepted.now.checked.grammar text.now p.success.forest p.success.trail p.done) }
+    ensures err { IfErr result (IsRunRefusal accepted.now.checked.grammar text.now) }
 {
-    let table = initial_table(alloc, checked.grammar())?;
-    match run(alloc, checked, text, &table, registry) {
-        Ok(answer) => parse_of_answer(answer, checked.cost()),
+    match run(alloc, &accepted.checked, text, &accepted.table, registry) {
+        Ok(answer) => parse_of_answer(answer, accepted.checked.cost()),
         Err(_) => Err(BenchFault::Memory),
     }
 }

@@ -5,18 +5,18 @@ ghost use Rattle.std.specs.Str.{chars, IsUtf8};
 ghost use Rattle.pg_pred.specs.Offer.{offer_of};
 ghost use Rattle.pg_tree.specs.Meter.{saturating_sum};
 ghost use Rattle.pg_value.specs.Fits.{Fits};
-ghost use Rattle.pg_making.specs.Spells.{HasInitialTable};
+ghost use Rattle.pg_table.specs.Tables.{initial, whole};
 ghost use Rattle.pg_grammar_bench.specs.Files.{IsFaultOfFile, SpellsAny};
 ghost use Rattle.pg_bench.specs.Parsed.{ReadsText};
 ghost use Rattle.pg_grammar_bench.specs.Faults.{IsAfterFile, IsAfterReading, IsFileFault, IfFile, IfParseError, IfRefused, IfNotATrail, IfNotVerified, IsMemory, IsBeforeWriting, IsWriteRefusal};
 ghost use Rattle.pg_bench.specs.Probing.{IsProbed, IsProbedBy, IsPartlyProbed, IsPartlyProbedBy, IsTextProbed, IsTextPartlyProbed, IsShownOfText, is_ok_outcome, outcome_text};
 
-use crate::initial::initial_table;
 use crate::page::{is_ok, page_of};
 use crate::showing::{Shown, ShowsText, shown_of_reader, write_shown};
-use pg_grammar_bench::{BenchFault, grammar_of};
+use pg_grammar_bench::{BenchFault, placed_of};
 use pg_language::Reading;
 use pg_machine::{Outcome, Run, Watcher, probe, probe_watched};
+use pg_making::PlacedGrammar;
 use pg_pred::Registry;
 use pg_table::Table;
 use pg_text::{LIMIT, Text};
@@ -89,22 +89,22 @@ pub fn probe_bytes<R: Read, W: Write>(
 
     ensures asked { reader.new.calls ≤ saturating_sum reader.old.calls (4 * LIMIT + 1) }
 {
-    let grammar = grammar_of(alloc, grammar, registry)?;
+    let placed = placed_of(alloc, grammar, registry)?;
     let probed = probe_grammar(
-        alloc, &grammar, registry, name, reader, writer, max_steps, reading,
+        alloc, &placed, registry, name, reader, writer, max_steps, reading,
     );
-    drop(grammar);
+    drop(placed);
     match probed {
         Ok(accepted) => Ok(accepted),
         Err(fault) => Err(fault),
     }
 }
 
-/// Does what [`probe_bytes`] does by a grammar that is read already. The caller owes that the grammar has what it names in the registry, and an
-/// initial operator table. Faults of a file don't come.
+/// Does what [`probe_bytes`] does by a grammar that is read already. The caller owes that the grammar has what it names in the registry, and
+/// that the table is its own. Faults of a file don't come.
 pub fn probe_grammar<R: Read, W: Write>(
     alloc: Global,
-    grammar: &Grammar,
+    placed: &PlacedGrammar,
     registry: &Registry,
     name: &str,
     reader: &mut Meter<R>,
@@ -112,13 +112,13 @@ pub fn probe_grammar<R: Read, W: Write>(
     max_steps: u64,
     reading: Reading,
 ) -> Result<bool, BenchFault>
-    requires fits { Fits (offer_of registry.now) grammar.now }
-    requires table { HasInitialTable grammar.now }
+    requires fits { Fits (offer_of registry.now) placed.now.grammar }
+    requires table { initial placed.now.grammar ≡ whole placed.now.table }
     requires reader { reader.old.failed ≡ false }
     requires writer { writer.old.failed ≡ false }
 
     // The whole of the reader's bytes is a text, and what the start rule answers to it was written.
-    ensures ok { IfOk result (IsProbedBy grammar.now (R.remaining reader.old.inner) (R.remaining reader.new.inner)
+    ensures ok { IfOk result (IsProbedBy placed.now.grammar (R.remaining reader.old.inner) (R.remaining reader.new.inner)
         name.now max_steps reading (W.contents writer.old.inner) (W.contents writer.new.inner)) }
 
     // No file is read.
@@ -148,7 +148,7 @@ pub fn probe_grammar<R: Read, W: Write>(
 
     // The writer failed after a prefix of what it was to be given, and in every other case was given nothing.
     ensures writer { IsErrOf result BenchFault.Writer → writer.new.failed ≡ true }
-    ensures prefix { IsErrOf result BenchFault.Writer → IsPartlyProbedBy grammar.now (R.remaining reader.old.inner)
+    ensures prefix { IsErrOf result BenchFault.Writer → IsPartlyProbedBy placed.now.grammar (R.remaining reader.old.inner)
         (R.remaining reader.new.inner) name.now max_steps reading (W.contents writer.old.inner) (W.contents writer.new.inner) }
     ensures writer_stays { OnOk result (writer.new.failed ≡ false) }
     ensures unwritten { IfErr result (λ fault. IsBeforeWriting fault → writer.new ≡ writer.old) }
@@ -160,7 +160,7 @@ pub fn probe_grammar<R: Read, W: Write>(
         max_steps,
         reading,
     };
-    match shown_of_reader(alloc, grammar, registry, &probing, reader) {
+    match shown_of_reader(alloc, placed, registry, &probing, reader) {
         Ok(shown) => write_shown(&shown, writer),
         Err(fault) => Err(fault),
     }
@@ -171,26 +171,26 @@ pub fn probe_grammar<R: Read, W: Write>(
 #[tactic(auto, using(crate::proofs::Watched::written_text, crate::proofs::Watched::partly_written_text))]
 pub fn probe_text<O: Watcher, W: Write>(
     alloc: Global,
-    grammar: &Grammar,
+    placed: &PlacedGrammar,
     registry: &Registry,
     text: &Text,
     probing: &Probing,
     watcher: &mut O,
     writer: &mut Meter<W>,
 ) -> Result<bool, BenchFault>
-    requires fits { Fits (offer_of registry.now) grammar.now }
-    requires table { HasInitialTable grammar.now }
+    requires fits { Fits (offer_of registry.now) placed.now.grammar }
+    requires table { initial placed.now.grammar ≡ whole placed.now.table }
     requires writer { writer.old.failed ≡ false }
-    ensures ok { IfOk result (IsTextProbed grammar.now text.now probing.now.name.now probing.now.max_steps probing.now.reading
+    ensures ok { IfOk result (IsTextProbed placed.now.grammar text.now probing.now.name.now probing.now.max_steps probing.now.reading
         (W.contents writer.old.inner) (W.contents writer.new.inner)) }
     ensures err { IfErr result IsWriteRefusal }
     ensures writer { IsErrOf result BenchFault.Writer → writer.new.failed ≡ true }
-    ensures prefix { IsErrOf result BenchFault.Writer → IsTextPartlyProbed grammar.now text.now probing.now.name.now probing.now.max_steps
+    ensures prefix { IsErrOf result BenchFault.Writer → IsTextPartlyProbed placed.now.grammar text.now probing.now.name.now probing.now.max_steps
         probing.now.reading (W.contents writer.old.inner) (W.contents writer.new.inner) }
     ensures writer_stays { OnOk result (writer.new.failed ≡ false) }
     ensures unwritten { IsErrOf result BenchFault.Memory → writer.new ≡ writer.old }
 {
-    let shown = shown_of_watched(alloc, grammar, registry, text, probing, watcher)?;
+    let shown = shown_of_watched(alloc, placed, registry, text, probing, watcher)?;
     write_shown(&shown, writer)
 }
 
@@ -198,25 +198,24 @@ pub fn probe_text<O: Watcher, W: Write>(
 #[tactic(auto, using(crate::proofs::Shown::shown_text))]
 fn shown_of_watched<O: Watcher>(
     alloc: Global,
-    grammar: &Grammar,
+    placed: &PlacedGrammar,
     registry: &Registry,
     text: &Text,
     probing: &Probing,
     watcher: &mut O,
 ) -> Result<Shown, BenchFault>
-    requires fits { Fits (offer_of registry.now) grammar.now }
-    requires table { HasInitialTable grammar.now }
-    ensures ok { IfOk result (λ shown. IsShownOfText grammar.now probing.now.name.now probing.now.max_steps probing.now.reading text.now shown.accepted shown.page.items) }
+    requires fits { Fits (offer_of registry.now) placed.now.grammar }
+    requires table { initial placed.now.grammar ≡ whole placed.now.table }
+    ensures ok { IfOk result (λ shown. IsShownOfText placed.now.grammar probing.now.name.now probing.now.max_steps probing.now.reading text.now shown.accepted shown.page.items) }
     ensures err { IfErr result IsMemory }
 {
-    let table = initial_table(alloc, grammar)?;
     let run = Run {
-        grammar,
+        grammar: &placed.grammar,
         text,
         registry,
         reading: probing.reading,
     };
-    match probe_watched(alloc, &run, &table, probing.max_steps, watcher) {
+    match probe_watched(alloc, &run, &placed.table, probing.max_steps, watcher) {
         Ok(outcome) => {
             let shown = shown_of_outcome(alloc, &outcome, probing.name);
             drop(outcome);

@@ -9,7 +9,6 @@ ghost use Rattle.std.specs.Io.KnownBytes.{Appends};
 ghost use Rattle.pg_pred.specs.Offer.{offer_of};
 ghost use Rattle.pg_value.specs.Fits.{Fits};
 ghost use Rattle.pg_value.specs.Grammar.{Grammar};
-ghost use Rattle.pg_making.specs.Spells.{HasInitialTable};
 ghost use Rattle.pg_table.specs.Tables.{initial, whole, ComesFrom};
 ghost use Rattle.pg_tree.specs.Bytes.{AppendsPrefix};
 ghost use Rattle.pg_tree.specs.Meter.{saturating_sum};
@@ -17,9 +16,9 @@ ghost use Rattle.pg_bench.specs.Parsed.{ReadsText};
 ghost use Rattle.pg_bench.specs.Refusals.{IsShowRefusal, IsBytesRefusal, IsShowFault, IsShownRefusal, IsWell};
 ghost use Rattle.pg_bench.specs.Showing.{IsShownBy, IsShownOf};
 
-use crate::initial::initial_table;
 use crate::input::{read_text, text_of};
-use pg_grammar_bench::{BenchFault, grammar_of, write_page};
+use pg_grammar_bench::{BenchFault, placed_of, write_page};
+use pg_making::PlacedGrammar;
 use pg_pred::Registry;
 use pg_table::Table;
 use pg_text::{LIMIT, Text};
@@ -92,9 +91,9 @@ pub fn shown_of_files<S: ShowsText, R: Read>(
         (R.remaining reader.old.inner) (R.remaining reader.new.inner)) }
     ensures asked { reader.new.calls ≤ saturating_sum reader.old.calls (4 * LIMIT + 1) }
 {
-    let grammar = grammar_of(alloc, grammar, registry)?;
-    let shown = shown_of_reader(alloc, &grammar, registry, shower, reader);
-    drop(grammar);
+    let placed = placed_of(alloc, grammar, registry)?;
+    let shown = shown_of_reader(alloc, &placed, registry, shower, reader);
+    drop(placed);
     match shown {
         Ok(shown) => Ok(shown),
         Err(fault) => Err(fault),
@@ -105,56 +104,55 @@ pub fn shown_of_files<S: ShowsText, R: Read>(
 #[tactic(auto, using(crate::proofs::ShownTexts::read_unshown, crate::proofs::ShownTexts::bytes_unshown))]
 pub fn shown_of_reader<S: ShowsText, R: Read>(
     alloc: Global,
-    grammar: &Grammar,
+    placed: &PlacedGrammar,
     registry: &Registry,
     shower: &S,
     reader: &mut Meter<R>,
 ) -> Result<Shown, BenchFault>
-    requires fits { Fits (offer_of registry.now) grammar.now }
-    requires table { HasInitialTable grammar.now }
+    requires fits { Fits (offer_of registry.now) placed.now.grammar }
+    requires table { initial placed.now.grammar ≡ whole placed.now.table }
     requires reader { reader.old.failed ≡ false }
     ensures ok { IfOk result (λ shown. ReadsText (R.remaining reader.old.inner) (R.remaining reader.new.inner)
-        (λ bytes. IsShownOf (S.Shows shower.now grammar.now) bytes shown.accepted shown.page.items)) }
+        (λ bytes. IsShownOf (S.Shows shower.now placed.now.grammar) bytes shown.accepted shown.page.items)) }
     ensures well { OnOk result (IsWell reader.old reader.new) }
     ensures err { IfErr result (IsShowFault (S.NoTrail shower.now) reader.old reader.new (R.remaining reader.old.inner) (R.remaining reader.new.inner)) }
     ensures asked { reader.new.calls ≤ saturating_sum reader.old.calls (4 * LIMIT + 1) }
 {
     let bytes = read_text(alloc, reader)?;
-    shown_of(alloc, grammar, registry, shower, bytes.as_slice())
+    shown_of(alloc, placed, registry, shower, bytes.as_slice())
 }
 
 /// What is printed of the text that bytes spell.
 #[tactic(auto, using(crate::proofs::ShownTexts::shown_bytes, crate::proofs::ShownTexts::text_unshown, crate::proofs::ShownTexts::show_unshown))]
 fn shown_of<S: ShowsText>(
     alloc: Global,
-    grammar: &Grammar,
+    placed: &PlacedGrammar,
     registry: &Registry,
     shower: &S,
     bytes: &[u8],
 ) -> Result<Shown, BenchFault>
-    requires fits { Fits (offer_of registry.now) grammar.now }
-    requires table { HasInitialTable grammar.now }
-    ensures ok { IfOk result (λ shown. IsShownOf (S.Shows shower.now grammar.now) bytes.now shown.accepted shown.page.items) }
+    requires fits { Fits (offer_of registry.now) placed.now.grammar }
+    requires table { initial placed.now.grammar ≡ whole placed.now.table }
+    ensures ok { IfOk result (λ shown. IsShownOf (S.Shows shower.now placed.now.grammar) bytes.now shown.accepted shown.page.items) }
     ensures err { IfErr result (IsBytesRefusal (S.NoTrail shower.now) bytes.now) }
 {
     let text = text_of(alloc, bytes)?;
-    shown_of_text(alloc, grammar, registry, shower, &text)
+    shown_of_text(alloc, placed, registry, shower, &text)
 }
 
 /// What is printed of a text.
-#[tactic(auto, using(crate::proofs::ShownTexts::memory_unshown))]
+#[tactic(auto, using(pg_table::proofs::Added::own_table))]
 fn shown_of_text<S: ShowsText>(
     alloc: Global,
-    grammar: &Grammar,
+    placed: &PlacedGrammar,
     registry: &Registry,
     shower: &S,
     text: &Text,
 ) -> Result<Shown, BenchFault>
-    requires fits { Fits (offer_of registry.now) grammar.now }
-    requires table { HasInitialTable grammar.now }
-    ensures ok { IfOk result (λ shown. S.Shows shower.now grammar.now text.now shown.accepted shown.page.items) }
+    requires fits { Fits (offer_of registry.now) placed.now.grammar }
+    requires table { initial placed.now.grammar ≡ whole placed.now.table }
+    ensures ok { IfOk result (λ shown. S.Shows shower.now placed.now.grammar text.now shown.accepted shown.page.items) }
     ensures err { IfErr result (IsShowRefusal (S.NoTrail shower.now)) }
 {
-    let table = initial_table(alloc, grammar)?;
-    shower.show(alloc, grammar, registry, text, &table)
+    shower.show(alloc, &placed.grammar, registry, text, &placed.table)
 }

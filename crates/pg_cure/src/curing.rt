@@ -1,17 +1,14 @@
 //! The cure of a finding: the first change of the list that takes it away.
 
-use crate::finding::{Found, Gone, code_of, trouble_of};
+use crate::finding::{Found, found_at, trouble_of};
 use crate::items::changed_items;
 use crate::judging::{Judged, judge};
 use crate::source::{Bound, Source};
 use pg_changes::{Trouble, drafts};
 use pg_draft::{Change, Changed, Draft, Forms};
 use pg_form::NodeId;
-use pg_items::Item;
-use pg_parser::{SyntaxError, read_items};
-use pg_predict::ViolationKind;
+use pg_predict::{Broken, ViolationKind, condition_number};
 use pg_text::utf8;
-use pg_tokens::{Lexeme, lex};
 use std::alloc::{AllocError, Global};
 
 /// The most characters of a file for which a cure is looked for.
@@ -34,17 +31,16 @@ pub struct Cure {
     /// Whether nothing is wrong with the changed grammar.
     pub accepted: bool,
     /// The findings that the changed grammar doesn't have any more.
-    pub gone: Vec<Gone>,
+    pub gone: Vec<Broken>,
 }
 
 impl Cure {
     /// Whether the changed grammar doesn't have what was wrong at a node any more.
     pub fn takes_away(&self, node: NodeId, kind: &ViolationKind<usize>) -> bool {
-        let gone = Gone {
-            node,
-            code: code_of(kind),
-        };
-        self.gone.iter().any(|one| *one == gone)
+        let condition = condition_number(kind);
+        self.gone
+            .iter()
+            .any(|gone| gone.node == node && gone.condition == condition)
     }
 }
 
@@ -68,45 +64,14 @@ pub fn find_cure(
     if source.found.len() > FINDING_LIMIT || bound.is_used_up(source.text.len()) {
         return Ok(None);
     }
-    let code = code_of(kind);
-    let cured = Found { node, span, code };
+    let cured = found_at(node, span, condition_number(kind));
     cure_in(alloc, source, &cured, trouble, bound)
 }
 
-/// Reads the file's items, and looks for a cure.
+/// Looks for a cure by the file's items.
 fn cure_in(
     alloc: Global,
     source: &Source,
-    cured: &Found,
-    trouble: Trouble,
-    bound: &mut Bound,
-) -> Result<Option<Cure>, AllocError> {
-    let lexemes = lex(alloc, source.text)?;
-    match read_items(alloc, lexemes.as_slice()) {
-        Ok(items) => {
-            let read = Read {
-                lexemes: lexemes.as_slice(),
-                items: items.as_slice(),
-            };
-            cure_by(alloc, source, read, cured, trouble, bound)
-        }
-        Err(SyntaxError::Memory) => Err(AllocError),
-        Err(SyntaxError::Fault(_, _)) => Ok(None),
-    }
-}
-
-/// The tokens and the items of a file.
-#[derive(Clone, Copy)]
-struct Read<'r> {
-    lexemes: &'r [Lexeme],
-    items: &'r [Item],
-}
-
-/// Looks for a cure by the file's items.
-fn cure_by(
-    alloc: Global,
-    source: &Source,
-    read: Read,
     cured: &Found,
     trouble: Trouble,
     bound: &mut Bound,
@@ -115,8 +80,8 @@ fn cure_by(
     let forms = Forms::of(
         alloc,
         source.text,
-        read.lexemes,
-        read.items,
+        &source.syntax.lexemes,
+        &source.syntax.items,
         source.spans,
         &nullable,
     )?;

@@ -5,42 +5,17 @@
 use pg_changes::Trouble;
 use pg_form::NodeId;
 use pg_items::Span;
-use pg_predict::{Refused, ViolationKind};
+use pg_predict::{Broken, Refused, ViolationKind, condition_number};
 use std::alloc::{AllocError, Global};
 
 /// How many things that are wrong at a node are looked at.
 const MOST: usize = 1_000;
 
-/// A finding that a change takes away: the node, and the number of the condition that is broken there, as in C1 to C11.
-#[derive(Clone, Copy, PartialEq, Eq)]
-pub struct Gone {
-    pub node: NodeId,
-    pub code: u8,
-}
-
-/// A node at which a condition is broken, and the form that was written for it.
+/// A condition that is broken at a node, and the form that was written for that.
 #[derive(Clone, Copy)]
 pub struct Found {
-    pub node: NodeId,
+    pub broken: Broken,
     pub span: Span,
-    /// The number of the condition, as in C1 to C11.
-    pub code: u8,
-}
-
-/// The number of the condition that is broken.
-pub(crate) fn code_of(kind: &ViolationKind<usize>) -> u8 {
-    match kind {
-        ViolationKind::LeftRecursion => 1,
-        ViolationKind::EmptyRound => 2,
-        ViolationKind::EmptyAlternative(_) => 3,
-        ViolationKind::AlternativesMeet(_, _, _, _) => 4,
-        ViolationKind::AlternativeMeetsFollow(_, _, _) => 5,
-        ViolationKind::RoundMeetsFollow(_, _) => 6,
-        ViolationKind::EmptyOperand | ViolationKind::OperandMeetsOperators(_) => 7,
-        ViolationKind::FollowMeetsOperators(_) => 8,
-        ViolationKind::GapMeets(_) => 9,
-        ViolationKind::StepCostOver => 11,
-    }
 }
 
 /// What a change has to help against, if some may.
@@ -57,6 +32,14 @@ pub(crate) fn trouble_of(kind: &ViolationKind<usize>) -> Option<Trouble> {
         | ViolationKind::FollowMeetsOperators(_)
         | ViolationKind::GapMeets(_)
         | ViolationKind::StepCostOver => None,
+    }
+}
+
+/// That a condition is broken at a node, for which this form was written.
+pub(crate) fn found_at(node: NodeId, span: Span, condition: u8) -> Found {
+    Found {
+        broken: Broken { node, condition },
+        span,
     }
 }
 
@@ -87,19 +70,15 @@ fn push_node(
     let kinds = refused.kinds_at(alloc, node, MOST)?;
     let mut last = 0;
     for kind in &kinds {
-        let code = code_of(kind);
-        if code != last {
-            found.push(Found { node, span, code })?;
+        let condition = condition_number(kind);
+        if condition != last {
+            found.push(found_at(node, span, condition))?;
         }
-        last = code;
+        last = condition;
     }
     if kinds.len() >= MOST {
         // What comes after the alternatives that meet isn't known then.
-        found.push(Found {
-            node,
-            span,
-            code: 5,
-        })?;
+        found.push(found_at(node, span, 5))?;
     }
     Ok(())
 }

@@ -2,13 +2,13 @@
 //!
 //! It is one where its grammar is accepted, or where the finding is gone and each finding that there is stood at the same form before.
 
-use crate::finding::{Found, Gone, findings};
+use crate::finding::{Found, findings};
 use pg_draft::Changed;
 use pg_file::{FileError, read_placed};
 use pg_items::Span;
 use pg_making::PlacedGrammar;
 use pg_pred::Registry;
-use pg_predict::{CheckFault, Refused, check};
+use pg_predict::{Broken, CheckFault, Refused, check};
 use pg_text::utf8;
 use std::alloc::{AllocError, Global};
 
@@ -18,7 +18,7 @@ pub(crate) struct Judged {
     /// Whether nothing is wrong any more.
     pub(crate) accepted: bool,
     /// The findings that are gone.
-    pub(crate) gone: Vec<Gone>,
+    pub(crate) gone: Vec<Broken>,
 }
 
 /// What a change does of a grammar with these findings, if it cures the one with this number. The only error is that memory ran out.
@@ -48,7 +48,7 @@ fn judged_grammar(
     cured: &Found,
     changed: &Changed,
 ) -> Result<Option<Judged>, AllocError> {
-    let PlacedGrammar { grammar, spans } = read;
+    let PlacedGrammar { grammar, spans, .. } = read;
     match check(alloc, grammar) {
         Ok(checked) => {
             drop(checked);
@@ -70,20 +70,12 @@ fn judged_grammar(
 fn all_gone(alloc: Global, before: &[Found]) -> Result<Option<Judged>, AllocError> {
     let mut gone = Vec::new(alloc);
     for found in before {
-        gone.push(gone_of(found))?;
+        gone.push(found.broken)?;
     }
     Ok(Some(Judged {
         accepted: true,
         gone,
     }))
-}
-
-/// The finding, as it is handed out.
-fn gone_of(found: &Found) -> Gone {
-    Gone {
-        node: found.node,
-        code: found.code,
-    }
 }
 
 /// Compares the findings of the changed grammar with those before.
@@ -120,7 +112,10 @@ fn left_of(
         let Some(span) = changed.back(found.span) else {
             return Ok(None);
         };
-        let stood = moved(found, span);
+        let stood = Found {
+            broken: found.broken,
+            span,
+        };
         if !is_among(before, &stood) {
             return Ok(None);
         }
@@ -129,19 +124,10 @@ fn left_of(
     Ok(Some(left))
 }
 
-/// The finding at the form with another span.
-fn moved(found: &Found, span: Span) -> Found {
-    Found {
-        node: found.node,
-        span,
-        code: found.code,
-    }
-}
-
 /// Whether one of these is of the same condition at the same form.
 fn is_among(all: &[Found], one: &Found) -> bool {
     for other in all {
-        if other.code == one.code && other.span == one.span {
+        if other.broken.condition == one.broken.condition && other.span == one.span {
             return true;
         }
     }
@@ -149,11 +135,11 @@ fn is_among(all: &[Found], one: &Found) -> bool {
 }
 
 /// Those that aren't left.
-fn missing(alloc: Global, before: &[Found], left: &[Found]) -> Result<Vec<Gone>, AllocError> {
+fn missing(alloc: Global, before: &[Found], left: &[Found]) -> Result<Vec<Broken>, AllocError> {
     let mut gone = Vec::new(alloc);
     for found in before {
         if !is_among(left, found) {
-            gone.push(gone_of(found))?;
+            gone.push(found.broken)?;
         }
     }
     Ok(gone)

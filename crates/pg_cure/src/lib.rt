@@ -12,5 +12,5 @@ mod judging;
 mod source;
 
 pub use curing::{Cure, find_cure};
-pub use finding::{Found, Gone, findings};
+pub use finding::{Found, findings};
 pub use source::{Bound, Source};

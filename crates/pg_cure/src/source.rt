@@ -1,6 +1,7 @@
 //! What a cure is looked for in, and how much may be tried.
 
 use crate::finding::Found;
+use pg_file::Syntax;
 use pg_items::Span;
 use pg_pred::Registry;
 use pg_predict::Refused;
@@ -10,6 +11,8 @@ use pg_predict::Refused;
 pub struct Source<'a> {
     /// The characters of the file.
     pub text: &'a [char],
+    /// Its tokens and items.
+    pub syntax: &'a Syntax,
     /// Its grammar, with all that is wrong with it.
     pub refused: &'a Refused,
     /// For each node the characters of the form that was written for it.

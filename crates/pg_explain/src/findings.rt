@@ -2,7 +2,7 @@
 
 use crate::causes::Cause;
 use crate::emptiness::emptiness;
-use crate::headlines::{code, headline};
+use crate::headlines::headline;
 use crate::lines::{
     push_also, push_alternative, push_alternatives, push_both, push_first, push_follow, push_gap,
     push_line, push_operator,
@@ -12,7 +12,7 @@ use crate::recursion::recursion;
 use pg_excerpt::push_excerpt;
 use pg_form::{NodeId, RuleId};
 use pg_known::{Known, place_in, place_text, span_of};
-use pg_predict::ViolationKind;
+use pg_predict::{ViolationKind, code};
 use std::alloc::{AllocError, Global};
 
 /// Where something is wrong, and its code. The only error is that memory ran out.

@@ -6,22 +6,6 @@ use pg_known::Known;
 use pg_predict::ViolationKind;
 use std::alloc::{AllocError, Global};
 
-/// The code of what is wrong, as a check has it.
-pub(crate) fn code(kind: &ViolationKind<usize>) -> &'static str {
-    match kind {
-        ViolationKind::LeftRecursion => "C1",
-        ViolationKind::EmptyRound => "C2",
-        ViolationKind::EmptyAlternative(_) => "C3",
-        ViolationKind::AlternativesMeet(_, _, _, _) => "C4",
-        ViolationKind::AlternativeMeetsFollow(_, _, _) => "C5",
-        ViolationKind::RoundMeetsFollow(_, _) => "C6",
-        ViolationKind::EmptyOperand | ViolationKind::OperandMeetsOperators(_) => "C7",
-        ViolationKind::FollowMeetsOperators(_) => "C8",
-        ViolationKind::GapMeets(_) => "C9",
-        ViolationKind::StepCostOver => "C11",
-    }
-}
-
 /// What is wrong, in words. The only error is that memory ran out.
 pub(crate) fn headline(
     alloc: Global,

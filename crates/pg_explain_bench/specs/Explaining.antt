@@ -43,10 +43,3 @@ pub record IsPartlyExplainedFile (offer : Offer) (file : List ℕ) (writer held 
   pub grammar : Grammar
   pub spelled : SpellsWithinLimits offer file grammar
   pub explained : IsPartlyExplained grammar writer held
-
--- some page was written, or a prefix of one
-abbrev pub WritesPage : Option (List ℕ) → Option (List ℕ) → Type 0
-WritesPage writer held = (page : List ℕ) × Appends writer held page
-
-abbrev pub WritesPartOfPage : Option (List ℕ) → Option (List ℕ) → Type 0
-WritesPartOfPage writer held = (page : List ℕ) × AppendsPrefix writer held page

@@ -2,7 +2,8 @@
 
 use pg_cure::{Bound, Cure, Source, find_cure, findings};
 use pg_excerpt::push_shown;
-use pg_explain::{GrammarFile, Section};
+use pg_explain::Section;
+use pg_grammar_bench::LoadedFile;
 use pg_pred::Registry;
 use pg_predict::Refused;
 use std::alloc::{AllocError, Global};
@@ -17,15 +18,16 @@ const TRIALS: Bound = Bound {
 pub(crate) fn cures_of(
     alloc: Global,
     refused: &Refused,
-    file: &GrammarFile,
+    loaded: &LoadedFile,
     registry: &Registry,
     sections: &[Section],
 ) -> Result<Vec<Option<Cure>>, AllocError> {
-    let found = findings(alloc, refused, file.spans)?;
+    let found = findings(alloc, refused, &loaded.spans)?;
     let source = Source {
-        text: file.text,
+        text: &loaded.characters,
+        syntax: &loaded.syntax,
         refused,
-        spans: file.spans,
+        spans: &loaded.spans,
         found: &found,
         registry,
     };

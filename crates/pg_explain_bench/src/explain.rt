@@ -4,7 +4,9 @@ ghost use Rattle.std.specs.String.{string_bytes};
 ghost use Rattle.std.specs.Prelude.{◌≡◌, false, true, IfOk, IfErr, OnErr, OnOk, IsErrOf};
 ghost use Rattle.pg_pred.specs.Offer.{offer_of};
 ghost use Rattle.pg_value.specs.Fits.{Fits};
-ghost use Rattle.pg_explain_bench.specs.Explaining.{IsAcceptedPage, IsExplained, IsPartlyExplained, IsExplainedFile, IsPartlyExplainedFile, WritesPage, WritesPartOfPage};
+ghost use Rattle.pg_table.specs.Tables.{initial, whole};
+ghost use Rattle.pg_explain_bench.specs.Explaining.{IsAcceptedPage, IsExplained, IsPartlyExplained, IsExplainedFile, IsPartlyExplainedFile};
+ghost use Rattle.pg_grammar_bench.specs.Loading.{judged_grammar};
 ghost use Rattle.pg_grammar_bench.specs.Files.{IsFaultOfFile};
 ghost use Rattle.pg_grammar_bench.specs.Faults.{IfFile, IsBeforeWriting, IsPageRefusal, IsWriteRefusal};
 
@@ -12,10 +14,9 @@ use crate::asked::{Nodes, nodes_asked};
 use crate::notes::notes;
 use crate::page::page_of;
 use pg_explain::GrammarFile;
-use pg_grammar_bench::{BenchFault, placed_of, write_page};
-use pg_making::PlacedGrammar;
+use pg_grammar_bench::{BenchFault, Judgement, LoadedFile, load, write_page};
 use pg_pred::Registry;
-use pg_predict::{CheckFault, Checked, Refused, check};
+use pg_predict::{Checked, Refused};
 use pg_text::characters_of;
 use pg_tree::Meter;
 use pg_value::Grammar;
@@ -40,6 +41,7 @@ pub enum Explained {
 ///
 /// The meter has to be fresh of failures. A fault of the file and want of memory come before anything is written; then only
 /// the writer can fail.
+#[tactic(auto, using(crate::proofs::Told::explained_file, crate::proofs::Told::partly_explained_file, pg_grammar_bench::proofs::Judged::no_fault_of_file))]
 pub fn explain_bytes<W: Write>(
     alloc: Global,
     name: &str,
@@ -62,67 +64,60 @@ pub fn explain_bytes<W: Write>(
     ensures prefix { IsErrOf result BenchFault.Writer →
         IsPartlyExplainedFile (offer_of registry.now) grammar.now (W.contents writer.old.inner) (W.contents writer.new.inner) }
 {
-    let PlacedGrammar {
-        grammar: read,
-        spans,
-    } = placed_of(alloc, grammar, registry)?;
-    let Some(nodes) = nodes_asked(&read, asked) else {
-        drop(read);
-        return Ok(Explained::NotThere);
-    };
-    let Ok(text) = characters(alloc, grammar) else {
-        drop(read);
-        return Err(BenchFault::Memory);
-    };
-    let file = GrammarFile {
-        name,
-        text: text.as_slice(),
-        spans: spans.as_slice(),
-    };
-    explain(alloc, read, &file, nodes, registry, writer)
-}
-
-/// The characters of a file, if its bytes are some. The only error is that memory ran out.
-pub(crate) fn characters(alloc: Global, bytes: &[u8]) -> Result<Vec<char>, AllocError> {
-    match std::str::from_utf8(bytes) {
-        Ok(text) => characters_of(alloc, text),
-        Err(_) => Ok(Vec::new(alloc)),
+    let loaded = load(alloc, name, grammar, registry)?;
+    let told = explain_loaded(alloc, &loaded, registry, writer, asked);
+    drop(loaded);
+    match told {
+        Ok(told) => Ok(told),
+        Err(fault) => Err(fault),
     }
 }
 
-/// Writes what is told of a grammar.
-fn explain<W: Write>(
+/// Does what [`explain_bytes`] does of a file that is loaded already. The caller owes that the registry has what the grammar names in it, and that
+/// the table is the grammar's. The only faults are the writer's and want of memory, which comes before anything is written.
+pub fn explain_loaded<W: Write>(
     alloc: Global,
-    grammar: Grammar,
-    file: &GrammarFile,
-    nodes: Nodes,
+    loaded: &LoadedFile,
     registry: &Registry,
     writer: &mut Meter<W>,
+    asked: &str,
 ) -> Result<Explained, BenchFault>
     requires fresh { writer.old.failed ≡ false }
-    requires fits { Fits (offer_of registry.now) grammar }
-    ensures ok { IfOk result (IsExplained grammar (W.contents writer.old.inner) (W.contents writer.new.inner)) }
+    requires fits { Fits (offer_of registry.now) (judged_grammar loaded.now.judgement) }
+    requires table { initial (judged_grammar loaded.now.judgement) ≡ whole loaded.now.table }
+    ensures ok { IfOk result (IsExplained (judged_grammar loaded.now.judgement) (W.contents writer.old.inner) (W.contents writer.new.inner)) }
     ensures stays { OnOk result (writer.new.failed ≡ false) }
     ensures err { IfErr result IsWriteRefusal }
     ensures unwritten { IsErrOf result BenchFault.Memory → writer.new ≡ writer.old }
     ensures writer { IsErrOf result BenchFault.Writer → writer.new.failed ≡ true }
-    ensures prefix { IsErrOf result BenchFault.Writer → IsPartlyExplained grammar (W.contents writer.old.inner) (W.contents writer.new.inner) }
+    ensures prefix { IsErrOf result BenchFault.Writer →
+        IsPartlyExplained (judged_grammar loaded.now.judgement) (W.contents writer.old.inner) (W.contents writer.new.inner) }
 {
-    match check(alloc, grammar) {
-        Ok(checked) => {
-            let told = tell_accepted(alloc, &checked, file, writer);
-            drop(checked);
-            told
-        }
-        Err(CheckFault::Refused(refused)) => {
-            let told = tell_refused(alloc, &refused, file, nodes, registry, writer);
-            drop(refused);
-            told
-        }
-        Err(CheckFault::Memory(grammar)) => {
-            drop(grammar);
-            Err(BenchFault::Memory)
-        }
+    let Some(nodes) = nodes_asked(loaded.judgement.grammar(), asked) else {
+        return Ok(Explained::NotThere);
+    };
+    match &loaded.judgement {
+        Judgement::Accepted(checked) => tell_accepted(alloc, checked, loaded, writer),
+        Judgement::Refused(refused) => tell_refused(
+            alloc, refused, loaded, nodes, registry, writer,
+        ),
+    }
+}
+
+/// What is lent of a file that is loaded to what tells of its lines.
+pub(crate) fn lent<'l>(loaded: &'l LoadedFile) -> GrammarFile<'l> {
+    GrammarFile {
+        name: loaded.name,
+        text: loaded.characters.as_slice(),
+        spans: loaded.spans.as_slice(),
+    }
+}
+
+/// The characters of a file, if its bytes are some. The only error is that memory ran out.
+fn characters(alloc: Global, bytes: &[u8]) -> Result<Vec<char>, AllocError> {
+    match std::str::from_utf8(bytes) {
+        Ok(text) => characters_of(alloc, text),
+        Err(_) => Ok(Vec::new(alloc)),
     }
 }
 
@@ -130,7 +125,7 @@ fn explain<W: Write>(
 fn tell_accepted<W: Write>(
     alloc: Global,
     checked: &Checked,
-    file: &GrammarFile,
+    loaded: &LoadedFile,
     writer: &mut Meter<W>,
 ) -> Result<Explained, BenchFault>
     requires { writer.old.failed ≡ false }
@@ -141,7 +136,7 @@ fn tell_accepted<W: Write>(
     ensures failed { IsErrOf result BenchFault.Writer → writer.new.failed ≡ true }
     ensures prefix { IsErrOf result BenchFault.Writer → IsPartlyExplained checked.now.grammar (W.contents writer.old.inner) (W.contents writer.new.inner) }
 {
-    let Ok(page) = accepted_page(alloc, checked.grammar(), file) else {
+    let Ok(page) = accepted_page(alloc, checked.grammar(), &lent(loaded)) else {
         return Err(BenchFault::Memory);
     };
     write_page(page.as_bytes(), writer)?;
@@ -159,25 +154,28 @@ fn accepted_page(alloc: Global, grammar: &Grammar, file: &GrammarFile) -> Result
 }
 
 /// Writes what is wrong with a grammar at some of its nodes.
+#[tactic(auto, using(crate::proofs::Told::told_refused, crate::proofs::Told::partly_refused))]
 fn tell_refused<W: Write>(
     alloc: Global,
     refused: &Refused,
-    file: &GrammarFile,
+    loaded: &LoadedFile,
     nodes: Nodes,
     registry: &Registry,
     writer: &mut Meter<W>,
 ) -> Result<Explained, BenchFault>
     requires fresh { writer.old.failed ≡ false }
     requires fits { Fits (offer_of registry.now) refused.now.grammar }
-    ensures told { IfOk result (λ told. told ≡ Explained.Refused) }
-    ensures ok { OnOk result (WritesPage (W.contents writer.old.inner) (W.contents writer.new.inner)) }
+    requires table { initial refused.now.grammar ≡ whole loaded.now.table }
+    ensures ok { IfOk result (IsExplained refused.now.grammar (W.contents writer.old.inner) (W.contents writer.new.inner)) }
     ensures stays { OnOk result (writer.new.failed ≡ false) }
     ensures err { IfErr result IsWriteRefusal }
     ensures unwritten { IsErrOf result BenchFault.Memory → writer.new ≡ writer.old }
     ensures failed { IsErrOf result BenchFault.Writer → writer.new.failed ≡ true }
-    ensures prefix { IsErrOf result BenchFault.Writer → WritesPartOfPage (W.contents writer.old.inner) (W.contents writer.new.inner) }
+    ensures prefix { IsErrOf result BenchFault.Writer → IsPartlyExplained refused.now.grammar (W.contents writer.old.inner) (W.contents writer.new.inner) }
 {
-    let Ok(page) = page_of(alloc, refused, file, nodes, registry) else {
+    // This is called for what it says of the check.
+    let _grammar = refused.grammar();
+    let Ok(page) = page_of(alloc, refused, loaded, nodes, registry) else {
         return Err(BenchFault::Memory);
     };
     write_page(page.as_bytes(), writer)?;

@@ -1,17 +1,20 @@
 //! The page on what is wrong with a grammar.
 
+ghost use Rattle.std.specs.Prelude.{◌≡◌};
 ghost use Rattle.pg_pred.specs.Offer.{offer_of};
-ghost use Rattle.pg_table.specs.Tables.{ComesFrom};
+ghost use Rattle.pg_table.specs.Tables.{initial, whole, ComesFrom};
 ghost use Rattle.pg_value.specs.Fits.{Fits};
 
 use crate::asked::Nodes;
 use crate::cures::{cures_of, push_cure};
+use crate::explain::lent;
 use crate::witnesses::push_witness;
 use pg_cure::Cure;
-use pg_explain::{Explanation, GrammarFile, Section, explain_findings};
+use pg_explain::{Explanation, Section, explain_findings};
+use pg_grammar_bench::LoadedFile;
 use pg_pred::Registry;
 use pg_predict::Refused;
-use pg_table::{InitialFault, Table};
+use pg_table::Table;
 use pg_witness::{Bound, Seeker};
 use std::alloc::{AllocError, Global};
 
@@ -29,16 +32,17 @@ const TEXTS: Bound = Bound {
 pub(crate) fn page_of(
     alloc: Global,
     refused: &Refused,
-    file: &GrammarFile,
+    loaded: &LoadedFile,
     nodes: Nodes,
     registry: &Registry,
 ) -> Result<String, AllocError>
-    requires { Fits (offer_of registry.now) refused.now.grammar }
+    requires fits { Fits (offer_of registry.now) refused.now.grammar }
+    requires table { initial refused.now.grammar ≡ whole loaded.now.table }
 {
-    let told = explain_findings(alloc, refused, file, nodes.from, nodes.to, MOST)?;
+    let told = explain_findings(alloc, refused, &lent(loaded), nodes.from, nodes.to, MOST)?;
     let Explanation { sections, untold } = told;
     let mut page = String::new(alloc);
-    push_sections(alloc, &mut page, refused, file, &sections, registry)?;
+    push_sections(alloc, &mut page, refused, loaded, &sections, registry)?;
     push_untold(alloc, &mut page, untold)?;
     if page.is_empty() {
         page.push_str("nothing is wrong there\n")?;
@@ -51,56 +55,45 @@ fn push_sections(
     alloc: Global,
     page: &mut String,
     refused: &Refused,
-    file: &GrammarFile,
+    loaded: &LoadedFile,
     sections: &[Section],
     registry: &Registry,
 ) -> Result<(), AllocError>
-    requires { Fits (offer_of registry.now) refused.now.grammar }
+    requires fits { Fits (offer_of registry.now) refused.now.grammar }
+    requires table { initial refused.now.grammar ≡ whole loaded.now.table }
 {
-    let cures = cures_of(alloc, refused, file, registry, sections)?;
-    let pushed = push_with_cures(alloc, page, refused, sections, &cures, registry);
+    let cures = cures_of(alloc, refused, loaded, registry, sections)?;
+    let pushed = push_with_cures(
+        alloc,
+        page,
+        refused,
+        &loaded.table,
+        sections,
+        &cures,
+        registry,
+    );
     drop(cures);
     pushed
 }
 
 /// Pushes the sections, whose changes were found.
+#[tactic(auto, using(pg_table::proofs::Added::own_table))]
 fn push_with_cures(
     alloc: Global,
     page: &mut String,
     refused: &Refused,
+    table: &Table,
     sections: &[Section],
     cures: &[Option<Cure>],
     registry: &Registry,
 ) -> Result<(), AllocError>
-    requires { Fits (offer_of registry.now) refused.now.grammar }
+    requires fits { Fits (offer_of registry.now) refused.now.grammar }
+    requires table { initial refused.now.grammar ≡ whole table.now }
 {
     let seeker = Seeker::of(alloc, refused.grammar(), refused.sets())?;
-    let pushed = push_with_texts(alloc, page, &seeker, sections, cures, registry);
+    let pushed = push_shown(alloc, page, &seeker, table, registry, sections, cures);
     drop(seeker);
     pushed
-}
-
-/// Pushes the sections, for which texts are looked for.
-fn push_with_texts(
-    alloc: Global,
-    page: &mut String,
-    seeker: &Seeker,
-    sections: &[Section],
-    cures: &[Option<Cure>],
-    registry: &Registry,
-) -> Result<(), AllocError>
-    requires { Fits (offer_of registry.now) seeker.now.grammar.now }
-{
-    match Table::of(alloc, seeker.grammar) {
-        Ok(table) => {
-            let pushed = push_shown(alloc, page, seeker, &table, registry, sections, cures);
-            drop(table);
-            pushed
-        }
-        // No text is parsed then; no file that is read has such a grammar.
-        Err(InitialFault::NotAdmitted { .. }) => push_told(alloc, page, sections, cures),
-        Err(InitialFault::Memory) => Err(AllocError),
-    }
 }
 
 /// Pushes the sections with texts that show what they tell of.
@@ -120,20 +113,6 @@ fn push_shown(
     for (number, section) in sections.iter().enumerate() {
         push_text(page, section, number)?;
         push_witness(alloc, page, seeker, table, registry, section, &mut bound)?;
-        push_cure(alloc, page, sections, cures, number)?;
-    }
-    Ok(())
-}
-
-/// Pushes the sections alone.
-fn push_told(
-    alloc: Global,
-    page: &mut String,
-    sections: &[Section],
-    cures: &[Option<Cure>],
-) -> Result<(), AllocError> {
-    for (number, section) in sections.iter().enumerate() {
-        push_text(page, section, number)?;
         push_cure(alloc, page, sections, cures, number)?;
     }
     Ok(())

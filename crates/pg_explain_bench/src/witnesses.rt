@@ -5,6 +5,7 @@ ghost use Rattle.pg_table.specs.Tables.{ComesFrom};
 ghost use Rattle.pg_value.specs.Fits.{Fits};
 
 use pg_explain::{Section, push_quoted};
+use pg_finding::is_of_no_text;
 use pg_message::{ParseError, render};
 use pg_pred::Registry;
 use pg_predict::ViolationKind;
@@ -35,23 +36,6 @@ pub(crate) fn push_witness(
     match seeker.witness(alloc, table, registry, section.node, &section.kind, bound)? {
         Some(witness) => push_shown(alloc, page, &witness),
         None => push_none(page, &section.kind, bound),
-    }
-}
-
-/// Whether what is wrong is about no text at all.
-fn is_of_no_text(kind: &ViolationKind<usize>) -> bool {
-    match kind {
-        ViolationKind::StepCostOver => true,
-        ViolationKind::LeftRecursion
-        | ViolationKind::EmptyRound
-        | ViolationKind::EmptyAlternative(_)
-        | ViolationKind::AlternativesMeet(_, _, _, _)
-        | ViolationKind::AlternativeMeetsFollow(_, _, _)
-        | ViolationKind::RoundMeetsFollow(_, _)
-        | ViolationKind::EmptyOperand
-        | ViolationKind::OperandMeetsOperators(_)
-        | ViolationKind::FollowMeetsOperators(_)
-        | ViolationKind::GapMeets(_) => false,
     }
 }
 

@@ -1,7 +1,7 @@
 //! What could stand at a place of a file, asked of the parser: a token can if the parser doesn't refuse it there.
 
 use pg_parser::{SyntaxError, read_items};
-use pg_tokens::{Lexeme, lex};
+use pg_tokens::lex;
 use std::alloc::{AllocError, Global};
 
 /// The tokens that are tried, each with how it is told of, and with the words for others that stand for it where they are told.
@@ -32,7 +32,7 @@ const CANDIDATES: [(&str, &str, &str); 20] = [
 pub(crate) fn expected(alloc: Global, text: &[char], place: usize) -> Result<String, AllocError> {
     let mut told: Vec<&'static str> = Vec::new(alloc);
     for candidate in &CANDIDATES {
-        if !is_told(&told, candidate.2) && can_stand(alloc, text, place, candidate.0)? {
+        if !is_told(&told, candidate.2) && can_stand(alloc, text, place, candidate.0, &[])? {
             told.push(candidate.1)?;
         }
     }
@@ -44,30 +44,47 @@ fn is_told(told: &[&'static str], words: &str) -> bool {
     told.iter().any(|one| words.contains(*one))
 }
 
-/// Whether the parser takes a token at a place, with a blank before it.
-fn can_stand(
+/// Whether the parser takes what is written at a place, with a blank before it, and then what stands behind it. The only error is that memory ran
+/// out.
+pub(crate) fn can_stand(
     alloc: Global,
     text: &[char],
     place: usize,
     written: &str,
+    behind: &[char],
 ) -> Result<bool, AllocError> {
+    let mut tried = front(alloc, text, place)?;
+    for c in written.chars() {
+        tried.push(c)?;
+    }
+    if behind.is_empty() {
+        return takes(alloc, &tried, place.saturating_add(1));
+    }
+    tried.push(' ')?;
+    let last = tried.len();
+    for c in behind {
+        tried.push(*c)?;
+    }
+    takes(alloc, &tried, last)
+}
+
+/// What stands before a place, and a blank.
+fn front(alloc: Global, text: &[char], place: usize) -> Result<Vec<char>, AllocError> {
     let mut tried = Vec::new(alloc);
     for c in text.iter().take(place) {
         tried.push(*c)?;
     }
     tried.push(' ')?;
-    for c in written.chars() {
-        tried.push(c)?;
-    }
-    let lexemes = lex(alloc, &tried)?;
-    takes(alloc, &lexemes, place.saturating_add(1))
+    Ok(tried)
 }
 
-/// Whether these tokens aren't refused at a place.
-fn takes(alloc: Global, lexemes: &[Lexeme], place: usize) -> Result<bool, AllocError> {
-    match read_items(alloc, lexemes) {
+/// Whether the parser refuses nothing of a text up to the token at a place.
+fn takes(alloc: Global, tried: &[char], last: usize) -> Result<bool, AllocError> {
+    let lexemes = lex(alloc, tried)?;
+    match read_items(alloc, &lexemes) {
         Ok(_) => Ok(true),
-        Err(SyntaxError::Fault(_, at)) => Ok(at != Some(place)),
+        Err(SyntaxError::Fault(_, Some(at))) => Ok(at > last),
+        Err(SyntaxError::Fault(_, None)) => Ok(true),
         Err(SyntaxError::Memory) => Err(AllocError),
     }
 }

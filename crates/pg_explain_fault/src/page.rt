@@ -1,5 +1,6 @@
 //! The page on a fault.
 
+use crate::characters::push_bad;
 use crate::limits::limit_words;
 use crate::names::{Defined, PREDICATES, names_defined};
 use crate::shown::push_line;
@@ -87,7 +88,7 @@ fn push_words(
             page,
             "the file has to be UTF-8, and the bytes from here on aren't",
         ),
-        FaultKind::BadToken => push_line(page, bad_words(tokens, place)),
+        FaultKind::BadToken => push_bad(alloc, page, tokens, place),
         FaultKind::UnexpectedToken => push_unexpected(alloc, page, tokens, number),
         FaultKind::UnknownName => push_unknown(alloc, page, tokens, number),
         FaultKind::NameTwice => push_twice(alloc, page, tokens, number),
@@ -95,20 +96,6 @@ fn push_words(
         FaultKind::BadLiteral => push_line(page, literal_words(tokens, place)),
         FaultKind::LimitPassed => push_line(page, limit_words(tokens, number)),
         FaultKind::NotAdmitted(fault) => push_line(page, admit_words(fault)),
-    }
-}
-
-/// Why no token begins at a place.
-fn bad_words(tokens: &Tokens, place: usize) -> &'static str {
-    match tokens.text.get(place) {
-        Some('\'') => "literals have double quotes, as string(\"x\")",
-        Some('-') => "a comment begins with #",
-        Some('"') => "the literal isn't closed on its line; a line end in one is written \\n",
-        Some('.') => "a range has two dots, as \"a\"..\"z\"",
-        Some('<') =>
-            "alternatives are choice(v, w), and names of what is expected label(v, \"name\")",
-        Some('{' | '[') => "what a value consists of stands in parentheses",
-        Some(_) | None => "nothing that a grammar file has begins so",
     }
 }
 

@@ -26,6 +26,12 @@ impl<'f> Tokens<'f> {
         }
     }
 
+    /// The characters of the token with this number; none, if it isn't there.
+    pub(crate) fn written(&self, number: usize) -> &'f [char] {
+        let place = self.place(number);
+        self.text.get(place..self.end(place)).unwrap_or(&[])
+    }
+
     /// The number of the first token that doesn't stand before a place.
     pub(crate) fn number_at(&self, place: usize) -> usize {
         self.lexemes
@@ -115,6 +121,6 @@ impl<'f> Tokens<'f> {
 }
 
 /// Whether a character may stand in a name.
-fn is_in_name(c: char) -> bool {
+pub(crate) fn is_in_name(c: char) -> bool {
     c.is_ascii_alphanumeric() || c == '_'
 }

@@ -1,33 +1,98 @@
 //! Tokens that can't stand where they do.
 
+use crate::characters::NAME;
 use crate::context::{Wanted, wanted_at};
 use crate::expected::expected;
+use crate::misspelled::push_misspelled;
 use crate::parsec::in_place_of;
 use crate::shown::{push_line, quoted, shown};
+use crate::taken::push_taken;
 use crate::tokens::Tokens;
+use crate::words::form_of;
 use pg_tokens::{Mark, Token};
 use std::alloc::{AllocError, Global};
 
-/// Pushes what can't stand at a token, what could, and what is mostly meant. The only error is that memory ran out.
+/// Pushes what is meant by a token that can't stand where it does: a name that is a word, a word that is misspelled, or else what can't stand there,
+/// what could, and what is mostly meant. The only error is that memory ran out.
 pub(crate) fn push_unexpected(
     alloc: Global,
     page: &mut String,
     tokens: &Tokens,
     number: usize,
 ) -> Result<(), AllocError> {
-    let place = tokens.place(number);
+    if push_taken(alloc, page, tokens, number)? {
+        return Ok(());
+    }
+    if !is_parsecs(tokens, number) && push_misspelled(alloc, page, tokens, number)? {
+        return Ok(());
+    }
+    push_refused(alloc, page, tokens, number)
+}
+
+/// Whether a parenthesis can't stand at a token since the name before it is one of Parsec's, and not of grammar files.
+fn is_parsecs(tokens: &Tokens, number: usize) -> bool {
+    match called(tokens, number) {
+        Some(name) => in_place_of(name).is_some(),
+        None => false,
+    }
+}
+
+/// Pushes what can't stand at a token, what could, and what is mostly meant.
+fn push_refused(
+    alloc: Global,
+    page: &mut String,
+    tokens: &Tokens,
+    number: usize,
+) -> Result<(), AllocError> {
     let could = could_stand(alloc, tokens, number)?;
-    push_found(alloc, page, tokens, place, could.as_str())?;
-    if could.starts_with("a name") {
-        push_taken(alloc, page, tokens, number)
+    push_found(alloc, page, tokens, tokens.place(number), could.as_str())?;
+    if is_number_in_name(tokens, number) {
+        push_line(page, NAME)
+    } else if could.as_str() == "`(`" {
+        push_parentheses(alloc, page, tokens, number)
+    } else if could.starts_with("a name") {
+        Ok(())
     } else {
         push_advice(alloc, page, tokens, number)
     }
 }
 
+/// Whether a token is a number with a letter right behind it, as of a name that begins with a digit.
+fn is_number_in_name(tokens: &Tokens, number: usize) -> bool {
+    match tokens.token(number) {
+        Some(Token::Number(digits)) => { tokens.written(number).len() > digits.len() }
+        Some(Token::Name(_) | Token::Literal(_) | Token::Mark(_) | Token::WrongLiteral | Token::Bad)
+        | None => false,
+    }
+}
+
+/// Pushes how the form is written whose word stands before a token that is no parenthesis.
+fn push_parentheses(
+    alloc: Global,
+    page: &mut String,
+    tokens: &Tokens,
+    number: usize,
+) -> Result<(), AllocError> {
+    match tokens.name(number.saturating_sub(1)) {
+        Some(word) => push_form(alloc, page, word),
+        None => Ok(()),
+    }
+}
+
+fn push_form(alloc: Global, page: &mut String, word: &[char]) -> Result<(), AllocError> {
+    match form_of(word) {
+        Some(form) => {
+            let shown = quoted(alloc, word)?;
+            let words = format!(in alloc; "{shown} has parentheses: {form}")?;
+            push_line(page, words.as_str())
+        }
+        None => Ok(()),
+    }
+}
+
 /// What could stand in the place of a token, in words.
 fn could_stand(alloc: Global, tokens: &Tokens, number: usize) -> Result<String, AllocError> {
-    if wanted_at(tokens, number) == Wanted::Builder {
+    if wanted_at(tokens, number) == Wanted::Builder && begins_part(tokens, number) {
         String::from_str(alloc, "the name of a builder")
     } else {
         expected(alloc, tokens.text, tokens.place(number))
@@ -57,23 +122,6 @@ fn found_words(alloc: Global, here: &str, could: &str, is_end: bool) -> Result<S
     } else {
         format!(in alloc; "{here} can't stand here; there could be {could}")
     }
-}
-
-/// Pushes that a name is one that grammar files use themselves, if one stands there.
-fn push_taken(
-    alloc: Global,
-    page: &mut String,
-    tokens: &Tokens,
-    number: usize,
-) -> Result<(), AllocError> {
-    let Some(name) = tokens.name(number) else {
-        return Ok(());
-    };
-    let name = quoted(alloc, name)?;
-    let words = format!(in alloc;
-        "grammar files use {name} themselves: no class, word or rule can have this name"
-    )?;
-    push_line(page, words.as_str())
 }
 
 /// Pushes what is mostly meant.
@@ -135,7 +183,9 @@ fn advice(tokens: &Tokens, number: usize) -> Option<&'static str> {
         Some(Token::Mark(Mark::Semicolon)) => Some(
             "a parenthesis isn't closed, or something is missing before the `;`",
         ),
-        Some(Token::Name(_)) if wanted == Wanted::Value => Some("a comma may be missing before it"),
+        Some(Token::Name(_)) if wanted == Wanted::Value || wanted == Wanted::Builder => {
+            Some("a comma may be missing before it")
+        }
         Some(Token::Name(_)) if wanted == Wanted::Class => Some(
             "a class has to be here, as digit, \"xyz\" or \"a\"..\"z\", and no value",
         ),
@@ -145,6 +195,12 @@ fn advice(tokens: &Tokens, number: usize) -> Option<&'static str> {
         Some(Token::Name(_) | Token::Literal(_) | Token::Mark(_) | Token::WrongLiteral | Token::Bad)
         | None => None,
     }
+}
+
+/// Whether a token is the first of what stands in a parenthesis, or behind a comma.
+fn begins_part(tokens: &Tokens, number: usize) -> bool {
+    let before = number.saturating_sub(1);
+    tokens.is_mark(before, Mark::Open) || tokens.is_mark(before, Mark::Comma)
 }
 
 /// Whether only blanks stand before a token on its line.

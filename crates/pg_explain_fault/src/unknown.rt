@@ -24,7 +24,7 @@ pub(crate) fn push_unknown(
     let shown = quoted(alloc, name)?;
     match wanted_at(tokens, number) {
         Wanted::Value => push_no_value(alloc, page, &there, name, shown.as_str()),
-        Wanted::Class => push_no_class(alloc, page, tokens, &there, name, shown.as_str()),
+        Wanted::Class => push_no_class(alloc, page, tokens, number, &there, name, shown.as_str()),
         Wanted::Word => push_no_word(alloc, page, &there, name, shown.as_str()),
         Wanted::Builder => push_no_builder(alloc, page, name, shown.as_str()),
         Wanted::Operators => push_line(
@@ -34,7 +34,7 @@ pub(crate) fn push_unknown(
     }
 }
 
-/// Pushes that a name is that of no rule, and of what it is one, or which rule may be meant.
+/// Pushes that a name is that of no rule, and of what it is one, and which rule may be meant, or `eof`, which alone is a value by itself.
 fn push_no_value(
     alloc: Global,
     page: &mut String,
@@ -43,9 +43,11 @@ fn push_no_value(
     shown: &str,
 ) -> Result<(), AllocError> {
     match else_words(alloc, there, name, shown)? {
-        Some(words) => push_line(page, words.as_str()),
-        None => push_no_such_rule(alloc, page, there, name),
+        Some(words) => push_line(page, words.as_str())?,
+        None => push_no_rule(alloc, page, name)?,
     }
+    let names = names_of(alloc, there, NameKind::Rule)?;
+    push_nearest_or(alloc, page, name, &names, &["eof"])
 }
 
 /// Pushes that there is no rule of this name, and which may be meant. The only error is that memory ran out.
@@ -105,12 +107,13 @@ fn push_no_class(
     alloc: Global,
     page: &mut String,
     tokens: &Tokens,
+    number: usize,
     there: &[Defined],
     name: &[char],
     shown: &str,
 ) -> Result<(), AllocError> {
     push_no_class_words(alloc, page, there, name, shown)?;
-    let names = other_classes(alloc, tokens, there, name)?;
+    let names = classes_above(alloc, there, tokens.place(tokens.item(number)))?;
     push_nearest_or(alloc, page, name, &names, &PREDICATES)
 }
 
@@ -144,16 +147,15 @@ fn no_class_words(
     }
 }
 
-/// The names of the classes of a file that read otherwise than this.
-fn other_classes<'f>(
+/// The names of the classes that are defined before a place.
+fn classes_above<'f>(
     alloc: Global,
-    tokens: &Tokens,
     there: &[Defined<'f>],
-    name: &[char],
+    place: usize,
 ) -> Result<Vec<&'f [char]>, AllocError> {
     let mut names = Vec::new(alloc);
     for one in there {
-        if one.kind == NameKind::Class && one.name != name && one.place < tokens.text.len() {
+        if one.kind == NameKind::Class && one.place < place {
             names.push(one.name)?;
         }
     }

@@ -1,3 +1,4 @@
 pub mod Texts
+pub mod Syntax
 pub mod Answers
 pub mod Refusals

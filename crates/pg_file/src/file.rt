@@ -5,27 +5,25 @@
 //! operators. That a grammar is read exactly where the file spells one is proved, and so are the first two of these faults
 //! with their positions, as far as they are answered; the order of the others and their positions are tested.
 
-ghost use Rattle.std.specs.Prelude.{◌≡◌, ◌≤◌, ◌↔◌, true, List, length, IfOk, IfErr, IsNone};
-ghost use Rattle.std.specs.List.{list_any};
+ghost use Rattle.std.specs.Prelude.{◌≡◌, ◌≤◌, ◌↔◌, length, IfOk, IfErr, OnOk, IsNone};
 ghost use Rattle.std.specs.Str.{chars, IsUtf8};
 ghost use Rattle.pg_pred.specs.Offer.{offer_of};
 ghost use Rattle.pg_value.specs.Fits.{Fits};
 ghost use Rattle.pg_value.specs.Grammar.{Grammar};
 ghost use Rattle.pg_making.specs.Spells.{SpellsWithinLimits, SpelledWithinDepth};
-ghost use Rattle.pg_tokens.specs.View.{is_bad_at, tokens_of};
-ghost use Rattle.pg_items.specs.Entries.{Entry, entries_of};
-ghost use Rattle.pg_parser.specs.Items.{AreItems, OnlyItems};
+ghost use Rattle.pg_table.specs.Tables.{initial, whole, ComesFrom};
+ghost use Rattle.pg_file.specs.Syntax.{IsSyntaxOf, IsReadFrom};
 ghost use Rattle.pg_file.specs.Answers.{IsAnswered, IsFault};
 ghost use Rattle.pg_file.specs.Refusals.{IsBadAt, IsErrorAt, IsNotUtf8After, IsRefusalOf, shown_error, shown_position};
 
-use crate::error::{ReadError, grammar_error, kind_of, syntax_error};
+use crate::error::{ReadError, grammar_error, kind_of};
 use crate::fault::{FaultKind, FileError, FileFault};
-use pg_items::Item;
+use crate::syntax::{Syntax, syntax_of};
 use pg_making::{PlacedGrammar, grammar_of};
 use pg_parser::{SyntaxError, read_items};
 use pg_pred::Registry;
 use pg_text::{characters_of, position_in};
-use pg_tokens::{Lexeme, lex, lex_up_to};
+use pg_tokens::lex_up_to;
 use pg_value::Grammar;
 use std::alloc::Global;
 
@@ -65,53 +63,99 @@ pub fn read_placed(
     ensures refused { (g : Grammar) → SpellsWithinLimits (offer_of registry.now) bytes.now g → IfErr result (λ e. e ≡ FileError.Memory) }
     ensures err { IfErr result (IsRefusalOf bytes.now) }
 {
+    match read_file(alloc, bytes, registry) {
+        Ok(read) => {
+            let ReadFile { placed, .. } = read;
+            Ok(placed)
+        }
+        Err(error) => Err(error),
+    }
+}
+
+/// A grammar file that was read: its characters, what they spell, and the grammar.
+#[derive(Drop)]
+pub struct ReadFile {
+    pub characters: Vec<char>,
+    pub syntax: Syntax,
+    pub placed: PlacedGrammar,
+}
+
+/// The same, with all that is made on the way, so that nobody has to make it again: the characters of the file, its tokens and items,
+/// and the operator table that the grammar begins with (ours).
+pub fn read_file(alloc: Global, bytes: &[u8], registry: &Registry) -> Result<ReadFile, FileError>
+    // The bytes spell the grammar, which the registry fits.
+    ensures ok { IfOk result (λ read. SpellsWithinLimits (offer_of registry.now) bytes.now read.placed.grammar) }
+    ensures fits { IfOk result (λ read. Fits (offer_of registry.now) read.placed.grammar) }
+
+    // What is made beside it.
+    ensures characters { IfOk result (λ read. read.characters.items ≡ chars bytes.now) }
+    ensures syntax { IfOk result (λ read. IsSyntaxOf (chars bytes.now) read.syntax.lexemes.items read.syntax.items.items) }
+    ensures spans { IfOk result (λ read. length read.placed.spans.items ≡ length read.placed.grammar.nodes) }
+    ensures initial { IfOk result (λ read. initial read.placed.grammar ≡ whole read.placed.table) }
+    ensures comes { IfOk result (λ read. ComesFrom read.placed.grammar read.placed.table) }
+
+    // Where they spell one it is that, unless memory runs out; and else there is a fault, with its position.
+    ensures only { (g : Grammar) → SpellsWithinLimits (offer_of registry.now) bytes.now g → IfOk result (λ read. read.placed.grammar ≡ g) }
+    ensures refused { (g : Grammar) → SpellsWithinLimits (offer_of registry.now) bytes.now g → IfErr result (λ e. e ≡ FileError.Memory) }
+    ensures err { IfErr result (IsRefusalOf bytes.now) }
+{
     let text = match std::str::from_utf8(bytes) {
         Ok(text) => text,
         Err(error) => return Err(not_utf8(alloc, &bytes[..error.valid_up_to()])),
     };
     let characters = characters_of(alloc, text)?;
-    let characters = characters.as_slice();
-    let read = match limit_place(text) {
-        None => grammar_in(alloc, characters, registry),
-        Some(limit) => Err(fault_before(alloc, characters, limit)),
-    };
-    match read {
-        Ok(read) => Ok(read),
-        Err(error) => Err(reported(error, characters)),
+    match text_read(alloc, text, characters.as_slice(), registry) {
+        Ok(read) => {
+            let (syntax, placed) = read;
+            Ok(ReadFile {
+                characters,
+                syntax,
+                placed,
+            })
+        }
+        Err(error) => {
+            let fault = reported(error, characters.as_slice());
+            drop(characters);
+            Err(fault)
+        }
     }
 }
 
-/// The grammar that the characters of a file spell.
+/// What a text with these characters spells, if it isn't too long.
+fn text_read(
+    alloc: Global,
+    text: &str,
+    characters: &[char],
+    registry: &Registry,
+) -> Result<(Syntax, PlacedGrammar), ReadError>
+    ensures ok { IfOk result (λ read. IsReadFrom (offer_of registry.now) characters.now read.0 read.1) }
+    ensures short { OnOk result (length text.now ≤ FILE_LIMIT) }
+    ensures refused { IfErr result (λ e. IsFault e → length text.now ≤ FILE_LIMIT → (g : Grammar) → SpelledWithinDepth (offer_of registry.now) characters.now g → ⊥) }
+    ensures err { IfErr result (IsErrorAt (IsBadAt characters.now)) }
+{
+    match limit_place(text) {
+        None => grammar_in(alloc, characters, registry),
+        Some(limit) => Err(fault_before(alloc, characters, limit)),
+    }
+}
+
+/// The grammar that the characters of a file spell, after their tokens and items.
 fn grammar_in(
     alloc: Global,
     characters: &[char],
     registry: &Registry,
-) -> Result<PlacedGrammar, ReadError>
-    ensures ok { IfOk result (λ read. SpelledWithinDepth (offer_of registry.now) characters.now read.grammar) }
-    ensures fits { IfOk result (λ read. Fits (offer_of registry.now) read.grammar) }
-    ensures spans { IfOk result (λ read. length read.spans.items ≡ length read.grammar.nodes) }
-    ensures only { IfOk result (λ read. (g : Grammar) → SpelledWithinDepth (offer_of registry.now) characters.now g → read.grammar ≡ g) }
+) -> Result<(Syntax, PlacedGrammar), ReadError>
+    ensures ok { IfOk result (λ read. IsReadFrom (offer_of registry.now) characters.now read.0 read.1) }
     ensures refused { IfErr result (λ e. IsFault e → (g : Grammar) → SpelledWithinDepth (offer_of registry.now) characters.now g → ⊥) }
     ensures err { IfErr result (IsErrorAt (IsBadAt characters.now)) }
 {
-    let lexemes = lex(alloc, characters)?;
-    let items = items_of(alloc, lexemes.as_slice())?;
-    match grammar_of(alloc, registry, items.as_slice()) {
-        Ok(read) => Ok(read),
-        Err(error) => Err(grammar_error(error)),
-    }
-}
-
-/// The items that the tokens spell.
-fn items_of(alloc: Global, lexemes: &[Lexeme]) -> Result<Vec<Item>, ReadError>
-    ensures items { IfOk result (λ items. AreItems (tokens_of lexemes.now) (entries_of items.items)) }
-    ensures only { IfOk result (λ items. OnlyItems (tokens_of lexemes.now) (entries_of items.items)) }
-    ensures refused { IfErr result (λ e. IsFault e → (entries : List Entry) → AreItems (tokens_of lexemes.now) entries → ⊥) }
-    ensures err { IfErr result (IsErrorAt (λ place. list_any (is_bad_at place) lexemes.now ≡ true)) }
-{
-    match read_items(alloc, lexemes) {
-        Ok(items) => Ok(items),
-        Err(error) => Err(syntax_error(error, lexemes)),
+    let syntax = syntax_of(alloc, characters)?;
+    match grammar_of(alloc, registry, syntax.items.as_slice()) {
+        Ok(placed) => Ok((syntax, placed)),
+        Err(error) => {
+            drop(syntax);
+            Err(grammar_error(error))
+        }
     }
 }
 

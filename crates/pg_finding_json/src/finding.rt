@@ -1,6 +1,7 @@
 //! The line of a finding.
 
 use crate::listing::Listing;
+use pg_finding::{Named, alternatives_of, starts_of};
 use pg_pieces::Piece;
 use pg_predict::{Finding, ViolationKind};
 
@@ -56,39 +57,19 @@ pub(crate) fn line_of<'p>(listing: &'p Listing, finding: &Finding) -> [Piece<'p>
 /// The alternatives that a finding names, with commas between them.
 fn alternatives<'p>(kind: &ViolationKind<usize>) -> [Piece<'p>; 3] {
     let nothing = Piece::Text("");
-    match kind {
-        ViolationKind::EmptyAlternative(number)
-        | ViolationKind::AlternativeMeetsFollow(number, _, _) => {
-            [Piece::Number(*number), nothing, nothing]
-        }
-        ViolationKind::AlternativesMeet(one, other, _, _) => {
-            [Piece::Number(*one), Piece::Text(","), Piece::Number(*other)]
-        }
-        ViolationKind::LeftRecursion
-        | ViolationKind::EmptyRound
-        | ViolationKind::RoundMeetsFollow(_, _)
-        | ViolationKind::EmptyOperand
-        | ViolationKind::OperandMeetsOperators(_)
-        | ViolationKind::FollowMeetsOperators(_)
-        | ViolationKind::GapMeets(_)
-        | ViolationKind::StepCostOver => [nothing, nothing, nothing],
+    match alternatives_of(kind) {
+        Named::Nothing => [nothing, nothing, nothing],
+        Named::One(number) => [Piece::Number(number), nothing, nothing],
+        Named::Two(one, other) => [Piece::Number(one), Piece::Text(","), Piece::Number(other)],
     }
 }
 
 /// The starts that meet, in double quotes, with commas between them.
 fn starts<'p>(listing: &'p Listing, kind: &ViolationKind<usize>) -> [Piece<'p>; 5] {
-    match kind {
-        ViolationKind::AlternativesMeet(_, _, one, other)
-        | ViolationKind::AlternativeMeetsFollow(_, one, other)
-        | ViolationKind::RoundMeetsFollow(one, other) => two_starts(listing, *one, *other),
-        ViolationKind::OperandMeetsOperators(start)
-        | ViolationKind::FollowMeetsOperators(start)
-        | ViolationKind::GapMeets(start) => one_start(listing, *start),
-        ViolationKind::LeftRecursion
-        | ViolationKind::EmptyRound
-        | ViolationKind::EmptyAlternative(_)
-        | ViolationKind::EmptyOperand
-        | ViolationKind::StepCostOver => no_start(),
+    match starts_of(kind) {
+        Named::Nothing => no_start(),
+        Named::One(start) => one_start(listing, start),
+        Named::Two(one, other) => two_starts(listing, one, other),
     }
 }
 

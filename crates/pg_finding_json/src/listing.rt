@@ -2,12 +2,11 @@
 
 use crate::fields::{escaped, quoted};
 use pg_excerpt::positions;
+use pg_finding::texts_of;
 use pg_form::NodeId;
 use pg_items::Span;
-use pg_own_starts::{ListedStart, operator_starts, printed_start};
 use pg_predict::{Refused, Texts};
 use pg_text::Pos;
-use pg_value::{Grammar, Rule};
 use std::alloc::{AllocError, Global};
 
 /// A grammar's file, and what is said of its rules and starts.
@@ -65,42 +64,17 @@ impl<'l> Listing<'l> {
 
 /// The names of rules, and starts in words, as they stand in a text of JSON. The only error is that memory ran out.
 fn escaped_texts(alloc: Global, refused: &Refused) -> Result<Texts, AllocError> {
-    let names = escaped_names(alloc, refused.grammar().rules())?;
-    let listed = escaped_starts(alloc, refused)?;
-    let own = escaped_operator(alloc, refused.grammar())?;
+    let plain = texts_of(alloc, refused)?;
+    let names = all_escaped(alloc, &plain.names)?;
+    let listed = all_escaped(alloc, &plain.listed)?;
+    let own = escaped(alloc, plain.own.as_str())?;
     Ok(Texts { names, listed, own })
 }
 
-fn escaped_names(alloc: Global, rules: &[Rule]) -> Result<Vec<String>, AllocError> {
-    let mut names = Vec::new(alloc);
-    for rule in rules {
-        let name = format!(in alloc; "{}", rule.name)?;
-        names.push(escaped(alloc, name.as_str())?)?;
+fn all_escaped(alloc: Global, texts: &[String]) -> Result<Vec<String>, AllocError> {
+    let mut all = Vec::new(alloc);
+    for text in texts {
+        all.push(escaped(alloc, text.as_str())?)?;
     }
-    Ok(names)
-}
-
-fn escaped_starts(alloc: Global, refused: &Refused) -> Result<Vec<String>, AllocError> {
-    let mut starts = Vec::new(alloc);
-    for listed in refused.sets().starts() {
-        starts.push(escaped_start(alloc, refused.grammar(), listed)?)?;
-    }
-    Ok(starts)
-}
-
-/// The start of operators; the end, where there are none, as findings have it.
-fn escaped_operator(alloc: Global, grammar: &Grammar) -> Result<String, AllocError> {
-    match operator_starts(alloc, grammar)? {
-        Some(both) => escaped_start(alloc, grammar, &both.operator),
-        None => escaped(alloc, "end"),
-    }
-}
-
-fn escaped_start(
-    alloc: Global,
-    grammar: &Grammar,
-    listed: &ListedStart,
-) -> Result<String, AllocError> {
-    let text = printed_start(alloc, grammar, listed)?;
-    escaped(alloc, text.as_str())
+    Ok(all)
 }

@@ -5,4 +5,5 @@ pub mod Texts
 pub mod Checking
 pub mod Verifying
 pub mod Showing
+pub mod Loading
 pub mod Laws

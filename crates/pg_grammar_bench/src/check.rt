@@ -1,23 +1,22 @@
 //! From the bytes of a grammar file to whether its grammar is accepted, or all that is wrong with it.
 
-ghost use Rattle.std.specs.Prelude.{◌≡◌, ◌++◌, ℕ, List, false, true, codes, IfOk, IfErr, OnErr, OnOk, IsErrOf};
+ghost use Rattle.std.specs.Prelude.{◌≡◌, ◌++◌, ℕ, List, Bool, false, true, codes, IfOk, IfErr, OnErr, OnOk, IsErrOf};
 ghost use Rattle.std.specs.Io.KnownBytes.{Appends};
 ghost use Rattle.pg_tree.specs.Bytes.{AppendsPrefix};
 ghost use Rattle.pg_pred.specs.Offer.{offer_of};
-ghost use Rattle.pg_predict.specs.Findings.{lines_of};
 ghost use Rattle.pg_least_certificate.specs.Own.{IsOwnCertificate};
 ghost use Rattle.pg_grammar_bench.specs.Checking.{IsChecked, IsPartlyChecked, IsTold, IsPartlyTold, WritesCertificate, WritesPartly};
+ghost use Rattle.pg_grammar_bench.specs.Loading.{judged_grammar};
 ghost use Rattle.pg_grammar_bench.specs.Files.{IsFaultOfFile, SpellsAny};
 ghost use Rattle.pg_grammar_bench.specs.Faults.{IsPageRefusal, IsWriteRefusal, IfFile, IsAfterFile, IsBeforeWriting};
 
 use crate::fault::BenchFault;
-use crate::grammar_file::grammar_of;
+use crate::loaded::{Judgement, LoadedFile, load};
 use crate::output::write_page;
 use pg_least_certificate::own_certificate;
 use pg_pred::Registry;
-use pg_predict::{CheckFault, Checked, Refused, check};
+use pg_predict::{Checked, Refused};
 use pg_tree::{Meter, WriteFault};
-use pg_value::Grammar;
 use std::alloc::{AllocError, Global};
 use std::io::Write;
 
@@ -27,6 +26,7 @@ use std::io::Write;
 ///
 /// The meter has to be fresh of failures. A fault of the file and want of memory come before anything is written; then only
 /// the writer can fail.
+#[tactic(auto, using(crate::proofs::Judged::told_file, crate::proofs::Judged::partly_told_file, crate::proofs::Judged::spelled_file, crate::proofs::Judged::no_fault_of_file))]
 pub fn check_bytes<W: Write>(
     alloc: Global,
     grammar: &[u8],
@@ -49,40 +49,35 @@ pub fn check_bytes<W: Write>(
     ensures prefix { IsErrOf result BenchFault.Writer →
         IsPartlyChecked (offer_of registry.now) grammar.now certificate (W.contents writer.old.inner) (W.contents writer.new.inner) }
 {
-    let grammar = grammar_of(alloc, grammar, registry)?;
-    tell(alloc, grammar, writer, certificate)
+    let loaded = load(alloc, "", grammar, registry)?;
+    let told = check_loaded(alloc, &loaded, writer, certificate);
+    drop(loaded);
+    match told {
+        Ok(accepted) => Ok(accepted),
+        Err(fault) => Err(fault),
+    }
 }
 
-/// Writes what the check says of a grammar. The answer is whether it is accepted.
-fn tell<W: Write>(
+/// Does what [`check_bytes`] does of a file that is loaded already. The only faults are the writer's and want of memory, which comes
+/// before anything is written.
+pub fn check_loaded<W: Write>(
     alloc: Global,
-    grammar: Grammar,
+    loaded: &LoadedFile,
     writer: &mut Meter<W>,
     certificate: bool,
 ) -> Result<bool, BenchFault>
     requires { writer.old.failed ≡ false }
-    ensures ok { IfOk result (IsTold grammar certificate (W.contents writer.old.inner) (W.contents writer.new.inner)) }
+    ensures ok { IfOk result (IsTold (judged_grammar loaded.now.judgement) certificate (W.contents writer.old.inner) (W.contents writer.new.inner)) }
     ensures stays { OnOk result (writer.new.failed ≡ false) }
     ensures err { IfErr result IsWriteRefusal }
     ensures unwritten { IsErrOf result BenchFault.Memory → writer.new ≡ writer.old }
     ensures writer { IsErrOf result BenchFault.Writer → writer.new.failed ≡ true }
-    ensures prefix { IsErrOf result BenchFault.Writer → IsPartlyTold grammar certificate (W.contents writer.old.inner) (W.contents writer.new.inner) }
+    ensures prefix { IsErrOf result BenchFault.Writer →
+        IsPartlyTold (judged_grammar loaded.now.judgement) certificate (W.contents writer.old.inner) (W.contents writer.new.inner) }
 {
-    match check(alloc, grammar) {
-        Ok(checked) => {
-            let told = tell_checked(alloc, &checked, writer, certificate);
-            drop(checked);
-            told
-        }
-        Err(CheckFault::Refused(refused)) => {
-            let told = tell_findings(alloc, &refused, writer);
-            drop(refused);
-            told
-        }
-        Err(CheckFault::Memory(grammar)) => {
-            drop(grammar);
-            Err(BenchFault::Memory)
-        }
+    match &loaded.judgement {
+        Judgement::Accepted(checked) => tell_checked(alloc, checked, writer, certificate),
+        Judgement::Refused(refused) => tell_findings(alloc, refused, writer),
     }
 }
 
@@ -146,8 +141,8 @@ fn tell_certificate<W: Write>(
     Ok(true)
 }
 
-/// The certificate of a grammar, with a line end.
-fn certificate_line(alloc: Global, checked: &Checked) -> Result<Vec<u8>, AllocError>
+/// The certificate of a grammar that is accepted, with a line end, as the check prints it (ours). The only error is that memory ran out.
+pub fn certificate_line(alloc: Global, checked: &Checked) -> Result<Vec<u8>, AllocError>
     ensures { IfOk result (λ line. (certificate : List ℕ) × IsOwnCertificate checked.now.grammar certificate × (line.items ≡ certificate ++ codes "\n")) }
 {
     let mut line = own_certificate(alloc, checked)?;
@@ -155,21 +150,22 @@ fn certificate_line(alloc: Global, checked: &Checked) -> Result<Vec<u8>, AllocEr
     Ok(line)
 }
 
-/// Writes all that is wrong with a grammar.
+/// Writes all that is wrong with a grammar that is refused, whether its certificate is asked for or not.
 fn tell_findings<W: Write>(
     alloc: Global,
     refused: &Refused,
     writer: &mut Meter<W>,
 ) -> Result<bool, BenchFault>
     requires { writer.old.failed ≡ false }
-    ensures no { IfOk result (λ accepted. accepted ≡ false) }
-    ensures ok { OnOk result (Appends (W.contents writer.old.inner) (W.contents writer.new.inner) (lines_of refused.now.findings)) }
+    ensures ok { (asked : Bool) → IfOk result (IsTold refused.now.grammar asked (W.contents writer.old.inner) (W.contents writer.new.inner)) }
     ensures stays { OnOk result (writer.new.failed ≡ false) }
     ensures err { IfErr result IsWriteRefusal }
     ensures unwritten { IsErrOf result BenchFault.Memory → writer.new ≡ writer.old }
     ensures failed { IsErrOf result BenchFault.Writer → writer.new.failed ≡ true }
-    ensures prefix { IsErrOf result BenchFault.Writer → AppendsPrefix (W.contents writer.old.inner) (W.contents writer.new.inner) (lines_of refused.now.findings) }
+    ensures prefix { IsErrOf result BenchFault.Writer → (asked : Bool) → IsPartlyTold refused.now.grammar asked (W.contents writer.old.inner) (W.contents writer.new.inner) }
 {
+    // This is called for what it says of the check.
+    let _grammar = refused.grammar();
     match refused.write_findings(alloc, writer) {
         Ok(()) => Ok(false),
         Err(WriteFault::Writer) => Err(BenchFault::Writer),

@@ -1,18 +1,22 @@
 //! The grammar that a file spells, or why a run has none.
 
 ghost use Rattle.std.specs.Prelude.{◌≡◌, length, IfOk, IfErr};
+ghost use Rattle.std.specs.Str.{chars};
 ghost use Rattle.pg_pred.specs.Offer.{offer_of};
 ghost use Rattle.pg_value.specs.Fits.{Fits};
+ghost use Rattle.pg_table.specs.Tables.{initial, whole};
+ghost use Rattle.pg_file.specs.Syntax.{IsSyntaxOf};
 ghost use Rattle.pg_making.specs.Spells.{SpellsWithinLimits};
 ghost use Rattle.pg_predict.specs.Checked.{IsChecked};
 ghost use Rattle.pg_grammar_bench.specs.Files.{IsFaultOfFile, AreFindingsOf};
 ghost use Rattle.pg_grammar_bench.specs.Faults.{IfFile, IsFileRefusal, IsFindingRefusal, IsGrammarRefusal, IfRefused};
 
 use crate::fault::BenchFault;
-use pg_file::FileError;
+use pg_file::{FileError, ReadFile, read_file};
 use pg_making::PlacedGrammar;
 use pg_pred::Registry;
 use pg_predict::{CheckFault, Checked, check};
+use pg_table::Table;
 use pg_value::Grammar;
 use std::alloc::Global;
 
@@ -27,7 +31,7 @@ pub fn grammar_of(alloc: Global, bytes: &[u8], registry: &Registry) -> Result<Gr
     Ok(grammar)
 }
 
-/// The same, with the characters that were written for each node.
+/// The same, with the characters that were written for each node, and the operator table that the grammar begins with.
 pub fn placed_of(
     alloc: Global,
     bytes: &[u8],
@@ -36,28 +40,68 @@ pub fn placed_of(
     ensures ok { IfOk result (λ placed. SpellsWithinLimits (offer_of registry.now) bytes.now placed.grammar) }
     ensures fits { IfOk result (λ placed. Fits (offer_of registry.now) placed.grammar) }
     ensures spans { IfOk result (λ placed. length placed.spans.items ≡ length placed.grammar.nodes) }
+    ensures initial { IfOk result (λ placed. initial placed.grammar ≡ whole placed.table) }
     ensures err { IfErr result IsFileRefusal }
     ensures file { IfErr result (IfFile (IsFaultOfFile (offer_of registry.now) bytes.now)) }
 {
-    match pg_file::read_placed(alloc, bytes, registry) {
-        Ok(placed) => Ok(placed),
+    match file_of(alloc, bytes, registry) {
+        Ok(read) => {
+            let ReadFile { placed, .. } = read;
+            Ok(placed)
+        }
+        Err(fault) => Err(fault),
+    }
+}
+
+/// The same, with all that is made on the way.
+pub(crate) fn file_of(
+    alloc: Global,
+    bytes: &[u8],
+    registry: &Registry,
+) -> Result<ReadFile, BenchFault>
+    ensures ok { IfOk result (λ read. SpellsWithinLimits (offer_of registry.now) bytes.now read.placed.grammar) }
+    ensures fits { IfOk result (λ read. Fits (offer_of registry.now) read.placed.grammar) }
+    ensures characters { IfOk result (λ read. read.characters.items ≡ chars bytes.now) }
+    ensures syntax { IfOk result (λ read. IsSyntaxOf (chars bytes.now) read.syntax.lexemes.items read.syntax.items.items) }
+    ensures spans { IfOk result (λ read. length read.placed.spans.items ≡ length read.placed.grammar.nodes) }
+    ensures initial { IfOk result (λ read. initial read.placed.grammar ≡ whole read.placed.table) }
+    ensures err { IfErr result IsFileRefusal }
+    ensures file { IfErr result (IfFile (IsFaultOfFile (offer_of registry.now) bytes.now)) }
+{
+    match read_file(alloc, bytes, registry) {
+        Ok(read) => Ok(read),
         Err(FileError::Fault(fault)) => Err(BenchFault::File(fault)),
         Err(FileError::Memory) => Err(BenchFault::Memory),
     }
 }
 
-/// The grammar that the bytes of a file spell, which is accepted: `Refused` with its findings where it isn't.
+/// A grammar that is accepted, and the operator table that it begins with.
+#[derive(Drop)]
+pub struct AcceptedGrammar {
+    pub checked: Checked,
+    pub table: Table,
+}
+
+/// The grammar that the bytes of a file spell, which is accepted, with its table: `Refused` with its findings where it isn't.
 #[tactic(auto, using(crate::proofs::Findings::refused_file, crate::proofs::Findings::refused_later))]
-pub fn checked_of(alloc: Global, bytes: &[u8], registry: &Registry) -> Result<Checked, BenchFault>
-    ensures ok { IfOk result (λ checked. SpellsWithinLimits (offer_of registry.now) bytes.now checked.grammar) }
-    ensures fits { IfOk result (λ checked. Fits (offer_of registry.now) checked.grammar) }
-    ensures accepted { IfOk result (λ checked. IsChecked checked) }
+pub fn accepted_of(
+    alloc: Global,
+    bytes: &[u8],
+    registry: &Registry,
+) -> Result<AcceptedGrammar, BenchFault>
+    ensures ok { IfOk result (λ accepted. SpellsWithinLimits (offer_of registry.now) bytes.now accepted.checked.grammar) }
+    ensures fits { IfOk result (λ accepted. Fits (offer_of registry.now) accepted.checked.grammar) }
+    ensures accepted { IfOk result (λ accepted. IsChecked accepted.checked) }
+    ensures table { IfOk result (λ accepted. initial accepted.checked.grammar ≡ whole accepted.table) }
     ensures err { IfErr result IsGrammarRefusal }
     ensures file { IfErr result (IfFile (IsFaultOfFile (offer_of registry.now) bytes.now)) }
     ensures refused { IfErr result (IfRefused (AreFindingsOf (offer_of registry.now) bytes.now)) }
 {
-    let grammar = grammar_of(alloc, bytes, registry)?;
-    accepted(alloc, grammar)
+    let PlacedGrammar { grammar, table, .. } = placed_of(alloc, bytes, registry)?;
+    match accepted(alloc, grammar) {
+        Ok(checked) => Ok(AcceptedGrammar { checked, table }),
+        Err(fault) => Err(fault),
+    }
 }
 
 /// A grammar that is accepted, or all that is wrong with it.

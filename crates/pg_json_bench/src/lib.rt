@@ -3,4 +3,4 @@
 
 mod json;
 
-pub use json::json_bytes;
+pub use json::{json_bytes, json_loaded};

@@ -1,5 +1,5 @@
 -- The bounds of starts: what they are of a class and of a key, and that starts whose bounds don't overlap are apart.
-use Rattle.std.proofs.Common.{◌≡◌, ◌↔◌, ◌⊎◌, inl, inr, ℕ, zero, suc, ◌+◌, ◌-◌, ◌<◌, ◌≤◌, Bool, true, false, not, List, [], ◌∷◌, ◌++◌, Option, Some, None, length, length-append, slice_get, IsTrue, arith, refl, ap, ◌∙◌, sym, subst}
+use Rattle.std.proofs.Common.{◌≡◌, ◌↔◌, ◌⊎◌, inl, inr, ℕ, zero, suc, ◌+◌, ◌-◌, ◌<◌, ◌≤◌, Bool, true, false, not, List, [], ◌∷◌, ◌++◌, Option, Some, None, length, length-append, slice_get, take, IsTrue, arith, refl, ap, ◌∙◌, sym, subst}
 use Rattle.std.proofs.lemmas.Bool.{cases_eq, or_right, false≢true}
 use Rattle.std.proofs.lemmas.Option.{same_Some, slice_get_within}
 use Rattle.std.specs.Char.{IsScalar}
@@ -7,11 +7,11 @@ use Rattle.pg_class.specs.Ranges.{Range, IsRange, IsClass, AreDisjoint, has, in_
 use Rattle.pg_class.proofs.Unique.{above, first_least, has-first, scalar_index-mono, to_last}
 use Rattle.pg_class.proofs.Disjoint.{has_split}
 use Rattle.pg_start.specs.Prefixes.{begins_in, IsPrefix}
-use Rattle.pg_start.specs.Apart.{Apart, differ, begins_outside}
+use Rattle.pg_start.specs.Apart.{Apart, KeysApart, differ, begins_outside}
 use Rattle.pg_start.specs.declared.kind.StartKind.{StartKind}
 use Rattle.pg_start.specs.declared.kind.StartKind.TheVariants.{Class, Key, Word, End}
 use Rattle.pg_own_starts.specs.declared.listed.ListedStart.{ListedStart}
-use Rattle.pg_judge.specs.Bounds.{BeginsWith, AreEnds, TellsClass, AreStartBounds, AreBounds, DontOverlap, ShareAnEnd}
+use Rattle.pg_judge.specs.Bounds.{BeginsWith, AreEnds, TellsClass, IsFurther, IsNotFurther, TellsFurther, AreStartBounds, AreBounds, DontOverlap, Differ, GoOnApart, TellApart, ShareAnEnd}
 use Rattle.pg_judge.specs.declared.bounds.Bounds.{Bounds}
 
 -- ---- a class
@@ -44,15 +44,15 @@ up_to_last r (s ∷ rs) class c is =
 
 -- the first and the last character of a class that isn't empty
 pub class_ends : (class : List Range) (first last : Range) → IsClass class → slice_get class 0 ≡ Some first → slice_get class (length class - 1) ≡ Some last
-    → AreEnds (λ c. has class c ≡ true) (record { lowest = first.0; highest = last.1; of_class = true })
+    → AreEnds (λ c. has class c ≡ true) (record { lowest = first.0; highest = last.1; of_class = true; second = None; third = None; fourth = None })
 class_ends [] first last class there end = cc
 class_ends (r ∷ rs) first last class there end =
     let is_first : r ≡ first = cc in
     let short : length (r ∷ rs) - 1 ≡ length rs = omega arith in
     let is_last : last_of r rs ≡ last = (let e = sym (last_there r rs) ∙ (sym (ap (slice_get (r ∷ rs)) short) ∙ end) in cc) in
     let ascends = class.0.ascends in
-    subst (λ (x : Range). AreEnds (λ c. has (r ∷ rs) c ≡ true) (record { lowest = x.0; highest = last.1; of_class = true })) is_first
-    (subst (λ (x : Range). AreEnds (λ c. has (r ∷ rs) c ≡ true) (record { lowest = r.0; highest = x.1; of_class = true })) is_last
+    subst (λ (x : Range). AreEnds (λ c. has (r ∷ rs) c ≡ true) (record { lowest = x.0; highest = last.1; of_class = true; second = None; third = None; fourth = None })) is_first
+    (subst (λ (x : Range). AreEnds (λ c. has (r ∷ rs) c ≡ true) (record { lowest = r.0; highest = x.1; of_class = true; second = None; third = None; fourth = None })) is_last
     record {
       lowest = has-first r rs r.0 (omega arith) ascends;
       highest = has_last r rs class;
@@ -110,6 +110,68 @@ apart_by_bounds one other (Some a) (Some b) is are below =
     (λ c p q. let left = is.0.between c p in let right = are.0.between c q in
     elim below [ inl h ↦ omega arith | inr h ↦ omega arith ])
 
+-- a key and another that it begins with have the same characters as far as both go
+same_at : (key other : List ℕ) (k a b : ℕ) → slice_get key k ≡ Some a → slice_get other k ≡ Some b → IsPrefix key other → a ≡ b
+same_at [] other k a b one two prefix = cc
+same_at (x ∷ xs) [] k a b one two prefix = cc
+same_at (x ∷ xs) (y ∷ ys) zero a b one two prefix = cc
+same_at (x ∷ xs) (y ∷ ys) (suc k) a b one two prefix = let behind : take (length xs) ys ≡ xs = cc in same_at xs ys k a b one two behind
+
+-- keys that differ somewhere are apart
+apart_at : (key other : List ℕ) (excluded others : List Range) (k : ℕ) (one two : Option ℕ) → one ≡ slice_get key k → two ≡ slice_get other k → Differ one two
+    → KeysApart key excluded other others
+apart_at key other excluded others k None two is are ne = absurd ne
+apart_at key other excluded others k (Some a) None is are ne = absurd ne
+apart_at key other excluded others k (Some a) (Some b) is are ne =
+    differ (λ prefix. ne (same_at key other k a b (sym is) (sym are) prefix)) (λ prefix. ne (sym (same_at other key k b a (sym are) (sym is) prefix)))
+
+-- where there is nothing nothing differs
+none_differs : (one two : Option ℕ) → one ≡ None → Differ one two → ⊥
+none_differs None two is ne = ne
+none_differs (Some a) two is ne = cc
+
+none_differs_from : (one two : Option ℕ) → two ≡ None → Differ one two → ⊥
+none_differs_from None two is ne = ne
+none_differs_from (Some a) None is ne = ne
+none_differs_from (Some a) (Some b) is ne = cc
+
+abbrev Further : Bounds → Bounds → Type 0
+Further a b = Differ a.second b.second ⊎ (Differ a.third b.third ⊎ Differ a.fourth b.fourth)
+
+none_further : (a b : Bounds) → IsNotFurther a → Further a b → ⊥
+none_further a b lacks (inl ne) = none_differs a.second b.second lacks.second ne
+none_further a b lacks (inr (inl ne)) = none_differs a.third b.third lacks.third ne
+none_further a b lacks (inr (inr ne)) = none_differs a.fourth b.fourth lacks.fourth ne
+
+no_further_than : (a b : Bounds) → IsNotFurther b → Further a b → ⊥
+no_further_than a b lacks (inl ne) = none_differs_from a.second b.second lacks.second ne
+no_further_than a b lacks (inr (inl ne)) = none_differs_from a.third b.third lacks.third ne
+no_further_than a b lacks (inr (inr ne)) = none_differs_from a.fourth b.fourth lacks.fourth ne
+
+keys_apart : (key other : List ℕ) (excluded others : List Range) (a b : Bounds) → IsFurther key a → IsFurther other b → Further a b → KeysApart key excluded other others
+keys_apart key other excluded others a b is are (inl ne) = apart_at key other excluded others 1 a.second b.second is.second are.second ne
+keys_apart key other excluded others a b is are (inr (inl ne)) = apart_at key other excluded others 2 a.third b.third is.third are.third ne
+keys_apart key other excluded others a b is are (inr (inr ne)) = apart_at key other excluded others 3 a.fourth b.fourth is.fourth are.fourth ne
+
+further_apart : (one other : StartKind) (a b : Bounds) → TellsFurther one a → TellsFurther other b → Further a b → Apart one other
+further_apart (Class x) other a b is are ne = absurd (none_further a b is ne)
+further_apart (Word h r d) other a b is are ne = absurd (none_further a b is ne)
+further_apart End other a b is are ne = absurd (none_further a b is ne)
+further_apart (Key k e) (Class x) a b is are ne = absurd (no_further_than a b are ne)
+further_apart (Key k e) (Word h r d) a b is are ne = absurd (no_further_than a b are ne)
+further_apart (Key k e) End a b is are ne = absurd (no_further_than a b are ne)
+further_apart (Key k e) (Key l f) a b is are ne = keys_apart k l e f a b is are ne
+
+-- so are two whose bounds go on apart
+apart_further : (one other : StartKind) (own others : Option Bounds) → AreStartBounds one own → AreStartBounds other others → GoOnApart own others → Apart one other
+apart_further one other None others is are ne = absurd ne
+apart_further one other (Some a) None is are ne = absurd ne
+apart_further one other (Some a) (Some b) is are ne = further_apart one other a b is.2 are.2 ne
+
+apart_as_told : (one other : StartKind) (own others : Option Bounds) → AreStartBounds one own → AreStartBounds other others → TellApart own others → Apart one other
+apart_as_told one other own others is are told =
+    elim told [ inl below ↦ apart_by_bounds one other own others is are below | inr ne ↦ apart_further one other own others is are ne ]
+
 -- classes with a character in common aren't apart
 met_at : (class other : List Range) (a b : ℕ) → IsScalar a → has class a ≡ true → has other b ≡ true → a ≡ b → AreDisjoint class other → ⊥
 met_at class other a b scalar is are same apart = apart a scalar is (subst (λ c. has other c ≡ true) (sym same) are)
@@ -137,13 +199,13 @@ met_by_ends End other a b is are p q same apart = false≢true (sym is.1 ∙ p)
 pub meet_by_bounds : (one other : StartKind) (own others : Option Bounds) → AreStartBounds one own → AreStartBounds other others → ShareAnEnd own others → Apart one other → ⊥
 meet_by_bounds one other None others is are share apart = share
 meet_by_bounds one other (Some a) None is are share apart = share
-meet_by_bounds one other (Some a) (Some b) is are share apart = met_by_ends one other a b is are share.0 share.1 share.2 apart
+meet_by_bounds one other (Some a) (Some b) is are share apart = met_by_ends one other a b (is.0, is.1) (are.0, are.1) share.0 share.1 share.2 apart
 
 -- whether two starts meet, where bounds tell
 pub told_by_bounds : (one other : StartKind) (own others : Option Bounds) (told : Bool) → AreStartBounds one own → AreStartBounds other others
-    → (IsTrue told ↔ DontOverlap own others) → told ≡ true → IsTrue (not told) ↔ (Apart one other → ⊥)
+    → (IsTrue told ↔ TellApart own others) → told ≡ true → IsTrue (not told) ↔ (Apart one other → ⊥)
 told_by_bounds one other own others true is are says e =
-    (λ h. absurd (false≢true h), λ meets. absurd (meets (apart_by_bounds one other own others is are (says.0 refl))))
+    (λ h. absurd (false≢true h), λ meets. absurd (meets (apart_as_told one other own others is are (says.0 refl))))
 told_by_bounds one other own others false is are says e = absurd (false≢true e)
 
 pub told_by_ends : (one other : StartKind) (own others : Option Bounds) (told : Bool) → AreStartBounds one own → AreStartBounds other others

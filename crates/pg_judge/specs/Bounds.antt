@@ -1,5 +1,5 @@
--- The bounds of a start: the lowest and the highest of the characters that it can begin with.
-use Rattle.std.specs.Prelude.{◌≡◌, ◌<◌, ◌≤◌, ◌⊎◌, ℕ, true, false, List, Option, Some, None, length, slice_get}
+-- The bounds of a start: the lowest and the highest of the characters that it can begin with, and what a key goes on with.
+use Rattle.std.specs.Prelude.{◌≡◌, ◌≢◌, ◌<◌, ◌≤◌, ◌⊎◌, ℕ, true, false, List, Option, Some, None, length, slice_get}
 use Rattle.std.specs.Char.{IsScalar}
 use Rattle.pg_class.specs.Ranges.{has}
 use Rattle.pg_start.specs.declared.kind.StartKind.{StartKind}
@@ -32,10 +32,29 @@ TellsClass (Key key excluded) bounds = bounds.of_class ≡ false
 TellsClass (Word heads rest reserved) bounds = IsScalar bounds.lowest × IsScalar bounds.highest
 TellsClass End bounds = bounds.of_class ≡ false
 
+-- the second, the third and the fourth character of a key
+pub record IsFurther (key : List ℕ) (bounds : Bounds) : Type 0 where
+  pub second : bounds.second ≡ slice_get key 1
+  pub third : bounds.third ≡ slice_get key 2
+  pub fourth : bounds.fourth ≡ slice_get key 3
+
+-- there are none
+pub record IsNotFurther (bounds : Bounds) : Type 0 where
+  pub second : bounds.second ≡ None
+  pub third : bounds.third ≡ None
+  pub fourth : bounds.fourth ≡ None
+
+-- bounds say what a key goes on with, and of no other start
+abbrev pub TellsFurther : StartKind → Bounds → Type 0
+TellsFurther (Class class) bounds = IsNotFurther bounds
+TellsFurther (Key key excluded) bounds = IsFurther key bounds
+TellsFurther (Word heads rest reserved) bounds = IsNotFurther bounds
+TellsFurther End bounds = IsNotFurther bounds
+
 -- the bounds of a start
 abbrev pub AreStartBounds : StartKind → Option Bounds → Type 0
 AreStartBounds start None = AreBoundsOf (BeginsWith start) None
-AreStartBounds start (Some bounds) = AreEnds (BeginsWith start) bounds × TellsClass start bounds
+AreStartBounds start (Some bounds) = AreEnds (BeginsWith start) bounds × TellsClass start bounds × TellsFurther start bounds
 
 -- each start of a list has its bounds
 pub record AreBounds (starts : List ListedStart) (bounds : List (Option Bounds)) : Type 0 where
@@ -54,3 +73,19 @@ abbrev pub DontOverlap : Option Bounds → Option Bounds → Type 0
 DontOverlap None other = ⊥
 DontOverlap (Some one) None = ⊥
 DontOverlap (Some one) (Some other) = (one.highest < other.lowest) ⊎ (other.highest < one.lowest)
+
+-- two characters, which differ
+abbrev pub Differ : Option ℕ → Option ℕ → Type 0
+Differ None other = ⊥
+Differ (Some one) None = ⊥
+Differ (Some one) (Some other) = one ≢ other
+
+-- two keys go on with other characters
+abbrev pub GoOnApart : Option Bounds → Option Bounds → Type 0
+GoOnApart None other = ⊥
+GoOnApart (Some one) None = ⊥
+GoOnApart (Some one) (Some other) = Differ one.second other.second ⊎ (Differ one.third other.third ⊎ Differ one.fourth other.fourth)
+
+-- the bounds of two starts tell that they are apart
+abbrev pub TellApart : Option Bounds → Option Bounds → Type 0
+TellApart one other = DontOverlap one other ⊎ GoOnApart one other

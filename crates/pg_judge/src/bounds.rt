@@ -1,12 +1,12 @@
-//! The bounds of starts: the lowest and the highest of the characters that a start can begin with.
+//! The bounds of starts: the lowest and the highest of the characters that a start can begin with, and what a key goes on with.
 //!
-//! Two starts whose bounds don't overlap are apart, and two that begin with classes which share a bound aren't. So most pairs
-//! are told by comparisons of numbers that lie side by side, with no look at what the starts are made of. Of the others `apart`
-//! is asked (`met_starts.rt`).
+//! Two starts whose bounds don't overlap are apart, and so are two keys that go on with other characters; two that begin with
+//! classes which share a bound aren't. So most pairs are told by comparisons of numbers that lie side by side, with no look at
+//! what the starts are made of: thousands of keywords may begin with one letter. Of the others `apart` is asked (`met_starts.rt`).
 ghost use Rattle.std.specs.Prelude.{◌≡◌, ◌↔◌, true, false, IfOk, IfSome, IsTrue, Some, slice_get};
 ghost use Rattle.std.specs.Char.{IsScalar};
 ghost use Rattle.pg_class.specs.Ranges.{has};
-ghost use Rattle.pg_judge.specs.Bounds.{AreBoundsOf, AreStartBounds, AreBounds, DontOverlap, ShareAnEnd};
+ghost use Rattle.pg_judge.specs.Bounds.{AreBoundsOf, AreStartBounds, AreBounds, IsFurther, IsNotFurther, DontOverlap, Differ, GoOnApart, TellApart, ShareAnEnd};
 
 use pg_class::Class;
 use pg_own_starts::ListedStart;
@@ -20,6 +20,10 @@ pub(crate) struct Bounds {
     pub(crate) highest: char,
     /// Whether they are those of a class: a start begins with each character of it.
     pub(crate) of_class: bool,
+    /// The second, the third and the fourth character of a key that has them.
+    pub(crate) second: Option<char>,
+    pub(crate) third: Option<char>,
+    pub(crate) fourth: Option<char>,
 }
 
 /// The bounds of each of the starts. The only error is that memory ran out.
@@ -52,6 +56,7 @@ pub(crate) fn bounds_of(start: &Start) -> Option<Bounds>
 fn bounds_of_class(class: &Class) -> Option<Bounds>
     ensures bounds { AreBoundsOf (λ c. has class.now c ≡ true) result }
     ensures characters { IfSome result (λ bounds. IsScalar bounds.lowest × IsScalar bounds.highest) }
+    ensures further { IfSome result IsNotFurther }
 {
     let first = class.ranges().first()?;
     let last = class.ranges().last()?;
@@ -59,6 +64,9 @@ fn bounds_of_class(class: &Class) -> Option<Bounds>
         lowest: first.0,
         highest: last.1,
         of_class: true,
+        second: None,
+        third: None,
+        fourth: None,
     })
 }
 
@@ -66,22 +74,60 @@ fn bounds_of_class(class: &Class) -> Option<Bounds>
 fn bounds_of_key(key: &[char]) -> Option<Bounds>
     ensures bounds { AreBoundsOf (λ c. slice_get key.now 0 ≡ Some c) result }
     ensures class { IfSome result (λ bounds. bounds.of_class ≡ false) }
+    ensures further { IfSome result (IsFurther key.now) }
 {
     let first = key.first()?;
     Some(Bounds {
         lowest: *first,
         highest: *first,
         of_class: false,
+        second: key.get(1).copied(),
+        third: key.get(2).copied(),
+        fourth: key.get(3).copied(),
     })
+}
+
+/// Whether the bounds of two starts tell that these are apart.
+#[inline]
+pub(crate) fn tell_apart(one: &Option<Bounds>, other: &Option<Bounds>) -> bool
+    ensures { IsTrue result ↔ TellApart one.now other.now }
+{
+    dont_overlap(one, other) || go_on_apart(one, other)
 }
 
 /// Whether there are bounds of both, and those of one end before those of the other begin.
 #[inline]
-pub(crate) fn dont_overlap(one: &Option<Bounds>, other: &Option<Bounds>) -> bool
+fn dont_overlap(one: &Option<Bounds>, other: &Option<Bounds>) -> bool
     ensures { IsTrue result ↔ DontOverlap one.now other.now }
 {
     match (one, other) {
         (Some(one), Some(other)) => one.highest < other.lowest || other.highest < one.lowest,
+        (None, _) | (_, None) => false,
+    }
+}
+
+/// Whether both are bounds of keys, and these go on with other characters. Such keys are apart.
+#[inline]
+fn go_on_apart(one: &Option<Bounds>, other: &Option<Bounds>) -> bool
+    ensures { IsTrue result ↔ GoOnApart one.now other.now }
+{
+    match (one, other) {
+        (Some(one), Some(other)) => {
+            differ(one.second, other.second)
+                || differ(one.third, other.third)
+                || differ(one.fourth, other.fourth)
+        }
+        (None, _) | (_, None) => false,
+    }
+}
+
+/// Whether there are two characters, which differ.
+#[inline]
+fn differ(one: Option<char>, other: Option<char>) -> bool
+    ensures { IsTrue result ↔ Differ one other }
+{
+    match (one, other) {
+        (Some(one), Some(other)) => one != other,
         (None, _) | (_, None) => false,
     }
 }

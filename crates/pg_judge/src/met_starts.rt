@@ -7,7 +7,7 @@ ghost use Rattle.pg_start.specs.Apart.{Apart};
 ghost use Rattle.pg_judge.specs.Bounds.{AreStartBounds, AreBounds};
 ghost use Rattle.pg_judge.specs.Shown.{IsMetSet, AreMeetings};
 
-use crate::bounds::{Bounds, bounds_of, bounds_of_starts, dont_overlap, share_an_end};
+use crate::bounds::{Bounds, bounds_of, bounds_of_starts, share_an_end, tell_apart};
 use pg_bit_set::BitSet;
 use pg_own_starts::ListedStart;
 use pg_start::{Start, apart};
@@ -64,5 +64,5 @@ fn meets(start: &Start, own: &Option<Bounds>, other: &Start, others: &Option<Bou
     requires other { AreStartBounds other.now others.now }
     ensures { IsTrue result ↔ (Apart start.now other.now → ⊥) }
 {
-    !dont_overlap(own, others) && (share_an_end(own, others) || !apart(start, other))
+    !tell_apart(own, others) && (share_an_end(own, others) || !apart(start, other))
 }

@@ -1,9 +1,10 @@
-//! Whether the initial operators of a grammar are admitted, each by those above it, and which one isn't.
+//! The table of the initial operators of a grammar, each admitted by those above it, and which one isn't.
 //!
 //! The crate of operator tables judges them: all of a grammar at the end, and each as its item is gone through, so that the
 //! first that isn't admitted is known with its place.
 
-ghost use Rattle.std.specs.Prelude.{OnOk, IsErrOf};
+ghost use Rattle.std.specs.Prelude.{◌≡◌, IfOk, IsErrOf};
+ghost use Rattle.pg_table.specs.Tables.{initial, whole, ComesFrom};
 ghost use Rattle.pg_making.specs.Spells.{HasInitialTable};
 
 use crate::fault::{NameFault, NameFaultKind};
@@ -17,13 +18,14 @@ use pg_text::Characters;
 use pg_value::Grammar;
 use std::alloc::{AllocError, Global};
 
-/// Whether a grammar has an initial table. Refused where it has none.
-pub fn has_initial_table(alloc: Global, grammar: &Grammar) -> Result<(), MakingError>
-    ensures ok { OnOk result (HasInitialTable grammar.now) }
+/// The initial table of a grammar. Refused where it has none.
+pub fn initial_table(alloc: Global, grammar: &Grammar) -> Result<Table, MakingError>
+    ensures ok { IfOk result (λ table. initial grammar.now ≡ whole table) }
+    ensures comes { IfOk result (ComesFrom grammar.now) }
     ensures refused { IsErrOf result MakingError.Refused → HasInitialTable grammar.now → ⊥ }
 {
     match Table::of(alloc, grammar) {
-        Ok(_) => Ok(()),
+        Ok(table) => Ok(table),
         Err(InitialFault::NotAdmitted { .. }) => Err(MakingError::Refused),
         Err(InitialFault::Memory) => Err(MakingError::Memory),
     }

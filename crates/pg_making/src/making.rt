@@ -6,6 +6,7 @@
 
 ghost use Rattle.std.specs.Prelude.{◌≡◌, ◌+◌, length, IfOk, IfErr, OnOk, IsErrOf};
 ghost use Rattle.pg_pred.specs.Offer.{offer_of};
+ghost use Rattle.pg_table.specs.Tables.{initial, whole, ComesFrom};
 ghost use Rattle.pg_items.specs.Entries.{entry_of, entries_of};
 ghost use Rattle.pg_making.specs.Spells.{made_classes};
 ghost use Rattle.pg_making.specs.Making.{with_entry, MayFollow, LeadsNowhere, IsProperEntry, AreProperEntries, IsGrammarOfEntries, MakeNoGrammar, IsRefusal};
@@ -14,22 +15,25 @@ use crate::fault::GrammarError;
 use crate::handing::{
     class_item, operators_item, rule_item, start_item, table_item, unmade, word_item,
 };
-use crate::initials::has_initial_table;
+use crate::initials::initial_table;
 use crate::names::Names;
 use pg_grammar::Maker;
 use pg_items::{Item, Span};
 use pg_meaning::MakingError;
 use pg_pred::Registry;
+use pg_table::Table;
 use pg_text::Characters;
 use pg_value::Grammar;
 use std::alloc::Global;
 
-/// A grammar, and where its nodes were written.
+/// A grammar, where its nodes were written, and its operator table.
 #[derive(Drop)]
 pub struct PlacedGrammar {
     pub grammar: Grammar,
     /// For each node, how many characters of the file stand before the form that was written for it.
     pub spans: Vec<Span>,
+    /// The operator table that it begins with.
+    pub table: Table,
 }
 
 /// The grammar of items as a file may have them, none of which passes a limit. Refused where they make none: a name stands
@@ -43,6 +47,8 @@ pub fn grammar_of(
     requires { AreProperEntries (entries_of items.now) }
     ensures ok { IfOk result (λ made. IsGrammarOfEntries (offer_of registry.now) (entries_of items.now) made.grammar) }
     ensures spans { IfOk result (λ made. length made.spans.items ≡ length made.grammar.nodes) }
+    ensures initial { IfOk result (λ made. initial made.grammar ≡ whole made.table) }
+    ensures comes { IfOk result (λ made. ComesFrom made.grammar made.table) }
     ensures refused { IfErr result (λ e. IsRefusal e → MakeNoGrammar (offer_of registry.now) (entries_of items.now)) }
 {
     let mut names = Names::of(alloc, items)?;
@@ -63,6 +69,8 @@ fn made_of(
     requires { AreProperEntries (entries_of items.now) }
     ensures ok { IfOk result (λ made. IsGrammarOfEntries (offer_of registry.now) (entries_of items.now) made.grammar) }
     ensures spans { IfOk result (λ made. length made.spans.items ≡ length made.grammar.nodes) }
+    ensures initial { IfOk result (λ made. initial made.grammar ≡ whole made.table) }
+    ensures comes { IfOk result (λ made. ComesFrom made.grammar made.table) }
     ensures refused { IsErrOf result MakingError.Refused → MakeNoGrammar (offer_of registry.now) (entries_of items.now) }
 {
     let mut maker = Maker::new(alloc);
@@ -79,8 +87,12 @@ fn made_of(
             return Err(unmade(unfinished.fault));
         }
     };
-    has_initial_table(alloc, &grammar)?;
-    Ok(PlacedGrammar { grammar, spans })
+    let table = initial_table(alloc, &grammar)?;
+    Ok(PlacedGrammar {
+        grammar,
+        spans,
+        table,
+    })
 }
 
 /// Hands an item to a maker, beside which the names of its class items and the spans of its base forms are kept. Refused

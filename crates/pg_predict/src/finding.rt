@@ -86,12 +86,9 @@ impl<'r> Finding<'r> {
         code(&self.kind)
     }
 
-    /// Puts its line into the buffer, with a line feed.
-    pub(crate) fn put<W: Write>(
-        &self,
-        buffer: &mut Vec<u8>,
-        writer: &mut Meter<W>,
-    ) -> Result<(), Stopped>
+    /// Puts its line, with a line feed, behind what a buffer holds, which is written where it is full (ours). The writer has to be fresh of
+    /// failures. The only error is that it failed, after a prefix of what it was to be given. It takes no memory.
+    pub fn put<W: Write>(&self, buffer: &mut Vec<u8>, writer: &mut Meter<W>) -> Result<(), Stopped>
         requires fresh { writer.old.failed ≡ false }
         ensures failed { writer.new.failed ≡ is_err result }
         ensures ok { OnOk result (Puts (W.contents writer.old.inner) buffer.old.items (W.contents writer.new.inner) buffer.new.items (line_of self.now.finding)) }

@@ -35,4 +35,4 @@ pub use pg_judge::ViolationKind;
 pub use places::{Place, body_of, place_of};
 pub use refused::Refused;
 pub use texts::Texts;
-pub use violation::Broken;
+pub use violation::{Broken, code, condition_number};

@@ -15,8 +15,8 @@ pub struct Broken {
     pub condition: u8,
 }
 
-/// The number of the condition that is broken, as in C1 to C11.
-pub(crate) fn condition_number(kind: &ViolationKind<usize>) -> u8
+/// The number of the condition that is broken, as in C1 to C11 (ours). It takes no memory.
+pub fn condition_number(kind: &ViolationKind<usize>) -> u8
     ensures { result ≡ condition_number kind.now }
 {
     match kind {
@@ -33,9 +33,9 @@ pub(crate) fn condition_number(kind: &ViolationKind<usize>) -> u8
     }
 }
 
-/// The code of the condition that is broken: its number behind a C.
+/// The code of the condition that is broken: its number behind a C (ours). It takes no memory.
 #[tactic(auto, using(crate::proofs::Codes::code_1, crate::proofs::Codes::code_2, crate::proofs::Codes::code_3, crate::proofs::Codes::code_4, crate::proofs::Codes::code_5, crate::proofs::Codes::code_6, crate::proofs::Codes::code_7, crate::proofs::Codes::code_8, crate::proofs::Codes::code_9, crate::proofs::Codes::code_11))]
-pub(crate) fn code(kind: &ViolationKind<usize>) -> &'static str
+pub fn code(kind: &ViolationKind<usize>) -> &'static str
     ensures { result.now ≡ code_text (condition_number kind.now) }
 {
     match kind {

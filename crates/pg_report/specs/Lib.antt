@@ -1,3 +1,4 @@
 pub mod Status
 pub mod Texts
 pub mod Files
+pub mod Codes

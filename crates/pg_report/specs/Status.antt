@@ -3,9 +3,11 @@ use Rattle.std.specs.Prelude.{◌≡◌, ℕ, List, Result, Ok, Err}
 use Rattle.pg_pred.specs.Offer.{Offer}
 use Rattle.pg_value.specs.Fits.{Fits}
 use Rattle.pg_making.specs.Spells.{SpellsWithinLimits}
-use Rattle.pg_predict.specs.Checked.{GrammarWithSets, IsChecked}
+use Rattle.pg_table.specs.Tables.{initial, whole}
+use Rattle.pg_predict.specs.Checked.{IsChecked}
 use Rattle.pg_grammar_bench.specs.Files.{IsFaultOfFile, AreFindingsOf}
 use Rattle.pg_grammar_bench.specs.Faults.{IfFile, IfRefused, IsGrammarRefusal}
+use Rattle.pg_grammar_bench.specs.declared.grammar_file.AcceptedGrammar.{AcceptedGrammar}
 use Rattle.pg_grammar_bench.specs.declared.fault.BenchFault.{BenchFault}
 use Rattle.pg_grammar_bench.specs.declared.fault.BenchFault.TheVariants.{File, Refused, Reader, NotUtf8, TooLong, NotATrail, NotVerified, ParseError, Writer, Memory}
 
@@ -27,11 +29,12 @@ abbrev pub status_of_verdict : {T : Type 0} → Result T BenchFault → ℕ
 status_of_verdict (Ok x) = 0
 status_of_verdict (Err fault) = status_of fault
 
--- the bytes spell this grammar, which is accepted, and the offer has what it names
-pub record IsLoaded (offer : Offer) (file : List ℕ) (checked : GrammarWithSets) : Type 0 where
-  pub spelled : SpellsWithinLimits offer file checked.grammar
-  pub fits : Fits offer checked.grammar
-  pub accepted : IsChecked checked
+-- the bytes spell this grammar, which is accepted, the offer has what it names, and the table is the one that it begins with
+pub record IsLoaded (offer : Offer) (file : List ℕ) (loaded : AcceptedGrammar) : Type 0 where
+  pub spelled : SpellsWithinLimits offer file loaded.checked.grammar
+  pub fits : Fits offer loaded.checked.grammar
+  pub accepted : IsChecked loaded.checked
+  pub table_is : initial loaded.checked.grammar ≡ whole loaded.table
 
 -- the status is that of a fault of the file, of what is wrong with its grammar, or of want of memory
 pub record IsRefusedWith (offer : Offer) (file : List ℕ) (status : ℕ) : Type 0 where
@@ -42,6 +45,6 @@ pub record IsRefusedWith (offer : Offer) (file : List ℕ) (status : ℕ) : Type
   pub findings : IfRefused (AreFindingsOf offer file) fault
 
 -- what is answered of a grammar file before texts are read: the grammar, if it is accepted, or the status of what refuses it
-abbrev pub IsLoading : Offer → List ℕ → Result GrammarWithSets ℕ → Type 0
-IsLoading offer file (Ok checked) = IsLoaded offer file checked
+abbrev pub IsLoading : Offer → List ℕ → Result AcceptedGrammar ℕ → Type 0
+IsLoading offer file (Ok loaded) = IsLoaded offer file loaded
 IsLoading offer file (Err status) = IsRefusedWith offer file status

@@ -7,6 +7,7 @@ use crate::printing::{UNUSABLE, not_there, print_fault, put, say};
 use crate::reporting::Names;
 use pg_explain_fault::{fault_page, nearest_rule};
 use pg_grammar_bench::BenchFault;
+use pg_value::Grammar;
 use std::alloc::{AllocError, Global};
 
 /// Prints the report of a fault, and of a fault of the grammar file of these bytes what it means, and gives the status.
@@ -59,19 +60,19 @@ fn fault_words(
     }
 }
 
-/// Says that a grammar has no such rule or node, and which rule is named nearly so, and gives the status.
+/// Says that the grammar of a file of this name has no such rule or node, and which rule is named nearly so, and gives the status.
 pub fn tell_nearest<R: AllocGlobal + Eprint>(
     rt: &R,
-    bytes: &[u8],
-    grammar: &str,
+    grammar: &Grammar,
+    name: &str,
     asked: &str,
 ) -> Result<u8, AllocError>
     ensures { IfOk result (λ status. status ≡ UNUSABLE) }
 {
-    let nearest = nearest_rule(rt.alloc(), bytes, rule_asked(asked))?;
-    let status = not_there(rt, grammar, asked);
-    if let Some(name) = nearest {
-        say(rt, format_args!("did you mean {name}?"));
+    let nearest = nearest_rule(rt.alloc(), grammar, rule_asked(asked))?;
+    let status = not_there(rt, name, asked);
+    if let Some(rule) = nearest {
+        say(rt, format_args!("did you mean {rule}?"));
     }
     Ok(status)
 }

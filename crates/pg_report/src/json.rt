@@ -1,11 +1,13 @@
 //! A fault of a grammar file as a line of JSON.
 
 ghost use Rattle.std.specs.Prelude.{◌≡◌, IfOk};
+ghost use Rattle.pg_file.specs.Texts.{kind_text};
+ghost use Rattle.pg_report.specs.Codes.{BeginsWithCode};
 ghost use Rattle.pg_report.specs.Status.{status_of};
 
 use crate::printing::{UNUSABLE, print_fault, print_page};
 use crate::reporting::Names;
-use pg_file::FileFault;
+use pg_file::{FaultKind, FileFault};
 use pg_finding_json::fault_line;
 use pg_grammar_bench::BenchFault;
 use std::alloc::{AllocError, Global};
@@ -63,5 +65,28 @@ fn print_file_fault<R: AllocGlobal + Print + Eprint>(
 fn file_fault_line(alloc: Global, fault: &FileFault, grammar: &str) -> Result<String, AllocError> {
     let kind = &fault.kind;
     let message = format!(in alloc; "{kind}")?;
-    fault_line(alloc, grammar, fault.position, message.as_str())
+    fault_line(
+        alloc,
+        grammar,
+        fault.position,
+        code_of(kind),
+        message.as_str(),
+    )
+}
+
+/// The code of a fault, F1 to F9, with which its text begins.
+fn code_of(kind: &FaultKind) -> &'static str
+    ensures { BeginsWithCode (kind_text kind.now) result.now }
+{
+    match kind {
+        FaultKind::NotUtf8 => "F1",
+        FaultKind::BadToken => "F2",
+        FaultKind::UnexpectedToken => "F3",
+        FaultKind::UnknownName => "F4",
+        FaultKind::NameTwice => "F5",
+        FaultKind::NoStart => "F6",
+        FaultKind::BadLiteral => "F7",
+        FaultKind::LimitPassed => "F8",
+        FaultKind::NotAdmitted(_) => "F9",
+    }
 }

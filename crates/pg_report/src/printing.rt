@@ -5,9 +5,8 @@ ghost use Rattle.pg_pred.specs.Offer.{offer_of};
 ghost use Rattle.pg_report.specs.Status.{status_of, status_of_verdict, IsLoading};
 
 use crate::reporting::{Names, status, write_report};
-use pg_grammar_bench::{BenchFault, checked_of};
+use pg_grammar_bench::{AcceptedGrammar, BenchFault, accepted_of};
 use pg_pred::Registry;
-use pg_predict::Checked;
 use pg_tree::{Meter, WriteFault, write_bytes};
 use std::alloc::AllocError;
 use std::fmt::Display;
@@ -51,11 +50,11 @@ pub fn loaded<R: AllocGlobal + Eprint>(
     bytes: &[u8],
     grammar: &str,
     registry: &Registry,
-) -> Result<Result<Checked, u8>, AllocError>
+) -> Result<Result<AcceptedGrammar, u8>, AllocError>
     ensures { IfOk result (IsLoading (offer_of registry.now) bytes.now) }
 {
-    match checked_of(rt.alloc(), bytes, registry) {
-        Ok(checked) => Ok(Ok(checked)),
+    match accepted_of(rt.alloc(), bytes, registry) {
+        Ok(accepted) => Ok(Ok(accepted)),
         Err(fault) => Ok(Err(print_report(rt, fault, Names::of_grammar(grammar))?)),
     }
 }

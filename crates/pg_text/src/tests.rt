@@ -65,7 +65,14 @@ fn keeps_characters(rt: HostRuntime) -> Result<(), Fail> {
     assert_eq!(rt; name.len(), 2);
     assert!(rt; !name.is_empty());
     assert_eq!(rt; name.as_slice(), ['€', 'x'].as_slice());
-    assert_eq!(rt; name.into_vec().as_slice(), ['€', 'x'].as_slice());
+    Ok(())
+}
+
+#[test]
+fn turns_texts_into_characters_and_back(rt: HostRuntime) -> Result<(), Fail> {
+    let characters = characters_of(rt.alloc(), "aé€")?;
+    assert_eq!(rt; characters.as_slice(), ['a', 'é', '€'].as_slice());
+    assert_eq!(rt; utf8(rt.alloc(), characters.as_slice())?.as_str(), "aé€");
     Ok(())
 }
 

@@ -1,20 +1,20 @@
 //! Whether grammars are accepted.
 
-ghost use Rattle.std.specs.Prelude.{◌≡◌, false, IfOk};
+ghost use Rattle.std.specs.Prelude.{IfOk};
 ghost use Rattle.pg_pred.specs.Offer.{offer_of};
 ghost use Rattle.pg.specs.Status.{IsCheckStatus};
 
 use crate::NO_MEMORY;
 use crate::commands::NO;
 use pg_bench::check_bytes;
-use pg_explain_bench::{Places, PlacingWriter, places_of};
 use pg_json_bench::json_bytes;
+use pg_placed_bench::{InFront, placed_bytes};
 use pg_pred::Registry;
 use pg_report::{Handle, Names, UNUSABLE, grammar_alone, print_json_fault, print_report};
 use pg_request::Findings;
 use pg_tree::Meter;
 use std::alloc::AllocError;
-use std::io::{Input, Write};
+use std::io::Input;
 use std::rt::Files;
 use std::{cmp, io};
 
@@ -74,15 +74,14 @@ fn check_read<R: AllocGlobal + Print + Eprint>(
 ) -> Result<u8, AllocError>
     ensures { IfOk result (IsCheckStatus (offer_of registry.now) bytes.now) }
 {
-    match findings {
-        Findings::Json => check_as_json(rt, bytes, grammar, registry),
-        Findings::Places => check_placed(rt, bytes, grammar, registry, certificate, names),
-        Findings::Lines if names => check_named(rt, bytes, grammar, registry, certificate),
-        Findings::Lines => {
-            let mut writer = Meter::new(io::writer(rt));
-            check_grammar(rt, bytes, grammar, registry, certificate, &mut writer)
-        }
-    }
+    let in_front = match findings {
+        Findings::Json => return check_as_json(rt, bytes, grammar, registry),
+        Findings::Places if names => InFront::PlaceOrName,
+        Findings::Places => InFront::Place,
+        Findings::Lines if names => InFront::Name,
+        Findings::Lines => return check_grammar(rt, bytes, grammar, registry, certificate),
+    };
+    check_placed(rt, bytes, grammar, registry, certificate, in_front)
 }
 
 /// Writes findings, or the fault of the file, as JSON.
@@ -103,55 +102,47 @@ fn check_as_json<R: AllocGlobal + Print + Eprint>(
     }
 }
 
-/// Each line with the file's name in front.
-fn check_named<R: AllocGlobal + Print + Eprint>(
-    rt: &R,
-    bytes: &[u8],
-    grammar: &str,
-    registry: &Registry,
-    certificate: bool,
-) -> Result<u8, AllocError>
-    ensures { IfOk result (IsCheckStatus (offer_of registry.now) bytes.now) }
-{
-    let names = Places::of_name(rt.alloc(), grammar)?;
-    let mut writer = Meter::new(PlacingWriter::new(rt.alloc(), io::writer(rt), &names));
-    check_grammar(rt, bytes, grammar, registry, certificate, &mut writer)
-}
-
-/// Each finding with its place in front, and other lines with the file's name if `names`.
-#[tactic(auto, using(crate::proofs::Statuses::file_fault_status))]
+/// Each line with its place or the file's name in front.
+#[tactic(auto, using(crate::proofs::Statuses::placed_yes_status, crate::proofs::Statuses::placed_no_status, crate::proofs::Statuses::check_fault_status))]
 fn check_placed<R: AllocGlobal + Print + Eprint>(
     rt: &R,
     bytes: &[u8],
     grammar: &str,
     registry: &Registry,
     certificate: bool,
-    names: bool,
+    in_front: InFront,
 ) -> Result<u8, AllocError>
     ensures { IfOk result (IsCheckStatus (offer_of registry.now) bytes.now) }
 {
-    match places_of(rt.alloc(), grammar, bytes, registry, names) {
-        Ok(places) => {
-            let mut writer = Meter::new(PlacingWriter::new(rt.alloc(), io::writer(rt), &places));
-            check_grammar(rt, bytes, grammar, registry, certificate, &mut writer)
-        }
+    let mut writer = Meter::new(io::writer(rt));
+    match placed_bytes(
+        rt.alloc(),
+        grammar,
+        bytes,
+        registry,
+        &mut writer,
+        in_front,
+        certificate,
+    ) {
+        Ok(true) => Ok(0),
+        Ok(false) => Ok(NO),
         Err(fault) => print_report(rt, fault, Names::of_grammar(grammar)),
     }
 }
 
+/// Each line as it is.
 #[tactic(auto, using(crate::proofs::Statuses::accepted_status, crate::proofs::Statuses::refused_status, crate::proofs::Statuses::check_fault_status))]
-fn check_grammar<R: AllocGlobal + Print + Eprint, W: Write>(
+fn check_grammar<R: AllocGlobal + Print + Eprint>(
     rt: &R,
     bytes: &[u8],
     grammar: &str,
     registry: &Registry,
     certificate: bool,
-    writer: &mut Meter<W>,
 ) -> Result<u8, AllocError>
-    requires { writer.old.failed ≡ false }
     ensures { IfOk result (IsCheckStatus (offer_of registry.now) bytes.now) }
 {
-    match check_bytes(rt.alloc(), bytes, registry, writer, certificate) {
+    let mut writer = Meter::new(io::writer(rt));
+    match check_bytes(rt.alloc(), bytes, registry, &mut writer, certificate) {
         Ok(true) => Ok(0),
         Ok(false) => Ok(NO),
         Err(fault) => print_report(rt, fault, Names::of_grammar(grammar)),

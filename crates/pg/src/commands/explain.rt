@@ -1,13 +1,19 @@
 //! What is wrong with a grammar, told for people.
 
-ghost use Rattle.std.specs.Prelude.{IfOk};
+ghost use Rattle.std.specs.Prelude.{◌≡◌, IfOk};
 ghost use Rattle.pg_pred.specs.Offer.{offer_of};
-ghost use Rattle.pg.specs.Status.{IsCheckStatus};
+ghost use Rattle.pg_value.specs.Fits.{Fits};
+ghost use Rattle.pg_table.specs.Tables.{initial, whole};
+ghost use Rattle.pg_grammar_bench.specs.Loading.{judged_grammar};
+ghost use Rattle.pg.specs.Status.{IsCheckStatus, IsJudgedStatus};
 
 use crate::commands::NO;
-use pg_explain_bench::{Explained, explain_bytes};
+use pg_explain_bench::{Explained, explain_loaded};
+use pg_grammar_bench::{LoadedFile, load};
 use pg_pred::Registry;
-use pg_report::{Handle, UNUSABLE, grammar_alone, print_explained_fault, tell_nearest};
+use pg_report::{
+    Handle, Names, UNUSABLE, grammar_alone, print_explained_fault, print_report, tell_nearest,
+};
 use pg_tree::Meter;
 use std::alloc::AllocError;
 use std::io;
@@ -22,13 +28,14 @@ pub(crate) fn explain_file<R: AllocGlobal + Files + Input + Print + Eprint>(
     asked: &str,
 ) -> Result<u8, AllocError> {
     match grammar_alone(rt, grammar)? {
-        Some(bytes) => explain_grammar(rt, bytes.as_slice(), grammar, registry, asked),
+        Some(bytes) => explain_read(rt, bytes.as_slice(), grammar, registry, asked),
         None => Ok(UNUSABLE),
     }
 }
 
-#[tactic(auto, using(crate::proofs::Statuses::faultless_status, crate::proofs::Statuses::faulty_status, crate::proofs::Statuses::check_unusable, crate::proofs::Statuses::check_fault_status))]
-fn explain_grammar<R: AllocGlobal + Print + Eprint>(
+/// The same of the bytes of the file.
+#[tactic(auto, using(crate::proofs::Statuses::judged_status, crate::proofs::Statuses::file_fault_status))]
+fn explain_read<R: AllocGlobal + Print + Eprint>(
     rt: &R,
     bytes: &[u8],
     grammar: &str,
@@ -37,11 +44,35 @@ fn explain_grammar<R: AllocGlobal + Print + Eprint>(
 ) -> Result<u8, AllocError>
     ensures { IfOk result (IsCheckStatus (offer_of registry.now) bytes.now) }
 {
+    match load(rt.alloc(), grammar, bytes, registry) {
+        Ok(loaded) => {
+            let status = explain_grammar(rt, &loaded, registry, asked);
+            drop(loaded);
+            status
+        }
+        Err(fault) => print_explained_fault(rt, fault, bytes, grammar),
+    }
+}
+
+/// Prints what is wrong with the grammar of a file that is loaded.
+#[tactic(auto, using(crate::proofs::Statuses::faultless_grammar, crate::proofs::Statuses::faulty_grammar, crate::proofs::Statuses::unusable_grammar, crate::proofs::Statuses::write_fault_status))]
+fn explain_grammar<R: AllocGlobal + Print + Eprint>(
+    rt: &R,
+    loaded: &LoadedFile,
+    registry: &Registry,
+    asked: &str,
+) -> Result<u8, AllocError>
+    requires fits { Fits (offer_of registry.now) (judged_grammar loaded.now.judgement) }
+    requires table { initial (judged_grammar loaded.now.judgement) ≡ whole loaded.now.table }
+    ensures { IfOk result (IsJudgedStatus (judged_grammar loaded.now.judgement)) }
+{
     let mut writer = Meter::new(io::writer(rt));
-    match explain_bytes(rt.alloc(), grammar, bytes, registry, &mut writer, asked) {
+    match explain_loaded(rt.alloc(), loaded, registry, &mut writer, asked) {
         Ok(Explained::Accepted) => Ok(0),
         Ok(Explained::Refused) => Ok(NO),
-        Ok(Explained::NotThere) => tell_nearest(rt, bytes, grammar, asked),
-        Err(fault) => print_explained_fault(rt, fault, bytes, grammar),
+        Ok(Explained::NotThere) => {
+            tell_nearest(rt, loaded.judgement.grammar(), loaded.name, asked)
+        }
+        Err(fault) => print_report(rt, fault, Names::of_grammar(loaded.name)),
     }
 }

@@ -5,20 +5,19 @@
 ghost use Rattle.std.specs.Prelude.{◌≡◌, ◌⊎◌, IfOk};
 ghost use Rattle.pg_pred.specs.Offer.{offer_of};
 ghost use Rattle.pg_value.specs.Fits.{Fits};
-ghost use Rattle.pg_making.specs.Spells.{HasInitialTable};
+ghost use Rattle.pg_table.specs.Tables.{initial, whole};
 ghost use Rattle.pg.specs.Status.{IsParseStatus, IsTextStatus};
 
 use crate::NO_MEMORY;
 use pg_bench::{BenchFault, ParsedText, parse_checked, parsed_text};
 use pg_explain_bench::outline_success;
+use pg_grammar_bench::AcceptedGrammar;
 use pg_pred::Registry;
-use pg_predict::Checked;
 use pg_report::{
     Handle, Names, UNUSABLE, grammar_alone, inputs, loaded, opened, print_report, text_alone,
 };
 use pg_request::Parsed;
 use pg_tree::{Meter, WriteFault};
-use pg_value::Grammar;
 use std::alloc::AllocError;
 use std::io::{Input, Read};
 use std::rt::Files;
@@ -83,7 +82,7 @@ fn parse_open<F: Read + Drop, R: AllocGlobal + Print + Eprint>(
 }
 
 /// Parses the text that a file gives by the grammar of these bytes.
-#[tactic(auto, using(crate::proofs::Statuses::loaded_status, crate::proofs::Statuses::not_loaded_status, crate::proofs::Statuses::loaded_table))]
+#[tactic(auto, using(crate::proofs::Statuses::loaded_status, crate::proofs::Statuses::not_loaded_status))]
 fn parse_text<F: Read + Drop, R: AllocGlobal + Print + Eprint>(
     rt: &R,
     bytes: &[u8],
@@ -95,9 +94,9 @@ fn parse_text<F: Read + Drop, R: AllocGlobal + Print + Eprint>(
     ensures { IfOk result (IsParseStatus (offer_of registry.now) bytes.now (F.remaining file)) }
 {
     match loaded(rt, bytes, names.grammar, registry) {
-        Ok(Ok(checked)) => {
-            let status = parse_loaded(rt, &checked, file, names, registry, parsed);
-            drop(checked);
+        Ok(Ok(accepted)) => {
+            let status = parse_loaded(rt, &accepted, file, names, registry, parsed);
+            drop(accepted);
             status
         }
         Ok(Err(status)) => Ok(status),
@@ -106,7 +105,6 @@ fn parse_text<F: Read + Drop, R: AllocGlobal + Print + Eprint>(
 }
 
 /// Parses several texts by the grammar of these bytes. What is wrong with the grammar is told once.
-#[tactic(auto, using(crate::proofs::Statuses::loaded_table))]
 fn parse_each<R: AllocGlobal + Files + Input + Print + Eprint>(
     rt: &Handle<R>,
     bytes: &[u8],
@@ -116,9 +114,9 @@ fn parse_each<R: AllocGlobal + Files + Input + Print + Eprint>(
     parsed: Parsed,
 ) -> Result<u8, AllocError> {
     match loaded(rt, bytes, grammar, registry) {
-        Ok(Ok(checked)) => {
-            let status = parse_all(rt, &checked, grammar, texts, registry, parsed);
-            drop(checked);
+        Ok(Ok(accepted)) => {
+            let status = parse_all(rt, &accepted, grammar, texts, registry, parsed);
+            drop(accepted);
             status
         }
         Ok(Err(status)) => Ok(status),
@@ -129,20 +127,20 @@ fn parse_each<R: AllocGlobal + Files + Input + Print + Eprint>(
 /// Parses several texts by a grammar that is loaded. After want of memory no more are parsed.
 fn parse_all<R: AllocGlobal + Files + Input + Print + Eprint>(
     rt: &Handle<R>,
-    checked: &Checked,
+    accepted: &AcceptedGrammar,
     grammar: &str,
     texts: &[&str],
     registry: &Registry,
     parsed: Parsed,
 ) -> Result<u8, AllocError>
-    requires fits { Fits (offer_of registry.now) checked.now.grammar }
-    requires table { HasInitialTable checked.now.grammar }
+    requires fits { Fits (offer_of registry.now) accepted.now.checked.grammar }
+    requires table { initial accepted.now.checked.grammar ≡ whole accepted.now.table }
 {
     let mut greatest = 0;
     for text in texts {
         let names = Names::of_text(grammar, text);
         let status = match opened(rt, text) {
-            Some(file) => parse_loaded(rt, checked, file, names, registry, parsed)?,
+            Some(file) => parse_loaded(rt, accepted, file, names, registry, parsed)?,
             None => UNUSABLE,
         };
         greatest = cmp::max(greatest, status);
@@ -156,41 +154,41 @@ fn parse_all<R: AllocGlobal + Files + Input + Print + Eprint>(
 /// Parses the text that a file gives by a grammar that is loaded, and prints what is asked of it.
 fn parse_loaded<F: Read + Drop, R: AllocGlobal + Print + Eprint>(
     rt: &R,
-    checked: &Checked,
+    accepted: &AcceptedGrammar,
     file: F,
     names: Names,
     registry: &Registry,
     parsed: Parsed,
 ) -> Result<u8, AllocError>
-    requires fits { Fits (offer_of registry.now) checked.now.grammar }
-    requires table { HasInitialTable checked.now.grammar }
-    ensures { IfOk result (IsTextStatus checked.now.grammar (F.remaining file)) }
+    requires fits { Fits (offer_of registry.now) accepted.now.checked.grammar }
+    requires table { initial accepted.now.checked.grammar ≡ whole accepted.now.table }
+    ensures { IfOk result (IsTextStatus accepted.now.checked.grammar (F.remaining file)) }
 {
     match parsed {
-        Parsed::Outline => outline_text(rt, checked, file, names, registry),
-        Parsed::ForestAndTrail => print_forest(rt, checked, file, names, registry, true),
-        Parsed::Forest => print_forest(rt, checked, file, names, registry, false),
+        Parsed::Outline => outline_text(rt, accepted, file, names, registry),
+        Parsed::ForestAndTrail => print_forest(rt, accepted, file, names, registry, true),
+        Parsed::Forest => print_forest(rt, accepted, file, names, registry, false),
     }
 }
 
 /// Prints the forest of a text, and its trail where that is asked for.
 fn print_forest<F: Read + Drop, R: AllocGlobal + Print + Eprint>(
     rt: &R,
-    checked: &Checked,
+    accepted: &AcceptedGrammar,
     file: F,
     names: Names,
     registry: &Registry,
     with_trail: bool,
 ) -> Result<u8, AllocError>
-    requires fits { Fits (offer_of registry.now) checked.now.grammar }
-    requires table { HasInitialTable checked.now.grammar }
-    ensures { IfOk result (IsTextStatus checked.now.grammar (F.remaining file)) }
+    requires fits { Fits (offer_of registry.now) accepted.now.checked.grammar }
+    requires table { initial accepted.now.checked.grammar ≡ whole accepted.now.table }
+    ensures { IfOk result (IsTextStatus accepted.now.checked.grammar (F.remaining file)) }
 {
     let mut reader = Meter::new(file);
     let mut writer = Meter::new(io::writer(rt));
     match parse_checked(
         rt.alloc(),
-        checked,
+        accepted,
         registry,
         &mut reader,
         &mut writer,
@@ -204,34 +202,45 @@ fn print_forest<F: Read + Drop, R: AllocGlobal + Print + Eprint>(
 /// Prints the outline of a text's forest.
 fn outline_text<F: Read + Drop, R: AllocGlobal + Print + Eprint>(
     rt: &R,
-    checked: &Checked,
+    accepted: &AcceptedGrammar,
     file: F,
     names: Names,
     registry: &Registry,
 ) -> Result<u8, AllocError>
-    requires fits { Fits (offer_of registry.now) checked.now.grammar }
-    requires table { HasInitialTable checked.now.grammar }
-    ensures { IfOk result (IsTextStatus checked.now.grammar (F.remaining file)) }
+    requires fits { Fits (offer_of registry.now) accepted.now.checked.grammar }
+    requires table { initial accepted.now.checked.grammar ≡ whole accepted.now.table }
+    ensures { IfOk result (IsTextStatus accepted.now.checked.grammar (F.remaining file)) }
 {
     let mut reader = Meter::new(file);
-    match parsed_text(rt.alloc(), checked, registry, &mut reader) {
-        Ok(parsed) => print_outline(rt, checked.grammar(), parsed, names),
+    match parsed_text(rt.alloc(), accepted, registry, &mut reader) {
+        Ok(parsed) => print_outline(rt, accepted, parsed, names),
         Err(fault) => print_report(rt, fault, names),
     }
 }
 
 /// Prints the outline of a forest that a text has.
+#[tactic(auto, using(pg_table::proofs::Added::own_table))]
 fn print_outline<R: AllocGlobal + Print + Eprint>(
     rt: &R,
-    grammar: &Grammar,
+    accepted: &AcceptedGrammar,
     parsed: ParsedText,
     names: Names,
 ) -> Result<u8, AllocError>
+    requires { initial accepted.now.checked.grammar ≡ whole accepted.now.table }
     ensures { IfOk result (λ status. (status ≡ 0) ⊎ (status ≡ UNUSABLE)) }
 {
     let ParsedText { text, parse } = parsed;
     let mut writer = Meter::new(io::writer(rt));
-    match outline_success(rt.alloc(), grammar, &text, parse.success, &mut writer) {
+    let grammar = accepted.checked.grammar();
+    let table = &accepted.table;
+    match outline_success(
+        rt.alloc(),
+        grammar,
+        table,
+        &text,
+        parse.success,
+        &mut writer,
+    ) {
         Ok(()) => Ok(0),
         Err(WriteFault::Writer) => print_report(rt, BenchFault::Writer, names),
         Err(WriteFault::Memory) => Err(AllocError),

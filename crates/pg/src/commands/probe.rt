@@ -3,14 +3,15 @@
 ghost use Rattle.std.specs.Prelude.{◌≡◌, ◌⊎◌, Some, IfOk};
 ghost use Rattle.pg_pred.specs.Offer.{offer_of};
 ghost use Rattle.pg_value.specs.Fits.{Fits};
-ghost use Rattle.pg_making.specs.Spells.{HasInitialTable};
+ghost use Rattle.pg_table.specs.Tables.{initial, whole};
 ghost use Rattle.pg.specs.Status.{IsProbeStatus, IsRunStatus, IsTracedStatus};
 
 use crate::commands::NO;
 use pg_bench::{probe_bytes, text_of};
 use pg_form::RuleId;
-use pg_grammar_bench::grammar_of;
+use pg_grammar_bench::placed_of;
 use pg_language::Reading;
+use pg_making::PlacedGrammar;
 use pg_pred::Registry;
 use pg_report::{
     ErrorWriter, Handle, Names, UNUSABLE, inputs, print_report, tell_nearest, text_alone,
@@ -18,7 +19,6 @@ use pg_report::{
 use pg_text::Text;
 use pg_trace::{Tracer, rule_named};
 use pg_tree::Meter;
-use pg_value::Grammar;
 use std::alloc::AllocError;
 use std::io;
 use std::io::{Input, Read};
@@ -78,7 +78,7 @@ fn trace_file<F: Read + Drop, R: AllocGlobal + Print + Eprint>(
 }
 
 /// The same on the text of these bytes, by a grammar that is read once. Where grammar or text can't be used, nothing is told but why.
-#[tactic(auto, using(crate::proofs::Statuses::run_status, crate::proofs::Statuses::spelled_table))]
+#[tactic(auto, using(crate::proofs::Statuses::run_status))]
 fn trace_text<R: AllocGlobal + Print + Eprint>(
     rt: &R,
     bytes: &[u8],
@@ -89,10 +89,10 @@ fn trace_text<R: AllocGlobal + Print + Eprint>(
 ) -> Result<u8, AllocError>
     ensures { IfOk result (IsProbeStatus (offer_of registry.now) bytes.now (Some text.now) names.entry.text.now probing.entry.max_steps probing.entry.reading) }
 {
-    match grammar_of(rt.alloc(), bytes, registry) {
-        Ok(grammar) => {
-            let status = trace_run(rt, &grammar, bytes, text, names, registry, probing);
-            drop(grammar);
+    match placed_of(rt.alloc(), bytes, registry) {
+        Ok(placed) => {
+            let status = trace_run(rt, &placed, text, names, registry, probing);
+            drop(placed);
             status
         }
         Err(fault) => print_report(rt, fault, names),
@@ -102,24 +102,23 @@ fn trace_text<R: AllocGlobal + Print + Eprint>(
 /// The same by the grammar that the bytes spell. Where it has no such rule, that is told before anything is said of the text.
 fn trace_run<R: AllocGlobal + Print + Eprint>(
     rt: &R,
-    grammar: &Grammar,
-    bytes: &[u8],
+    placed: &PlacedGrammar,
     text: &[u8],
     names: Names,
     registry: &Registry,
     probing: Probing,
 ) -> Result<u8, AllocError>
-    requires fits { Fits (offer_of registry.now) grammar.now }
-    requires table { HasInitialTable grammar.now }
-    ensures { IfOk result (IsRunStatus grammar.now (Some text.now) names.entry.text.now probing.entry.max_steps probing.entry.reading) }
+    requires fits { Fits (offer_of registry.now) placed.now.grammar }
+    requires table { initial placed.now.grammar ≡ whole placed.now.table }
+    ensures { IfOk result (IsRunStatus placed.now.grammar (Some text.now) names.entry.text.now probing.entry.max_steps probing.entry.reading) }
 {
-    let only = rule_named(rt.alloc(), grammar, probing.only)?;
+    let only = rule_named(rt.alloc(), &placed.grammar, probing.only)?;
     if only.is_none() && !probing.only.is_empty() {
-        return tell_nearest(rt, bytes, names.grammar, probing.only);
+        return tell_nearest(rt, &placed.grammar, names.grammar, probing.only);
     }
     match text_of(rt.alloc(), text) {
         Ok(text) => {
-            let status = trace_probe(rt, grammar, &text, names, registry, probing, only);
+            let status = trace_probe(rt, placed, &text, names, registry, probing, only);
             drop(text);
             status
         }
@@ -131,16 +130,16 @@ fn trace_run<R: AllocGlobal + Print + Eprint>(
 /// all the same, with the status of what can't be written.
 fn trace_probe<R: AllocGlobal + Print + Eprint>(
     rt: &R,
-    grammar: &Grammar,
+    placed: &PlacedGrammar,
     text: &Text,
     names: Names,
     registry: &Registry,
     probing: Probing,
     only: Option<RuleId>,
 ) -> Result<u8, AllocError>
-    requires fits { Fits (offer_of registry.now) grammar.now }
-    requires table { HasInitialTable grammar.now }
-    ensures { IfOk result (IsTracedStatus grammar.now text.now names.entry.text.now probing.entry.max_steps probing.entry.reading) }
+    requires fits { Fits (offer_of registry.now) placed.now.grammar }
+    requires table { initial placed.now.grammar ≡ whole placed.now.table }
+    ensures { IfOk result (IsTracedStatus placed.now.grammar text.now names.entry.text.now probing.entry.max_steps probing.entry.reading) }
 {
     let asked = pg_bench::Probing {
         name: names.text,
@@ -148,11 +147,11 @@ fn trace_probe<R: AllocGlobal + Print + Eprint>(
         reading: probing.reading,
     };
     let mut errors = ErrorWriter { rt };
-    let mut tracer = Tracer::new(rt.alloc(), grammar, text, only, &mut errors)?;
+    let mut tracer = Tracer::new(rt.alloc(), &placed.grammar, text, only, &mut errors)?;
     let mut writer = Meter::new(io::writer(rt));
     let probed = pg_bench::probe_text(
         rt.alloc(),
-        grammar,
+        placed,
         registry,
         text,
         &asked,

@@ -203,9 +203,10 @@ fn does_what_a_list_does(rt: HostRuntime) -> Result<(), Fail> {
                     let mut rows = 0;
                     while rows < 8 {
                         let pair = [Message::Stopped(Some('a')), Message::WantedNameless];
-                        tape.push_all(&pair)?;
-                        list.push(pair[0])?;
-                        list.push(pair[1])?;
+                        for message in &pair {
+                            tape.push(*message)?;
+                            list.push(*message)?;
+                        }
                         rows += 1;
                     }
                 }

@@ -1,4 +1,4 @@
-use Rattle.std.proofs.Common.{◌-◌, List, ap, length, slice_get, sym, ◌∙◌}
+use Rattle.std.proofs.Common.{◌-◌, List, ap, length, refl, slice_get, sym, ◌∙◌}
 use Rattle.pg_class.specs.Ranges.{Range}
 use Rattle.pg_judge.proofs.Ends.{class_ends, range_of}
 use Rattle.pg_judge.proofs.bounds.bounds_of_class.Goals as goal
@@ -13,4 +13,5 @@ returns c =
     record {
       bounds = class_ends c.args.class.now c.in_ok-first.first.now c.in_ok-last.last.now class first last;
       characters = (one.first, end.last);
+      further = record { second = refl; third = refl; fourth = refl };
     }

@@ -1,9 +1,9 @@
 use Rattle.pg_judge.proofs.Ends.{told_by_bounds, told_by_ends, told_apart}
 use Rattle.pg_judge.proofs.met_starts.meets.Goals as goal
 
-pub returns-else-not-dont_overlap : goal.returns-else-not-dont_overlap
-returns-else-not-dont_overlap c =
-    told_by_bounds c.args.start.now c.args.other.now c.args.own.now c.args.others.now c.dont_overlap.result c.requires.own c.requires.other c.dont_overlap.ensures c.if-not-dont_overlap.false
+pub returns-else-not-tell_apart : goal.returns-else-not-tell_apart
+returns-else-not-tell_apart c =
+    told_by_bounds c.args.start.now c.args.other.now c.args.own.now c.args.others.now c.tell_apart.result c.requires.own c.requires.other c.tell_apart.ensures c.if-not-tell_apart.false
 
 pub returns-then-share_an_end : goal.returns-then-share_an_end
 returns-then-share_an_end c =

@@ -46,13 +46,13 @@ returns-in-Err-clause-refused g c = λ refused grammar is.
     let answer : c.unmade.result ≡ Memory = c.unmade.ensures.1 memory in
     absurd cc
 
-pub returns-in_err-has_initial_table-clause-refused : goal.returns-in_err-has_initial_table-clause-refused
-returns-in_err-has_initial_table-clause-refused g c = λ refused grammar is.
+pub returns-in_err-table-clause-refused : goal.returns-in_err-table-clause-refused
+returns-in_err-table-clause-refused g c = λ refused grammar is.
     let handed = all_handed (offer_of c.args.registry.now) c.args.items.now c.loop-item.item-index c.loop-item.maker c.loop-item-test.false c.loop-item.invariant.handed in
     let made = only_grammar (offer_of c.args.registry.now) (entries_of c.args.items.now) c.loop-item.maker c.in-Ok.grammar grammar handed c.in-Ok.ensures.ok is in
-    let p = err_from_is_err_and c.from_residual-in_err-has_initial_table.result c.from_residual-in_err-has_initial_table.ensures.1 in
-    let same : c.in_err-has_initial_table.field-0.0 ≡ Refused = cc (refused, p.1, p.2) in
-    c.in_err-has_initial_table.ensures.refused (ap Err same) (subst HasInitialTable made is.admitted)
+    let p = err_from_is_err_and c.from_residual-in_err-table.result c.from_residual-in_err-table.ensures.1 in
+    let same : c.in_err-table.field-0.0 ≡ Refused = cc (refused, p.1, p.2) in
+    c.in_err-table.ensures.refused (ap Err same) (subst HasInitialTable made is.admitted)
 
 pub returns : goal.returns
 returns g c =
@@ -61,8 +61,10 @@ returns g c =
       ok = record {
         ordered = handed.ordered;
         says = subst (λ m. Says m c.in-Ok.grammar) handed.made_is c.in-Ok.ensures.ok;
-        admitted = c.in_ok-has_initial_table.ensures.ok;
+        admitted = (c.in_ok-table.table, c.in_ok-table.ensures.ok);
       };
       spans = c.loop-item.invariant.spans ∙ said_nodes c.loop-item.maker c.in-Ok.grammar c.in-Ok.ensures.ok;
+      initial = c.in_ok-table.ensures.ok;
+      comes = c.in_ok-table.ensures.comes;
       refused = λ refused grammar is. absurd cc;
     }

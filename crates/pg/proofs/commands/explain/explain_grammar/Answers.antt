@@ -1,9 +1,9 @@
 use Rattle.std.proofs.lemmas.Result.{IfOk-weaker}
-use Rattle.pg_pred.specs.Offer.{offer_of}
-use Rattle.pg.proofs.Statuses.{check_fault_status}
+use Rattle.pg.proofs.Statuses.{unusable_grammar, write_fault_status}
 use Rattle.pg.proofs.commands.explain.explain_grammar.Goals as goal
 
+pub returns-in-Ok-NotThere : goal.returns-in-Ok-NotThere
+returns-in-Ok-NotThere g c = IfOk-weaker c.tell_nearest.result _ _ (λ status is. unusable_grammar _ status is) c.tell_nearest.ensures
+
 pub returns-in-Err : goal.returns-in-Err
-returns-in-Err g c =
-    IfOk-weaker c.print_explained_fault.result _ _
-    (λ status is. check_fault_status (offer_of c.args.registry.now) c.args.bytes.now c.in-Err.fault status c.in-Err.ensures.err is) c.print_explained_fault.ensures
+returns-in-Err g c = IfOk-weaker c.print_report.result _ _ (λ status is. write_fault_status _ c.in-Err.fault status c.in-Err.ensures.err is) c.print_report.ensures

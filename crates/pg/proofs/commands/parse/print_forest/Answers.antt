@@ -6,11 +6,11 @@ use Rattle.pg.proofs.commands.parse.print_forest.Goals as goal
 
 pub returns-in-Ok : goal.returns-in-Ok
 returns-in-Ok g c =
-    subst (λ file. IsTextStatus c.args.checked.now.grammar (g.F.Read.remaining file) 0) c.new-reader.ensures.inner
+    subst (λ file. IsTextStatus c.args.accepted.now.checked.grammar (g.F.Read.remaining file) 0) c.new-reader.ensures.inner
     (parsed_status _ _ _ _ _ _ _ c.in-Ok.ensures.ok)
 
 pub returns : goal.returns
 returns g c =
     IfOk-weaker c.print_report.result _ _
-    (λ status is. subst (λ file. IsTextStatus c.args.checked.now.grammar (g.F.Read.remaining file) status) c.new-reader.ensures.inner
+    (λ status is. subst (λ file. IsTextStatus c.args.accepted.now.checked.grammar (g.F.Read.remaining file) status) c.new-reader.ensures.inner
     (parse_fault_status _ _ _ c.in-Err.fault status c.in-Err.ensures.unchecked c.in-Err.ensures.parse_error c.in-Err.ensures.no_certificate is)) c.print_report.ensures

@@ -1,0 +1,34 @@
+-- The tokens of a grammar file, the items that they spell, and the grammar that these make.
+use Rattle.std.specs.Prelude.{◌≡◌, ℕ, List, length}
+use Rattle.pg_pred.specs.Offer.{Offer}
+use Rattle.pg_value.specs.Fits.{Fits}
+use Rattle.pg_value.specs.Grammar.{Grammar}
+use Rattle.pg_table.specs.Tables.{initial, whole, ComesFrom}
+use Rattle.pg_tokens.specs.declared.token.Lexeme.{Lexeme}
+use Rattle.pg_tokens.specs.Lexical.{SpelledIfGood, OnlySpelled}
+use Rattle.pg_tokens.specs.Lexing.{placed_of}
+use Rattle.pg_tokens.specs.View.{tokens_of, placed_tokens_of}
+use Rattle.pg_items.specs.Entries.{entries_of}
+use Rattle.pg_items.specs.declared.item.Item.{Item}
+use Rattle.pg_parser.specs.Items.{AreItems, OnlyItems}
+use Rattle.pg_making.specs.Spells.{SpelledWithinDepth}
+use Rattle.pg_making.specs.declared.making.PlacedGrammar.{PlacedGrammar}
+use Rattle.pg_file.specs.declared.syntax.Syntax.{Syntax}
+
+-- the tokens are those that are read from these characters, each at its place, and spell these items and no others
+pub record IsSyntaxOf (characters : List ℕ) (lexemes : List Lexeme) (items : List Item) : Type 0 where
+  pub places : placed_tokens_of lexemes ≡ placed_of characters
+  pub spelled : SpelledIfGood characters (tokens_of lexemes)
+  pub only_tokens : OnlySpelled characters (tokens_of lexemes)
+  pub written : AreItems (tokens_of lexemes) (entries_of items)
+  pub only_items : OnlyItems (tokens_of lexemes) (entries_of items)
+
+-- they spell this grammar and no other, the offer fits it, and the spans and the table are its own
+pub record IsReadFrom (offer : Offer) (characters : List ℕ) (syntax : Syntax) (placed : PlacedGrammar) : Type 0 where
+  pub syntax_is : IsSyntaxOf characters syntax.lexemes.items syntax.items.items
+  pub spelled : SpelledWithinDepth offer characters placed.grammar
+  pub only : (g : Grammar) → SpelledWithinDepth offer characters g → placed.grammar ≡ g
+  pub fits : Fits offer placed.grammar
+  pub spans : length placed.spans.items ≡ length placed.grammar.nodes
+  pub initial_is : initial placed.grammar ≡ whole placed.table
+  pub comes : ComesFrom placed.grammar placed.table
