@@ -15,4 +15,4 @@ test:
 	tests/all
 
 prove:
-	tests/prove
+	tools/prove.py

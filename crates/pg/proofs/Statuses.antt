@@ -1,45 +1,47 @@
--- What is answered from bytes to bytes has the exit status that says so.
+-- The exit status that agrees with what is answered from bytes to bytes.
 use Rattle.std.proofs.Common.{◌≡◌, ◌⊎◌, ℕ, List, Bool, true, false, Option, Some, [], append-nil, refl, Result, Ok, Err, codes, sym, subst, inl, inr}
 use Rattle.std.specs.Prelude.{IfErr, OnOk}
 use Rattle.std.specs.String.{string_bytes}
 use Rattle.pg_tree.specs.Trees.{Tree}
 use Rattle.pg_tree.specs.Meter.{Metered}
 use Rattle.pg_pred.specs.Offer.{Offer}
-use Rattle.pg_value.specs.Grammar.{Grammar}
-use Rattle.pg_value.specs.declared.trail.TrailItem.{TrailItem}
-use Rattle.pg_making.specs.Spells.{SpellsWithinLimits}
+use Rattle.pg_grammar_value.specs.Grammar.{Grammar}
+use Rattle.pg_grammar_value.specs.declared.trail.TrailItem.{TrailItem}
+use Rattle.pg_file_making.specs.Spells.{SpellsWithinLimits}
 use Rattle.pg_language.specs.declared.reading.Reading.{Reading}
 use Rattle.pg_predict.specs.Findings.{lines_of}
-use Rattle.pg_grammar_bench.specs.Checking.{IsChecked, is_accepted, is_refused}
-use Rattle.pg_placed_bench.specs.Placing.{IsJudgedBehind, IsPlacedFile, accepted_behind, refused_behind}
-use Rattle.pg_explain_bench.specs.Explaining.{IsExplained}
-use Rattle.pg_json_bench.specs.Listing.{IsListedFile}
-use Rattle.pg_explain_bench.specs.declared.explain.Explained.TheVariants as told
-use Rattle.pg_grammar_bench.specs.Faults.{IsFileRefusal, IsGrammarRefusal, IsPageRefusal, IsWriteRefusal, IsVerifyRefusal, IfNotVerified, IfRefused, IfParseError}
-use Rattle.pg_grammar_bench.specs.Files.{AreFindingsOf}
-use Rattle.pg_grammar_bench.specs.Loading.{judged_grammar, IsLoadedFrom}
-use Rattle.pg_grammar_bench.specs.declared.loaded.LoadedFile.{LoadedFile}
+use Rattle.pg_predict.specs.Checked.{GrammarWithSets, IsChecked}
+use Rattle.pg_bench_grammar.specs.Checking.{IsTold, is_accepted, is_refused}
+use Rattle.pg_bench_grammar.specs.Checking as checking
+use Rattle.pg_bench_places.specs.Placing.{IsJudgedBehind, IsPlaced, IsPlacedFile, accepted_behind, refused_behind}
+use Rattle.pg_bench_explain.specs.Explaining.{IsExplained}
+use Rattle.pg_bench_json.specs.Listing.{IsListed}
+use Rattle.pg_bench_explain.specs.declared.explain.Explained.TheVariants as told
+use Rattle.pg_bench_grammar.specs.Faults.{IsBeforeWriting, IsFileRefusal, IsGrammarRefusal, IsPageRefusal, IsWriteRefusal, IsVerifyRefusal, IfNotVerified, IfRefused, IfParseError}
+use Rattle.pg_bench_grammar.specs.Files.{AreFindingsOf}
+use Rattle.pg_bench_grammar.specs.Loading.{judged_grammar, IsLoadedFrom}
+use Rattle.pg_bench_grammar.specs.declared.loaded.LoadedFile.{LoadedFile}
 use Rattle.pg_bench.specs.declared.done.Done.{Done}
-use Rattle.pg_bench.specs.Parsed.{IsParsedBy, IsForestBy, IsErrorBy, IsSpelledBy}
+use Rattle.pg_bench.specs.Parsed.{IsParsedBy, IsLineBy, IsForestBy, IsErrorBy, IsSpelledBy}
 use Rattle.pg_bench.specs.Refusals.{IsTextFault, IsTextRefusal}
-use Rattle.pg_grammar_bench.specs.Printing.{IsPrinted}
+use Rattle.pg_bench_grammar.specs.Printing.{IsPrinted}
 use Rattle.pg_bench.specs.Probing.{IsProbed, IsTextProbed, IsShownOfText}
 use Rattle.pg_bench.specs.Showing.{IsShownOf}
 use Rattle.pg_bench.specs.Replaying.{IsReplayed}
-use Rattle.pg_grammar_bench.specs.Showing.{IsShownFile}
-use Rattle.pg_grammar_bench.specs.Verifying.{IsVerifiedFile, IsVerdictOf}
-use Rattle.pg_grammar_bench.specs.declared.grammar_file.AcceptedGrammar.{AcceptedGrammar}
-use Rattle.pg_grammar_bench.specs.declared.fault.BenchFault.{BenchFault}
-use Rattle.pg_grammar_bench.specs.declared.fault.BenchFault.TheVariants.{File, Refused, Reader, NotUtf8, TooLong, NotATrail, NotVerified, ParseError, Writer, Memory}
+use Rattle.pg_bench_grammar.specs.Showing.{IsShownFile}
+use Rattle.pg_bench_grammar.specs.Verifying.{IsVerifiedFile, IsVerdictOf}
+use Rattle.pg_bench_grammar.specs.declared.grammar_file.AcceptedGrammar.{AcceptedGrammar}
+use Rattle.pg_bench_grammar.specs.declared.bench_fault.BenchFault.{BenchFault}
+use Rattle.pg_bench_grammar.specs.declared.bench_fault.BenchFault.TheVariants.{File, Refused, Reader, NotUtf8, TooLong, NotATrail, NotVerified, ParseError, Writer, Memory}
 use Rattle.pg_report.specs.Status.{status_of, status_of_verdict, IsLoaded, IsRefusedWith}
-use Rattle.pg.specs.Status.{IsStatus, yes, no, unusable, out_of_memory, Judges, IsJudgedStatus, IsCheckStatus, IsParseStatus, IsTextStatus, IsProbeStatus, IsRunStatus, IsTracedStatus, IsReplayStatus, IsPrintStatus, IsVerifyStatus}
+use Rattle.pg.specs.Status.{IsStatus, yes, no, unusable, out_of_memory, Judges, IsJudgedStatus, check_status, IsCheckStatus, IsParseStatus, IsTextStatus, IsProbeStatus, IsRunStatus, IsTracedStatus, IsReplayStatus, IsPrintStatus, IsVerifyStatus}
 
 -- ---- a check
 
-pub accepted_status : (offer : Offer) (file : List ℕ) (asked : Bool) (writer held : Option (List ℕ)) → IsChecked offer file asked writer held true → IsCheckStatus offer file 0
+pub accepted_status : (offer : Offer) (file : List ℕ) (asked : Bool) (writer held : Option (List ℕ)) → checking.IsChecked offer file asked writer held true → IsCheckStatus offer file 0
 accepted_status offer file asked writer held h = yes (asked, h.said, h.judged)
 
-pub refused_status : (offer : Offer) (file : List ℕ) (asked : Bool) (writer held : Option (List ℕ)) → IsChecked offer file asked writer held false → IsCheckStatus offer file 1
+pub refused_status : (offer : Offer) (file : List ℕ) (asked : Bool) (writer held : Option (List ℕ)) → checking.IsChecked offer file asked writer held false → IsCheckStatus offer file 1
 refused_status offer file asked writer held h = no (asked, h.said, h.judged)
 
 pub check_fault_status : (offer : Offer) (file : List ℕ) (fault : BenchFault) (status : ℕ) → IsPageRefusal fault → status ≡ status_of fault
@@ -61,9 +63,9 @@ file_fault_status offer file fault status h is = subst (IsCheckStatus offer file
     own Memory h = out_of_memory
     own _ h = absurd h
 
--- ---- what is told for people
+-- ---- an explanation
 
--- of a grammar that is judged
+-- for a grammar that is judged
 pub faultless_grammar : (g : Grammar) (writer held : Option (List ℕ)) → IsExplained g writer held told.Accepted → IsJudgedStatus g 0
 faultless_grammar g writer held h = yes (false, codes "accepted\n", is_accepted h.tells.0)
 
@@ -83,7 +85,25 @@ write_fault_status g fault status h is = subst (IsJudgedStatus g) (sym is) (own 
     own Memory h = out_of_memory
     own _ h = absurd h
 
--- and of the file that it is loaded from
+-- with its step cost, or its findings
+pub costed_status : (checked : GrammarWithSets) (status : ℕ) → IsChecked checked → (status ≡ 2) ⊎ (status ≡ 0) → IsJudgedStatus checked.grammar status
+costed_status checked status h (inl is) = subst (IsJudgedStatus checked.grammar) (sym is) unusable
+costed_status checked status h (inr is) = subst (IsJudgedStatus checked.grammar) (sym is) (yes (false, codes "accepted\n", is_accepted h.faultless))
+
+pub told_check_status : (g : Grammar) (writer held : Option (List ℕ)) (accepted : Bool) (status : ℕ) → IsTold g false writer held accepted
+    → status ≡ check_status accepted → IsJudgedStatus g status
+told_check_status g writer held true status h is = subst (IsJudgedStatus g) (sym is) (yes (false, h.said, h.judged))
+told_check_status g writer held false status h is = subst (IsJudgedStatus g) (sym is) (no (false, h.said, h.judged))
+
+pub placed_status : (g : Grammar) (writer held : Option (List ℕ)) (accepted : Bool) (status : ℕ) → IsPlaced g false writer held accepted
+    → status ≡ check_status accepted → IsJudgedStatus g status
+placed_status g writer held accepted status h is = subst (IsJudgedStatus g) (sym is) (own h.judged)
+  where
+    own : {answer : Bool} {page : List ℕ} → IsJudgedBehind g false answer page → IsJudgedStatus g (check_status answer)
+    own (accepted_behind {said = said} front judged) = yes (false, said, judged)
+    own (refused_behind {refused = refused} front is fronted) = no (false, lines_of refused.findings, is_refused is.findings is.some)
+
+-- for the file that it is loaded from
 pub judged_status : (offer : Offer) (file : List ℕ) (loaded : LoadedFile) (status : ℕ) → IsLoadedFrom offer file loaded
     → IsJudgedStatus (judged_grammar loaded.judgement) status → IsCheckStatus offer file status
 judged_status offer file loaded status is h = own status h
@@ -96,16 +116,16 @@ judged_status offer file loaded status is h = own status h
 
 -- ---- findings as JSON
 
-pub listed_none_status : (offer : Offer) (file : List ℕ) (writer held : Option (List ℕ)) → IsListedFile offer file writer held true → IsCheckStatus offer file 0
-listed_none_status offer file writer held h =
-    yes (false, codes "accepted\n", record { grammar = h.grammar; spelled = h.spelled; judged = is_accepted h.listed.lists.0 })
+pub listed_none_status : (g : Grammar) (writer held : Option (List ℕ)) (status : ℕ) → IsListed g writer held true → (status ≡ 2) ⊎ (status ≡ 0) → IsJudgedStatus g status
+listed_none_status g writer held status h (inl is) = subst (IsJudgedStatus g) (sym is) unusable
+listed_none_status g writer held status h (inr is) = subst (IsJudgedStatus g) (sym is) (yes (false, codes "accepted\n", is_accepted h.lists.0))
 
-pub listed_some_status : (offer : Offer) (file : List ℕ) (writer held : Option (List ℕ)) → IsListedFile offer file writer held false → IsCheckStatus offer file 1
-listed_some_status offer file writer held h =
-    let lists = h.listed.lists in
-    no (false, lines_of lists.0, record { grammar = h.grammar; spelled = h.spelled; judged = is_refused lists.1 lists.2 })
+pub listed_some_status : (g : Grammar) (writer held : Option (List ℕ)) → IsListed g writer held false → IsJudgedStatus g 1
+listed_some_status g writer held h =
+    let lists = h.lists in
+    no (false, lines_of lists.0, is_refused lists.1 lists.2)
 
--- ---- findings behind their places
+-- ---- findings after their places
 
 pub placed_yes_status : (offer : Offer) (file : List ℕ) (asked : Bool) (writer held : Option (List ℕ)) → IsPlacedFile offer file asked writer held true → IsCheckStatus offer file 0
 placed_yes_status offer file asked writer held h = yes (own h.placed.judged)
@@ -120,7 +140,7 @@ placed_no_status offer file asked writer held h = no (own h.placed.judged)
     own (refused_behind {refused = refused} front is fronted) =
         (false, lines_of refused.findings, record { grammar = h.grammar; spelled = h.spelled; judged = is_refused is.findings is.some })
 
--- ---- a judgement of a certificate
+-- ---- the verdict on a certificate
 
 pub verdict_status : {T : Type 0} (offer : Offer) (file certificate : List ℕ) (verdict : Result T BenchFault) (status : ℕ)
     → OnOk verdict (IsVerifiedFile offer file certificate) → IfErr verdict IsVerifyRefusal → IfErr verdict (IfNotVerified (IsVerdictOf offer file certificate))
@@ -139,7 +159,7 @@ verdict_status offer file certificate verdict status ok refusal refuted (inr is)
     own (Ok x) ok h k = yes ok
     own (Err f) ok h k = of f h k
 
--- ---- a parse by a grammar that is loaded
+-- ---- a parse by a loaded grammar
 
 pub parsed_status : (g : Grammar) (reader left : Option (List ℕ)) (with_trail : Bool) (writer held : Option (List ℕ)) (done : Done)
     → IsParsedBy g reader left with_trail writer held done → IsTextStatus g reader 0
@@ -162,7 +182,29 @@ parse_fault_status g reader left fault status findings error judged is = subst (
     own NotATrail h k v = unusable
     own Writer h k v = unusable
 
--- the same where the forest isn't written as it is
+-- as before, where a line of JSON is printed for the text
+pub lined_status : (g : Grammar) (reader left : Option (List ℕ)) (name : List ℕ) (writer held : Option (List ℕ)) (done : Done)
+    → IsLineBy g reader left name writer held done → IsTextStatus g reader 0
+lined_status g reader left name writer held done h = yes (left, h.forest, h.trail, done, h.parsed)
+
+pub line_fault_status : {R : Type 0} (g : Grammar) (before after : Metered R) (reader left : Option (List ℕ)) (fault : BenchFault) (status : ℕ)
+    → (IsBeforeWriting fault → IsTextFault g before after reader left fault) → (status ≡ 2) ⊎ (status ≡ status_of fault) → IsTextStatus g reader status
+line_fault_status g before after reader left fault status h (inl is) = subst (IsTextStatus g reader) (sym is) unusable
+line_fault_status g before after reader left fault status h (inr is) = subst (IsTextStatus g reader) (sym is) (own fault h)
+  where
+    own : (f : BenchFault) → (IsBeforeWriting f → IsTextFault g before after reader left f) → IsTextStatus g reader (status_of f)
+    own Writer h = unusable
+    own Memory h = out_of_memory
+    own (File f) h = unusable
+    own Reader h = unusable
+    own NotUtf8 h = unusable
+    own TooLong h = unusable
+    own NotATrail h = unusable
+    own (Refused refused) h = absurd (h tt)
+    own (ParseError e) h = no (left, e, (h tt).1)
+    own (NotVerified verdict) h = absurd (h tt)
+
+-- as before, where an outline is printed and not the forest itself
 pub outlined_status : (g : Grammar) (reader left : Option (List ℕ)) (forest : List Tree) (trail : List TrailItem) (done : Done) (status : ℕ)
     → IsForestBy g reader left forest trail done → (status ≡ 0) ⊎ (status ≡ 2) → IsTextStatus g reader status
 outlined_status g reader left forest trail done status h (inl is) = subst (IsTextStatus g reader) (sym is) (yes (left, forest, trail, done, h))
@@ -180,7 +222,7 @@ text_fault_status g before after reader left fault status h is = subst (IsTextSt
     own Memory h = out_of_memory
     own _ h = absurd h
 
--- ---- and by the file that it is loaded from
+-- ---- for the file that the grammar is loaded from
 
 pub loaded_status : (offer : Offer) (file : List ℕ) (loaded : AcceptedGrammar) (reader : Option (List ℕ)) (status : ℕ) → IsLoaded offer file loaded
     → IsTextStatus loaded.checked.grammar reader status → IsParseStatus offer file reader status
@@ -244,7 +286,7 @@ other_status offer file reader left writer held name most reading h = no (left, 
 
 -- by a grammar that is read already
 module _ (g : Grammar) (reader : Option (List ℕ)) (name : List ℕ) (most : ℕ) (reading : Reading) where
-  -- and by the file that spells it
+  -- for the file that spells it
   pub run_status : (offer : Offer) (file : List ℕ) (status : ℕ) → SpellsWithinLimits offer file g → IsRunStatus g reader name most reading status
       → IsProbeStatus offer file reader name most reading status
   run_status offer file status spelled h = own status h
@@ -268,7 +310,7 @@ unread_status Yes No fault status h is = subst (IsStatus Yes No) (sym is) (own f
     own Memory h = out_of_memory
     own _ h = absurd h
 
--- of a text that is read before
+-- for a text that is read already
 module _ (g : Grammar) (text name : List ℕ) (most : ℕ) (reading : Reading) where
   pub ok_traced_status : (writer held : Option (List ℕ)) → IsTextProbed g text name most reading writer held true → IsTracedStatus g text name most reading 0
   ok_traced_status writer held h = yes (h.said, h.shown)
@@ -276,7 +318,7 @@ module _ (g : Grammar) (text name : List ℕ) (most : ℕ) (reading : Reading) w
   pub other_traced_status : (writer held : Option (List ℕ)) → IsTextProbed g text name most reading writer held false → IsTracedStatus g text name most reading 1
   other_traced_status writer held h = no (h.said, h.shown)
 
-  -- where the run couldn't be told
+  -- where the trace couldn't be written
   pub told_status : (status told : ℕ) → IsTracedStatus g text name most reading status → (told ≡ status) ⊎ (told ≡ 2) → IsTracedStatus g text name most reading told
   told_status status told h (inl same) = subst (IsTracedStatus g text name most reading) (sym same) h
   told_status status told h (inr failed) = subst (IsTracedStatus g text name most reading) (sym failed) unusable
@@ -299,7 +341,7 @@ text_unread_status g bytes name most reading fault status h is = subst (IsRunSta
     own Memory h = out_of_memory
     own _ h = absurd h
 
--- of the bytes that spell the text
+-- for the bytes that spell the text
 pub traced_status : (g : Grammar) (bytes text name : List ℕ) (most : ℕ) (reading : Reading) (status : ℕ) → IsSpelledBy bytes text
     → IsTracedStatus g text name most reading status → IsRunStatus g (Some bytes) name most reading status
 traced_status g bytes text name most reading status spelled h = own status h
@@ -324,9 +366,9 @@ pub stopped_status : (offer : Offer) (file : List ℕ) (reader left writer held 
     → IsReplayed offer file reader left name trail writer held false → IsReplayStatus offer file reader name trail 1
 stopped_status offer file reader left writer held name trail h = no (left, h.said, h.shown)
 
--- ---- what shows a text
+-- ---- showing a text
 
--- a fault by which neither a grammar nor a text is refused
+-- a fault that is neither a refused grammar, nor a parse error, nor a verdict on a certificate
 pub shown_fault_status : (Yes No : Type 0) (fault : BenchFault) (status : ℕ)
     → IfRefused (λ findings. ⊥) fault → IfParseError (λ error. ⊥) fault → IfNotVerified (λ verdict. ⊥) fault → status ≡ status_of fault → IsStatus Yes No status
 shown_fault_status Yes No fault status findings error judged is = subst (IsStatus Yes No) (sym is) (own fault findings error judged)
@@ -347,7 +389,7 @@ shown_fault_status Yes No fault status findings error judged is = subst (IsStatu
 pub unusable_status : (Yes No : Type 0) (status : ℕ) → status ≡ 2 → IsStatus Yes No status
 unusable_status Yes No status is = subst (IsStatus Yes No) (sym is) unusable
 
--- ---- what prints a grammar or its sets
+-- ---- printing a grammar or its sets
 
 pub printed_status : (offer : Offer) (file : List ℕ) (writer held : Option (List ℕ)) → IsPrinted offer file writer held → IsPrintStatus offer file 0
 printed_status offer file writer held h = yes (h.grammar, h.spelled, tt)

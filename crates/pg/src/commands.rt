@@ -1,30 +1,33 @@
-//! What each command does with its files.
+//! The commands, and what each does with its files.
 //!
-//! Each reads the grammar, and opens the text before that, and then hands both to the crate that goes from bytes to bytes.
-//! Functions that hold files and functions that hold what is written to are apart: that keeps their proofs short. The latter
-//! have the bytes at hand, and so their contracts say what the exit status tells of them.
+//! Each command opens the text, reads the grammar, and then passes both to the crate that goes from bytes to bytes. Functions that hold files are apart from
+//! functions that hold a writer, which keeps their proofs short. The latter have the bytes at hand, so their contracts say what the exit status means for
+//! them.
 
 ghost use Rattle.pg_pred.specs.Offer.{offer_of};
-ghost use Rattle.pg_registry.specs.ProgramOffer.{IsProgramOffer};
+ghost use Rattle.pg_pred_program.specs.ProgramOffer.{IsProgramOffer};
 
 mod check;
+mod cost;
 mod explain;
+mod lines;
+mod listing;
 mod parse;
 mod probe;
 mod replay;
 mod show;
 
-use crate::commands::check::check_files;
+use crate::commands::check::{Checking, check_files};
 use crate::commands::explain::explain_file;
 use crate::commands::parse::parse_files;
 use crate::commands::probe::{Probing, probe_files};
 use crate::commands::replay::replay_files;
 use crate::commands::show::{print_file, show_file, verify_files};
+use pg_command_line::Request;
 use pg_language::Reading;
 use pg_pred::Registry;
-use pg_registry::UsesRegistry;
+use pg_pred_program::UsesRegistry;
 use pg_report::Handle;
-use pg_request::Request;
 use std::alloc::AllocError;
 use std::io::Input;
 use std::rt::Files;
@@ -32,7 +35,7 @@ use std::rt::Files;
 /// The exit status of a grammar that isn't accepted, of a probe whose answer isn't ok, and of a trail that doesn't lead to a forest.
 pub(crate) const NO: u8 = 1;
 
-/// What is asked, and the handle by which files are read and lines printed.
+/// A request, and the handle that reads files and prints lines.
 #[derive(Drop)]
 pub struct Asked<'h, 'r, 'm, 'a, R> {
     pub handle: &'h Handle<'r, R>,
@@ -42,7 +45,7 @@ pub struct Asked<'h, 'r, 'm, 'a, R> {
 impl<R: AllocGlobal + Files + Input + Print + Eprint> UsesRegistry for Asked<'_, '_, '_, '_, R> {
     type Answer = u8;
 
-    // No contract says what files give and what is printed, nor then which status.
+    // No contract says what files contain and what is printed, so none says which status follows.
     ghost Gives = { λ asked offer status. Unit };
 
     fn run(&self, registry: &Registry) -> Result<u8, AllocError> {
@@ -61,9 +64,17 @@ fn answer<R: AllocGlobal + Files + Input + Print + Eprint>(
     match request {
         Request::Check {
             grammars,
-            certificate,
+            accepted,
             findings,
-        } => check_files(rt, grammars, registry, certificate, findings),
+            notes,
+        } => {
+            let checking = Checking {
+                accepted,
+                findings,
+                notes,
+            };
+            check_files(rt, grammars, registry, checking)
+        }
         Request::Explain { grammar, asked } => explain_file(rt, grammar, registry, asked),
         Request::Verify {
             grammar,
@@ -72,8 +83,8 @@ fn answer<R: AllocGlobal + Files + Input + Print + Eprint>(
         Request::Parse {
             grammar,
             texts,
-            parsed,
-        } => parse_files(rt, grammar, texts, registry, parsed),
+            parsing,
+        } => parse_files(rt, grammar, texts, registry, parsing),
         Request::Probe {
             grammar,
             text,

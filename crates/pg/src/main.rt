@@ -1,11 +1,9 @@
 //! The program `pgw`.
 //!
-//! The files that one answer needs are opened in the order of the words, and only then read; of several grammars or texts
-//! each is opened when its turn comes. Results go to standard output, and everything else to standard error: a line for a
-//! fault or a finding, and a parse error as Text.Parsec prints it, but for the four differences in docs/DECISIONS.md
-//! (*Errors of parsers*). The exit status is 0 for a result, 1 for a grammar that isn't accepted, a text that doesn't parse or
-//! a probe that isn't ok, 2 for words or files that can't be used, and 3 for memory; if standard error takes nothing, it
-//! stays what it was.
+//! The files that one answer needs are opened in the order of the words, and only then read. If there are several grammars or texts, each is opened when its
+//! turn comes. Results go to standard output, and everything else to standard error: a line for a fault or a finding, and a parse error as Text.Parsec prints
+//! it, but for the four differences in docs/PARSEC.md. The exit status is 0 for a result, 1 for a grammar that isn't accepted, a text that doesn't parse or a
+//! probe that isn't ok, 2 for words or files that can't be used, and 3 if memory runs out. If standard error can't be written, the status doesn't change.
 #![tactic(auto)]
 
 mod commands;
@@ -13,19 +11,19 @@ mod commands;
 use clap::ArgMatches;
 use clap::error::ErrorKind;
 use commands::Asked;
-use pg_code_pages::page;
-use pg_registry::with_registry;
+use pg_command_line::{command, is_quiet, request_of};
+use pg_pages::page;
+use pg_pred_program::with_registry;
 use pg_report::{
     Handle, STANDARD_INPUT, UNUSABLE, cannot_write, null_file, print_page, refuse, say,
 };
-use pg_request::{command, is_quiet, request_of};
 use std::alloc::{AllocError, Global};
 use std::io::Input;
 use std::process::ExitCode;
 use std::rt::{Env, Files};
 use std::{env, io};
 
-/// The exit status where memory runs out.
+/// The exit status if memory runs out.
 const NO_MEMORY: u8 = 3;
 
 fn main(rt: HostRuntime) -> ExitCode {
@@ -46,7 +44,7 @@ fn status<R: AllocGlobal + Env + Files + Input + Print + Eprint>(rt: &R) -> u8 {
     }
 }
 
-/// Reads the words and does what they ask.
+/// Reads the words and does what they ask for.
 fn run<R: AllocGlobal + Env + Files + Input + Print + Eprint>(rt: &R) -> Result<u8, AllocError> {
     let words = match env::args(rt) {
         Ok(words) => words.collect::<Vec<String>>(rt.alloc())?,
@@ -56,7 +54,7 @@ fn run<R: AllocGlobal + Env + Files + Input + Print + Eprint>(rt: &R) -> Result<
     obey(rt, words.as_slice())
 }
 
-/// Does what the words ask. The pages of codes are printed by themselves, since to the command line a code is no command.
+/// Does what the words ask for. The pages of codes are handled first, since the command line doesn't know codes as commands.
 fn obey<R: AllocGlobal + Files + Input + Print + Eprint>(
     rt: &R,
     words: &[String],
@@ -70,7 +68,7 @@ fn obey<R: AllocGlobal + Files + Input + Print + Eprint>(
         .count()
         > 1
     {
-        return Ok(refuse(rt, "pgw: standard input can be given once"));
+        return Ok(refuse(rt, "pgw: standard input (-) can be used only once"));
     }
     match command(rt.alloc())?.try_get_matches_from(words) {
         Ok(matches) => {
@@ -86,7 +84,7 @@ fn obey<R: AllocGlobal + Files + Input + Print + Eprint>(
     }
 }
 
-/// The pages of codes, one after another, where the words ask for them as `help CODE ..`.
+/// The pages of codes, one after another, if the words ask for them as `help CODE ..`.
 fn pages_asked(alloc: Global, words: &[String]) -> Result<Option<String>, AllocError> {
     match words {
         [_, help, codes @ ..] if help.as_str() == "help" && !codes.is_empty() => pages_of(
@@ -96,7 +94,7 @@ fn pages_asked(alloc: Global, words: &[String]) -> Result<Option<String>, AllocE
     }
 }
 
-/// The pages of codes, with a blank line between; none, if one of them is no code.
+/// The pages of codes, with a blank line between them; `None` if one of them isn't a code.
 fn pages_of(alloc: Global, codes: &[String]) -> Result<Option<String>, AllocError> {
     let mut pages = String::new(alloc);
     for code in codes {
@@ -111,7 +109,7 @@ fn pages_of(alloc: Global, codes: &[String]) -> Result<Option<String>, AllocErro
     Ok(Some(pages))
 }
 
-/// Does what is asked by words that the command line takes.
+/// Does what words ask for that the command line has accepted.
 fn match_request<R: AllocGlobal + Files + Input + Print + Eprint>(
     rt: &R,
     matches: &ArgMatches,

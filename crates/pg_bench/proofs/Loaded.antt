@@ -1,14 +1,14 @@
--- What is said of a parse by a grammar that is loaded is said of the file that it was loaded from.
+-- What holds of a parse by a loaded grammar holds of the file that it was loaded from.
 use Rattle.std.proofs.Common.{◌≡◌, ℕ, List, Bool, Option}
 use Rattle.pg_message.specs.declared.error.ParseError as message
 use Rattle.pg_pred.specs.Offer.{Offer}
-use Rattle.pg_value.specs.Grammar.{Grammar}
-use Rattle.pg_making.specs.Spells.{SpellsWithinLimits}
+use Rattle.pg_grammar_value.specs.Grammar.{Grammar}
+use Rattle.pg_file_making.specs.Spells.{SpellsWithinLimits}
 use Rattle.pg_predict.specs.Checked.{GrammarWithSets, IsChecked}
-use Rattle.pg_grammar_bench.specs.Files.{AreFindingsOf, IsFaultOfFile, SpellsSome}
-use Rattle.pg_grammar_bench.specs.Faults.{IfFile, IfRefused, IfParseError, IsBeforeReading}
-use Rattle.pg_grammar_bench.specs.declared.fault.BenchFault.{BenchFault}
-use Rattle.pg_grammar_bench.specs.declared.fault.BenchFault.TheVariants.{File, Refused, ParseError, Memory}
+use Rattle.pg_bench_grammar.specs.Files.{AreFindingsOf, IsFaultOfFile, SpellsSome}
+use Rattle.pg_bench_grammar.specs.Faults.{IfFile, IfRefused, IfParseError, IsBeforeReading}
+use Rattle.pg_bench_grammar.specs.declared.bench_fault.BenchFault.{BenchFault}
+use Rattle.pg_bench_grammar.specs.declared.bench_fault.BenchFault.TheVariants.{File, Refused, ParseError, Memory}
 use Rattle.pg_bench.specs.declared.done.Done.{Done}
 use Rattle.pg_bench.specs.Promise.{IsAccepted}
 use Rattle.pg_bench.specs.Parsed.{IsParsed, IsParsedBy, IsPartlyWritten, IsPartlyParsedBy, IsErrorOf, IsErrorBy}
@@ -83,7 +83,7 @@ pub no_findings : (offer : Offer) (file : List ℕ) (fault : BenchFault) → IfR
 no_findings offer file (Refused refused) h = absurd h
 no_findings offer file _ h = tt
 
--- comes once the reader is asked
+-- it comes once the reader is asked
 pub is_read : {Claim : Type 0} (fault : BenchFault) → IfFile (λ told. ⊥) fault → IfRefused (λ findings. ⊥) fault → IsBeforeReading fault → Claim
 is_read (File told) file findings before = absurd file
 is_read (Refused refused) file findings before = absurd findings

@@ -4,8 +4,8 @@ use Rattle.std.specs.Prelude.{IfSome, IfNone}
 use Rattle.std.specs.Io.KnownBytes.{Consumes, IsAtEnd}
 use Rattle.pg_tree.specs.Meter.{Metered}
 use Rattle.pg_tree.specs.Trees.{Tree}
-use Rattle.pg_value.specs.Grammar.{Grammar}
-use Rattle.pg_value.specs.declared.trail.TrailItem.{TrailItem}
+use Rattle.pg_grammar_value.specs.Grammar.{Grammar}
+use Rattle.pg_grammar_value.specs.declared.trail.TrailItem.{TrailItem}
 use Rattle.pg_table.specs.Tables.{Table, Added, initial, whole}
 use Rattle.pg_table.specs.Tables as tables
 use Rattle.pg_language.specs.Derives.{DerivesText}
@@ -18,41 +18,43 @@ use Rattle.pg_machine.specs.Outcomes.{outcome_of, outcome_with}
 use Rattle.pg_machine.specs.declared.answer.Answer.{Answer}
 use Rattle.pg_machine.specs.declared.answer.Success.{Success}
 use Rattle.pg_predict.specs.Checked.{GrammarWithSets, IsChecked}
-use Rattle.pg_grammar_bench.specs.declared.fault.BenchFault.{BenchFault}
-use Rattle.pg_grammar_bench.specs.declared.fault.BenchFault.TheVariants.{Reader, NotUtf8, TooLong, ParseError, Memory}
+use Rattle.pg_bench_grammar.specs.declared.bench_fault.BenchFault.{BenchFault}
+use Rattle.pg_bench_grammar.specs.declared.bench_fault.BenchFault.TheVariants.{Reader, NotUtf8, TooLong, ParseError, Memory}
 use Rattle.pg_bench.specs.Parsed.{IsSpelledBy, IsForestOfBytes}
 use Rattle.pg_bench.specs.Refusals.{IsErrorOfAnswer, IsWell, IsReadRefusal, IsTextRefusal, IsParseRefusal, IsRunRefusal, IsTextFault}
 use Rattle.pg_derive.specs.LeastSets.{node_sets}
 use Rattle.pg_derive.specs.PredictiveLaws.{LosesNoAlternative, EachRoundConsumes, EachLinkConsumes}
+use Rattle.pg_derive_backtracking.specs.Backtracking.{StartReadsNothingTwice}
 use Rattle.pg_bench.specs.declared.done.Done.{Done}
-use Rattle.pg_bench.specs.Promise.{IsAnsweredIn, CommitsRightly, IsForestOfText, IsErrorOfText}
+use Rattle.pg_bench.specs.Promise.{IsAnsweredIn, CommitsRightly, IsForestOfText, IsErrorOfText, most_steps}
 
 commits_rightly : (checked : GrammarWithSets) (text : List ℕ) → IsChecked checked
     → LosesNoAlternative (given Library checked.grammar text) (node_sets checked.grammar checked.sets) → EachRoundConsumes (given Library checked.grammar text)
-    → EachLinkConsumes (given Library checked.grammar text) → CommitsRightly checked.grammar text
-commits_rightly checked text is choices rounds links =
-    record { sets = checked.sets; least = is.sets; choices = choices; rounds = rounds; links = links }
+    → EachLinkConsumes (given Library checked.grammar text) → StartReadsNothingTwice (given Library checked.grammar text) → CommitsRightly checked.grammar text
+commits_rightly checked text is choices rounds links once =
+    record { sets = checked.sets; least = is.sets; choices = choices; rounds = rounds; links = links; once = once }
 
 answered_in : (checked : GrammarWithSets) (text : List ℕ) (table : Table) (a : Answer) → IsChecked checked → IsTextAnswer (given Library checked.grammar text) table a
-    → a.steps ≤ checked.cost * (length text + 1) → IsAnsweredIn checked.grammar text table (outcome_of a) (record { steps = a.steps; cost = checked.cost })
+    → a.steps ≤ checked.cost * (length text + 1) → IsAnsweredIn checked.grammar text table (outcome_of a) (record { steps = a.steps; cost = checked.cost; most = most_steps checked.cost (length text + 1) })
 answered_in checked text table a is h few = record {
   nodes = h.nodes;
   answers = h.answers;
   steps = h.steps;
   cost = record { marks = checked.sets.nullable; nullable = is.sets.nullable; cost = is.cost };
   few = few;
+  most = refl;
 }
 
 pub found_forest : (checked : GrammarWithSets) (text : List ℕ) (table : Table) (a : Answer) (s : Success) (done : Done) → IsChecked checked
     → initial checked.grammar ≡ whole table → IsTextAnswer (given Library checked.grammar text) table a → a.steps ≤ checked.cost * (length text + 1)
     → IfSome a.success (IsOnlyDerivation checked.grammar text table)
     → LosesNoAlternative (given Library checked.grammar text) (node_sets checked.grammar checked.sets) → EachRoundConsumes (given Library checked.grammar text)
-    → EachLinkConsumes (given Library checked.grammar text) → a.success ≡ Some s → done ≡ record { steps = a.steps; cost = checked.cost }
+    → EachLinkConsumes (given Library checked.grammar text) → StartReadsNothingTwice (given Library checked.grammar text) → a.success ≡ Some s → done ≡ record { steps = a.steps; cost = checked.cost; most = most_steps checked.cost (length text + 1) }
     → IsForestOfText checked.grammar text s.forest s.trail done
-found_forest checked text table a s done is initially reply few derived choices rounds links answered took =
+found_forest checked text table a s done is initially reply few derived choices rounds links once answered took =
     let g = checked.grammar in
     let h = subst (λ o. IfSome o (IsOnlyDerivation g text table)) answered derived in
-    let taken : Done = record { steps = a.steps; cost = checked.cost } in
+    let taken : Done = record { steps = a.steps; cost = checked.cost; most = most_steps checked.cost (length text + 1) } in
     let shown = subst (λ o. IsAnsweredIn g text table (outcome_with a.consumed (without_position a.error) o) taken) answered (answered_in checked text table a is reply few) in
     record {
       table = table;
@@ -65,15 +67,15 @@ found_forest checked text table a s done is initially reply few derived choices 
           (subst (λ (n : ℕ). IsAnsweredIn g text table (ok a.consumed (record { place = n; table = s.table }) s.forest s.trail (without_position a.error)) taken) h.end shown);
       derives = h.derives;
       only = h.only;
-      commits = commits_rightly checked text is choices rounds links;
+      commits = commits_rightly checked text is choices rounds links once;
     }
 
 found_error : (checked : GrammarWithSets) (text : List ℕ) (table : Table) (a : Answer) → IsChecked checked → initial checked.grammar ≡ whole table
     → a.success ≡ None → IsTextAnswer (given Library checked.grammar text) table a → a.steps ≤ checked.cost * (length text + 1) → IsUnderivable checked.grammar text table
     → LosesNoAlternative (given Library checked.grammar text) (node_sets checked.grammar checked.sets) → EachRoundConsumes (given Library checked.grammar text)
-    → EachLinkConsumes (given Library checked.grammar text) → IsErrorOfText checked.grammar text a.error
-found_error checked text table a is initially none h few underivable choices rounds links =
-    let taken : Done = record { steps = a.steps; cost = checked.cost } in
+    → EachLinkConsumes (given Library checked.grammar text) → StartReadsNothingTwice (given Library checked.grammar text) → IsErrorOfText checked.grammar text a.error
+found_error checked text table a is initially none h few underivable choices rounds links once =
+    let taken : Done = record { steps = a.steps; cost = checked.cost; most = most_steps checked.cost (length text + 1) } in
     record {
       table = table;
       is_table = initially;
@@ -85,18 +87,18 @@ found_error checked text table a is initially none h few underivable choices rou
           subst (λ (s : Option Success). IsAnsweredIn checked.grammar text table (outcome_with a.consumed (without_position a.error) s) taken) none
           (answered_in checked text table a is h few);
       stands = subst (λ p. record { place = a.error.place; position = p; messages = a.error.messages } ≡ a.error) h.position refl;
-      commits = commits_rightly checked text is choices rounds links;
+      commits = commits_rightly checked text is choices rounds links once;
     }
 
 pub found_refused : (checked : GrammarWithSets) (text : List ℕ) (table : Table) (a : Answer) (fault : BenchFault) → IsChecked checked
     → initial checked.grammar ≡ whole table → IsTextAnswer (given Library checked.grammar text) table a → a.steps ≤ checked.cost * (length text + 1)
     → IfNone a.success (IsUnderivable checked.grammar text table)
     → LosesNoAlternative (given Library checked.grammar text) (node_sets checked.grammar checked.sets) → EachRoundConsumes (given Library checked.grammar text)
-    → EachLinkConsumes (given Library checked.grammar text) → IsErrorOfAnswer a fault → IsRunRefusal checked.grammar text fault
-found_refused checked text table a (ParseError error) is initially h few refused choices rounds links answered =
+    → EachLinkConsumes (given Library checked.grammar text) → StartReadsNothingTwice (given Library checked.grammar text) → IsErrorOfAnswer a fault → IsRunRefusal checked.grammar text fault
+found_refused checked text table a (ParseError error) is initially h few refused choices rounds links once answered =
     let underivable = subst (λ o. IfNone o (IsUnderivable checked.grammar text table)) answered.0 refused in
-    subst (IsErrorOfText checked.grammar text) (sym answered.1) (found_error checked text table a is initially answered.0 h few underivable choices rounds links)
-found_refused checked text table a _ is initially h few refused choices rounds links answered = absurd answered
+    subst (IsErrorOfText checked.grammar text) (sym answered.1) (found_error checked text table a is initially answered.0 h few underivable choices rounds links once)
+found_refused checked text table a _ is initially h few refused choices rounds links once answered = absurd answered
 
 pub bytes_forest : (g : Grammar) (bytes text : List ℕ) (forest : List Tree) (trail : List TrailItem) (done : Done) → IsSpelledBy bytes text
     → IsForestOfText g text forest trail done → IsForestOfBytes g bytes forest trail done

@@ -1,17 +1,17 @@
--- What is printed of a trail is what it comes to.
+-- What is printed of a trail is the result of its replay.
 use Rattle.std.proofs.Common.{◌≡◌, ℕ, zero, suc, min, take, List, [], ◌∷◌, ◌++◌, Bool, true, false, length, refl, sym, ap, subst, subst₂, arith}
 use Rattle.std.specs.Prelude.{codes, fold}
 use Rattle.pg_text.specs.Position.{position_of, advance, start}
 use Rattle.pg_tree.specs.Json.{json}
 use Rattle.pg_tree.specs.Trees.{Tree}
-use Rattle.pg_replay.specs.Ends.{IsTheForest, IsFault}
-use Rattle.pg_replay.specs.declared.fault.Stop.{Stop}
-use Rattle.pg_replay.specs.declared.fault.ReplayFault.{ReplayFault}
-use Rattle.pg_replay.specs.declared.fault.ReplayFault.TheVariants.{Stopped}
-use Rattle.pg_value.specs.Grammar.{Grammar}
-use Rattle.pg_value.specs.declared.trail.TrailItem.{TrailItem}
+use Rattle.pg_trail_replay.specs.Ends.{IsTheForest, IsFault}
+use Rattle.pg_trail_replay.specs.declared.replay_fault.Stop.{Stop}
+use Rattle.pg_trail_replay.specs.declared.replay_fault.ReplayFault.{ReplayFault}
+use Rattle.pg_trail_replay.specs.declared.replay_fault.ReplayFault.TheVariants.{Stopped}
+use Rattle.pg_grammar_value.specs.Grammar.{Grammar}
+use Rattle.pg_grammar_value.specs.declared.trail.TrailItem.{TrailItem}
 use Rattle.pg_table.specs.Tables.{Table, initial, whole}
-use Rattle.pg_trails.specs.TrailJson.{IsTrailText}
+use Rattle.pg_trail.specs.TrailJson.{IsTrailText}
 use Rattle.pg_bench.specs.Replaying.{Replays, leads, halts, stop_text, IsReplayOfText}
 
 pub shown_replay : (g : Grammar) (name bytes text : List ℕ) (table : Table) (trail : List TrailItem) (accepted : Bool) (said : List ℕ) → IsTrailText bytes trail

@@ -1,14 +1,14 @@
--- What showing a text gives and refuses with, by its steps.
+-- What showing a text returns and fails with, step by step.
 use Rattle.std.proofs.Common.{ℕ, List, Bool, Option, refl, subst}
 use Rattle.std.specs.Io.KnownBytes.{Consumes, IsAtEnd}
 use Rattle.pg_tree.specs.Meter.{Metered}
 use Rattle.pg_pred.specs.Offer.{Offer}
-use Rattle.pg_value.specs.Grammar.{Grammar}
-use Rattle.pg_making.specs.Spells.{SpellsWithinLimits}
-use Rattle.pg_grammar_bench.specs.Files.{IsFaultOfFile, SpellsAny}
-use Rattle.pg_grammar_bench.specs.Faults.{IsFileRefusal, IfFile}
-use Rattle.pg_grammar_bench.specs.declared.fault.BenchFault.{BenchFault}
-use Rattle.pg_grammar_bench.specs.declared.fault.BenchFault.TheVariants.{File, Reader, NotUtf8, TooLong, NotATrail, Memory}
+use Rattle.pg_grammar_value.specs.Grammar.{Grammar}
+use Rattle.pg_file_making.specs.Spells.{SpellsWithinLimits}
+use Rattle.pg_bench_grammar.specs.Files.{IsFaultOfFile, SpellsAny}
+use Rattle.pg_bench_grammar.specs.Faults.{IsFileRefusal, IfFile}
+use Rattle.pg_bench_grammar.specs.declared.bench_fault.BenchFault.{BenchFault}
+use Rattle.pg_bench_grammar.specs.declared.bench_fault.BenchFault.TheVariants.{File, Reader, NotUtf8, TooLong, NotATrail, Memory}
 use Rattle.pg_bench.specs.Parsed.{IsSpelledBy, ReadsText}
 use Rattle.pg_bench.specs.Showing.{IsShownBy, IsShownOf, IsWrittenBy, IsWrittenTo, IsPartlyWrittenBy, IsPartlyWrittenTo}
 use Rattle.pg_bench.specs.Refusals.{IsWell, IsReadRefusal, IsTextRefusal, IsShowRefusal, IsBytesRefusal, IsShowFault, IsShownRefusal}
@@ -47,16 +47,16 @@ bytes_unshown NoTrail before after reader left bytes NotATrail read end well h =
 bytes_unshown NoTrail before after reader left bytes Memory read end well h = tt
 bytes_unshown NoTrail before after reader left bytes _ read end well h = absurd h
 
--- ---- by the grammar that a file spells
+-- ---- with the grammar that a file spells
 
--- what refuses the grammar
+-- the faults of the grammar
 pub file_refused : {R : Type 0} (NoTrail : Type 0) (offer : Offer) (file : List ℕ) (before : Metered R) (reader left : Option (List ℕ)) (fault : BenchFault)
     → IsFileRefusal fault → IfFile (IsFaultOfFile offer file) fault → IsShownRefusal NoTrail offer file before before reader left fault
 file_refused NoTrail offer file before reader left (File fault) h is = (is, refl)
 file_refused NoTrail offer file before reader left Memory h is = tt
 file_refused NoTrail offer file before reader left _ h is = absurd h
 
--- what refuses a text
+-- the faults of a text
 pub show_refused : {R : Type 0} (NoTrail : Type 0) (offer : Offer) (file : List ℕ) (before after : Metered R) (reader left : Option (List ℕ)) (g : Grammar)
     (fault : BenchFault) → SpellsWithinLimits offer file g → IsShowFault NoTrail before after reader left fault
     → IsShownRefusal NoTrail offer file before after reader left fault
@@ -67,7 +67,7 @@ show_refused NoTrail offer file before after reader left g NotATrail spelled h =
 show_refused NoTrail offer file before after reader left g Memory spelled h = tt
 show_refused NoTrail offer file before after reader left g _ spelled h = absurd h
 
--- and what is shown of one
+-- and what is shown of a text
 pub shown_file : (Shows : Grammar → List ℕ → Bool → List ℕ → Type 0) (offer : Offer) (file : List ℕ) (reader left : Option (List ℕ)) (g : Grammar)
     (accepted : Bool) (said : List ℕ) → SpellsWithinLimits offer file g
     → ReadsText reader left (λ bytes. IsShownOf (Shows g) bytes accepted said) → IsShownBy Shows offer file reader left accepted said

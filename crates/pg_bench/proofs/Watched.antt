@@ -2,7 +2,7 @@
 use Rattle.std.proofs.Common.{ℕ, List, Bool, Option}
 use Rattle.std.specs.Io.KnownBytes.{Appends}
 use Rattle.pg_tree.specs.Bytes.{AppendsPrefix}
-use Rattle.pg_value.specs.Grammar.{Grammar}
+use Rattle.pg_grammar_value.specs.Grammar.{Grammar}
 use Rattle.pg_language.specs.declared.reading.Reading.{Reading}
 use Rattle.pg_bench.specs.Probing.{IsShownOfText, IsTextProbed, IsTextPartlyProbed}
 

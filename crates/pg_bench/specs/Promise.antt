@@ -1,10 +1,10 @@
--- What is promised of a text: it gets a forest exactly where the grammar derives it, and then the only one, within so many steps, and
--- nothing is lost on the way.
+-- What is promised about a text: it has a forest exactly where the grammar derives it, the forest is the only one, the steps are bounded, and on the way no
+-- alternative is lost and nothing is read twice.
 use Rattle.std.specs.Prelude.{◌≡◌, ◌≤◌, ◌+◌, ◌-◌, ◌*◌, ◌^◌, ℕ, min, List, Bool, length}
 use Rattle.pg_message.specs.declared.error.ParseError.{ParseError}
 use Rattle.pg_tree.specs.Trees.{Tree}
-use Rattle.pg_value.specs.Grammar.{Grammar}
-use Rattle.pg_value.specs.declared.trail.TrailItem.{TrailItem}
+use Rattle.pg_grammar_value.specs.Grammar.{Grammar}
+use Rattle.pg_grammar_value.specs.declared.trail.TrailItem.{TrailItem}
 use Rattle.pg_language.specs.Derives.{DerivesText}
 use Rattle.pg_table.specs.Tables.{Table, initial, whole}
 use Rattle.pg_language.specs.Answers.{given}
@@ -16,30 +16,37 @@ use Rattle.pg_sets.specs.Sets.{Sets, AreSets}
 use Rattle.pg_predict.specs.Conditions.{IsFaultless, HasStepCost}
 use Rattle.pg_derive.specs.LeastSets.{node_sets}
 use Rattle.pg_derive.specs.PredictiveLaws.{LosesNoAlternative, EachRoundConsumes, EachLinkConsumes}
+use Rattle.pg_derive_backtracking.specs.Backtracking.{StartReadsNothingTwice}
 use Rattle.pg_bench.specs.declared.done.Done.{Done}
 
--- nothing is wrong at any node of the grammar, and its step cost is within the limit
+-- the grammar has no findings, and its step cost is within the limit
 pub record IsAccepted (g : Grammar) : Type 0 where
   pub faultless : IsFaultless g
 
--- on this text no choice loses an alternative to consumed input, where what can follow it is what its least follow set says, and
--- each round of a repetition and of a chain consumes
+-- On this text, no choice loses an alternative to consumed input, where what can follow the choice is its least follow set. Each round of a repetition and
+-- each link of a chain consumes. Nothing is read twice: after a place that a `try` gave back nothing is consumed.
 pub record CommitsRightly (g : Grammar) (text : List ℕ) : Type 0 where
   pub sets : Sets
   pub least : AreSets g sets
   pub choices : LosesNoAlternative (given Library g text) (node_sets g sets)
   pub rounds : EachRoundConsumes (given Library g text)
   pub links : EachLinkConsumes (given Library g text)
+  pub once : StartReadsNothingTwice (given Library g text)
 
--- The start rule, with the end after it, answers the text so under the table. It enters some nodes, and a run takes two steps for
--- each, but one for the first, which are counted up to the greatest number that 64 bits hold. They are no more than the grammar's
--- step cost for each character of the text and for its end.
+-- the most steps that a run takes on a text with this many places, its end among them, by a grammar of this step cost; up to the greatest number of 64 bits
+abbrev pub most_steps : ℕ → ℕ → ℕ
+most_steps cost places = min (cost * places) (2 ^ 64 - 1)
+
+-- The start rule, with the end of the text after it, has this answer under the table. It enters some number of nodes. A run takes two steps for each but one
+-- for the first, and counts them up to the greatest number of 64 bits. They are at most the grammar's step cost for each character of the text and for its
+-- end.
 pub record IsAnsweredIn (g : Grammar) (text : List ℕ) (table : Table) (o : Outcome) (done : Done) : Type 0 where
   pub nodes : ℕ
   pub answers : AnswersText (given Library g text) table o nodes
   pub steps : done.steps ≡ min (2 * nodes - 1) (2 ^ 64 - 1)
   pub cost : HasStepCost g done.cost
   pub few : done.steps ≤ done.cost * (length text + 1)
+  pub most : done.most ≡ most_steps done.cost (length text + 1)
 
 -- under the initial table the grammar derives the text to this forest along this trail, and has no second derivation of it
 pub record IsForestOfText (g : Grammar) (text : List ℕ) (forest : List Tree) (trail : List TrailItem) (done : Done) : Type 0 where

@@ -1,4 +1,4 @@
-//! The text that a reader gives.
+//! Reading a text.
 
 ghost use Rattle.std.specs.Prelude.{◌≡◌, ◌≤◌, ◌+◌, ◌*◌, false, IfOk, IfErr, OnOk};
 ghost use Rattle.std.specs.Io.KnownBytes.{Consumes, IsAtEnd};
@@ -6,16 +6,16 @@ ghost use Rattle.pg_tree.specs.Meter.{saturating_sum};
 ghost use Rattle.pg_bench.specs.Parsed.{IsSpelledBy};
 ghost use Rattle.pg_bench.specs.Refusals.{IsReadRefusal, IsTextRefusal, IsWell};
 
-use pg_grammar_bench::BenchFault;
+use pg_bench_grammar::BenchFault;
 use pg_text::{LIMIT, Text, TextFault};
 use pg_tree::{Meter, ReadFault, read_bytes};
 use std::alloc::Global;
 use std::io::Read;
 
-/// The most bytes of a text: a character has at most four.
+/// The most bytes of a text. A character has at most four.
 const TEXT_BYTES: usize = 4 * LIMIT;
 
-/// All that the reader gives.
+/// All bytes that the reader gives. Fails with `Reader` or `Memory`.
 pub fn read_text<R: Read>(alloc: Global, reader: &mut Meter<R>) -> Result<Vec<u8>, BenchFault>
     requires { reader.old.failed ≡ false }
     ensures ok { IfOk result (λ read. Consumes (R.remaining reader.old.inner) (R.remaining reader.new.inner) read.items) }
@@ -31,7 +31,7 @@ pub fn read_text<R: Read>(alloc: Global, reader: &mut Meter<R>) -> Result<Vec<u8
     }
 }
 
-/// The text that bytes spell. The faults are `NotUtf8`, `TooLong`, where it has more than 1,048,576 characters, and that memory ran out.
+/// The text that the bytes spell. Fails with `NotUtf8`, with `TooLong` if it has more than 1,048,576 characters, or where memory runs out.
 pub fn text_of(alloc: Global, bytes: &[u8]) -> Result<Text, BenchFault>
     ensures ok { IfOk result (IsSpelledBy bytes.now) }
     ensures err { IfErr result (IsTextRefusal bytes.now) }

@@ -1,18 +1,22 @@
-//! From bytes to bytes: what the program does with a grammar file and a text, once they are open.
+//! What the program does with a grammar file and a text once they are open, from bytes to bytes.
 //!
-//! `parse_bytes` parses the text that a reader gives, writes its forest and answers how many steps that took, `parse_checked` does so by a
-//! grammar that is loaded already, and `parsed_text` without writing; `probe_bytes` runs
-//! the start rule on it and writes what Parsec would answer, `probe_text` does so while the run is watched, and `replay_bytes` goes along a trail over it. The crate below has
-//! what reads no text: `check_bytes` writes whether a grammar is accepted, or all that is wrong with it,
-//! `verify_bytes` judges a certificate, `print_bytes` writes a grammar in canonical form, and `sets_bytes` its sets. All contracts speak of the bytes that
-//! were read and written and of what these spell, derive and answer. The predicates and builders that a file may name come in a
-//! registry.
+//! `parse_bytes` parses the text that a reader gives, writes its forest and answers how many steps that took. `parse_checked` does so with a grammar that is
+//! loaded already, `parse_line` writes the forest on a line after the text's name, and `parsed_text` doesn't write it. `probe_bytes` runs the start rule on
+//! the text and writes what Parsec would answer, and `probe_text` does so while a watcher sees the run. `replay_bytes` replays a trail over the text. The
+//! calls that read no text are in the crate below: `check_bytes` writes whether a grammar is accepted, or all its findings, `verify_bytes` judges a
+//! certificate, `print_bytes` writes a grammar in canonical form, and `sets_bytes` writes its sets. All contracts speak of the bytes that were read and
+//! written, and of what these spell, derive and answer. The predicates and builders that a file may name come in a registry.
 #![tactic(auto)]
 
 mod done;
+#[cfg(test)]
+mod failing_tests;
 mod input;
 mod laws;
-mod page;
+mod line;
+#[cfg(test)]
+mod number_tests;
+mod outcome_page;
 mod parse;
 mod probe;
 mod replay;
@@ -23,7 +27,8 @@ mod tests;
 pub use done::Done;
 pub use input::text_of;
 pub use laws::parsed_trails_replay;
+pub use line::{error_line, parse_line};
 pub use parse::{Parse, ParsedText, parse_bytes, parse_checked, parsed_text};
-pub use pg_grammar_bench::{BenchFault, check_bytes, print_bytes, sets_bytes, verify_bytes};
+pub use pg_bench_grammar::{BenchFault, check_bytes, print_bytes, sets_bytes, verify_bytes};
 pub use probe::{Probing, probe_bytes, probe_grammar, probe_text};
 pub use replay::replay_bytes;

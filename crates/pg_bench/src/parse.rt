@@ -1,43 +1,42 @@
 //! From the bytes of a grammar file and of a text to the bytes of the text's forest, and of the trail of its derivation.
 //!
-//! The steps come one after another: the grammar file is read and its grammar checked, then the text is read, then it is
-//! parsed, and only then is anything written. So a refusal by an earlier step has neither read nor written what a later
-//! one would have. `parse_checked` is the steps after the first, for a grammar that is read once for many texts, and `parsed_text` those
-//! before the last.
+//! The steps come one after another: the grammar file is read and its grammar checked, then the text is read, then it is parsed, and only then is anything
+//! written. So if a step fails, nothing has been read or written that belongs to a later one. `parse_checked` does the steps after the first, for a grammar
+//! that is read once for many texts, and `parsed_text` does these without the last.
 
 ghost use Rattle.std.specs.Prelude.{◌≡◌, ◌≤◌, ◌<◌, ◌+◌, ◌*◌, ◌⊎◌, ◌++◌, false, true, length, Some, IfOk, IfErr, OnOk, IsErrOf};
 ghost use Rattle.std.specs.Str.{chars, IsUtf8};
 ghost use Rattle.std.specs.Io.KnownBytes.{Appends};
 ghost use Rattle.pg_pred.specs.Offer.{offer_of};
-ghost use Rattle.pg_value.specs.Fits.{Fits};
+ghost use Rattle.pg_grammar_value.specs.Fits.{Fits};
 ghost use Rattle.pg_tree.specs.Json.{json};
 ghost use Rattle.pg_tree.specs.Meter.{saturating_sum};
 ghost use Rattle.pg_tree.specs.Bytes.{AppendsPrefix};
 ghost use Rattle.pg_table.specs.Tables.{initial, whole};
-ghost use Rattle.pg_bench.specs.Promise.{IsAccepted, IsForestOfText};
-ghost use Rattle.pg_grammar_bench.specs.Files.{AreFindingsOf, IsFaultOfFile, SpellsSome};
+ghost use Rattle.pg_bench.specs.Promise.{IsAccepted, IsForestOfText, most_steps};
+ghost use Rattle.pg_bench_grammar.specs.Files.{AreFindingsOf, IsFaultOfFile, SpellsSome};
 ghost use Rattle.pg_bench.specs.Parsed.{IsParsed, IsParsedBy, IsForestBy, IsForestOfBytes, IsErrorOf, IsErrorBy, IsSpelledBy, ReadsText, IsPartlyWritten, IsPartlyParsedBy, after_forest, parse_text, IfRead};
-ghost use Rattle.pg_grammar_bench.specs.Faults.{IfRefused, IfParseError, IfNotATrail, IfNotVerified, IsWriteRefusal, IsBeforeReading, IsAfterFile, IsAfterReading, IfFile, IsBeforeWriting};
+ghost use Rattle.pg_bench_grammar.specs.Faults.{IfRefused, IfParseError, IfNotATrail, IfNotVerified, IsWriteRefusal, IsBeforeReading, IsAfterFile, IsAfterReading, IfFile, IsBeforeWriting};
 ghost use Rattle.pg_bench.specs.Refusals.{IsErrorOfAnswer, IsTextFault, IsParseRefusal, IsRunRefusal, IsWell};
 
 use crate::done::Done;
 use crate::input::{read_text, text_of};
-use pg_grammar_bench::{AcceptedGrammar, BenchFault, accepted_of};
+use pg_bench_grammar::{AcceptedGrammar, BenchFault, accepted_of};
+use pg_grammar_value::Trail;
 use pg_machine::{Answer, Success, run};
 use pg_pred::Registry;
 use pg_text::{LIMIT, Text};
-use pg_trails::write_trail;
+use pg_trail::write_trail;
 use pg_tree::{Forest, Meter, WriteFault, write_bytes, write_json};
-use pg_value::Trail;
 use std::alloc::{AllocError, Global};
 use std::io::{Read, Write};
 
-/// What a run of a text gives, and what it took.
+/// What a run of a text returns, and its cost.
 #[derive(Drop)]
 pub struct Parse {
-    /// What the run gives.
+    /// What the run returns.
     pub success: Success,
-    /// What it took.
+    /// The cost of the run.
     pub done: Done,
 }
 
@@ -50,18 +49,16 @@ pub struct ParsedText {
     pub parse: Parse,
 }
 
-/// Parses the text that a reader gives by the grammar that a file spells, and writes the forest's JSON and a line feed; `with_trail`
-/// the JSON of the derivation's trail too, and a line feed. Both lines are in memory before the first byte is written. A grammar
-/// is run only where nothing is wrong with it. Then a text has a forest exactly where the grammar derives it under its initial
-/// table, it is that forest that is written, and there is no second derivation. What is answered are the steps of the run and
-/// the grammar's step cost: of a text of n characters the steps are at most the cost times n + 1. The registry has the predicates
-/// and builders that the file may name.
+/// Parses the text that a reader gives by the grammar that a file spells, and writes the forest's JSON and a line feed; `with_trail` also the JSON of the
+/// derivation's trail and a line feed. Both lines are in memory before the first byte is written. Only a grammar without findings is run. Then a text has a
+/// forest exactly where the grammar derives it under its initial table. That forest is written, and there is no second derivation. The answer has the steps
+/// of the run and the grammar's step cost: for a text of n characters, the steps are at most the cost times n + 1. The registry has the predicates and
+/// builders that the file may name.
 ///
-/// Both meters have to be fresh of failures. The faults come in the order of [`BenchFault`]: a fault of the file, and `Refused`
-/// with all that is wrong with its grammar, before the reader is asked at all; then the reader's, then those of its bytes,
-/// `ParseError` where the grammar doesn't derive the text, and the writer's.
-/// Up to `ParseError`, and where memory runs out, nothing is written. A text of over 4,194,304 bytes can't be one of 1,048,576
-/// characters, so no more is read of it.
+/// Neither meter must have failed yet. The faults come in the order of [`BenchFault`]. A fault of the file, and `Refused` with all findings of its grammar,
+/// come before the reader is asked at all. Then come the reader's fault, those of its bytes, `ParseError` if the grammar doesn't derive the text, and the
+/// writer's. Up to `ParseError`, and where memory runs out, nothing is written. A text of over 4,194,304 bytes can't have only 1,048,576 characters, so no
+/// more is read of it.
 #[tactic(auto, using(crate::proofs::Loaded::parsed_file, crate::proofs::Loaded::partly_file, crate::proofs::Loaded::error_of_file, crate::proofs::Loaded::no_file_fault, crate::proofs::Loaded::no_findings, crate::proofs::Loaded::is_read, crate::proofs::Loaded::accepted_file))]
 pub fn parse_bytes<R: Read, W: Write>(
     alloc: Global,
@@ -128,8 +125,8 @@ pub fn parse_bytes<R: Read, W: Write>(
     }
 }
 
-/// Does what [`parse_bytes`] does by a grammar that is loaded already, so that many texts are parsed by one that is read and checked once. The
-/// caller owes that the grammar has what it names in the registry, and that the table is its own. Faults of a file and findings don't come.
+/// As [`parse_bytes`], for a grammar that is loaded already, so that it is read and checked once for many texts. The caller ensures that the registry has
+/// what the grammar names in it, and that the table is its own. Faults of a file and findings don't occur.
 pub fn parse_checked<R: Read, W: Write>(
     alloc: Global,
     accepted: &AcceptedGrammar,
@@ -201,9 +198,9 @@ pub fn parse_checked<R: Read, W: Write>(
     }
 }
 
-/// The text that a reader gives, with its parse by a grammar that is loaded already. The meter has to be fresh of failures, and the caller owes
-/// what it owes to [`parse_checked`]. The faults are the reader's, those of its bytes, and `ParseError` where the grammar doesn't derive
-/// the text. A text of over 4,194,304 bytes can't be one of 1,048,576 characters, so no more is read of it.
+/// The text that a reader gives, with its parse by a grammar that is loaded already. The meter must not have failed yet, and the caller ensures the same as
+/// for [`parse_checked`]. The faults are the reader's, those of its bytes, and `ParseError` if the grammar doesn't derive the text. A text of over 4,194,304
+/// bytes can't have only 1,048,576 characters, so no more is read of it.
 #[tactic(auto, using(crate::proofs::Parses::read_refused, crate::proofs::Parses::parse_refused))]
 pub fn parsed_text<R: Read>(
     alloc: Global,
@@ -267,15 +264,15 @@ fn parse_of_text(
     ensures err { IfErr result (IsRunRefusal accepted.now.checked.grammar text.now) }
 {
     match run(alloc, &accepted.checked, text, &accepted.table, registry) {
-        Ok(answer) => parse_of_answer(answer, accepted.checked.cost()),
+        Ok(answer) => parse_of_answer(answer, accepted.checked.cost(), text.len() + 1),
         Err(_) => Err(BenchFault::Memory),
     }
 }
 
-/// What an ok answer gives, with the steps that it took, or the error of another.
-fn parse_of_answer(answer: Answer, cost: u64) -> Result<Parse, BenchFault>
+/// The parse from an ok answer to a text with this many places, its end among them, with its steps, or the error of another answer.
+fn parse_of_answer(answer: Answer, cost: u64, places: usize) -> Result<Parse, BenchFault>
     ensures ok { IfOk result (λ p. answer.success ≡ Some p.success) }
-    ensures done { IfOk result (λ p. p.done ≡ record { steps = answer.steps; cost = cost }) }
+    ensures done { IfOk result (λ p. p.done ≡ record { steps = answer.steps; cost = cost; most = most_steps cost places }) }
     ensures err { IfErr result (IsErrorOfAnswer answer) }
 {
     let Answer {
@@ -287,14 +284,15 @@ fn parse_of_answer(answer: Answer, cost: u64) -> Result<Parse, BenchFault>
     match success {
         Some(success) => {
             drop(error);
-            let done = Done { steps, cost };
+            let most = cost.saturating_mul(places as u64);
+            let done = Done { steps, cost, most };
             Ok(Parse { success, done })
         }
         None => Err(BenchFault::ParseError(error)),
     }
 }
 
-/// Writes the forest's JSON and a line feed, and the trail's where it is asked for.
+/// Writes the forest's JSON and a line feed, and the trail's too if it is wanted.
 fn write_parse<W: Write>(
     alloc: Global,
     parse: &Success,
@@ -317,7 +315,7 @@ fn write_parse<W: Write>(
     }
 }
 
-/// What is written after the forest's JSON: a line feed, and the trail on a line of its own where it is asked for.
+/// What is written after the forest's JSON: a line feed, and the trail on a line of its own if it is wanted.
 fn after_forest(alloc: Global, trail: &Trail, with_trail: bool) -> Result<Vec<u8>, AllocError>
     ensures text { IfOk result (λ rest. rest.items ≡ after_forest with_trail trail.now) }
     ensures read { OnOk result (IfRead with_trail trail.now) }

@@ -4,37 +4,35 @@ ghost use Rattle.std.specs.Prelude.{◌≡◌, ◌≤◌, ◌<◌, ◌+◌, ◌*
 ghost use Rattle.std.specs.Str.{chars, IsUtf8};
 ghost use Rattle.pg_pred.specs.Offer.{offer_of};
 ghost use Rattle.pg_tree.specs.Meter.{saturating_sum};
-ghost use Rattle.pg_value.specs.Fits.{Fits};
+ghost use Rattle.pg_grammar_value.specs.Fits.{Fits};
 ghost use Rattle.pg_table.specs.Tables.{initial, whole};
-ghost use Rattle.pg_grammar_bench.specs.Files.{IsFaultOfFile, SpellsAny};
+ghost use Rattle.pg_bench_grammar.specs.Files.{IsFaultOfFile, SpellsAny};
 ghost use Rattle.pg_bench.specs.Parsed.{ReadsText};
-ghost use Rattle.pg_grammar_bench.specs.Faults.{IsAfterFile, IsAfterReading, IsFileFault, IfFile, IfParseError, IfRefused, IfNotATrail, IfNotVerified, IsMemory, IsBeforeWriting, IsWriteRefusal};
+ghost use Rattle.pg_bench_grammar.specs.Faults.{IsAfterFile, IsAfterReading, IsFileFault, IfFile, IfParseError, IfRefused, IfNotATrail, IfNotVerified, IsMemory, IsBeforeWriting, IsWriteRefusal};
 ghost use Rattle.pg_bench.specs.Probing.{IsProbed, IsProbedBy, IsPartlyProbed, IsPartlyProbedBy, IsTextProbed, IsTextPartlyProbed, IsShownOfText, is_ok_outcome, outcome_text};
 
-use crate::page::{is_ok, page_of};
+use crate::outcome_page::{is_ok, page_of};
 use crate::showing::{Shown, ShowsText, shown_of_reader, write_shown};
-use pg_grammar_bench::{BenchFault, placed_of};
+use pg_bench_grammar::{BenchFault, placed_of};
+use pg_file_making::PlacedGrammar;
+use pg_grammar_value::Grammar;
 use pg_language::Reading;
 use pg_machine::{Outcome, Run, Watcher, probe, probe_watched};
-use pg_making::PlacedGrammar;
 use pg_pred::Registry;
 use pg_table::Table;
 use pg_text::{LIMIT, Text};
 use pg_tree::Meter;
-use pg_value::Grammar;
 use std::alloc::Global;
 use std::io::{Read, Write};
 
-/// Runs the start rule of the grammar that a file spells at the beginning of the text that a reader gives, and writes what
-/// it answers; the answer is whether that was ok. What is written is `consumed ok` or `empty ok`, the place in characters
-/// and the forest's JSON; or `consumed error` or `empty error` and the error as Text.Parsec prints it, but for the four
-/// differences in docs/DECISIONS.md (*Errors of parsers*), with the text's `name` in it; or `P5 steps used up`, where no answer
-/// comes within `max_steps` turns, or `P6 empty repetition`, each on lines of its own. The registry has the predicates and
-/// builders that the file may name.
+/// Runs the start rule of the grammar that a file spells at the beginning of the text that a reader gives, and writes its answer. Answers whether that was
+/// ok. These are written: `consumed ok` or `empty ok`, the place in characters and the forest's JSON; or `consumed error` or `empty error` and the error as
+/// Text.Parsec prints it, but for the four differences in docs/PARSEC.md, with the text's `name` in it; or `P5 steps used up` if no answer comes within
+/// `max_steps` turns; or `P6 empty repetition`, each on lines of its own. The registry has the predicates and builders that the file may name.
 ///
-/// Both meters have to be fresh of failures. Any grammar is run. The faults come in the order of [`BenchFault`], without
-/// `Refused`, `ParseError`, `NotATrail` and `NotVerified`: a fault of the file before the reader is asked at all; then the
-/// reader's, then those of its bytes, and the writer's. Before the last, and where memory runs out, nothing is written.
+/// Neither meter must have failed yet. Any grammar is run. The faults come in the order of [`BenchFault`], without `Refused`, `ParseError`, `NotATrail` and
+/// `NotVerified`: a fault of the file before the reader is asked at all, then the reader's, those of its bytes, and the writer's. Before the last, and where
+/// memory runs out, nothing is written.
 #[tactic(auto, using(crate::proofs::ShownTexts::written_file, crate::proofs::ShownTexts::partly_written_file, crate::proofs::ShownTexts::spelled_file, crate::proofs::Loaded::no_file_fault, crate::proofs::Loaded::is_read))]
 pub fn probe_bytes<R: Read, W: Write>(
     alloc: Global,
@@ -100,8 +98,8 @@ pub fn probe_bytes<R: Read, W: Write>(
     }
 }
 
-/// Does what [`probe_bytes`] does by a grammar that is read already. The caller owes that the grammar has what it names in the registry, and
-/// that the table is its own. Faults of a file don't come.
+/// As [`probe_bytes`], for a grammar that is read already. The caller ensures that the registry has what the grammar names in it, and that the table is its
+/// own. Faults of a file don't occur.
 pub fn probe_grammar<R: Read, W: Write>(
     alloc: Global,
     placed: &PlacedGrammar,
@@ -166,8 +164,8 @@ pub fn probe_grammar<R: Read, W: Write>(
     }
 }
 
-/// Does what [`probe_grammar`] does with a text that is read already, while a watcher sees the run, so that what it tells is told of the run that is
-/// answered. The only faults are the writer's and that memory ran out, for the run or for the watcher, which comes before anything is written.
+/// As [`probe_grammar`], for a text that is read already. A watcher sees the run that is answered, so that what it reports is about that run. The only faults
+/// are the writer's, and running out of memory for the run or the watcher, which comes before anything is written.
 #[tactic(auto, using(crate::proofs::Watched::written_text, crate::proofs::Watched::partly_written_text))]
 pub fn probe_text<O: Watcher, W: Write>(
     alloc: Global,
@@ -194,7 +192,7 @@ pub fn probe_text<O: Watcher, W: Write>(
     write_shown(&shown, writer)
 }
 
-/// What is printed of a text, of which the run is watched.
+/// The page about a text, made while the run is watched.
 #[tactic(auto, using(crate::proofs::Shown::shown_text))]
 fn shown_of_watched<O: Watcher>(
     alloc: Global,
@@ -225,7 +223,7 @@ fn shown_of_watched<O: Watcher>(
     }
 }
 
-/// A probe in so many steps at most, in this reading, of a text of this name.
+/// A probe of a text with this name, in at most this many steps, in this reading.
 #[derive(Clone, Copy)]
 pub struct Probing<'a> {
     pub name: &'a str,
@@ -268,7 +266,7 @@ impl ShowsText for Probing<'_> {
     }
 }
 
-/// What is printed of an outcome.
+/// The page about an outcome.
 fn shown_of_outcome(alloc: Global, outcome: &Outcome, name: &str) -> Result<Shown, BenchFault>
     ensures accepted { IfOk result (λ shown. shown.accepted ≡ is_ok_outcome outcome.now) }
     ensures page { IfOk result (λ shown. shown.page.items ≡ outcome_text outcome.now name.now) }

@@ -4,39 +4,37 @@ ghost use Rattle.std.specs.Prelude.{◌≡◌, ◌≤◌, ◌<◌, ◌+◌, ◌*
 ghost use Rattle.std.specs.Str.{chars, IsUtf8};
 ghost use Rattle.pg_pred.specs.Offer.{offer_of};
 ghost use Rattle.pg_tree.specs.Meter.{saturating_sum};
-ghost use Rattle.pg_grammar_bench.specs.Files.{IsFaultOfFile, SpellsAny};
-ghost use Rattle.pg_grammar_bench.specs.Faults.{IsAfterFile, IsAfterReading, IsFileFault, IfFile, IfNotVerified, IfParseError, IfRefused, IsMemory, IsBeforeWriting};
+ghost use Rattle.pg_bench_grammar.specs.Files.{IsFaultOfFile, SpellsAny};
+ghost use Rattle.pg_bench_grammar.specs.Faults.{IsAfterFile, IsAfterReading, IsFileFault, IfFile, IfNotVerified, IfParseError, IfRefused, IsMemory, IsBeforeWriting};
 ghost use Rattle.pg_bench.specs.Parsed.{ReadsText};
 ghost use Rattle.pg_bench.specs.Replaying.{IsReplayed, IsPartlyReplayed, IsNoTrail, Replays, stop_text};
 ghost use Rattle.pg_tree.specs.Json.{json};
 ghost use Rattle.pg_table.specs.Tables.{ComesFrom};
 
-use crate::page::{forest_page, stop_page};
+use crate::outcome_page::{forest_page, stop_page};
 use crate::showing::{Shown, ShowsText, shown_of_files, write_shown};
-use pg_grammar_bench::BenchFault;
+use pg_bench_grammar::BenchFault;
+use pg_grammar_value::{Grammar, Trail};
 use pg_pred::Registry;
-use pg_replay::{ReplayFault, Stop, replay};
 use pg_table::Table;
 use pg_text::{LIMIT, Text};
-use pg_trails::{TrailFault, read_trail};
+use pg_trail::{TrailFault, read_trail};
+use pg_trail_replay::{ReplayFault, Stop, replay};
 use pg_tree::{Forest, Meter};
-use pg_value::{Grammar, Trail};
 use std::alloc::Global;
 use std::io::{Read, Write};
 
-/// Goes along a trail over the text that a reader gives, by the grammar that a file spells, and writes what comes of it: the JSON of
-/// the forest that the grammar derives with just this trail, and a line feed; or a line that says where and why the trail doesn't lead
-/// on, and then nothing is derived with it. The answer is whether there is a forest. No choice is made but the trail's, no set is looked
-/// at, and the grammar need not be accepted (ours).
+/// Replays a trail over the text that a reader gives, by the grammar that a file spells, and writes the result: the JSON of the forest that the grammar
+/// derives along this trail, and a line feed; or a line that says where and why the trail stops, and then nothing is derived along it. Answers whether there
+/// is a forest. All choices come from the trail, no set is used, and the grammar need not be accepted (ours).
 ///
-/// The line has the text's `name`, the line and the column, the fault and the number of the next item:
-/// `t:1:4: Y2 text doesn't fit, item 3 of 11`. The faults are Y1, the item doesn't fit what the grammar has there, its operators are
-/// those of no tree, or a rule is entered again before anything was taken; Y2, the text doesn't fit; Y3, characters or items are left
-/// over; Y4, the operator table doesn't admit a declaration.
+/// The line has the text's `name`, the line and the column, the fault and the number of the next item: `t:1:4: Y2 text doesn't fit, item 3 of 11`. The faults
+/// are: Y1, the item doesn't fit what the grammar has there, its operators belong to no tree, or a rule is entered again before anything was consumed; Y2,
+/// the text doesn't fit; Y3, characters or items are left over; Y4, the operator table doesn't admit a declaration.
 ///
-/// Both meters have to be fresh of failures. Any grammar is gone along. The faults come in the order of [`BenchFault`], without
-/// `Refused`, `NotVerified` and `ParseError`: a fault of the file before the reader is asked at all; then the reader's, those of its bytes, that the
-/// trail's bytes are no trail's JSON, and the writer's. Before the last, and where memory runs out, nothing is written.
+/// Neither meter must have failed yet. Any grammar is replayed. The faults come in the order of [`BenchFault`], without `Refused`, `NotVerified` and
+/// `ParseError`: a fault of the file before the reader is asked at all, then the reader's, those of its bytes, `NotATrail` if the trail's bytes aren't a
+/// trail's JSON, and the writer's. Before the last, and where memory runs out, nothing is written.
 pub fn replay_bytes<R: Read, W: Write>(
     alloc: Global,
     grammar: &[u8],
@@ -49,7 +47,7 @@ pub fn replay_bytes<R: Read, W: Write>(
     requires reader { reader.old.failed ≡ false }
     requires writer { writer.old.failed ≡ false }
 
-    // The whole of the reader's bytes is a text, and what comes of the trail on it was written.
+    // The whole of the reader's bytes is a text, and the result of the replay was written.
     ensures ok { IfOk result (IsReplayed (offer_of registry.now) grammar.now (R.remaining reader.old.inner) (R.remaining reader.new.inner)
         name.now trail.now (W.contents writer.old.inner) (W.contents writer.new.inner)) }
 
@@ -69,7 +67,7 @@ pub fn replay_bytes<R: Read, W: Write>(
         ReadsText (R.remaining reader.old.inner) (R.remaining reader.new.inner) (λ bytes. IsUtf8 bytes × (LIMIT < length (chars bytes))) }
     ensures not_a_trail { IsErrOf result BenchFault.NotATrail → IsNoTrail trail.now }
 
-    // No grammar is refused, no certificate judged, and that a trail doesn't lead on is no fault.
+    // No grammar is refused and no certificate judged, and a trail that stops is no fault.
     ensures unchecked { IfErr result (IfRefused (λ findings. ⊥)) }
     ensures parsed { IfErr result (IfParseError (λ error. ⊥)) }
     ensures no_certificate { IfErr result (IfNotVerified (λ verdict. ⊥)) }
@@ -96,7 +94,7 @@ pub fn replay_bytes<R: Read, W: Write>(
     }
 }
 
-/// The trail with these bytes, over a text of this name.
+/// The trail with these bytes, and the name of a text.
 #[derive(Drop)]
 struct Replaying<'a> {
     name: &'a str,
@@ -127,7 +125,7 @@ impl ShowsText for Replaying<'_> {
     }
 }
 
-/// What is printed of the trail over the text.
+/// The page about the replay over the text.
 fn shown_along(
     alloc: Global,
     grammar: &Grammar,
@@ -149,7 +147,7 @@ fn shown_along(
     }
 }
 
-/// What is printed of a forest to which a trail leads.
+/// The page of a forest that a trail leads to.
 fn shown_forest(alloc: Global, forest: &Forest) -> Result<Shown, BenchFault>
     ensures ok { IfOk result (λ shown. (shown.accepted ≡ true) × (shown.page.items ≡ json forest.now ++ codes "\n")) }
     ensures err { IfErr result IsMemory }
@@ -163,7 +161,7 @@ fn shown_forest(alloc: Global, forest: &Forest) -> Result<Shown, BenchFault>
     }
 }
 
-/// What is printed of the stop of a trail of so many items.
+/// The page about the stop of a trail; `all` is the number of its items.
 fn shown_stop(
     alloc: Global,
     text: &Text,

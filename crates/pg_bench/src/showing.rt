@@ -1,14 +1,14 @@
-//! What is shown of a text by a grammar: a page, and whether it says yes.
+//! What is shown of a text: a page, and whether the answer is yes.
 //!
-//! Probing and replaying differ in what they show of a text; the way there is the same, and stands here: the grammar file is read, and
-//! then the text, and only then is anything shown.
+//! Probing and replaying only differ in what they show of a text. The steps before that are here: the grammar file is read, then the text, and only then is
+//! anything shown.
 
 ghost use Rattle.std.specs.Prelude.{◌≡◌, ◌≤◌, ◌<◌, ◌+◌, ◌*◌, ℕ, List, Bool, false, true, length, IfOk, IfErr, OnOk, OnErr, IsErrOf};
 ghost use Rattle.std.specs.Str.{chars, IsUtf8};
 ghost use Rattle.std.specs.Io.KnownBytes.{Appends};
 ghost use Rattle.pg_pred.specs.Offer.{offer_of};
-ghost use Rattle.pg_value.specs.Fits.{Fits};
-ghost use Rattle.pg_value.specs.Grammar.{Grammar};
+ghost use Rattle.pg_grammar_value.specs.Fits.{Fits};
+ghost use Rattle.pg_grammar_value.specs.Grammar.{Grammar};
 ghost use Rattle.pg_table.specs.Tables.{initial, whole, ComesFrom};
 ghost use Rattle.pg_tree.specs.Bytes.{AppendsPrefix};
 ghost use Rattle.pg_tree.specs.Meter.{saturating_sum};
@@ -17,32 +17,32 @@ ghost use Rattle.pg_bench.specs.Refusals.{IsShowRefusal, IsBytesRefusal, IsShowF
 ghost use Rattle.pg_bench.specs.Showing.{IsShownBy, IsShownOf};
 
 use crate::input::{read_text, text_of};
-use pg_grammar_bench::{BenchFault, placed_of, write_page};
-use pg_making::PlacedGrammar;
+use pg_bench_grammar::{BenchFault, placed_of, write_page};
+use pg_file_making::PlacedGrammar;
+use pg_grammar_value::Grammar;
 use pg_pred::Registry;
 use pg_table::Table;
 use pg_text::{LIMIT, Text};
 use pg_tree::Meter;
-use pg_value::Grammar;
 use std::alloc::Global;
 use std::io::{Read, Write};
 
-/// What is printed of a text, and whether it says yes.
+/// The page about a text, and whether the answer is yes.
 #[derive(Drop)]
 pub struct Shown {
     pub accepted: bool,
     pub page: Vec<u8>,
 }
 
-/// What shows texts.
+/// A way to show texts.
 pub trait ShowsText {
-    /// What it may show of a text by a grammar, and whether that says yes.
+    /// What it may show of a text with a grammar, and whether the answer is yes.
     ghost Shows: { Self → Grammar → List ℕ → Bool → List ℕ → Type 0 };
 
-    /// When it may refuse for want of a trail.
+    /// When it may fail because there is no trail.
     ghost NoTrail: { Self → Type 0 };
 
-    /// Shows the text by the grammar under its initial table. The only other fault is that memory ran out.
+    /// Shows the text with the grammar under its initial table. Running out of memory is the only other fault.
     fn show(
         &self,
         alloc: Global,
@@ -58,7 +58,7 @@ pub trait ShowsText {
         ensures err { IfErr result (IsShowRefusal (NoTrail self.now)) };
 }
 
-/// Writes what is printed of a text, and says whether that is yes.
+/// Writes the page about a text, and answers whether it says yes.
 pub fn write_shown<W: Write>(shown: &Shown, writer: &mut Meter<W>) -> Result<bool, BenchFault>
     requires { writer.old.failed ≡ false }
     ensures accepted { IfOk result (λ accepted. accepted ≡ shown.now.accepted) }
@@ -74,7 +74,7 @@ pub fn write_shown<W: Write>(shown: &Shown, writer: &mut Meter<W>) -> Result<boo
     }
 }
 
-/// What is printed of the text that a reader gives, by the grammar that a file spells.
+/// The page about the text that a reader gives, with the grammar that a file spells.
 #[tactic(auto, using(crate::proofs::ShownTexts::file_refused, crate::proofs::ShownTexts::show_refused, crate::proofs::ShownTexts::shown_file))]
 pub fn shown_of_files<S: ShowsText, R: Read>(
     alloc: Global,
@@ -100,7 +100,7 @@ pub fn shown_of_files<S: ShowsText, R: Read>(
     }
 }
 
-/// What is printed of the text that a reader gives.
+/// The page about the text that a reader gives.
 #[tactic(auto, using(crate::proofs::ShownTexts::read_unshown, crate::proofs::ShownTexts::bytes_unshown))]
 pub fn shown_of_reader<S: ShowsText, R: Read>(
     alloc: Global,
@@ -122,7 +122,7 @@ pub fn shown_of_reader<S: ShowsText, R: Read>(
     shown_of(alloc, placed, registry, shower, bytes.as_slice())
 }
 
-/// What is printed of the text that bytes spell.
+/// The page about the text that the bytes spell.
 #[tactic(auto, using(crate::proofs::ShownTexts::shown_bytes, crate::proofs::ShownTexts::text_unshown, crate::proofs::ShownTexts::show_unshown))]
 fn shown_of<S: ShowsText>(
     alloc: Global,
@@ -140,7 +140,7 @@ fn shown_of<S: ShowsText>(
     shown_of_text(alloc, placed, registry, shower, &text)
 }
 
-/// What is printed of a text.
+/// The page about a text.
 #[tactic(auto, using(pg_table::proofs::Added::own_table))]
 fn shown_of_text<S: ShowsText>(
     alloc: Global,

@@ -1,12 +1,14 @@
-//! Runs from bytes to bytes, over readers and writers that are slow or fail, and with registries of their own.
+//! Runs from bytes to bytes, with readers and writers that are slow or fail, and with registries of their own. The step costs and what stands in trails
+//! are worked out by hand.
 
 ghost use Rattle.std.specs.Prelude.{◌≡◌, false};
 
+use crate::done::Done;
 use crate::parse::parse_bytes;
 use crate::probe::probe_bytes;
 use crate::replay::replay_bytes;
+use pg_bench_grammar::{BenchFault, accepted_of, check_bytes, print_bytes};
 use pg_class::Class;
-use pg_grammar_bench::{BenchFault, print_bytes};
 use pg_language::Reading;
 use pg_pred::{Builder, Predicate, Registry};
 use pg_tree::{Forest, Meter, Shape, Tree};
@@ -20,23 +22,36 @@ const GRAMMAR: &[u8] =
 
 const FOREST: &[u8] = b"[\"(\",\"7\",\")\"]\n";
 
-/// Gives the bytes of `(7)` one a call, and answers an error at one of its calls.
+/// A calculator whose texts declare operators.
+pub(crate) const CALCULATOR: &str = "operators \"+-*/<>=!\" gap \" \" reserved \"=\"; \
+    table infixl 6 \"+\"; table infixl 6 \"-\"; table infixl 7 \"*\"; table prefix 8 \"-\"; \
+    table postfix 9 \"!\"; table infixr 5 \">>\"; table infix 4 \"<\"; start main; \
+    main = seq(many(seq(declare(letter), skip(string(\";\")), ws)), sum); sum = expr(node, node, node, term); \
+    term = seq(choice(number, between(string(\"(\"), string(\")\"), sum)), ws); \
+    number = build(node, \"num\", text(label(many1(satisfy(digit)), \"number\"))); ws = skip(many(satisfy(\" \")));";
+
+/// The forest of `1+2*3`.
+pub(crate) const SUM_FOREST: &str = "[{\"kids\":[{\"kids\":[\"1\"],\"node\":\"num\"},\
+    {\"kids\":[{\"kids\":[\"2\"],\"node\":\"num\"},{\"kids\":[\"3\"],\"node\":\"num\"}],\"node\":\"*\"}],\"node\":\"+\"}]\n";
+
+/// Gives the bytes of a text one at a time, and answers an error at one of its calls.
 #[derive(Drop)]
-struct Drips {
-    calls: usize,
-    fails_at: usize,
+pub(crate) struct Drips<'a> {
+    pub(crate) left: &'a [u8],
+    pub(crate) calls: usize,
+    pub(crate) fails_at: usize,
 }
 
-impl Read for Drips {
+impl Read for Drips<'_> {
     fn read(&mut self, buf: &mut [u8]) -> io::Result<usize> {
-        let given = self.calls;
-        self.calls = given.saturating_add(1);
+        self.calls = self.calls.saturating_add(1);
         if self.calls == self.fails_at {
             return Err(io::Error::from(ErrorKind::Other));
         }
-        match (b"(7)".get(given), buf.first_mut()) {
-            (Some(byte), Some(place)) => {
-                *place = *byte;
+        match (self.left, buf.first_mut()) {
+            ([first, rest @ ..], Some(place)) => {
+                *place = *first;
+                self.left = rest;
                 Ok(1)
             }
             _ => Ok(0),
@@ -44,13 +59,13 @@ impl Read for Drips {
     }
 }
 
-/// Takes one byte a call, and once it has taken so many answers an error, or takes nothing.
+/// Accepts one byte at a time. After a number of bytes it answers an error, or accepts nothing.
 #[derive(Drop)]
-struct Narrow {
-    taken: [u8; 16],
-    count: usize,
-    most: usize,
-    errs: bool,
+pub(crate) struct Narrow {
+    pub(crate) taken: [u8; 160],
+    pub(crate) count: usize,
+    pub(crate) most: usize,
+    pub(crate) errs: bool,
 }
 
 impl Write for Narrow {
@@ -71,7 +86,7 @@ impl Write for Narrow {
     }
 }
 
-/// The outcome of a run with an empty registry; want of memory ends the test as its error, so that what is asserted is some other answer.
+/// The outcome of a run with an empty registry. Running out of memory ends the test, so what is asserted is another answer.
 fn parsed<R: Read, W: Write>(
     alloc: Global,
     grammar: &[u8],
@@ -91,12 +106,80 @@ fn parsed<R: Read, W: Write>(
     }
 }
 
+/// The outcome of a run with a registry. Running out of memory ends the test, so what is asserted is another answer.
+fn parsed_by<R: Read, W: Write>(
+    alloc: Global,
+    grammar: &[u8],
+    registry: &Registry,
+    reader: &mut Meter<R>,
+    writer: &mut Meter<W>,
+) -> Result<Result<Done, BenchFault>, AllocError>
+    requires reader { reader.old.failed ≡ false }
+    requires writer { writer.old.failed ≡ false }
+{
+    match parse_bytes(alloc, grammar, registry, reader, writer, false) {
+        Err(BenchFault::Memory) => Err(AllocError),
+        Ok(done) => Ok(Ok(done)),
+        Err(fault) => Ok(Err(fault)),
+    }
+}
+
+/// The registry with what the calculator names: letters and digits of ASCII, and a builder of nodes.
+pub(crate) fn calculator(alloc: Global) -> Result<Registry, Fail> {
+    let test = Box::new(alloc, |c: char| 'a' <= c && c <= 'z')?;
+    let class = Class::from_ranges(alloc, &[('a', 'z')])?;
+    let letter = Predicate::new(String::from_str(alloc, "letter")?, class, test);
+    let test = Box::new(alloc, |c: char| '0' <= c && c <= '9')?;
+    let class = Class::from_ranges(alloc, &[('0', '9')])?;
+    let digit = Predicate::new(String::from_str(alloc, "digit")?, class, test);
+    let make = Box::new(
+        alloc,
+        |alloc: Global, symbol: &str, kids: Forest| Tree::node(alloc, symbol, kids),
+    )?;
+    let node = Builder::new(String::from_str(alloc, "node")?, Shape::Symbol, make);
+    Ok(Registry::new(vec![in alloc; letter, digit]?, vec![in alloc; node]?)?)
+}
+
+/// The step cost of the grammar that a file spells, which is accepted.
+fn cost_of(alloc: Global, grammar: &[u8], registry: &Registry) -> Result<u64, Fail> {
+    let Ok(accepted) = accepted_of(alloc, grammar, registry) else {
+        return Err(Fail::new("not accepted"));
+    };
+    Ok(accepted.checked.cost())
+}
+
+/// How many steps the parse of a text took, and the bound on them. The text is derived.
+pub(crate) fn done_of(
+    alloc: Global,
+    grammar: &[u8],
+    registry: &Registry,
+    text: &str,
+) -> Result<Done, Fail> {
+    let mut reader = Meter::new(text.as_bytes());
+    let mut writer = Meter::new(Vec::<u8>::new(alloc));
+    let Ok(done) = parsed_by(alloc, grammar, registry, &mut reader, &mut writer)? else {
+        return Err(Fail::new("no parse"));
+    };
+    Ok(done)
+}
+
+/// A grammar in which each of so many rules runs the one below twice, and an `x` stands behind them.
+pub(crate) fn doublings(alloc: Global, count: usize) -> Result<String, Fail> {
+    let mut text = format!(in alloc; "start a; a = seq(e{count}, satisfy(\"x\")); e0 = seq();")?;
+    for below in 0..count {
+        let rule = below.saturating_add(1);
+        text = format!(in alloc; "{text} e{rule} = seq(e{below}, e{below});")?;
+    }
+    Ok(text)
+}
+
 /// The outcome of a run whose reader answers an error at its first call, how often the reader was asked, and what was written.
 fn asked(
     alloc: Global,
     grammar: &[u8],
 ) -> Result<(Result<(), BenchFault>, usize, Vec<u8>), AllocError> {
     let mut reader = Meter::new(Drips {
+        left: b"(7)".as_slice(),
         calls: 0,
         fails_at: 1,
     });
@@ -155,6 +238,7 @@ fn does_not_ask_the_reader_where_an_operand_can_be_empty(rt: HostRuntime) -> Res
     let registry = Registry::new(Vec::new(alloc), vec![in alloc; pair]?)?;
     let grammar = b"operators \"+\" gap \" \"; start a; a = expr(pair, pair, pair, eof);";
     let mut reader = Meter::new(Drips {
+        left: b"(7)".as_slice(),
         calls: 0,
         fails_at: 1,
     });
@@ -201,12 +285,18 @@ fn writes_nothing_where_the_text_does_not_parse(rt: HostRuntime) -> Result<(), F
 
 #[test]
 fn writes_nothing_where_the_reader_fails(rt: HostRuntime) -> Result<(), Fail> {
-    for fails_at in 1..6 {
-        let mut reader = Meter::new(Drips { calls: 0, fails_at });
+    let registry = calculator(rt.alloc())?;
+    let grammar = CALCULATOR.as_bytes();
+    for fails_at in 1..8 {
+        let mut reader = Meter::new(Drips {
+            left: b"1+2*3".as_slice(),
+            calls: 0,
+            fails_at,
+        });
         let mut writer = Meter::new(Vec::<u8>::new(rt.alloc()));
-        let outcome = parsed(rt.alloc(), GRAMMAR, &mut reader, &mut writer)?;
+        let outcome = parsed_by(rt.alloc(), grammar, &registry, &mut reader, &mut writer)?;
         let written = writer.into_inner();
-        if fails_at < 5 {
+        if fails_at < 7 {
             assert!(rt;
                 matches!(outcome, Err(BenchFault::Reader)),
                 "at call {fails_at}"
@@ -214,7 +304,7 @@ fn writes_nothing_where_the_reader_fails(rt: HostRuntime) -> Result<(), Fail> {
             assert!(rt; written.is_empty(), "at call {fails_at}");
         } else {
             assert!(rt; outcome.is_ok());
-            assert!(rt; written.as_slice() == FOREST);
+            assert!(rt; written.as_slice() == SUM_FOREST.as_bytes());
         }
     }
     Ok(())
@@ -222,27 +312,29 @@ fn writes_nothing_where_the_reader_fails(rt: HostRuntime) -> Result<(), Fail> {
 
 #[test]
 fn writes_a_prefix_where_the_writer_fails(rt: HostRuntime) -> Result<(), Fail> {
-    for most in 0..15 {
+    let registry = calculator(rt.alloc())?;
+    let grammar = CALCULATOR.as_bytes();
+    for most in 0..132 {
         for errs in [false, true] {
-            let mut reader = Meter::new(b"(7)".as_slice());
+            let mut reader = Meter::new(b"1+2*3".as_slice());
             let mut writer = Meter::new(Narrow {
-                taken: [0; 16],
+                taken: [0; 160],
                 count: 0,
                 most,
                 errs,
             });
-            let outcome = parsed(rt.alloc(), GRAMMAR, &mut reader, &mut writer)?;
-            if most < 14 {
+            let outcome = parsed_by(rt.alloc(), grammar, &registry, &mut reader, &mut writer)?;
+            if most < 130 {
                 assert!(rt; matches!(outcome, Err(BenchFault::Writer)), "after {most}");
             } else {
                 assert!(rt; outcome.is_ok());
             }
             let narrow = writer.into_inner();
-            assert_eq!(rt; narrow.count, most.min(14));
+            assert_eq!(rt; narrow.count, most.min(130));
             let same = narrow
                 .taken
                 .iter()
-                .zip(FOREST)
+                .zip(SUM_FOREST.as_bytes())
                 .take(most)
                 .all(|(a, b)| a == b);
             assert!(rt; same, "after {most}");
@@ -275,7 +367,7 @@ fn parses_by_the_predicates_and_builders(rt: HostRuntime) -> Result<(), Fail> {
     Ok(())
 }
 
-/// A registry with one builder that joins, whose function always fails: a run makes its trees by the shape.
+/// A registry with a single builder, whose function always fails. It joins, so a run makes its trees by the shape.
 fn joining(alloc: Global) -> Result<Registry, Fail> {
     let make = Box::new(
         alloc,
@@ -332,6 +424,221 @@ fn prints_the_canonical_form(rt: HostRuntime) -> Result<(), Fail> {
         outcome => assert!(rt; outcome.is_ok()),
     }
     let wanted = b"start a;\na = seq(eof, many(eof));\n".as_slice();
+    assert!(rt; writer.into_inner().as_slice() == wanted);
+    Ok(())
+}
+
+#[test]
+fn parses_by_operators_of_the_table_and_of_the_text(rt: HostRuntime) -> Result<(), Fail> {
+    let alloc = rt.alloc();
+    let registry = calculator(alloc)?;
+    let declared = "[{\"kids\":[\"infixl\",\"7\",\"<+>\"],\"node\":\"declare\"},\
+        {\"kids\":[{\"kids\":[{\"kids\":[\"1\"],\"node\":\"num\"},{\"kids\":[\"2\"],\"node\":\"num\"}],\"node\":\"<+>\"},\
+        {\"kids\":[\"3\"],\"node\":\"num\"}],\"node\":\"+\"}]\n";
+    for (text, wanted) in [("1+2*3", SUM_FOREST), ("infixl 7 <+>; 1 <+> 2+3", declared)] {
+        let mut reader = Meter::new(text.as_bytes());
+        let mut writer = Meter::new(Vec::<u8>::new(alloc));
+        let outcome = parsed_by(
+            alloc,
+            CALCULATOR.as_bytes(),
+            &registry,
+            &mut reader,
+            &mut writer,
+        )?;
+        assert!(rt; outcome.is_ok(), "{text}");
+        assert!(rt;
+            writer.into_inner().as_slice() == wanted.as_bytes(),
+            "{text}"
+        );
+    }
+    let mut reader = Meter::new(b"".as_slice());
+    let mut writer = Meter::new(Vec::<u8>::new(alloc));
+    let outcome = parsed_by(
+        alloc,
+        CALCULATOR.as_bytes(),
+        &registry,
+        &mut reader,
+        &mut writer,
+    )?;
+    let Err(BenchFault::ParseError(error)) = outcome else {
+        return Err(Fail::new("no parse error"));
+    };
+    assert_eq!(rt; error.place, 0);
+    assert!(rt; writer.into_inner().is_empty());
+    Ok(())
+}
+
+#[test]
+fn tells_the_step_cost(rt: HostRuntime) -> Result<(), Fail> {
+    let alloc = rt.alloc();
+    let registry = calculator(alloc)?;
+    let digits = b"start a; a = text(many(satisfy(digit)));";
+    assert_eq!(rt; cost_of(alloc, digits, &registry)?, 6_000);
+    assert_eq!(rt; cost_of(alloc, GRAMMAR, &registry)?, 6_000);
+    assert_eq!(rt; cost_of(alloc, CALCULATOR.as_bytes(), &registry)?, 640_098);
+    for (count, cost) in [(20, 192_937_984), (24, 3_623_878_656)] {
+        let grammar = doublings(alloc, count)?;
+        assert_eq!(rt;
+            cost_of(alloc, grammar.as_bytes(), &registry)?,
+            cost,
+            "{count}"
+        );
+    }
+    Ok(())
+}
+
+#[test]
+fn keeps_within_the_step_cost(rt: HostRuntime) -> Result<(), Fail> {
+    let alloc = rt.alloc();
+    let registry = calculator(alloc)?;
+    let grammar = CALCULATOR.as_bytes();
+    let sum = done_of(alloc, grammar, &registry, "1+2*3")?;
+    assert_eq!(rt; sum.cost, 640_098);
+    assert!(rt; sum.steps <= 3_840_588);
+    let mut text = String::new(alloc);
+    for _ in 0..200 {
+        text.push('(')?;
+    }
+    text.push('1')?;
+    for _ in 0..200 {
+        text.push(')')?;
+    }
+    let deep = done_of(alloc, grammar, &registry, text.as_str())?;
+    assert!(rt; deep.steps <= 257_319_396);
+    Ok(())
+}
+
+#[test]
+fn tells_whether_a_registry_fits(rt: HostRuntime) -> Result<(), Fail> {
+    let alloc = rt.alloc();
+    let registry = calculator(alloc)?;
+    let test = Box::new(alloc, |c: char| c == '0')?;
+    let class = Class::from_ranges(alloc, &[('0', '0')])?;
+    let zero = Predicate::new(String::from_str(alloc, "digit")?, class, test);
+    let other = Registry::new(vec![in alloc; zero]?, Vec::new(alloc))?;
+    let Ok(accepted) = accepted_of(alloc, b"start a; a = satisfy(digit);", &registry) else {
+        return Err(Fail::new("not accepted"));
+    };
+    assert!(rt; accepted.checked.grammar().fits(&registry));
+    assert!(rt; !accepted.checked.grammar().fits(&other));
+    Ok(())
+}
+
+#[test]
+fn replays_a_trail_or_tells_where_it_stops(rt: HostRuntime) -> Result<(), Fail> {
+    let alloc = rt.alloc();
+    let registry = calculator(alloc)?;
+    let rest =
+        "{\"ops\":[[\"infix\",\"+\"],[\"infix\",\"*\"]]},{\"alt\":1},{\"rounds\":0},{\"rounds\":0},\
+        {\"alt\":1},{\"rounds\":0},{\"rounds\":0},{\"alt\":1},{\"rounds\":0},{\"rounds\":0}";
+    for (text, first, more, wanted) in [
+        ("1+2*3", "{\"rounds\":0}", "", SUM_FOREST),
+        (
+            "1+2*3",
+            "{\"rounds\":1}",
+            "",
+            "t:1:1: Y2 text doesn't fit, item 2 of 11\n",
+        ),
+        (
+            "1+2*3",
+            "{\"alt\":1}",
+            "",
+            "t:1:1: Y1 item doesn't fit, item 1 of 11\n",
+        ),
+        (
+            "1+2*3",
+            "{\"rounds\":0}",
+            ",{\"alt\":1}",
+            "t:1:6: Y3 text or items left over, item 12 of 12\n",
+        ),
+        (
+            "infixl 6 =; 1",
+            "{\"rounds\":1}",
+            "",
+            "t:1:1: Y4 declaration not admitted, item 2 of 11\n",
+        ),
+    ] {
+        let trail = format!(in alloc; "[{first},{rest}{more}]")?;
+        let mut reader = Meter::new(text.as_bytes());
+        let mut page = Meter::new(Vec::<u8>::new(alloc));
+        let replayed = replay_bytes(
+            alloc,
+            CALCULATOR.as_bytes(),
+            &registry,
+            "t",
+            &mut reader,
+            trail.as_bytes(),
+            &mut page,
+        );
+        match replayed {
+            Err(BenchFault::Memory) => Err(AllocError)?,
+            outcome => assert!(rt; matches!(outcome, Ok(_)), "{wanted}"),
+        }
+        assert!(rt;
+            page.into_inner().as_slice() == wanted.as_bytes(),
+            "{wanted}"
+        );
+    }
+    Ok(())
+}
+
+#[test]
+fn probes_a_grammar_that_is_refused(rt: HostRuntime) -> Result<(), Fail> {
+    let alloc = rt.alloc();
+    let registry = Registry::new(Vec::new(alloc), Vec::new(alloc))?;
+    let grammar = b"start a; a = choice(option(satisfy(\"x\")), satisfy(\"y\"));";
+    let mut reader = Meter::new(b"y".as_slice());
+    let mut writer = Meter::new(Vec::<u8>::new(alloc));
+    let outcome = probe_bytes(
+        alloc,
+        grammar,
+        &registry,
+        "t",
+        &mut reader,
+        &mut writer,
+        1000,
+        Reading::Library,
+    );
+    match outcome {
+        Err(BenchFault::Memory) => Err(AllocError)?,
+        outcome => assert!(rt; matches!(outcome, Ok(true))),
+    }
+    let wanted = b"empty ok\nplace 0\n[]\n".as_slice();
+    assert!(rt; writer.into_inner().as_slice() == wanted);
+    Ok(())
+}
+
+#[test]
+fn writes_the_certificate(rt: HostRuntime) -> Result<(), Fail> {
+    let alloc = rt.alloc();
+    let registry = calculator(alloc)?;
+    let grammar = b"start a; a = text(many(satisfy(digit)));";
+    let mut writer = Meter::new(Vec::<u8>::new(alloc));
+    match check_bytes(alloc, grammar, &registry, &mut writer, true) {
+        Err(BenchFault::Memory) => Err(AllocError)?,
+        outcome => assert!(rt; matches!(outcome, Ok(true))),
+    }
+    let wanted =
+        b"{\"rules\":[{\"first\":[{\"class\":[[48,57]]}],\"follow\":[\"end\"],\"h\":6,\"nullable\":true,\"rank\":0,\"rule\":\"a\"}]}\n".as_slice();
+    assert!(rt; writer.into_inner().as_slice() == wanted);
+    Ok(())
+}
+
+#[test]
+fn prints_an_option(rt: HostRuntime) -> Result<(), Fail> {
+    let alloc = rt.alloc();
+    let registry = Registry::new(Vec::new(alloc), Vec::new(alloc))?;
+    let mut writer = Meter::new(Vec::<u8>::new(alloc));
+    match print_bytes(
+        alloc,
+        b"start a; a = option(satisfy(\"x\"));",
+        &registry,
+        &mut writer,
+    ) {
+        Err(BenchFault::Memory) => Err(AllocError)?,
+        outcome => assert!(rt; outcome.is_ok()),
+    }
+    let wanted = b"start a;\na = choice(satisfy(\"x\"), seq());\n".as_slice();
     assert!(rt; writer.into_inner().as_slice() == wanted);
     Ok(())
 }

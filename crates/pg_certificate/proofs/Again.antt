@@ -9,9 +9,9 @@ use Rattle.json.proofs.Printed.Utf8.{IsUtf8-are_ascii}
 use Rattle.serde_json.proofs.Numbers.{number_of-decimal}
 use Rattle.serde_json.specs.Data.{Data}
 use Rattle.pg_class.specs.Ranges.{Range, IsRange, IsClass}
-use Rattle.pg_form.specs.WordItems.{word_name}
-use Rattle.pg_form.specs.declared.word_item.WordItem.{WordItem}
-use Rattle.pg_value.specs.Grammar.{Grammar}
+use Rattle.pg_grammar_form.specs.WordItems.{word_name}
+use Rattle.pg_grammar_form.specs.declared.word_item.WordItem.{WordItem}
+use Rattle.pg_grammar_value.specs.Grammar.{Grammar}
 use Rattle.pg_certificate.specs.declared.certificate.ClaimedStart.{ClaimedStart}
 use Rattle.pg_certificate.specs.declared.certificate.ClaimedStart.TheVariants.{Class, Key, Word, Operator, End}
 use Rattle.pg_certificate.specs.declared.certificate.RuleClaim.{RuleClaim}
@@ -94,7 +94,7 @@ certificate_written : (g : Grammar) (claims : List RuleClaim) → AllByRecursion
 certificate_written g claims h =
     lone_written 6 (codes "rules") _ (IsUtf8-are_ascii (codes "rules") refl) (array_written 5 _ (each_written 5 (claim_value g) claims (all_claims_written g claims h)))
 
--- ---- and says what it was written for
+-- ---- the value stands for what it was written for
 
 ranges_said : (ranges : List Range) → IsClass ranges → Each SaysRange (map range_value ranges) ranges
 ranges_said [] h = tt

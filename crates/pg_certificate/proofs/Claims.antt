@@ -2,12 +2,12 @@
 use Rattle.std.proofs.Common.{◌≡◌, ℕ, Bool, List, map, codes, Some, Ok, Err, Result, IsErrOf, ap, sym, ◌∙◌, subst}
 use Rattle.serde_json.specs.Data.{Data}
 use Rattle.serde_json.specs.Read.{read}
-use Rattle.pg_form.specs.Names.{Name}
-use Rattle.pg_value.specs.Grammar.{Grammar, rule_name}
+use Rattle.pg_grammar_form.specs.Names.{Name}
+use Rattle.pg_grammar_value.specs.Grammar.{Grammar, rule_name}
 use Rattle.pg_certificate.specs.declared.certificate.ClaimedStart.{ClaimedStart}
 use Rattle.pg_certificate.specs.declared.certificate.RuleClaim.{RuleClaim}
-use Rattle.pg_certificate.specs.declared.fault.CertificateFault.{CertificateFault}
-use Rattle.pg_certificate.specs.declared.fault.CertificateFault.TheVariants.{NotJson, NotACertificate, Memory}
+use Rattle.pg_certificate.specs.declared.certificate_fault.CertificateFault.{CertificateFault}
+use Rattle.pg_certificate.specs.declared.certificate_fault.CertificateFault.TheVariants.{NotJson, NotACertificate, Memory}
 use Rattle.pg_certificate.specs.Claims.{key_count, SaysEach, SaysUnder, SaysFlag, SaysNumber, SaysRank, SaysText, SaysStart}
 use Rattle.pg_certificate.specs.Certificates.{claim_rule, SaysClaim, SaysRules, SaysCertificate, IsCertificateText}
 use Rattle.pg_certificate.specs.Readings.{Gives}
@@ -76,12 +76,12 @@ not_rules g d claims h differ other said = differ (ap (map claim_rule) (sym (h.1
 
 -- ---- texts
 
--- a text whose value is no certificate is that of none
+-- a text whose value is no certificate is the text of no certificate
 pub no_text_of : (g : Grammar) (bytes : List ℕ) (d : Data) → read bytes ≡ Some d → ((other : List RuleClaim) → SaysCertificate g d other → ⊥)
     → (claims : List RuleClaim) → IsCertificateText g bytes claims → ⊥
 no_text_of g bytes d is none claims (e, json, said) = none claims (subst (λ x. SaysCertificate g x claims) (same_data e d (sym json.1 ∙ is)) said)
 
--- and so is one of which the readers say so
+-- a text for which the readers report that is one of these
 pub not_said : (g : Grammar) (bytes : List ℕ) (d : Data) (r : Result (List RuleClaim) CertificateFault) → read bytes ≡ Some d → Gives (SaysCertificate g) d r
     → IsErrOf r NotACertificate → (claims : List RuleClaim) → IsCertificateText g bytes claims → ⊥
 not_said g bytes d (Ok found) is h refused = cc

@@ -4,7 +4,7 @@ use Rattle.std.specs.List.{Any, slice_index_or}
 use Rattle.serde_json.specs.Data.{Data}
 use Rattle.pg_class.specs.Ranges.{Range, IsClass, SameCharacters}
 use Rattle.pg_class.proofs.Unique.{same_class}
-use Rattle.pg_certificate.specs.declared.fault.CertificateFault.{CertificateFault}
+use Rattle.pg_certificate.specs.declared.certificate_fault.CertificateFault.{CertificateFault}
 use Rattle.pg_certificate.specs.Claims.{SaysEach, SaysRange, SaysClass, IsClassAsIs}
 use Rattle.pg_certificate.specs.Readings.{Gives}
 use Rattle.pg_certificate.proofs.Found.{refused_in}

@@ -1,8 +1,8 @@
 -- What readers answer, carried from parts to wholes.
 use Rattle.std.proofs.Common.{◌≡◌, ◌+◌, ◌<◌, ◌≤◌, ℕ, zero, suc, List, [], ◌∷◌, ◌++◌, map, take, get_or, length, Ok, Err, refl, ap, ap₂, sym, ◌∙◌, subst, arith}
 use Rattle.std.proofs.lemmas.List.{map-append, take_all, take_more}
-use Rattle.pg_certificate.specs.declared.fault.CertificateFault.{CertificateFault}
-use Rattle.pg_certificate.specs.declared.fault.CertificateFault.TheVariants.{NotJson, NotACertificate, Memory}
+use Rattle.pg_certificate.specs.declared.certificate_fault.CertificateFault.{CertificateFault}
+use Rattle.pg_certificate.specs.declared.certificate_fault.CertificateFault.TheVariants.{NotJson, NotACertificate, Memory}
 use Rattle.pg_certificate.specs.Claims.{Each}
 use Rattle.pg_certificate.specs.Readings.{Gives, GivesEach}
 

@@ -8,7 +8,7 @@ use Rattle.serde_json.specs.Find.{as_array, as_object, as_str, get}
 use Rattle.serde_json.specs.View.{items_of, items_view, members_view}
 use Rattle.serde_json.specs.declared.value.Value.{Value}
 use Rattle.serde_json.proofs.Views.{items_len-items_view, members_len-members_view}
-use Rattle.pg_certificate.specs.declared.fault.CertificateFault.{CertificateFault}
+use Rattle.pg_certificate.specs.declared.certificate_fault.CertificateFault.{CertificateFault}
 use Rattle.pg_certificate.specs.Claims.{Each, key_count, SaysEach, SaysUnder, SaysText, two_values}
 use Rattle.pg_certificate.specs.Readings.{Gives}
 use Rattle.pg_certificate.proofs.Found.{refused_in}

@@ -1,8 +1,8 @@
 -- Claims of the rules of a grammar, by their names.
 use Rattle.std.proofs.Common.{◌≡◌, ◌+◌, ◌<◌, ◌≤◌, ℕ, zero, suc, List, [], ◌∷◌, ◌++◌, map, get_or, length, ap, sym, ◌∙◌, arith}
-use Rattle.pg_form.specs.Names.{Name}
-use Rattle.pg_value.specs.Grammar.{rule_name}
-use Rattle.pg_value.specs.declared.grammar.Rule.{Rule}
+use Rattle.pg_grammar_form.specs.Names.{Name}
+use Rattle.pg_grammar_value.specs.Grammar.{rule_name}
+use Rattle.pg_grammar_value.specs.declared.grammar.Rule.{Rule}
 use Rattle.pg_certificate.specs.Certificates.{claim_rule}
 use Rattle.pg_certificate.specs.declared.certificate.RuleClaim.{RuleClaim}
 

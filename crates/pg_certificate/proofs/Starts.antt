@@ -8,10 +8,10 @@ use Rattle.serde_json.specs.Data.{Data, null, boolean, number, string, array, ob
 use Rattle.serde_json.specs.Events.{members_len}
 use Rattle.serde_json.specs.Find.{as_str, get, get_member}
 use Rattle.pg_class.specs.Ranges.{Range}
-use Rattle.pg_value.specs.Grammar.{Grammar}
+use Rattle.pg_grammar_value.specs.Grammar.{Grammar}
 use Rattle.pg_certificate.specs.declared.certificate.ClaimedStart.{ClaimedStart}
 use Rattle.pg_certificate.specs.declared.certificate.ClaimedStart.TheVariants.{Class, Key, Word, Operator, End}
-use Rattle.pg_certificate.specs.declared.fault.CertificateFault.{CertificateFault}
+use Rattle.pg_certificate.specs.declared.certificate_fault.CertificateFault.{CertificateFault}
 use Rattle.pg_certificate.specs.Claims.{key_count, SaysClass, SaysKey, SaysWord, SaysStart}
 use Rattle.pg_certificate.specs.Readings.{Gives}
 use Rattle.pg_certificate.proofs.Found.{refused_in}

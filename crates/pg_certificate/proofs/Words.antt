@@ -3,11 +3,11 @@ use Rattle.std.proofs.Common.{◌≡◌, ℕ, zero, suc, true, false, List, [], 
 use Rattle.std.specs.List.{AllByRecursion}
 use Rattle.std.specs.Str.{bytes_eq}
 use Rattle.std.proofs.lemmas.Slice.Eq.{bytes_eq-Decides}
-use Rattle.pg_form.specs.Names.{Name, AreDistinct}
-use Rattle.pg_form.specs.WordItems.{word_name}
-use Rattle.pg_form.specs.declared.word_item.WordItem.{WordItem}
+use Rattle.pg_grammar_form.specs.Names.{Name, AreDistinct}
+use Rattle.pg_grammar_form.specs.WordItems.{word_name}
+use Rattle.pg_grammar_form.specs.declared.word_item.WordItem.{WordItem}
 use Rattle.serde_json.specs.Data.{Data}
-use Rattle.pg_value.specs.Grammar.{Grammar}
+use Rattle.pg_grammar_value.specs.Grammar.{Grammar}
 use Rattle.pg_certificate.specs.Claims.{SaysText, SaysWord}
 use Rattle.pg_certificate.specs.Readings.{Gives}
 

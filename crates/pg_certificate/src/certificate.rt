@@ -1,12 +1,12 @@
 //! What a certificate claims, rule by rule.
 //!
-//! Nothing is promised of a claim: who made it may have made it up. Starts stand in the order in which they were claimed, and as
-//! often.
+//! A claim guarantees nothing: its maker may have made it up. Starts keep the order in which they were claimed, and any
+//! repetition.
 
 ghost use Rattle.std.specs.Prelude.{◌≡◌, [], ◌∷◌, ◌++◌, OnErr, OnOk};
 
 use pg_class::Class;
-use pg_form::WordId;
+use pg_grammar_form::WordId;
 use pg_text::Characters;
 use std::alloc::{AllocError, Global};
 use std::marker::Model;
@@ -42,7 +42,7 @@ impl Model for ClaimedStarts {
 }
 
 impl ClaimedStarts {
-    /// No starts. It takes no memory.
+    /// No starts. It allocates no memory.
     pub fn new(alloc: Global) -> ClaimedStarts
         ensures { result ≡ [] }
     {
@@ -51,7 +51,7 @@ impl ClaimedStarts {
         }
     }
 
-    /// Puts a start at the end. The only error is that memory ran out: the starts are then as they were, and the new one is gone.
+    /// Appends a start. The only error is that memory ran out: the starts are then unchanged, and the new one is dropped.
     pub fn push(&mut self, start: ClaimedStart) -> Result<(), AllocError>
         ensures ok { OnOk result (self.new ≡ self.old ++ start ∷ []) }
         ensures err { OnErr result (self.new ≡ self.old) }
@@ -68,24 +68,24 @@ impl ClaimedStarts {
     }
 }
 
-/// What is claimed of a rule.
+/// The claims about a rule.
 #[derive(Drop)]
 pub struct RuleClaim {
     /// The name of the rule.
     pub rule: Characters,
     /// Whether it can succeed on nothing.
     pub nullable: bool,
-    /// Its rank: above that of each rule whose use is reached in its body before anything is consumed.
+    /// Its rank, which is above the rank of each rule that its body uses before anything is consumed.
     pub rank: u32,
-    /// The step cost of its body, in turns of the machine's loop: what a run of it that consumes nothing takes at most.
+    /// The step cost of its body, in turns of the machine's loop: the most that a run of it takes that consumes nothing.
     pub cost: u64,
     /// What can begin what it reads.
     pub first: ClaimedStarts,
-    /// What can follow what it reads, all its uses together.
+    /// What can follow it, at any of its uses.
     pub follow: ClaimedStarts,
 }
 
-/// What is claimed of the rules of a grammar, seen as the list of the claims (ours).
+/// The claims about the rules of a grammar. Contracts see it as the list of the claims (ours).
 #[derive(Drop)]
 pub struct Certificate {
     claims: Vec<RuleClaim>,
@@ -101,7 +101,7 @@ impl Model for Certificate {
 }
 
 impl Certificate {
-    /// The certificate with no claim. It takes no memory.
+    /// The certificate without claims. It allocates no memory.
     pub fn new(alloc: Global) -> Certificate
         ensures { result ≡ [] }
     {
@@ -110,7 +110,7 @@ impl Certificate {
         }
     }
 
-    /// Puts a claim at the end. The only error is that memory ran out: the certificate is then as it was, and the claim is gone.
+    /// Appends a claim. The only error is that memory ran out: the certificate is then unchanged, and the claim is dropped.
     pub fn push(&mut self, claim: RuleClaim) -> Result<(), AllocError>
         ensures ok { OnOk result (self.new ≡ self.old ++ claim ∷ []) }
         ensures err { OnErr result (self.new ≡ self.old) }

@@ -1,13 +1,13 @@
-//! Certificates: what shows that a grammar is accepted, claimed by whoever made them; written as JSON, and read again.
+//! Certificates: claims which show that a grammar is accepted, made by anyone; written as JSON, and read again.
 //!
-//! A certificate claims of each rule whether it is nullable, its rank, its step cost, and its first and its follow set
-//! (`certificate`). Its text is compact (`write`). A file of one may come from anywhere: `serde_json` reads the value, and what is
-//! here compares it with what a certificate of the grammar is (`read`, `read_start`, `read_class`). Whether claims hold is judged
+//! A certificate claims for each rule whether it is nullable, its rank, its step cost, and its first and its follow set
+//! (`certificate`). Its text is compact (`write`). A file of one may come from anywhere: `serde_json` reads the value, and this
+//! crate compares it with the form of a certificate of the grammar (`read`, `read_start`, `read_class`). Whether claims hold is judged
 //! elsewhere.
 #![tactic(auto)]
 
 mod certificate;
-mod fault;
+mod certificate_fault;
 mod laws;
 mod member;
 mod read;
@@ -17,7 +17,7 @@ mod write;
 mod write_start;
 
 pub use certificate::{Certificate, ClaimedStart, ClaimedStarts, RuleClaim};
-pub use fault::CertificateFault;
+pub use certificate_fault::CertificateFault;
 pub use laws::written_certificates_are_read;
 pub use read::read_certificate;
 pub use write::write_certificate;

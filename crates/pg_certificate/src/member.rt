@@ -1,4 +1,4 @@
-//! Numbers, marks and texts, in a JSON value and under a key of an object.
+//! Numbers, marks and texts, as JSON values and under keys of objects.
 
 ghost use Rattle.std.specs.Prelude.{◌≡◌, ◌↔◌, IsTrue};
 ghost use Rattle.serde_json.specs.Data.{string};
@@ -6,12 +6,12 @@ ghost use Rattle.serde_json.specs.View.{view};
 ghost use Rattle.pg_certificate.specs.Claims.{key_count, SaysUnder, SaysFlag, SaysNumber, SaysRank, SaysText};
 ghost use Rattle.pg_certificate.specs.Readings.{Gives};
 
-use crate::fault::CertificateFault;
+use crate::certificate_fault::CertificateFault;
 use pg_text::{Characters, characters_of};
 use serde_json::Value;
 use std::alloc::Global;
 
-/// How many keys an object has; none for what is no object.
+/// How many keys an object has; 0 for any other value.
 pub fn key_count(value: &Value) -> usize
     ensures { result ≡ key_count (view value.now) }
 {
@@ -21,7 +21,7 @@ pub fn key_count(value: &Value) -> usize
     }
 }
 
-/// The mark under the key.
+/// The `true` or `false` under the key.
 pub fn flag_under(value: &Value, key: &str) -> Result<bool, CertificateFault>
     ensures { Gives (SaysUnder key.now SaysFlag) (view value.now) result }
 {
@@ -70,7 +70,7 @@ fn read_flag(value: &Value) -> Result<bool, CertificateFault>
     }
 }
 
-/// The number that the value is.
+/// The value as a number.
 pub fn read_number(value: &Value) -> Result<u64, CertificateFault>
     ensures { Gives SaysNumber (view value.now) result }
 {
@@ -90,7 +90,7 @@ fn read_rank(value: &Value) -> Result<u32, CertificateFault>
     Ok(number as u32)
 }
 
-/// The text that the value is.
+/// The value as a text.
 #[tactic(auto, using(crate::proofs::Parts::a_string))]
 pub fn read_text(alloc: Global, value: &Value) -> Result<Characters, CertificateFault>
     ensures { Gives SaysText (view value.now) result }

@@ -1,29 +1,29 @@
-//! From bytes to a certificate of a grammar.
+//! Bytes to a certificate of a grammar.
 //!
-//! `serde_json` reads the value; what is here and beside it takes it apart, one function for each kind of value that a certificate
-//! consists of. None calls itself, so no stack grows with the depth of a value.
+//! `serde_json` reads the value. This module and those beside it take the value apart, with one function for each kind of value in a
+//! certificate. None is recursive, so no stack grows with the depth of a value.
 
 ghost use Rattle.std.specs.Prelude.{◌≡◌, ◌↔◌, ℕ, List, map, IfOk, IsErrOf, IsTrue};
 ghost use Rattle.std.specs.Str.{encode_utf8_all};
 ghost use Rattle.serde_json.specs.Data.{Data};
 ghost use Rattle.serde_json.specs.Errors.{IsMemory};
 ghost use Rattle.serde_json.specs.View.{view};
-ghost use Rattle.pg_value.specs.Grammar.{rule_name};
+ghost use Rattle.pg_grammar_value.specs.Grammar.{rule_name};
 ghost use Rattle.pg_certificate.specs.Claims.{Each, SaysEach};
 ghost use Rattle.pg_certificate.specs.Certificates.{claim_rule, SaysClaim, SaysRules, SaysCertificate, IsJsonOf, IsCertificateText};
 ghost use Rattle.pg_certificate.specs.Readings.{Gives};
 ghost use Rattle.pg_certificate.specs.declared.certificate.RuleClaim.{RuleClaim};
 
 use crate::certificate::{Certificate, RuleClaim};
-use crate::fault::CertificateFault;
+use crate::certificate_fault::CertificateFault;
 use crate::member::{are_same, flag_under, key_count, number_under, rank_under, text_under};
 use crate::read_start::starts_under;
-use pg_value::{Grammar, Rule};
+use pg_grammar_value::{Grammar, Rule};
 use serde_json::Value;
 use std::alloc::Global;
 
-/// The certificate of the grammar whose JSON the bytes are, with any white space. `CertificateFault::NotJson` where `serde_json`
-/// reads no value, and `CertificateFault::NotACertificate` where it reads another one. Of a key that is given twice the last value
+/// The certificate of the grammar that these bytes are as JSON, with any white space. The error is `CertificateFault::NotJson` if `serde_json`
+/// reads no value, and `CertificateFault::NotACertificate` if the value is something else. The last value of a key that is given twice
 /// counts.
 #[tactic(auto, using(crate::proofs::Claims::no_text_of))]
 pub fn read_certificate(
@@ -45,7 +45,7 @@ pub fn read_certificate(
     read_value(alloc, grammar, &value)
 }
 
-/// What it says of a certificate that no value could be read.
+/// The fault if `serde_json` could read no value.
 fn fault_of(error: &serde_json::Error) -> CertificateFault
     ensures no_json { result ≡ CertificateFault.NotJson → ¬ (IsMemory error.now) }
     ensures no_value { ¬ (result ≡ CertificateFault.NotACertificate) }
@@ -57,7 +57,7 @@ fn fault_of(error: &serde_json::Error) -> CertificateFault
     }
 }
 
-/// The certificate that the value is.
+/// The value as a certificate.
 fn read_value(
     alloc: Global,
     grammar: &Grammar,
@@ -74,7 +74,7 @@ fn read_value(
     }
 }
 
-/// The claims that the value is, if there is one for each rule in file order.
+/// The value as claims, if it has one for each rule in file order.
 #[tactic(auto, using(crate::proofs::Claims::rules_refused, crate::proofs::Claims::rules_given, crate::proofs::Claims::not_rules))]
 fn read_rules(
     alloc: Global,
@@ -133,7 +133,7 @@ fn read_each_claim(
     Ok(certificate)
 }
 
-/// What the value claims of a rule.
+/// The value as a claim about a rule.
 #[tactic(auto, using(crate::proofs::Claims::first_refused, crate::proofs::Claims::follow_refused, crate::proofs::Claims::cost_refused, crate::proofs::Claims::nullable_refused, crate::proofs::Claims::rank_refused, crate::proofs::Claims::rule_refused, crate::proofs::Claims::claim_given))]
 fn read_claim(
     alloc: Global,

@@ -1,7 +1,7 @@
-//! From JSON values to classes.
+//! JSON values to classes.
 //!
-//! Ranges that are no class's are refused, though they have characters: a class has one list of ranges, so there is one way to
-//! claim it.
+//! Ranges are refused unless they are exactly a class's, though other ranges may have the same characters: so there is one way to
+//! claim a class.
 
 ghost use Rattle.std.specs.Prelude.{◌≡◌, ◌↔◌, IsTrue, map, MatchOption};
 ghost use Rattle.serde_json.specs.Data.{Data};
@@ -10,13 +10,13 @@ ghost use Rattle.pg_class.specs.Ranges.{SameCharacters};
 ghost use Rattle.pg_certificate.specs.Claims.{Each, SaysEach, SaysRange, SaysCharacter, SaysClass, IsClassAsIs, two_values};
 ghost use Rattle.pg_certificate.specs.Readings.{Gives, items_of_ok};
 
-use crate::fault::CertificateFault;
+use crate::certificate_fault::CertificateFault;
 use crate::member::read_number;
 use pg_class::{Class, ClassFault};
 use serde_json::Value;
 use std::alloc::Global;
 
-/// The class whose ranges the value is.
+/// The value as a class.
 #[tactic(auto, using(crate::proofs::Classes::class_given, crate::proofs::Classes::ranges_refused))]
 pub fn read_class(alloc: Global, value: &Value) -> Result<Class, CertificateFault>
     ensures { Gives SaysClass (view value.now) result }
@@ -25,7 +25,7 @@ pub fn read_class(alloc: Global, value: &Value) -> Result<Class, CertificateFaul
     class_as_is(alloc, ranges.as_slice())
 }
 
-/// The class of these ranges, if they are one as they stand.
+/// The class with exactly these ranges, if there is one.
 #[tactic(auto, using(crate::proofs::Classes::none_descends))]
 fn class_as_is(alloc: Global, ranges: &[(char, char)]) -> Result<Class, CertificateFault>
     ensures { Gives IsClassAsIs ranges.now result }
@@ -44,7 +44,7 @@ fn are_same(ranges: &[(char, char)], others: &[(char, char)]) -> bool
     ranges == others
 }
 
-/// The class, if it has just the ranges that it was made of.
+/// The class, if it has exactly the ranges that it was made from.
 #[tactic(auto, using(crate::proofs::Classes::not_as_is))]
 fn if_same(class: Class, ranges: &[(char, char)]) -> Result<Class, CertificateFault>
     requires { SameCharacters class ranges.now }
@@ -85,7 +85,7 @@ fn read_range(value: &Value) -> Result<(char, char), CertificateFault>
     }
 }
 
-/// The values of an array of two.
+/// The two values of an array of two.
 fn both_values(value: &Value) -> Option<(&Value, &Value)>
     ensures { MatchOption result ((first last : Data) → ¬ (two_values first last ≡ view value.now))
         (λ both. two_values (view both.0.now) (view both.1.now) ≡ view value.now) }

@@ -1,20 +1,20 @@
-//! From JSON values to starts, and to sets of starts.
+//! JSON values to starts, and to sets of starts.
 
 ghost use Rattle.std.specs.Prelude.{◌≡◌, ℕ, map, codes, slice_get, MatchOption};
 ghost use Rattle.serde_json.specs.Data.{string};
 ghost use Rattle.serde_json.specs.Find.{as_str};
 ghost use Rattle.serde_json.specs.View.{view};
-ghost use Rattle.pg_form.specs.declared.word_item.WordItem.{WordItem};
+ghost use Rattle.pg_grammar_form.specs.declared.word_item.WordItem.{WordItem};
 ghost use Rattle.pg_certificate.specs.Claims.{Each, key_count, SaysEach, SaysUnder, SaysKey, SaysWord, SaysStart};
 ghost use Rattle.pg_certificate.specs.Readings.{Gives};
 
 use crate::certificate::{ClaimedStart, ClaimedStarts};
-use crate::fault::CertificateFault;
+use crate::certificate_fault::CertificateFault;
 use crate::member::{are_same, key_count, read_text};
 use crate::read_class::read_class;
-use pg_form::{WordId, WordItem};
+use pg_grammar_form::{WordId, WordItem};
+use pg_grammar_value::Grammar;
 use pg_text::Characters;
-use pg_value::Grammar;
 use serde_json::Value;
 use std::alloc::Global;
 
@@ -79,7 +79,7 @@ fn read_start(
     }
 }
 
-/// The start that one text is.
+/// The start that this text stands for.
 fn read_named_start(grammar: &Grammar, name: &str) -> Result<ClaimedStart, CertificateFault>
     ensures { Gives (SaysStart grammar.now) (string name.now) result }
 {
@@ -99,7 +99,7 @@ fn read_operator(grammar: &Grammar) -> Result<ClaimedStart, CertificateFault>
     }
 }
 
-/// The start that an object of one key is.
+/// The start that an object with one key stands for.
 #[tactic(auto, using(crate::proofs::Starts::class_start, crate::proofs::Starts::class_refused, crate::proofs::Starts::word_start, crate::proofs::Starts::word_refused, crate::proofs::Starts::no_lone))]
 fn read_lone_start(
     alloc: Global,
@@ -119,7 +119,7 @@ fn read_lone_start(
     }
 }
 
-/// The start that an object of two keys is.
+/// The start that an object with two keys stands for.
 #[tactic(auto, using(crate::proofs::Starts::key_start, crate::proofs::Starts::key_refused, crate::proofs::Starts::excluded_refused, crate::proofs::Starts::no_key, crate::proofs::Starts::no_excluded))]
 fn read_key_start(
     alloc: Global,
@@ -159,7 +159,7 @@ fn read_word(alloc: Global, grammar: &Grammar, value: &Value) -> Result<WordId, 
     }
 }
 
-/// How many word items stand before the one with this name, if there is one.
+/// The index of the word item with this name, if there is one.
 fn place_of_word(words: &[WordItem], name: &[char]) -> Option<usize>
     ensures { MatchOption result ((w : ℕ) (item : WordItem) → slice_get words.now w ≡ Some item → ¬ (item.name ≡ name.now))
         (λ place. (item : WordItem) × (slice_get words.now place ≡ Some item) × (item.name ≡ name.now)) }

@@ -1,7 +1,7 @@
-//! The text in JSON of a certificate.
+//! A certificate's JSON text.
 //!
-//! It is compact, and is pushed piece by piece at the end of one buffer, with keys in their order. Names and texts of keys have the
-//! escapes that `serde_json` writes, so it writes them.
+//! It is compact, and is appended piece by piece to one buffer, with keys in order. `serde_json` writes names and the texts of keys, so they
+//! have its escapes.
 
 ghost use Rattle.std.specs.Prelude.{◌≡◌, ◌<◌, ◌^◌, ◌++◌, true, IfOk, OnOk};
 ghost use Rattle.std.specs.List.{AllByRecursion};
@@ -14,11 +14,10 @@ ghost use Rattle.pg_certificate.specs.Values.{claim_value, claims_value, other_m
 
 use crate::certificate::{Certificate, RuleClaim};
 use crate::write_start::{push_number, push_starts, push_text};
-use pg_value::Grammar;
+use pg_grammar_value::Grammar;
 use std::alloc::{AllocError, Global};
 
-/// The text in JSON of a certificate of the grammar, with no line end after it. It takes time linear in the certificate. The only
-/// error is that memory ran out.
+/// The JSON text of a certificate of the grammar, without a line end. It takes time linear in the certificate.
 #[tactic(auto, using(crate::proofs::Again::certificate_is_text), unfolding(json::specs::Print::escape_byte))]
 pub fn write_certificate(
     alloc: Global,
@@ -35,7 +34,7 @@ pub fn write_certificate(
     Ok(text)
 }
 
-/// Pushes the array of the claims.
+/// Pushes the claims as an array.
 fn push_claims(
     alloc: Global,
     grammar: &Grammar,
@@ -57,7 +56,7 @@ fn push_claims(
     Ok(())
 }
 
-/// Pushes the object of what is claimed of a rule.
+/// Pushes the claims about a rule as an object.
 #[tactic(auto, unfolding(json::specs::Print::escape_byte))]
 fn push_claim(
     alloc: Global,
@@ -75,7 +74,7 @@ fn push_claim(
     push_others(alloc, claim, text)
 }
 
-/// Pushes what stands behind the sets, and closes the object.
+/// Pushes the members after the sets, and closes the object.
 #[tactic(auto, unfolding(json::specs::Print::escape_byte))]
 fn push_others(alloc: Global, claim: &RuleClaim, text: &mut Vec<u8>) -> Result<(), AllocError>
     ensures text { OnOk result (text.new.items ≡ text.old.items ++ members_text true (other_members claim.now)) }

@@ -1,4 +1,4 @@
-//! The text in JSON of starts, and of sets of starts.
+//! The JSON text of starts, and of sets of starts.
 
 ghost use Rattle.std.specs.Prelude.{◌≡◌, ◌++◌, codes, OnOk};
 ghost use Rattle.std.specs.List.{AllByRecursion};
@@ -11,13 +11,13 @@ ghost use Rattle.pg_certificate.specs.Values.{lone, number_value, text_value, ra
 use crate::certificate::ClaimedStart;
 use itoa::Buffer;
 use pg_class::Class;
-use pg_form::WordId;
+use pg_grammar_form::WordId;
+use pg_grammar_value::Grammar;
 use pg_text::{Characters, utf8};
-use pg_value::Grammar;
 use serde_json::Value;
 use std::alloc::{AllocError, Global};
 
-/// Pushes the array of the starts.
+/// Pushes the starts as an array.
 pub fn push_starts(
     alloc: Global,
     grammar: &Grammar,
@@ -59,7 +59,7 @@ fn push_start(
     }
 }
 
-/// Pushes the object of a character of a class.
+/// Pushes a class start as an object.
 #[tactic(auto, unfolding(json::specs::Print::escape_byte))]
 fn push_class_start(class: &Class, text: &mut Vec<u8>) -> Result<(), AllocError>
     ensures text { OnOk result (text.new.items ≡ text.old.items ++ compact_text (lone (codes "class") (class_value class.now))) }
@@ -71,7 +71,7 @@ fn push_class_start(class: &Class, text: &mut Vec<u8>) -> Result<(), AllocError>
     Ok(())
 }
 
-/// Pushes the object of a key.
+/// Pushes a key as an object.
 #[tactic(auto, unfolding(json::specs::Print::escape_byte))]
 fn push_key(
     alloc: Global,
@@ -91,7 +91,7 @@ fn push_key(
     Ok(())
 }
 
-/// Pushes the object of a word item's words.
+/// Pushes the words of an item as an object.
 #[tactic(auto, unfolding(json::specs::Print::escape_byte))]
 fn push_word(
     alloc: Global,
@@ -108,7 +108,7 @@ fn push_word(
     Ok(())
 }
 
-/// Pushes the name of a word item in double quotes; nothing is in them if it isn't there.
+/// Pushes the name of a word item in double quotes, or an empty string if there is no such item.
 fn push_word_name(
     alloc: Global,
     grammar: &Grammar,
@@ -124,7 +124,7 @@ fn push_word_name(
     }
 }
 
-/// Pushes the array of a class's ranges.
+/// Pushes the ranges of a class as an array.
 fn push_class(class: &Class, text: &mut Vec<u8>) -> Result<(), AllocError>
     ensures text { OnOk result (text.new.items ≡ text.old.items ++ compact_text (class_value class.now)) }
     ensures class { IsClass class.now }
@@ -132,7 +132,7 @@ fn push_class(class: &Class, text: &mut Vec<u8>) -> Result<(), AllocError>
     push_ranges(class.ranges(), text)
 }
 
-/// Pushes the array of the ranges.
+/// Pushes ranges as an array.
 fn push_ranges(ranges: &[(char, char)], text: &mut Vec<u8>) -> Result<(), AllocError>
     ensures { OnOk result (text.new.items ≡ text.old.items ++ compact_text (class_value ranges.now)) }
 {
@@ -148,7 +148,7 @@ fn push_ranges(ranges: &[(char, char)], text: &mut Vec<u8>) -> Result<(), AllocE
     Ok(())
 }
 
-/// Pushes the array of a range's ends.
+/// Pushes the ends of a range as an array.
 fn push_range(range: (char, char), text: &mut Vec<u8>) -> Result<(), AllocError>
     ensures { OnOk result (text.new.items ≡ text.old.items ++ compact_text (range_value range)) }
 {

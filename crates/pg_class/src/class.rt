@@ -1,8 +1,7 @@
 //! The type of a set of characters, and its public calls.
 //!
-//! Callers see a class as the list of its ranges. The invariant, `IsClass`, is made by `ranges.rt` and
-//! `complement.rt` and never broken, since nothing writes a class once it is made; the printed form of a
-//! grammar and the comparison of classes rely on it.
+//! Callers see a class as the list of its ranges. `ranges.rt` and `complement.rt` establish the invariant `IsClass`,
+//! and a class never changes once it is made. The printed form of a grammar and the comparison of classes rely on it.
 ghost use Rattle.std.specs.Prelude.{◌≡◌, ◌<◌, ◌≤◌, ◌↔◌, ◌||◌, ℕ, not, List, All, Any, IfOk, IsErrOf, IsTrue};
 ghost use Rattle.std.specs.List.{list_any};
 ghost use Rattle.std.specs.Char.{IsScalar};
@@ -17,7 +16,7 @@ use std::marker::Model;
 use std::rc::RcSlice;
 use thiserror::Error;
 
-/// A set of characters, whose ranges may be shared with other classes.
+/// A set of characters. It may share its ranges with other classes.
 #[derive(Debug, Drop)]
 pub struct Class {
     ranges: RcSlice<(char, char)>,
@@ -35,20 +34,20 @@ impl Model for Class {
     ghost invariant = { λ c. IsClass (rc_slice_items c.ranges) };
 }
 
-/// Why ranges are no class.
+/// Why ranges don't make a class.
 #[derive(Debug, Drop, Error)]
 pub enum ClassFault {
     /// The first character of a range is above its last.
     #[error("K1 range descends")]
     Descends,
-    /// No range descends, but there was no memory for the class.
+    /// No range descends, but memory ran out.
     #[error("out of memory")]
     Memory,
 }
 
 impl Class {
-    /// The class of the characters in any of these ranges. They may overlap, touch and come in any
-    /// order; no ranges make the empty class. That none descends is judged before memory is asked for.
+    /// The class of the characters in any of these ranges. They may overlap, touch and come in any order; no ranges
+    /// make the empty class. It checks that none descends before it asks for memory.
     pub fn from_ranges(alloc: Global, ranges: &[(char, char)]) -> Result<Class, ClassFault>
         ensures members { IfOk result (λ class.
             (c : ℕ) → IsScalar c → has class c ≡ has ranges.now c) }
@@ -61,8 +60,7 @@ impl Class {
         class_of_ranges(alloc, ranges).map_err(|_| ClassFault::Memory)
     }
 
-    /// The class of the characters that are in this class or in the other. The only error is that memory ran out; none is
-    /// taken where the two are equal.
+    /// The class of the characters in this class or the other. The only error is running out of memory; two equal classes take none.
     pub fn union(&self, alloc: Global, other: &Class) -> Result<Class, AllocError>
         ensures members { IfOk result (λ class.
             (c : ℕ) → IsScalar c → has class c ≡ (has self.now c || has other.now c)) }
@@ -74,9 +72,9 @@ impl Class {
         class_with(ranges)
     }
 
-    /// The class of the characters that are in any of these. The only error is that memory ran out.
+    /// The class of the characters in any of these classes.
     ///
-    /// They are joined two at a time, so that the time is near linear in the number of their ranges, and equal ones cost no memory.
+    /// It joins two at a time, so the time is near linear in the number of their ranges, and equal classes take no memory.
     pub fn union_of(alloc: Global, classes: VecDeque<Class>) -> Result<Class, AllocError>
         ensures members { IfOk result (λ class.
             (c : ℕ) → IsScalar c → has class c ≡ list_any (λ one. has one c) classes.items) }
@@ -91,7 +89,7 @@ impl Class {
         class_with(Vec::new(alloc))
     }
 
-    /// The class of the characters that aren't in this class. The only error is that memory ran out.
+    /// The class of the characters that aren't in this class.
     pub fn complement(&self, alloc: Global) -> Result<Class, AllocError>
         ensures members { IfOk result (λ class.
             (c : ℕ) → IsScalar c → has class c ≡ not (has self.now c)) }
@@ -100,8 +98,8 @@ impl Class {
         class_with(ranges)
     }
 
-    /// An equal class, which shares the ranges of this one and takes no memory. The only error, told as want of memory, is that
-    /// they are shared as often as can be counted.
+    /// An equal class, which shares the ranges of this one and takes no memory. The only error, reported as out of memory, is that they are shared as often
+    /// as can be counted.
     pub fn share(&self) -> Result<Class, AllocError>
         ensures { IfOk result (λ class. class ≡ self.now) }
     {
@@ -110,14 +108,14 @@ impl Class {
         })
     }
 
-    /// Whether the other class is equal, which it is if it has the same characters (`ranges_are_unique`).
+    /// Whether the other class is equal, that is, has the same characters (`ranges_are_unique`).
     pub fn equals(&self, other: &Class) -> bool
         ensures { IsTrue result ↔ (self.now ≡ other.now) }
     {
         self.ranges() == other.ranges()
     }
 
-    /// Whether the character is in the class. The one range that may have it is found by halving.
+    /// Whether the character is in the class. It finds the one range that may have it by binary search.
     pub fn has(&self, c: char) -> bool
         ensures { result ≡ has self.now c }
     {
@@ -126,23 +124,22 @@ impl Class {
         place < ranges.len() && ranges[place].0 <= c
     }
 
-    /// Whether no character is in both classes. The ranges of each are gone through once, and no
-    /// memory is taken.
+    /// Whether no character is in both classes. It goes through the ranges of each once, and takes no memory.
     pub fn disjoint(&self, other: &Class) -> bool
         ensures { IsTrue result ↔ AreDisjoint self.now other.now }
     {
         are_disjoint(self.ranges(), other.ranges())
     }
 
-    /// Whether each character of this class is in the other. The ranges of each are gone through
-    /// once, and no memory is taken.
+    /// Whether each character of this class is in the other. It goes through the ranges of each once, and takes no
+    /// memory.
     pub fn within(&self, other: &Class) -> bool
         ensures { IsTrue result ↔ IsWithin self.now other.now }
     {
         is_within(self.ranges(), other.ranges())
     }
 
-    /// The ranges from the lowest up, each with its first and its last character.
+    /// The ranges in ascending order, each with its first and its last character.
     pub fn ranges(&self) -> &[(char, char)]
         ensures same { result.now ≡ self.now }
         ensures class { IsClass self.now }
@@ -151,7 +148,7 @@ impl Class {
     }
 }
 
-/// The class of the characters in any of these ranges, none of which descends. The only error is that memory ran out.
+/// The class of the characters in any of these ranges, none of which descends.
 fn class_of_ranges(alloc: Global, ranges: &[(char, char)]) -> Result<Class, AllocError>
     requires { All (λ range. range.0 ≤ range.1) ranges.now }
     ensures { IfOk result (λ class. (c : ℕ) → IsScalar c → has class c ≡ has ranges.now c) }
@@ -160,7 +157,7 @@ fn class_of_ranges(alloc: Global, ranges: &[(char, char)]) -> Result<Class, Allo
     class_with(joined(alloc, ranges)?)
 }
 
-/// The class of these ranges. The only error is that memory ran out.
+/// The class of these ranges.
 fn class_with(ranges: Vec<(char, char)>) -> Result<Class, AllocError>
     requires { IsClass ranges.items }
     ensures { IfOk result (λ class. class ≡ ranges.items) }
@@ -170,7 +167,7 @@ fn class_with(ranges: Vec<(char, char)>) -> Result<Class, AllocError>
     })
 }
 
-/// The place of the first range that doesn't end below the character: no other range may have it, as they ascend.
+/// The index of the first range that doesn't end below the character. As the ranges ascend, no other can have it.
 fn place_of(ranges: &[(char, char)], c: char) -> usize
     requires { IsClass ranges.now }
     ensures { has ranges.now c ≡ begins_by ranges.now result c }
@@ -178,8 +175,8 @@ fn place_of(ranges: &[(char, char)], c: char) -> usize
     ranges.partition_point(|range| range.1 < c)
 }
 
-/// The law that a class has one list of ranges: two lists that are classes are equal if they
-/// have the same characters, so classes may be compared by their lists. It does nothing when it runs.
+/// The law that two classes with the same characters have the same list of ranges, so classes may be compared by their
+/// lists. It does nothing when it runs.
 pub fn ranges_are_unique()
     ensures { (one other : List Range) → IsClass one → IsClass other →
         SameCharacters one other → one ≡ other }

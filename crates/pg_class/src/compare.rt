@@ -1,7 +1,7 @@
-//! What the characters of two classes have to do with each other.
+//! Comparing the characters of two classes.
 //!
-//! Both lists ascend, so they are gone through side by side: whichever range can't matter any more for the
-//! ranges to come of the other list is left after. Only `class.rt` calls this.
+//! Both lists ascend, so they are read side by side. Whichever range can't matter for the other list's later ranges is
+//! passed. Only `class.rt` calls this.
 ghost use Rattle.std.specs.Prelude.{◌↔◌, IsTrue};
 ghost use Rattle.pg_class.specs.Ranges.{AreDisjoint, IsClass, IsWithin};
 
@@ -25,8 +25,8 @@ pub fn are_disjoint(class: &[(char, char)], other: &[(char, char)]) -> bool
     true
 }
 
-/// Whether each character of the class is in the other. A range that lies in no single range of the other
-/// has a character that the other leaves out, as one stands between each two of its ranges.
+/// Whether each character of the class is in the other. A range that isn't inside a single range of the other has a
+/// character that the other leaves out, as there is one between any two of its ranges.
 pub fn is_within(class: &[(char, char)], other: &[(char, char)]) -> bool
     requires class { IsClass class.now }
     requires other { IsClass other.now }

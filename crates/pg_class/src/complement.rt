@@ -1,8 +1,8 @@
 //! The characters that a class leaves out, as a class.
 //!
-//! A gap is a range of characters between two neighbours of a class, before its first range or after
-//! its last. Gaps ascend as the ranges do, and a whole range parts each two of them, so they are a class
-//! too; only `class.rt` calls this.
+//! A gap is a range of characters between two neighbours of a class, before its first range or after its last. Gaps
+//! ascend as the ranges do, and a whole range lies between any two of them, so they are a class too. Only `class.rt`
+//! calls this.
 ghost use Rattle.std.specs.Prelude.{◌≡◌, ◌<◌, ℕ, not, unwrap_or, IfOk};
 ghost use Rattle.std.specs.Char.{IsScalar};
 ghost use Rattle.pg_class.specs.Gaps.{after, before, gaps};
@@ -10,7 +10,7 @@ ghost use Rattle.pg_class.specs.Ranges.{IsClass, has};
 
 use std::alloc::{AllocError, Global};
 
-/// The class of the characters that aren't in this class.
+/// The class of the characters that this class leaves out.
 pub fn complemented(alloc: Global, class: &[(char, char)]) -> Result<Vec<(char, char)>, AllocError>
     requires { IsClass class.now }
     ensures class { IfOk result (λ v. IsClass v.items) }
@@ -41,7 +41,7 @@ fn gaps(alloc: Global, class: &[(char, char)]) -> Result<Vec<(char, char)>, Allo
     Ok(gaps)
 }
 
-/// The character after one, if there is one.
+/// The next character, if there is one.
 fn after(c: char) -> Option<char>
     ensures { unwrap_or result 0x11_0000 ≡ after c }
 {
@@ -51,7 +51,7 @@ fn after(c: char) -> Option<char>
     char::from_u32(u32::from(c) + 1)
 }
 
-/// The character before one that isn't the first.
+/// The previous character of one that isn't the first.
 fn before(c: char) -> char
     requires { 0 < c }
     ensures { result ≡ before c }

@@ -1,8 +1,8 @@
 //! Sets of characters, kept as ranges.
 //!
-//! A `Class` is an ascending list of ranges with a character left out between each two neighbours, so
-//! that equal sets have equal lists (`ranges_are_unique`). A character is a Unicode scalar value: the
-//! surrogates, 0xD800 to 0xDFFF, are none, and two ranges that only they part are neighbours to be joined.
+//! A `Class` is an ascending list of ranges with at least one character between neighbours, so equal sets have equal
+//! lists (`ranges_are_unique`). A character is a Unicode scalar value. The surrogates, 0xD800 to 0xDFFF, aren't
+//! characters, so two ranges with only surrogates between them are joined.
 #![tactic(auto)]
 
 mod class;

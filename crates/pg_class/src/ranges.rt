@@ -1,8 +1,7 @@
 //! Joining ranges into the list of a class.
 //!
-//! Ranges are joined in the order in which they begin. So each of them overlaps or touches the last range that was made, and
-//! makes it longer, or it comes after it with a character between. What is made is a class after every range; only `class.rt`
-//! calls this, once the ranges are known not to descend.
+//! Ranges are joined in the order in which they begin. So each of them either overlaps or touches the last range made so far and extends it, or comes after
+//! it with a character between. The ranges made so far are always a class. Only `class.rt` calls this, once it knows that no range descends.
 ghost use Rattle.std.specs.Prelude.{◌≡◌, ◌<◌, ◌≤◌, ◌||◌, ℕ, All, IfOk, OnOk};
 ghost use Rattle.std.specs.Char.{IsScalar, scalar_index};
 ghost use Rattle.std.specs.List.Sorted.{IsNonDecreasingBy};
@@ -10,7 +9,7 @@ ghost use Rattle.pg_class.specs.Ranges.{IsClass, apart, has, in_range, with_rang
 
 use std::alloc::{AllocError, Global};
 
-/// The class of the characters in any of these ranges, which may come in any order. The only error is that memory ran out.
+/// The class of the characters in any of these ranges, which may come in any order.
 pub fn joined(alloc: Global, ranges: Vec<(char, char)>) -> Result<Vec<(char, char)>, AllocError>
     requires { All (λ range. range.0 ≤ range.1) ranges.items }
     ensures class { IfOk result (λ v. IsClass v.items) }
@@ -21,8 +20,7 @@ pub fn joined(alloc: Global, ranges: Vec<(char, char)>) -> Result<Vec<(char, cha
     joined_in_order(alloc, ranges.as_slice())
 }
 
-/// The class of the characters in any of these ranges, of which none begins before those ahead of it. The only error is that
-/// memory ran out.
+/// The class of the characters in any of these ranges, which are in the order in which they begin.
 fn joined_in_order(alloc: Global, ranges: &[(char, char)]) -> Result<Vec<(char, char)>, AllocError>
     requires ascend { All (λ range. range.0 ≤ range.1) ranges.now }
     requires rise { IsNonDecreasingBy (λ range. range.0) ranges.now }
@@ -37,7 +35,7 @@ fn joined_in_order(alloc: Global, ranges: &[(char, char)]) -> Result<Vec<(char, 
     Ok(class)
 }
 
-/// The class of the characters in either of two. The only error is that memory ran out.
+/// The class of the characters in either of two classes.
 pub fn united(
     alloc: Global,
     class: &[(char, char)],
@@ -54,7 +52,7 @@ pub fn united(
     joined(alloc, ranges)
 }
 
-/// Joins a range to a class none of whose ranges begins after it. The only error is that memory ran out.
+/// Joins a range to a class. No range of the class begins after it.
 fn join(class: &mut Vec<(char, char)>, first: char, last: char) -> Result<(), AllocError>
     requires class { IsClass class.old.items }
     requires begins { All (λ range. range.0 ≤ first) class.old.items }
@@ -74,7 +72,7 @@ fn join(class: &mut Vec<(char, char)>, first: char, last: char) -> Result<(), Al
     Ok(())
 }
 
-/// Whether a character stands between two ranges, the first below the second.
+/// Whether at least one character lies between two ranges, the first below the second.
 fn is_apart(low: (char, char), high: (char, char)) -> bool
     ensures { result ≡ apart low high }
 {

@@ -1,4 +1,4 @@
-//! What no clause says: that calls succeed, the printed texts, and joined lists from outside.
+//! What no contract says: that calls succeed, the printed texts, and joined lists from outside.
 use super::*;
 use std::test::Fail;
 

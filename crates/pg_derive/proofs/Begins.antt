@@ -4,17 +4,17 @@ use Rattle.std.proofs.Common.{◌≡◌, ◌<◌, ◌≤◌, ◌⊎◌, inl, inr
 use Rattle.std.specs.List.{Contains}
 use Rattle.std.specs.Str.{all_scalars}
 use Rattle.pg_tree.specs.Trees.{Tree}
-use Rattle.pg_value.specs.Grammar.{Grammar}
-use Rattle.pg_form.specs.Forms.{Node}
-use Rattle.pg_form.specs.declared.form.Leaf.{Leaf}
-use Rattle.pg_form.specs.declared.form.Around.{Around}
-use Rattle.pg_form.specs.declared.form.Around.TheVariants as kind
-use Rattle.pg_value.specs.declared.trail.TrailItem.{TrailItem}
+use Rattle.pg_grammar_value.specs.Grammar.{Grammar}
+use Rattle.pg_grammar_form.specs.Forms.{Node}
+use Rattle.pg_grammar_form.specs.declared.form.Leaf.{Leaf}
+use Rattle.pg_grammar_form.specs.declared.form.Around.{Around}
+use Rattle.pg_grammar_form.specs.declared.form.Around.TheVariants as kind
+use Rattle.pg_grammar_value.specs.declared.trail.TrailItem.{TrailItem}
 use Rattle.pg_start.specs.Starts.{MatchesAt}
 use Rattle.pg_start.specs.declared.kind.StartKind.{StartKind}
-use Rattle.pg_form.specs.Operators.{Operator}
-use Rattle.pg_form.specs.declared.operators_item.OperatorsItem.{OperatorsItem}
-use Rattle.pg_form.specs.declared.used.OperatorBuilders.{OperatorBuilders}
+use Rattle.pg_grammar_form.specs.Operators.{Operator}
+use Rattle.pg_grammar_form.specs.declared.operators_item.OperatorsItem.{OperatorsItem}
+use Rattle.pg_grammar_form.specs.declared.used.OperatorBuilders.{OperatorBuilders}
 use Rattle.pg_table.specs.Fitting.{Expression, term, IsAmong, IsFitting}
 use Rattle.pg_table.specs.Tables.{ComesFrom}
 use Rattle.pg_language.specs.Runs.{IsOperatorAt}

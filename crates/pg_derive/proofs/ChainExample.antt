@@ -6,13 +6,13 @@
 --     same = seq(value, rest);
 use Rattle.std.proofs.Common.{◌≡◌, List, [], ◌∷◌, refl, None, Some, slice_get}
 use Rattle.std.specs.Prelude.{codes}
-use Rattle.pg_form.specs.Forms.{Node}
-use Rattle.pg_value.specs.Grammar.{Grammar}
-use Rattle.pg_form.specs.declared.form.Form.TheVariants as form
-use Rattle.pg_form.specs.declared.form.Leaf.TheVariants as leaf
-use Rattle.pg_value.specs.declared.grammar.Rule as declared
-use Rattle.pg_form.specs.declared.side.Side.TheVariants.{Left}
-use Rattle.pg_form.specs.declared.used.BuilderUse.{BuilderUse}
+use Rattle.pg_grammar_form.specs.Forms.{Node}
+use Rattle.pg_grammar_value.specs.Grammar.{Grammar}
+use Rattle.pg_grammar_form.specs.declared.form.Form.TheVariants as form
+use Rattle.pg_grammar_form.specs.declared.form.Leaf.TheVariants as leaf
+use Rattle.pg_grammar_value.specs.declared.grammar.Rule as declared
+use Rattle.pg_grammar_form.specs.declared.side.Side.TheVariants.{Left}
+use Rattle.pg_grammar_form.specs.declared.used.BuilderUse.{BuilderUse}
 use Rattle.pg_derive.specs.Chains.{AreCopies, IsRest}
 
 module _ (used : BuilderUse) where

@@ -5,13 +5,13 @@ use Rattle.std.proofs.lemmas.Bool.{or_parts}
 use Rattle.pg_text.specs.Position.{start}
 use Rattle.pg_tree.specs.Trees.{Tree}
 use Rattle.pg_tree.specs.declared.shape.Shape.{Shape}
-use Rattle.pg_form.specs.Forms.{Node}
-use Rattle.pg_form.specs.declared.form.Form.TheVariants as form
-use Rattle.pg_value.specs.declared.grammar.Rule as declared
-use Rattle.pg_form.specs.declared.side.Side.{Side}
-use Rattle.pg_value.specs.declared.trail.TrailItem.{TrailItem}
-use Rattle.pg_value.specs.declared.trail.TrailItem.TheVariants.{Alt, Rounds}
-use Rattle.pg_form.specs.declared.used.BuilderUse.{BuilderUse}
+use Rattle.pg_grammar_form.specs.Forms.{Node}
+use Rattle.pg_grammar_form.specs.declared.form.Form.TheVariants as form
+use Rattle.pg_grammar_value.specs.declared.grammar.Rule as declared
+use Rattle.pg_grammar_form.specs.declared.side.Side.{Side}
+use Rattle.pg_grammar_value.specs.declared.trail.TrailItem.{TrailItem}
+use Rattle.pg_grammar_value.specs.declared.trail.TrailItem.TheVariants.{Alt, Rounds}
+use Rattle.pg_grammar_form.specs.declared.used.BuilderUse.{BuilderUse}
 use Rattle.pg_message.proofs.Nothing.{merged-nothing}
 use Rattle.pg_language.proofs.Unique.{same}
 use Rattle.pg_language.specs.Answers as answers
@@ -50,7 +50,7 @@ copied e (entered h d) = entered (e ∙ h) d
 
 -- ---- rounds beside rest
 
--- what links after a forest come to, so many of which are ok, beside what rest comes to
+-- the outcome of the links after a forest, with the given number of ok ones, beside the outcome of rest
 data LinksAlike (G : Given) (side : Side) (shape : Shape) (p s : ℕ) (left : List Tree) (a : Spot) : ℕ → Outcome → Outcome → Type 0 where
   links_ok : {x : Bool} {b : Spot} {e : Error} {rounds : List Round} → OkRounds G p s rounds a b →
       LinksAlike G side shape p s left a (length rounds) (ok x b (folded side shape left (links_of rounds)) (trail_of rounds) e) (ok x b (forest_of rounds) (rest_trail rounds) e)

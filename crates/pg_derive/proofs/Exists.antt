@@ -4,25 +4,25 @@ use Rattle.std.proofs.Common.{◌≡◌, ◌+◌, ◌<◌, ◌≤◌, ◌⊎◌,
 use Rattle.std.specs.Prelude.{nat_lt}
 use Rattle.std.specs.List.{AllByRecursion, list_any}
 use Rattle.std.specs.Str.{bytes_eq}
-use Rattle.pg_form.specs.ClassItems.{has_character}
-use Rattle.pg_form.specs.declared.class.ClassPart.{ClassPart}
-use Rattle.pg_form.specs.declared.word_item.WordItem.{WordItem}
+use Rattle.pg_grammar_form.specs.ClassItems.{has_character}
+use Rattle.pg_grammar_form.specs.declared.class.ClassPart.{ClassPart}
+use Rattle.pg_grammar_form.specs.declared.word_item.WordItem.{WordItem}
 use Rattle.pg_language.specs.Runs.{run_at}
 use Rattle.std.specs.Str.{all_scalars}
 use Rattle.pg_tree.specs.Trees.{Tree}
 use Rattle.pg_tree.specs.declared.shape.Shape.{Shape}
-use Rattle.pg_value.specs.Grammar.{Grammar}
-use Rattle.pg_form.specs.Forms.{Node}
-use Rattle.pg_form.specs.declared.form.Form.TheVariants as form
-use Rattle.pg_form.specs.declared.form.Leaf.{Leaf}
-use Rattle.pg_form.specs.declared.form.Leaf.TheVariants as leaf
-use Rattle.pg_form.specs.declared.form.Around.{Around}
-use Rattle.pg_form.specs.declared.form.Around.TheVariants as kind
-use Rattle.pg_value.specs.declared.grammar.Rule as declared
-use Rattle.pg_value.specs.declared.trail.TrailItem.{TrailItem}
+use Rattle.pg_grammar_value.specs.Grammar.{Grammar}
+use Rattle.pg_grammar_form.specs.Forms.{Node}
+use Rattle.pg_grammar_form.specs.declared.form.Form.TheVariants as form
+use Rattle.pg_grammar_form.specs.declared.form.Leaf.{Leaf}
+use Rattle.pg_grammar_form.specs.declared.form.Leaf.TheVariants as leaf
+use Rattle.pg_grammar_form.specs.declared.form.Around.{Around}
+use Rattle.pg_grammar_form.specs.declared.form.Around.TheVariants as kind
+use Rattle.pg_grammar_value.specs.declared.grammar.Rule as declared
+use Rattle.pg_grammar_value.specs.declared.trail.TrailItem.{TrailItem}
 use Rattle.pg_language.specs.Derives.{Spot, Derives, carried}
 use Rattle.pg_table.specs.Tables.{ComesFrom, admit_fault}
-use Rattle.pg_table.specs.declared.fault.AdmitFault.{AdmitFault}
+use Rattle.pg_table.specs.declared.admit_fault.AdmitFault.{AdmitFault}
 use Rattle.pg_language.specs.Declarations.{Declaration, no_keyword, no_digit, no_symbol, declared, declaration_at, unless_refused, declaration_outcome}
 use Rattle.pg_language.proofs.Onward.{leads_on}
 use Rattle.pg_language.specs.Answers as answers
@@ -31,14 +31,14 @@ use Rattle.pg_language.specs.Errors.{Error}
 use Rattle.pg_language.specs.Outcomes.{Outcome, ok, failed, empty_round}
 use Rattle.pg_language.specs.Leaves.{satisfy_next, satisfy_outcome, matched, string_outcome, word_read, word_next, word_outcome, not_followed_next, not_followed_outcome, end_outcome, some_word_outcome, some_declare_outcome}
 use Rattle.pg_language.specs.Reactions.{unless_begun}
-use Rattle.pg_form.specs.declared.side.Side.{Side}
+use Rattle.pg_grammar_form.specs.declared.side.Side.{Side}
 use Rattle.pg_language.specs.declared.reading.Reading.{Reading}
 use Rattle.pg_language.specs.declared.reading.Reading.TheVariants.{Library, Report}
 use Rattle.pg_language.proofs.Sound.{sound}
 use Rattle.pg_derive.specs.ClosedSets.{NodeSets, PartsFall}
 use Rattle.std.specs.Prelude.{reverse}
-use Rattle.pg_form.specs.Operators.{Operator}
-use Rattle.pg_form.specs.declared.used.OperatorBuilders.{OperatorBuilders}
+use Rattle.pg_grammar_form.specs.Operators.{Operator}
+use Rattle.pg_grammar_form.specs.declared.used.OperatorBuilders.{OperatorBuilders}
 use Rattle.pg_expand.specs.Rows.{rows_of}
 use Rattle.pg_language.specs.Answers.{AnswersRows}
 use Rattle.pg_language.specs.Derives.{at}
@@ -63,7 +63,7 @@ pub data Settles (Run : Outcome → ℕ → Type 0) : Type 0 where
 further_or_same : (i j : ℕ) → i ≤ j → (i < j) ⊎ (i ≡ j)
 further_or_same i j l = grind arith
 
--- what a chain comes to where no link comes any more is an answer
+-- the outcome of a chain that ends after its links is an answer
 settles_begun : (Run : Outcome → ℕ → Type 0) (c : Bool) (a : Spot) (x : List Tree) (e : Error) (m : ℕ) → Run (unless_begun c a x e) m → Settles Run
 settles_begun Run true a x e m run = settles_failed true e m run
 settles_begun Run false a x e m run = settles_ok false a x [] _ m run
@@ -211,7 +211,7 @@ module _ (G : Given) (scalars : all_scalars G.text ≡ true) (whole : IsWhole G.
       go (settles_failed true e m run) rest = settles_failed true e _ (alternative run alternative_commits)
       go (settles_failed false e m run) rest = passed run rest
 
-  -- rounds of q from b on, with so many of them
+  -- rounds of q from b on, counted
   abbrev SomeRounds : ℕ → Spot → Outcome → ℕ → Type 0
   SomeRounds q b o m = (k : ℕ) × AnswersRounds G q k b o m
 
@@ -244,7 +244,7 @@ module _ (G : Given) (scalars : all_scalars G.text ≡ true) (whole : IsWhole G.
       go (settles_failed true e m run) rest = settles_failed true e _ (zero, round run round_failed)
       go (settles_failed false e m run) rest = settles_ok false b [] [] e _ (zero, round run round_ended)
 
-  -- links of q and r from b on, with so many of them
+  -- links of q and r from b on, counted
   abbrev SomeLinks : Side → Shape → ℕ → ℕ → List Tree → Spot → Outcome → ℕ → Type 0
   SomeLinks side shape q r left b o m = (k : ℕ) × AnswersLinks G side shape q r left k b o m
 

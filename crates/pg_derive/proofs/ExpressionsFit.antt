@@ -6,25 +6,25 @@ use Rattle.std.specs.Str.{all_scalars}
 use Rattle.std.proofs.lemmas.Bool.{cases_eq}
 use Rattle.std.proofs.lemmas.List.Sums.{take_while-cons}
 use Rattle.std.proofs.lemmas.Option.{slice_get_within, same_Some}
-use Rattle.pg_bit_set.specs.Numbers.{set_at}
+use Rattle.pg_graph_bits.specs.Numbers.{set_at}
 use Rattle.pg_class.specs.Ranges.{has}
-use Rattle.pg_form.specs.ClassItems.{has_character}
-use Rattle.pg_form.specs.declared.form.Form.TheVariants as form
-use Rattle.pg_form.specs.declared.operators_item.OperatorsItem.{OperatorsItem}
-use Rattle.pg_form.specs.declared.used.OperatorBuilders.{OperatorBuilders}
-use Rattle.pg_value.specs.Grammar.{Grammar, IsGrammar}
+use Rattle.pg_grammar_form.specs.ClassItems.{has_character}
+use Rattle.pg_grammar_form.specs.declared.form.Form.TheVariants as form
+use Rattle.pg_grammar_form.specs.declared.operators_item.OperatorsItem.{OperatorsItem}
+use Rattle.pg_grammar_form.specs.declared.used.OperatorBuilders.{OperatorBuilders}
+use Rattle.pg_grammar_value.specs.Grammar.{Grammar, IsGrammar}
 use Rattle.pg_text.specs.Texts.{is_among}
 use Rattle.pg_start.specs.Prefixes.{run}
 use Rattle.pg_start.specs.Starts.{MatchesAt}
 use Rattle.pg_start.specs.declared.kind.StartKind.{StartKind}
 use Rattle.pg_start.proofs.Meeting.{never_meet, scalar_at}
-use Rattle.pg_heads.specs.Ranks.{Chain}
-use Rattle.pg_heads.specs.Reached as reached
-use Rattle.pg_own_starts.specs.Own as plain
-use Rattle.pg_own_starts.specs.OwnStarts.{IsOperatorStart, OwnStart, IsKeyTry}
-use Rattle.pg_own_starts.specs.OwnStarts as own
-use Rattle.pg_own_starts.specs.declared.listed.ListedStart.{ListedStart}
-use Rattle.pg_own_starts.proofs.Owned.{one_operator}
+use Rattle.pg_sets_nullable.specs.Ranks.{Chain}
+use Rattle.pg_sets_nullable.specs.Reached as reached
+use Rattle.pg_sets_own.specs.Own as plain
+use Rattle.pg_sets_own.specs.OwnStarts.{IsOperatorStart, OwnStart, IsKeyTry}
+use Rattle.pg_sets_own.specs.OwnStarts as own
+use Rattle.pg_sets_own.specs.declared.listed.ListedStart.{ListedStart}
+use Rattle.pg_sets_own.proofs.Owned.{one_operator}
 use Rattle.pg_predict.specs.Conditions.{IsFaultless, empty_operand, operand_meets_operators, follow_meets_operators}
 use Rattle.pg_sets.specs.First as of
 use Rattle.pg_sets.specs.First.{IsFirst}
@@ -42,7 +42,7 @@ use Rattle.pg_derive.proofs.Meetings.{IsListable, Stands, apart_all}
 use Rattle.pg_derive.proofs.OperatorsOfTables.{spelled_in, free_in}
 use Rattle.pg_derive.proofs.PartsFit.{are_parts, in_falls, part_first}
 use Rattle.pg_predict.proofs.Numbered.{listed_once}
-use Rattle.pg_judge.proofs.Numbered.{same_numbers}
+use Rattle.pg_predict_conditions.proofs.Numbered.{same_numbers}
 
 no_key_expression : {g : Grammar} {builders : OperatorBuilders} {term : ℕ} → IsKeyTry g (form.Expression builders term) → ⊥
 no_key_expression h = elim h [ ]

@@ -1,12 +1,12 @@
 -- What is derived of an expression leads on in the text, and begins with what its first term or operator begins with.
 use Rattle.std.proofs.Common.{◌≡◌, ◌≤◌, ℕ, List, ◌∷◌, refl}
 use Rattle.pg_tree.specs.Trees.{Tree}
-use Rattle.pg_value.specs.Grammar.{Grammar}
-use Rattle.pg_form.specs.declared.form.Form.TheVariants as form
-use Rattle.pg_form.specs.declared.operators_item.OperatorsItem.{OperatorsItem}
-use Rattle.pg_form.specs.declared.used.OperatorBuilders.{OperatorBuilders}
-use Rattle.pg_value.specs.declared.trail.TrailItem.{TrailItem}
-use Rattle.pg_value.specs.declared.trail.TrailItem.TheVariants.{Ops}
+use Rattle.pg_grammar_value.specs.Grammar.{Grammar}
+use Rattle.pg_grammar_form.specs.declared.form.Form.TheVariants as form
+use Rattle.pg_grammar_form.specs.declared.operators_item.OperatorsItem.{OperatorsItem}
+use Rattle.pg_grammar_form.specs.declared.used.OperatorBuilders.{OperatorBuilders}
+use Rattle.pg_grammar_value.specs.declared.trail.TrailItem.{TrailItem}
+use Rattle.pg_grammar_value.specs.declared.trail.TrailItem.TheVariants.{Ops}
 use Rattle.pg_table.specs.Fitting.{Expression}
 use Rattle.pg_table.specs.Tables.{ComesFrom}
 use Rattle.pg_table.proofs.Added.{still_comes}

@@ -1,22 +1,22 @@
 -- A grammar at whose nodes nothing is wrong is predictive: its least sets show it.
 use Rattle.std.proofs.Common.{◌≡◌, ◌<◌, inl, inr, ℕ, Some, slice_get, length, sym, subst, ◌∙◌}
 use Rattle.std.proofs.lemmas.Option.{slice_get_within, same_Some}
-use Rattle.pg_value.specs.Grammar.{Grammar, IsGrammar}
-use Rattle.pg_form.specs.Forms.{Node}
-use Rattle.pg_form.specs.declared.form.Form.TheVariants as form
-use Rattle.pg_form.specs.declared.form.Leaf.{Leaf}
-use Rattle.pg_form.specs.declared.form.Leaf.TheVariants as leaf
-use Rattle.pg_form.specs.declared.form.Around.{Around}
-use Rattle.pg_form.specs.declared.form.Around.TheVariants as kind
-use Rattle.pg_value.specs.declared.grammar.Rule as declared
+use Rattle.pg_grammar_value.specs.Grammar.{Grammar, IsGrammar}
+use Rattle.pg_grammar_form.specs.Forms.{Node}
+use Rattle.pg_grammar_form.specs.declared.form.Form.TheVariants as form
+use Rattle.pg_grammar_form.specs.declared.form.Leaf.{Leaf}
+use Rattle.pg_grammar_form.specs.declared.form.Leaf.TheVariants as leaf
+use Rattle.pg_grammar_form.specs.declared.form.Around.{Around}
+use Rattle.pg_grammar_form.specs.declared.form.Around.TheVariants as kind
+use Rattle.pg_grammar_value.specs.declared.grammar.Rule as declared
 use Rattle.pg_start.specs.declared.kind.StartKind.TheVariants.{End}
 use Rattle.pg_sets.specs.First as of
 use Rattle.pg_sets.specs.Follow as follow
-use Rattle.pg_heads.specs.Nullable as null
-use Rattle.pg_own_starts.specs.OwnStarts.{IsKeyTry}
-use Rattle.pg_own_starts.specs.OwnStarts as own
-use Rattle.pg_heads.specs.Ranks.{Chain}
-use Rattle.pg_heads.specs.Reached as reached
+use Rattle.pg_sets_nullable.specs.Nullable as null
+use Rattle.pg_sets_own.specs.OwnStarts.{IsKeyTry}
+use Rattle.pg_sets_own.specs.OwnStarts as own
+use Rattle.pg_sets_nullable.specs.Ranks.{Chain}
+use Rattle.pg_sets_nullable.specs.Reached as reached
 use Rattle.pg_sets.specs.Sets.{Sets, AreSets}
 use Rattle.pg_predict.specs.Conditions.{IsFaultless}
 use Rattle.pg_predict.proofs.StepCosts.{acyclic}
@@ -28,7 +28,7 @@ use Rattle.pg_derive.proofs.ExpressionsFit.{expression_fits}
 use Rattle.pg_derive.proofs.FormsFit.{choice_fits, many_fits, links_fit}
 use Rattle.pg_derive.proofs.LeastSets.{first_is, first_covers, follow_is, follow_covers}
 use Rattle.pg_derive.proofs.LeavesFit.{satisfy_meets, string_fits, word_meets, declare_meets, item_there, string_try, key_try}
-use Rattle.pg_costs.proofs.Levels.{rule_falls}
+use Rattle.pg_predict_costs.proofs.Levels.{rule_falls}
 use Rattle.pg_derive.proofs.KeyTriesDecided.{key_try_decided}
 use Rattle.pg_derive.proofs.PartsFit.{are_parts, in_falls, part_fits, seq_fits}
 use Rattle.pg_derive.proofs.Quiet.{found}

@@ -3,19 +3,19 @@ use Rattle.std.proofs.Common.{◌≡◌, ◌<◌, inl, inr, ℕ, zero, suc, List
 use Rattle.std.specs.List.{Contains, AllByRecursion}
 use Rattle.std.proofs.lemmas.Bool.{cases_order}
 use Rattle.std.proofs.lemmas.Option.{slice_get_within, slice_get-get_or}
-use Rattle.pg_value.specs.Grammar.{Grammar, IsGrammar}
-use Rattle.pg_form.specs.Forms.{Node}
-use Rattle.pg_form.specs.declared.form.Form.TheVariants as form
-use Rattle.pg_form.specs.declared.side.Side.{Side}
-use Rattle.pg_form.specs.declared.used.BuilderUse.{BuilderUse}
+use Rattle.pg_grammar_value.specs.Grammar.{Grammar, IsGrammar}
+use Rattle.pg_grammar_form.specs.Forms.{Node}
+use Rattle.pg_grammar_form.specs.declared.form.Form.TheVariants as form
+use Rattle.pg_grammar_form.specs.declared.side.Side.{Side}
+use Rattle.pg_grammar_form.specs.declared.used.BuilderUse.{BuilderUse}
 use Rattle.pg_sets.specs.Follow.{IsChain}
 use Rattle.pg_sets.specs.Follow as follow
-use Rattle.pg_heads.specs.Nullable.{Nullable, NullableForm}
-use Rattle.pg_heads.specs.Nullable as null
-use Rattle.pg_own_starts.specs.OwnStarts.{IsKeyTry}
-use Rattle.pg_heads.specs.Ranks.{Chain}
-use Rattle.pg_heads.specs.Reached.{ReachedIn, ReachedPart}
-use Rattle.pg_heads.specs.Reached as reached
+use Rattle.pg_sets_nullable.specs.Nullable.{Nullable, NullableForm}
+use Rattle.pg_sets_nullable.specs.Nullable as null
+use Rattle.pg_sets_own.specs.OwnStarts.{IsKeyTry}
+use Rattle.pg_sets_nullable.specs.Ranks.{Chain}
+use Rattle.pg_sets_nullable.specs.Reached.{ReachedIn, ReachedPart}
+use Rattle.pg_sets_nullable.specs.Reached as reached
 use Rattle.pg_sets.specs.Sets.{Sets, AreSets}
 use Rattle.pg_predict.specs.Conditions.{IsFaultless, EndsNullable, least_facts, empty_round, empty_link, empty_alternative, alternatives_meet, alternative_meets_follow, round_meets_follow, link_meets_follow}
 use Rattle.pg_derive.specs.ClosedSets.{NodeSets}
@@ -23,7 +23,7 @@ use Rattle.pg_derive.specs.LeastSets.{node_sets}
 use Rattle.pg_derive.specs.Predictive.{PartIsPredictive, AlternativesArePredictive, ComesBefore, ManyIsPredictive, ChainIsPredictive}
 use Rattle.pg_derive.proofs.LeastSets.{first_is, follow_is, follow_covers, full, firsts_apart, follow_apart, rounds_apart}
 use Rattle.pg_derive.proofs.PartsFit.{IsPart, AreNodes, are_parts, begins_first, first_reached, parts_fall, in_falls, part_first, part_fits}
-use Rattle.pg_costs.proofs.Existing.{reached_is}
+use Rattle.pg_predict_costs.proofs.Existing.{reached_is}
 
 no_key_choice : {g : Grammar} {parts : List ℕ} → IsKeyTry g (form.Choice parts) → ⊥
 no_key_choice h = elim h [ ]

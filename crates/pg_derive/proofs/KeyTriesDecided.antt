@@ -1,14 +1,14 @@
 -- Whether a try gives a key, which is looked at as a whole, is decided.
 use Rattle.std.proofs.Common.{◌≡◌, inl, inr, ℕ, List, [], ◌∷◌, Option, Some, None, slice_get, refl, sym, ap, ◌∙◌, subst}
 use Rattle.std.proofs.lemmas.Option.{same_Some, none-some}
-use Rattle.pg_value.specs.Grammar.{Grammar}
-use Rattle.pg_form.specs.declared.class.ClassPart.{ClassPart}
-use Rattle.pg_form.specs.Forms.{Node}
-use Rattle.pg_form.specs.declared.form.Form.TheVariants as form
-use Rattle.pg_form.specs.declared.form.Leaf.TheVariants as leaf
-use Rattle.pg_form.specs.declared.form.Around.TheVariants as around
-use Rattle.pg_own_starts.specs.OwnStarts.{IsKeyTry}
-use Rattle.pg_own_starts.specs.OwnStarts as own
+use Rattle.pg_grammar_value.specs.Grammar.{Grammar}
+use Rattle.pg_grammar_form.specs.declared.class.ClassPart.{ClassPart}
+use Rattle.pg_grammar_form.specs.Forms.{Node}
+use Rattle.pg_grammar_form.specs.declared.form.Form.TheVariants as form
+use Rattle.pg_grammar_form.specs.declared.form.Leaf.TheVariants as leaf
+use Rattle.pg_grammar_form.specs.declared.form.Around.TheVariants as around
+use Rattle.pg_sets_own.specs.OwnStarts.{IsKeyTry}
+use Rattle.pg_sets_own.specs.OwnStarts as own
 use Rattle.pg_derive.proofs.Least.{Decided}
 
 -- what stands at a node, so far as it tells whether a try around it may give a key

@@ -3,17 +3,17 @@ use Rattle.std.proofs.Common.{◌≡◌, ◌<◌, ◌⊎◌, inl, inr, ℕ, List
 use Rattle.pg_predict.proofs.Numbered.{listed_once}
 use Rattle.std.specs.List.{Contains}
 use Rattle.std.proofs.lemmas.Bool.{cases_Bool}
-use Rattle.pg_value.specs.Grammar.{Grammar}
+use Rattle.pg_grammar_value.specs.Grammar.{Grammar}
 use Rattle.pg_start.specs.Apart.{Apart}
 use Rattle.pg_start.specs.declared.kind.StartKind.{StartKind}
 use Rattle.pg_sets.specs.First.{IsFirst, IsFirstOf}
 use Rattle.pg_sets.specs.First as of
 use Rattle.pg_sets.specs.Follow.{IsFollow}
-use Rattle.pg_bit_set.specs.Numbers.{contains, set_at}
+use Rattle.pg_graph_bits.specs.Numbers.{contains, set_at}
 use Rattle.pg_graph.specs.Marks.{is_marked}
-use Rattle.pg_heads.specs.Nullable.{Nullable}
+use Rattle.pg_sets_nullable.specs.Nullable.{Nullable}
 use Rattle.pg_sets.specs.Sets.{Sets, AreSets, HasStart}
-use Rattle.pg_own_starts.specs.declared.listed.ListedStart.{ListedStart}
+use Rattle.pg_sets_own.specs.declared.listed.ListedStart.{ListedStart}
 use Rattle.pg_predict.specs.Conditions.{BeginsLink, AreFirstToMeet, least_facts}
 use Rattle.pg_derive.specs.ClosedSets.{Covers}
 use Rattle.pg_derive.specs.LeastSets.{node_sets}
@@ -21,7 +21,7 @@ use Rattle.pg_derive.proofs.Begins.{contained_covers}
 use Rattle.pg_derive.proofs.Least.{Decided, decided_true, decided_as, decided_both, decided_either}
 use Rattle.pg_derive.proofs.Meetings.{IsListable, Stands, apart_all}
 use Rattle.pg_derive.proofs.StartLists.{start_from_list, list_from_start}
-use Rattle.pg_judge.proofs.Numbered.{same_numbers}
+use Rattle.pg_predict_conditions.proofs.Numbered.{same_numbers}
 
 module _ (g : Grammar) (sets : Sets) (are : AreSets g sets) where
   -- ---- starts

@@ -8,32 +8,32 @@ use Rattle.std.proofs.lemmas.List.Sums.{take_while-cons}
 use Rattle.std.proofs.lemmas.Option.{same_Some, slice_get_within}
 use Rattle.pg_class.proofs.Unique.{has-first}
 use Rattle.pg_class.specs.Ranges.{Range, has}
-use Rattle.pg_form.specs.ClassItems.{has_character}
-use Rattle.pg_value.specs.Grammar.{Grammar, IsGrammar, rule_names, word_names, forms_of}
-use Rattle.pg_form.specs.declared.class.ClassPart.{ClassPart}
-use Rattle.pg_form.specs.declared.form.Form.TheVariants as form
-use Rattle.pg_form.specs.declared.form.Leaf.TheVariants as leaf
-use Rattle.pg_form.specs.declared.form.Around.TheVariants as around
-use Rattle.pg_form.proofs.Each.{none-get}
-use Rattle.pg_form.specs.Forms.{Node, form_of, uses_operators}
-use Rattle.pg_form.specs.Operators.{Operator}
-use Rattle.pg_form.specs.OperatorsItems.{operators_are_used, lacks_operators}
-use Rattle.pg_form.specs.declared.decl.Role.{Role}
-use Rattle.pg_form.specs.declared.decl.Role.TheVariants.{InfixLeft, InfixRight, InfixNone, Prefix, Postfix}
-use Rattle.pg_form.specs.declared.operators_item.OperatorsItem.{OperatorsItem}
-use Rattle.pg_form.specs.declared.used.OperatorBuilders.{OperatorBuilders}
-use Rattle.pg_form.specs.declared.word_item.WordItem.{WordItem}
+use Rattle.pg_grammar_form.specs.ClassItems.{has_character}
+use Rattle.pg_grammar_value.specs.Grammar.{Grammar, IsGrammar, rule_names, word_names, forms_of}
+use Rattle.pg_grammar_form.specs.declared.class.ClassPart.{ClassPart}
+use Rattle.pg_grammar_form.specs.declared.form.Form.TheVariants as form
+use Rattle.pg_grammar_form.specs.declared.form.Leaf.TheVariants as leaf
+use Rattle.pg_grammar_form.specs.declared.form.Around.TheVariants as around
+use Rattle.pg_grammar_form.proofs.Each.{none-get}
+use Rattle.pg_grammar_form.specs.Forms.{Node, form_of, uses_operators}
+use Rattle.pg_grammar_form.specs.Operators.{Operator}
+use Rattle.pg_grammar_form.specs.OperatorsItems.{operators_are_used, lacks_operators}
+use Rattle.pg_grammar_form.specs.declared.decl.Role.{Role}
+use Rattle.pg_grammar_form.specs.declared.decl.Role.TheVariants.{InfixLeft, InfixRight, InfixNone, Prefix, Postfix}
+use Rattle.pg_grammar_form.specs.declared.operators_item.OperatorsItem.{OperatorsItem}
+use Rattle.pg_grammar_form.specs.declared.used.OperatorBuilders.{OperatorBuilders}
+use Rattle.pg_grammar_form.specs.declared.word_item.WordItem.{WordItem}
 use Rattle.pg_start.proofs.Meeting.{scalar_at}
 use Rattle.pg_text.specs.Texts.{is_among}
 use Rattle.pg_start.specs.Prefixes.{run}
 use Rattle.pg_start.specs.Starts.{MatchesAt}
 use Rattle.pg_start.specs.declared.kind.StartKind.{StartKind}
 use Rattle.pg_start.specs.declared.kind.StartKind.TheVariants.{Class, Key, Word}
-use Rattle.pg_own_starts.proofs.Owned.{spelled}
+use Rattle.pg_sets_own.proofs.Owned.{spelled}
 use Rattle.pg_sets.specs.First as of
-use Rattle.pg_own_starts.specs.Own as plain
-use Rattle.pg_own_starts.specs.OwnStarts.{IsClassOf, IsExcludedBy, OwnStart, IsKeyed, ReservedAs, role_keyword}
-use Rattle.pg_own_starts.specs.OwnStarts as own
+use Rattle.pg_sets_own.specs.Own as plain
+use Rattle.pg_sets_own.specs.OwnStarts.{IsClassOf, IsExcludedBy, OwnStart, IsKeyed, ReservedAs, role_keyword}
+use Rattle.pg_sets_own.specs.OwnStarts as own
 use Rattle.pg_sets.specs.Sets.{Sets, AreSets}
 use Rattle.pg_language.specs.Runs.{HasAt, StandsAt, keyword, run_at}
 use Rattle.pg_derive.specs.ClosedSets.{SomeMatches, Meets}

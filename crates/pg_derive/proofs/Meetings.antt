@@ -3,11 +3,11 @@ use Rattle.std.proofs.Common.{◌≡◌, inl, inr, ℕ, List, Option, Some, None
 use Rattle.pg_predict.proofs.Numbered.{listed_once}
 use Rattle.std.specs.List.Sorted.{IsStrictlySortedBy}
 use Rattle.std.proofs.lemmas.Option.{same_Some, none-some, slice_get_within}
-use Rattle.pg_value.specs.Grammar.{Grammar}
+use Rattle.pg_grammar_value.specs.Grammar.{Grammar}
 use Rattle.pg_start.specs.Apart.{Apart}
 use Rattle.pg_start.specs.declared.kind.StartKind.{StartKind}
-use Rattle.pg_own_starts.specs.Listed.{IsListed, start_order}
-use Rattle.pg_own_starts.specs.declared.listed.ListedStart.{ListedStart}
+use Rattle.pg_sets_own.specs.Listed.{IsListed, start_order}
+use Rattle.pg_sets_own.specs.declared.listed.ListedStart.{ListedStart}
 use Rattle.pg_predict.specs.Conditions.{AreFirstToMeet}
 use Rattle.pg_derive.proofs.ApartDecided.{apart_decided}
 use Rattle.pg_derive.proofs.Least.{Decided, LeastOf, decided_both, decided_not, decided_as, decided_some, least_from}

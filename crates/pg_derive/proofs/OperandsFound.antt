@@ -4,12 +4,12 @@ use Rattle.std.specs.Prelude.{Option, Some, None, find}
 use Rattle.std.specs.Str.{bytes_eq}
 use Rattle.std.proofs.lemmas.Slice.Eq.{bytes_eq-Decides}
 use Rattle.pg_tree.specs.Trees.{Tree}
-use Rattle.pg_form.specs.Operators.{Operator}
-use Rattle.pg_form.specs.declared.decl.Role.{Role}
-use Rattle.pg_form.specs.declared.decl.Role.TheVariants.{InfixLeft, InfixRight, InfixNone, Prefix, Postfix}
-use Rattle.pg_value.specs.declared.trail.AppliedOperator.{AppliedOperator}
-use Rattle.pg_value.specs.declared.trail.Fixity.TheVariants as fixity
-use Rattle.pg_value.specs.declared.trail.TrailItem.{TrailItem}
+use Rattle.pg_grammar_form.specs.Operators.{Operator}
+use Rattle.pg_grammar_form.specs.declared.decl.Role.{Role}
+use Rattle.pg_grammar_form.specs.declared.decl.Role.TheVariants.{InfixLeft, InfixRight, InfixNone, Prefix, Postfix}
+use Rattle.pg_grammar_value.specs.declared.trail.AppliedOperator.{AppliedOperator}
+use Rattle.pg_grammar_value.specs.declared.trail.Fixity.TheVariants as fixity
+use Rattle.pg_grammar_value.specs.declared.trail.TrailItem.{TrailItem}
 use Rattle.pg_table.specs.Fitting.{Expression, term, prefixed, postfixed, joined, row, rank, IsPrefixed, IsUnary, IsJoined, IsFittingSide, IsInfix, IsAmong, IsFitting}
 use Rattle.pg_table.specs.Trails as trails
 use Rattle.pg_table.specs.Trails.{operators_read}
@@ -76,7 +76,7 @@ as_top operators k (prefixed o x) (inr e) = inl (inr e)
 as_top operators k (postfixed o x) (inr e) = inl (inr e)
 as_top operators k (joined o x y) (inr e) = inr e
 
--- what stands on the side to which an operator of the row associates
+-- the operand on the side to which an operator of the row associates
 pub on_side : (operators : List Operator) (k : ℕ) (side : Role) (o : Operator) (x : Expression) → row operators o ≡ k → IsFittingSide operators side o x → IsSideOf operators side k x
 on_side operators k side o x h (inl f) = inl (subst (λ r. IsOperandOf operators r x) h f)
 on_side operators k side o x h (inr f) = inr (subst (λ r. IsJoined operators side r x) h f.1)

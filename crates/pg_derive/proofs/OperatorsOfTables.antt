@@ -3,11 +3,11 @@ use Rattle.std.proofs.Common.{◌≡◌, ◌<◌, ◌⊎◌, ◌∙◌, ℕ, suc
 use Rattle.std.specs.Prelude.{not, ◌&&◌, nat_lt, nat_le, if◌then◌else◌}
 use Rattle.std.specs.List.{AllByRecursion, list_any}
 use Rattle.std.specs.Str.{bytes_eq}
-use Rattle.pg_value.specs.Grammar.{Grammar}
-use Rattle.pg_form.specs.Operators.{Operator, IsOperator}
-use Rattle.pg_form.specs.declared.operators_item.OperatorsItem.{OperatorsItem}
-use Rattle.pg_table.specs.declared.fault.AdmitFault.{AdmitFault}
-use Rattle.pg_table.specs.declared.fault.AdmitFault.TheVariants.{SymbolTooLong, SymbolReserved, PrefixThere, SymbolThere, TableFull}
+use Rattle.pg_grammar_value.specs.Grammar.{Grammar}
+use Rattle.pg_grammar_form.specs.Operators.{Operator, IsOperator}
+use Rattle.pg_grammar_form.specs.declared.operators_item.OperatorsItem.{OperatorsItem}
+use Rattle.pg_table.specs.declared.admit_fault.AdmitFault.{AdmitFault}
+use Rattle.pg_table.specs.declared.admit_fault.AdmitFault.TheVariants.{SymbolTooLong, SymbolReserved, PrefixThere, SymbolThere, TableFull}
 use Rattle.pg_table.specs.Tables.{Table, is_prefix, has_prefix, has_other, with_operator, empty_table, whole, added_from, ComesFrom}
 use Rattle.pg_table.specs.Fitting.{IsAmong}
 use Rattle.pg_table.proofs.Added.{same_table, added_at_end, all_proper}

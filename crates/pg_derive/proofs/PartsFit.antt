@@ -2,28 +2,28 @@
 use Rattle.std.proofs.Common.{◌≡◌, ◌<◌, inl, inr, ℕ, List, [], ◌∷◌, Some, slice_get, length}
 use Rattle.std.specs.List.{AllByRecursion}
 use Rattle.std.proofs.lemmas.Option.{slice_get_within}
-use Rattle.pg_value.proofs.Numbers.{parts_are_after}
-use Rattle.pg_form.specs.Forms.{Node, parts_of}
-use Rattle.pg_value.specs.Grammar.{Grammar, IsGrammar}
-use Rattle.pg_form.specs.declared.form.Form.TheVariants as form
+use Rattle.pg_grammar_value.proofs.Numbers.{parts_are_after}
+use Rattle.pg_grammar_form.specs.Forms.{Node, parts_of}
+use Rattle.pg_grammar_value.specs.Grammar.{Grammar, IsGrammar}
+use Rattle.pg_grammar_form.specs.declared.form.Form.TheVariants as form
 use Rattle.pg_start.specs.declared.kind.StartKind.{StartKind}
 use Rattle.pg_sets.specs.First.{IsFirst, IsFirstOf}
 use Rattle.pg_sets.specs.First as of
 use Rattle.pg_sets.specs.Follow.{IsFollow, StandsBefore, next, last}
 use Rattle.pg_sets.specs.Follow as stands
-use Rattle.pg_heads.specs.Nullable.{Nullable, NullableForm}
-use Rattle.pg_heads.specs.Nullable as null
-use Rattle.pg_own_starts.specs.OwnStarts.{IsKeyTry}
-use Rattle.pg_heads.specs.Ranks.{Chain}
-use Rattle.pg_heads.specs.Reached.{ReachedIn, ReachedPart}
-use Rattle.pg_heads.specs.Reached as reached
+use Rattle.pg_sets_nullable.specs.Nullable.{Nullable, NullableForm}
+use Rattle.pg_sets_nullable.specs.Nullable as null
+use Rattle.pg_sets_own.specs.OwnStarts.{IsKeyTry}
+use Rattle.pg_sets_nullable.specs.Ranks.{Chain}
+use Rattle.pg_sets_nullable.specs.Reached.{ReachedIn, ReachedPart}
+use Rattle.pg_sets_nullable.specs.Reached as reached
 use Rattle.pg_sets.specs.Sets.{Sets, AreSets}
 use Rattle.pg_derive.specs.ClosedSets.{Covers, AllNullable, BeginsParts, PartsFollowed, PartsFall}
 use Rattle.pg_derive.specs.LeastSets.{node_sets}
 use Rattle.pg_derive.specs.Predictive.{PartIsPredictive, SeqIsPredictive}
 use Rattle.pg_derive.proofs.LeastSets.{first_is, first_covers, follow_is, follow_covers}
-use Rattle.pg_costs.proofs.Levels.{part_falls}
-use Rattle.pg_costs.proofs.Existing.{reached_is}
+use Rattle.pg_predict_costs.proofs.Levels.{part_falls}
+use Rattle.pg_predict_costs.proofs.Existing.{reached_is}
 
 no_key_seq : {g : Grammar} {parts : List ℕ} → IsKeyTry g (form.Seq parts) → ⊥
 no_key_seq h = elim h [ ]

@@ -5,10 +5,10 @@ use Rattle.std.proofs.lemmas.Bool.{cases_order}
 use Rattle.std.proofs.lemmas.Cmp.{tied_itself}
 use Rattle.std.proofs.lemmas.Map.Keys.{sorted_head, sorted_tail}
 use Rattle.std.proofs.lemmas.Option.{same_Some}
-use Rattle.pg_own_starts.specs.Listed.{start_order, start_order_total}
-use Rattle.pg_own_starts.specs.declared.listed.ListedStart.{ListedStart}
-use Rattle.pg_form.proofs.Each.{all-get}
-use Rattle.pg_own_starts.proofs.Ordered.{less-equal}
+use Rattle.pg_sets_own.specs.Listed.{start_order, start_order_total}
+use Rattle.pg_sets_own.specs.declared.listed.ListedStart.{ListedStart}
+use Rattle.pg_grammar_form.proofs.Each.{all-get}
+use Rattle.pg_sets_own.proofs.Ordered.{less-equal}
 
 -- of two places the earlier has the lesser start
 ordered_at : (starts : List ListedStart) → IsStrictlySortedBy start_order starts → (i j : ℕ) (x y : ListedStart) → slice_get starts i ≡ Some x → slice_get starts j ≡ Some y →

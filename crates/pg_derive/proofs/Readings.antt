@@ -6,11 +6,11 @@ use Rattle.std.specs.Str.{all_scalars}
 use Rattle.pg_text.specs.Position.{start}
 use Rattle.pg_tree.specs.Trees.{Tree}
 use Rattle.pg_tree.specs.declared.shape.Shape.{Shape}
-use Rattle.pg_form.specs.Forms.{Node}
-use Rattle.pg_form.specs.declared.form.Form.TheVariants as form
-use Rattle.pg_form.specs.declared.form.Leaf.TheVariants as leaf
-use Rattle.pg_value.specs.declared.trail.TrailItem.{TrailItem}
-use Rattle.pg_value.specs.declared.trail.TrailItem.TheVariants.{Alt}
+use Rattle.pg_grammar_form.specs.Forms.{Node}
+use Rattle.pg_grammar_form.specs.declared.form.Form.TheVariants as form
+use Rattle.pg_grammar_form.specs.declared.form.Leaf.TheVariants as leaf
+use Rattle.pg_grammar_value.specs.declared.trail.TrailItem.{TrailItem}
+use Rattle.pg_grammar_value.specs.declared.trail.TrailItem.TheVariants.{Alt}
 use Rattle.pg_message.proofs.Nothing.{merged-nothing}
 use Rattle.pg_language.specs.Derives.{Spot}
 use Rattle.pg_table.specs.Tables.{ComesFrom}
@@ -26,7 +26,7 @@ use Rattle.pg_language.specs.Errors.{Error, with_position, without_position, mer
 use Rattle.pg_language.specs.Outcomes.{Outcome, ok}
 use Rattle.pg_derive.specs.Predictive.{AlternativesArePredictive, IsPredictiveAt}
 use Rattle.pg_derive.specs.PredictiveLaws.{as_read, ReadingsAgree}
-use Rattle.pg_form.specs.declared.side.Side.{Side}
+use Rattle.pg_grammar_form.specs.declared.side.Side.{Side}
 use Rattle.pg_language.specs.declared.reading.Reading.{Reading}
 use Rattle.pg_language.specs.declared.reading.Reading.TheVariants.{Library, Report}
 use Rattle.pg_derive.proofs.Begins.{still, moves, BeginsNode}

@@ -3,13 +3,13 @@
 use Rattle.std.proofs.Common.{◌≡◌, ◌⊎◌, ◌≤◌, ◌+◌, ◌||◌, ℕ, zero, suc, Bool, true, false, List, [], ◌∷◌, ◌++◌, inl, inr, refl, sym, ap, subst, ◌∙◌, append-nil, append_assoc, arith}
 use Rattle.std.specs.Prelude.{Option, Some, None, find, codes}
 use Rattle.pg_tree.specs.Trees.{Tree}
-use Rattle.pg_form.specs.Operators.{Operator}
-use Rattle.pg_form.specs.declared.decl.Role.{Role}
-use Rattle.pg_form.specs.declared.decl.Role.TheVariants.{InfixLeft, InfixRight, InfixNone, Prefix}
-use Rattle.pg_value.specs.declared.trail.AppliedOperator.{AppliedOperator}
-use Rattle.pg_value.specs.declared.trail.Fixity.TheVariants as fixity
-use Rattle.pg_value.specs.declared.trail.TrailItem.{TrailItem}
-use Rattle.pg_value.specs.declared.trail.TrailItem.TheVariants.{Ops}
+use Rattle.pg_grammar_form.specs.Operators.{Operator}
+use Rattle.pg_grammar_form.specs.declared.decl.Role.{Role}
+use Rattle.pg_grammar_form.specs.declared.decl.Role.TheVariants.{InfixLeft, InfixRight, InfixNone, Prefix}
+use Rattle.pg_grammar_value.specs.declared.trail.AppliedOperator.{AppliedOperator}
+use Rattle.pg_grammar_value.specs.declared.trail.Fixity.TheVariants as fixity
+use Rattle.pg_grammar_value.specs.declared.trail.TrailItem.{TrailItem}
+use Rattle.pg_grammar_value.specs.declared.trail.TrailItem.TheVariants.{Ops}
 use Rattle.pg_table.specs.Fitting.{Expression, term, prefixed, postfixed, joined, row, rank, IsAmong, IsFitting}
 use Rattle.pg_table.specs.Trails as trails
 use Rattle.pg_table.specs.Trails.{operators_read}

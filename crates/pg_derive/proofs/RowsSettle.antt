@@ -2,12 +2,12 @@
 use Rattle.std.proofs.Common.{◌≡◌, ◌<◌, ◌≤◌, ◌+◌, ℕ, zero, suc, Bool, true, false, List, [], ◌∷◌, ◌++◌, length, refl, sym, subst, arith, le_refl, le_trans}
 use Rattle.std.specs.Prelude.{Option, Some, None}
 use Rattle.pg_tree.specs.Trees.{Tree}
-use Rattle.pg_form.specs.Operators.{Operator}
-use Rattle.pg_form.specs.declared.used.BuilderUse.{BuilderUse}
-use Rattle.pg_form.specs.declared.used.OperatorBuilders.{OperatorBuilders}
-use Rattle.pg_value.specs.declared.trail.Fixity.TheVariants as fixity
-use Rattle.pg_value.specs.declared.trail.TrailItem.{TrailItem}
-use Rattle.pg_value.specs.declared.trail.TrailItem.TheVariants.{Ops}
+use Rattle.pg_grammar_form.specs.Operators.{Operator}
+use Rattle.pg_grammar_form.specs.declared.used.BuilderUse.{BuilderUse}
+use Rattle.pg_grammar_form.specs.declared.used.OperatorBuilders.{OperatorBuilders}
+use Rattle.pg_grammar_value.specs.declared.trail.Fixity.TheVariants as fixity
+use Rattle.pg_grammar_value.specs.declared.trail.TrailItem.{TrailItem}
+use Rattle.pg_grammar_value.specs.declared.trail.TrailItem.TheVariants.{Ops}
 use Rattle.pg_expand.specs.declared.rows.Row.{Row}
 use Rattle.pg_language.specs.Answers.{Given, Answers, AnswersRows, only_term, loosest_row, AnswersRowOperand, row_operand, AfterRowOperand, row_failed, row_ok, AnswersTail, row_tail, AfterRight, right_stands, right_commits, right_failed, AfterLeft, left_stands, left_commits, left_failed, AnswersRight, right_side, AfterRightOperator, right_unread, right_read, AfterRightOperand, right_operand_failed, right_operand_ok, AnswersLeft, left_side, AfterLeftOperator, left_unread, left_read, AfterLeftOperand, left_operand_failed, left_operand_ok, AnswersNon, neither_side, AfterNonOperator, non_unread, non_read}
 use Rattle.pg_language.specs.Derives.{Spot, at, applied}
@@ -23,7 +23,7 @@ IsAnswer Is (ok c b v t e) = Is b
 IsAnswer Is (failed c e) = Unit {0}
 IsAnswer Is empty_round = ⊥
 
--- the run has such an outcome
+-- the run has an outcome of this kind
 pub record Settled (Is : Spot → Type 0) (Run : Outcome → ℕ → Type 0) : Type 0 where
   pub outcome : Outcome
   pub count : ℕ

@@ -4,21 +4,21 @@ use Rattle.std.specs.List.{list_any}
 use Rattle.std.specs.Str.{bytes_eq}
 use Rattle.pg_tree.specs.Trees.{Tree}
 use Rattle.pg_tree.specs.declared.shape.Shape.{Shape}
-use Rattle.pg_form.specs.ClassItems.{has_character}
-use Rattle.pg_value.specs.Grammar.{Grammar}
-use Rattle.pg_form.specs.declared.class.ClassPart.{ClassPart}
-use Rattle.pg_form.specs.Forms.{Node}
-use Rattle.pg_form.specs.declared.form.Around.{Around}
-use Rattle.pg_form.specs.declared.form.Leaf.{Leaf}
-use Rattle.pg_form.specs.declared.form.Leaf.TheVariants as leaf
-use Rattle.pg_form.specs.declared.side.Side.{Side}
-use Rattle.pg_value.specs.declared.trail.TrailItem.{TrailItem}
-use Rattle.pg_value.specs.declared.trail.TrailItem.TheVariants.{Alt}
-use Rattle.pg_form.specs.declared.word_item.WordItem.{WordItem}
-use Rattle.pg_form.specs.Operators.{Operator}
-use Rattle.pg_form.specs.declared.operators_item.OperatorsItem.{OperatorsItem}
+use Rattle.pg_grammar_form.specs.ClassItems.{has_character}
+use Rattle.pg_grammar_value.specs.Grammar.{Grammar}
+use Rattle.pg_grammar_form.specs.declared.class.ClassPart.{ClassPart}
+use Rattle.pg_grammar_form.specs.Forms.{Node}
+use Rattle.pg_grammar_form.specs.declared.form.Around.{Around}
+use Rattle.pg_grammar_form.specs.declared.form.Leaf.{Leaf}
+use Rattle.pg_grammar_form.specs.declared.form.Leaf.TheVariants as leaf
+use Rattle.pg_grammar_form.specs.declared.side.Side.{Side}
+use Rattle.pg_grammar_value.specs.declared.trail.TrailItem.{TrailItem}
+use Rattle.pg_grammar_value.specs.declared.trail.TrailItem.TheVariants.{Alt}
+use Rattle.pg_grammar_form.specs.declared.word_item.WordItem.{WordItem}
+use Rattle.pg_grammar_form.specs.Operators.{Operator}
+use Rattle.pg_grammar_form.specs.declared.operators_item.OperatorsItem.{OperatorsItem}
 use Rattle.pg_table.specs.Tables.{admit_fault}
-use Rattle.pg_table.specs.declared.fault.AdmitFault.{AdmitFault}
+use Rattle.pg_table.specs.declared.admit_fault.AdmitFault.{AdmitFault}
 use Rattle.pg_language.specs.Declarations.{Declaration, no_keyword, no_digit, no_symbol, declared, declaration_at, unless_refused, declaration_outcome, declare_outcome}
 use Rattle.pg_language.specs.Derives.{Spot}
 use Rattle.pg_language.specs.Runs.{run_at}
@@ -29,9 +29,9 @@ use Rattle.pg_language.specs.Leaves.{satisfy_next, word_read, word_next, not_fol
 use Rattle.pg_language.specs.Outcomes.{Outcome, ok, failed, empty_round}
 use Rattle.pg_language.specs.Reactions.{then_rest, then_round, noted, after_failure, unless_consumed, surrounded, as_finished, unless_begun}
 use Rattle.pg_language.proofs.Onward.{left_still}
-use Rattle.pg_value.specs.declared.trail.Fixity.{Fixity}
-use Rattle.pg_value.specs.declared.trail.Fixity.TheVariants as fixity
-use Rattle.pg_form.specs.declared.used.OperatorBuilders.{OperatorBuilders}
+use Rattle.pg_grammar_value.specs.declared.trail.Fixity.{Fixity}
+use Rattle.pg_grammar_value.specs.declared.trail.Fixity.TheVariants as fixity
+use Rattle.pg_grammar_form.specs.declared.used.OperatorBuilders.{OperatorBuilders}
 use Rattle.pg_expand.specs.declared.rows.Row.{Row}
 use Rattle.pg_language.specs.OperatorReads.{Read, read_at}
 use Rattle.pg_language.specs.RowReactions.{Setting, then_stretch, then_operand, as_applied, or_return, past_prefix, with_prefix, postfix_outcome, with_postfix, labelled_operator, ambiguous_right, ambiguous_left, ambiguous_non, or_ambiguous, with_last}

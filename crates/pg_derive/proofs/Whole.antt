@@ -1,12 +1,12 @@
 -- In a grammar every number at a node names something.
 use Rattle.std.proofs.Common.{◌≡◌, ◌<◌, ℕ, zero, suc, List, [], ◌∷◌, subst, length, Some, slice_get}
 use Rattle.std.specs.List.{AllByRecursion}
-use Rattle.pg_value.proofs.Numbers.{parts_are_after, bodies_are_nodes}
-use Rattle.pg_form.specs.Forms.{parts_of, NamesRule, NamesWord}
-use Rattle.pg_value.specs.Grammar.{Grammar, IsGrammar}
-use Rattle.pg_form.specs.declared.form.Form.TheVariants as form
-use Rattle.pg_form.specs.declared.form.Leaf.TheVariants as leaf
-use Rattle.pg_value.specs.declared.grammar.Rule as declared
+use Rattle.pg_grammar_value.proofs.Numbers.{parts_are_after, bodies_are_nodes}
+use Rattle.pg_grammar_form.specs.Forms.{parts_of, NamesRule, NamesWord}
+use Rattle.pg_grammar_value.specs.Grammar.{Grammar, IsGrammar}
+use Rattle.pg_grammar_form.specs.declared.form.Form.TheVariants as form
+use Rattle.pg_grammar_form.specs.declared.form.Leaf.TheVariants as leaf
+use Rattle.pg_grammar_value.specs.declared.grammar.Rule as declared
 use Rattle.pg_derive.proofs.Quiet.{IsWhole, found}
 
 all_mapped : {X : Type 0} (P Q : X → Type 0) (xs : List X) → ((x : X) → P x → Q x) → AllByRecursion P xs → AllByRecursion Q xs

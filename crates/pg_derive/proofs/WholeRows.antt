@@ -3,9 +3,9 @@ use Rattle.std.proofs.Common.{◌≡◌, ◌<◌, ◌≤◌, ◌==◌, ℕ, zero
 use Rattle.std.specs.Prelude.{reverse}
 use Rattle.std.specs.List.{AllByRecursion}
 use mathlib.Core.List.{reverse_aux}
-use Rattle.pg_form.specs.Operators.{Operator, IsOperator}
-use Rattle.pg_form.specs.declared.decl.Role.{Role}
-use Rattle.pg_form.specs.declared.decl.Role.TheVariants.{InfixLeft, InfixRight, InfixNone, Prefix, Postfix}
+use Rattle.pg_grammar_form.specs.Operators.{Operator, IsOperator}
+use Rattle.pg_grammar_form.specs.declared.decl.Role.{Role}
+use Rattle.pg_grammar_form.specs.declared.decl.Role.TheVariants.{InfixLeft, InfixRight, InfixNone, Prefix, Postfix}
 use Rattle.pg_table.specs.Fitting.{Expression, term, prefixed, postfixed, joined, row, rank, IsAmong, IsFitting}
 use Rattle.pg_table.specs.Rows.{holds, row_of}
 use Rattle.pg_table.specs.Tables.{is_prefix}
@@ -15,7 +15,7 @@ use Rattle.pg_expand.proofs.Levels.{to_member, from_member, filtered, kept, held
 use Rattle.pg_expand.proofs.RowTrees.{AreThose, IsRow}
 use Rattle.pg_expand.proofs.Members.{Among}
 
--- so many rows, the loosest first, each with all operators of its own
+-- k rows, the loosest first, each with all operators of its own
 pub data AreAllLevels (operators : List Operator) : ℕ → List Row → Type 0 where
   no_level : AreAllLevels operators zero []
   level : {k : ℕ} {r : Row} {tighter : List Row} → IsRow operators (suc k) r → AreAllLevels operators k tighter → AreAllLevels operators (suc k) (r ∷ tighter)

@@ -2,10 +2,10 @@
 use Rattle.std.proofs.Common.{◌≡◌, ◌<◌, ◌⊎◌, inl, inr, ℕ, suc, List, [], ◌++◌, Bool, refl, sym, ap, subst, length, Some, slice_get, arith, append-nil}
 use Rattle.std.proofs.Math.Bool.{or-false}
 use Rattle.pg_tree.specs.Trees.{Tree}
-use Rattle.pg_form.specs.declared.form.Form.TheVariants as form
-use Rattle.pg_form.specs.declared.form.Leaf.TheVariants as leaf
-use Rattle.pg_value.specs.declared.grammar.Rule as declared
-use Rattle.pg_value.specs.declared.trail.TrailItem.{TrailItem}
+use Rattle.pg_grammar_form.specs.declared.form.Form.TheVariants as form
+use Rattle.pg_grammar_form.specs.declared.form.Leaf.TheVariants as leaf
+use Rattle.pg_grammar_value.specs.declared.grammar.Rule as declared
+use Rattle.pg_grammar_value.specs.declared.trail.TrailItem.{TrailItem}
 use Rattle.pg_language.specs.Derives as derives
 use Rattle.pg_language.specs.Derives.{Spot, Derives, DerivesText, DerivesForm, end_of_text}
 use Rattle.pg_table.specs.Tables.{Table}

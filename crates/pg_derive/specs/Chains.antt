@@ -1,15 +1,15 @@
--- What a chain is: its operand followed by `rest`, where `rest` is `choice(seq(separator, operand, rest), seq())`.
+-- Chains as sequences: an operand followed by `rest`, where `rest` is `choice(seq(separator, operand, rest), seq())`.
 use Rattle.std.specs.Prelude.{◌≡◌, ℕ, List, [], ◌∷◌, ◌++◌, Bool, Some, slice_get, length}
 use Rattle.pg_tree.specs.Trees.{Tree}
 use Rattle.pg_tree.specs.declared.shape.Shape.{Shape}
-use Rattle.pg_form.specs.Forms.{Node}
-use Rattle.pg_value.specs.Grammar.{Grammar}
-use Rattle.pg_form.specs.declared.form.Form.TheVariants as form
-use Rattle.pg_value.specs.declared.grammar.Rule as declared
-use Rattle.pg_form.specs.declared.side.Side.{Side}
-use Rattle.pg_value.specs.declared.trail.TrailItem.{TrailItem}
-use Rattle.pg_value.specs.declared.trail.TrailItem.TheVariants.{Alt, Rounds}
-use Rattle.pg_form.specs.declared.used.BuilderUse.{BuilderUse}
+use Rattle.pg_grammar_form.specs.Forms.{Node}
+use Rattle.pg_grammar_value.specs.Grammar.{Grammar}
+use Rattle.pg_grammar_form.specs.declared.form.Form.TheVariants as form
+use Rattle.pg_grammar_value.specs.declared.grammar.Rule as declared
+use Rattle.pg_grammar_form.specs.declared.side.Side.{Side}
+use Rattle.pg_grammar_value.specs.declared.trail.TrailItem.{TrailItem}
+use Rattle.pg_grammar_value.specs.declared.trail.TrailItem.TheVariants.{Alt, Rounds}
+use Rattle.pg_grammar_form.specs.declared.used.BuilderUse.{BuilderUse}
 use Rattle.pg_language.specs.Answers.{Given, Answers, AnswersForm}
 use Rattle.pg_language.specs.Derives.{Spot, Link, folded}
 use Rattle.pg_language.specs.Errors.{Error}
@@ -17,11 +17,11 @@ use Rattle.pg_language.specs.Outcomes.{Outcome, ok, failed, empty_round}
 
 -- ---- rest
 
--- the same stands at both nodes, which so answer alike
+-- the same form stands at both nodes, so they answer alike
 abbrev pub AreCopies : Grammar → ℕ → ℕ → Type 0
 AreCopies g p q = slice_get g.nodes p ≡ slice_get g.nodes q
 
--- the node is `rest`: a use of a rule that is `choice(seq(separator, operand, rest), seq())`, of copies of these parts
+-- the node is `rest`: a use of a rule that is `choice(seq(separator, operand, rest), seq())`, with copies of these parts
 pub record IsRest (g : Grammar) (operand separator rest : ℕ) : Type 0 where
   pub rule : ℕ
   pub named : declared.Rule
@@ -39,7 +39,7 @@ pub record IsRest (g : Grammar) (operand separator rest : ℕ) : Type 0 where
   pub is_rest : AreCopies g third rest
   pub is_nothing : slice_get g.nodes nothing ≡ Some (form.Seq [])
 
--- ---- what was read
+-- ---- rounds
 
 -- a separator and the operand after it, with their forests and trails
 pub record Round : Type 0 where
@@ -55,7 +55,7 @@ pub data OkRounds (G : Given) (operand separator : ℕ) : List Round → Spot �
       Answers G separator a (ok x b v t e) m → Answers G operand b (ok y c w u f) n → OkRounds G operand separator rounds c d →
       OkRounds G operand separator (record { separator = v; separator_trail = t; operand = w; operand_trail = u } ∷ rounds) a d
 
--- the forests of rounds as a chain folds them, and as a sequence joins them
+-- the forests of rounds, as a chain folds them and as a sequence joins them
 abbrev pub links_of : List Round → List Link
 links_of [] = []
 links_of (r ∷ rounds) = (r.separator, r.operand) ∷ links_of rounds
@@ -64,7 +64,7 @@ abbrev pub forest_of : List Round → List Tree
 forest_of [] = []
 forest_of (r ∷ rounds) = r.separator ++ (r.operand ++ forest_of rounds)
 
--- the trails of rounds, and the same as `rest` has them: it notes its first alternative for each round, and its second after
+-- the trails of rounds, and the trails that `rest` has for them: it notes its first alternative for each round, and its second after
 -- the last
 abbrev pub trail_of : List Round → List TrailItem
 trail_of [] = []
@@ -77,8 +77,8 @@ rest_trail (r ∷ rounds) = Alt 1 ∷ (r.separator_trail ++ (r.operand_trail ++ 
 -- ---- the law
 
 -- a chain's outcome at a spot beside that of `seq(operand, rest)`: the same kind of answer, up to the same place and table,
--- with the same error and its messages. Where both are ok, the forests of the operand and the rounds are folded by the one
--- and joined by the other, and the trail counts the rounds in the one and notes the alternatives of `rest` in the other
+-- with the same error and messages. If both are ok, one folds the forests of the operand and the rounds and the other
+-- joins them, and one trail counts the rounds for which the other notes the alternatives of `rest`
 pub data AreAlike (G : Given) (side : Side) (shape : Shape) (operand separator : ℕ) (a : Spot) : Outcome → Outcome → Type 0 where
   both_ok : {x y : Bool} {b c : Spot} {v : List Tree} {t : List TrailItem} {e f : Error} {m : ℕ} {rounds : List Round} →
       Answers G operand a (ok x b v t e) m → OkRounds G operand separator rounds b c →
@@ -88,7 +88,7 @@ pub data AreAlike (G : Given) (side : Side) (shape : Shape) (operand separator :
   both_failed : {x : Bool} {e : Error} → AreAlike G side shape operand separator a (failed x e) (failed x e)
   both_stuck : AreAlike G side shape operand separator a empty_round empty_round
 
--- some run of the form at the spot, with an outcome that is so
+-- some run of the form at the spot has an outcome for which `IsSo` holds
 pub record SomeRun (G : Given) (n : Node) (a : Spot) (IsSo : Outcome → Type 0) : Type 0 where
   pub outcome : Outcome
   pub count : ℕ

@@ -2,7 +2,7 @@
 use Rattle.std.specs.Prelude.{◌≡◌, ℕ, List, Bool}
 use Rattle.pg_tree.specs.Trees.{Tree}
 use Rattle.pg_language.specs.Derives.{Spot, Derives}
-use Rattle.pg_value.specs.declared.trail.TrailItem.{TrailItem}
+use Rattle.pg_grammar_value.specs.declared.trail.TrailItem.{TrailItem}
 use Rattle.pg_language.specs.Answers.{Given, Answers}
 use Rattle.pg_message.specs.Errors.{merged, labelled}
 use Rattle.pg_message.specs.Messages.{Text}

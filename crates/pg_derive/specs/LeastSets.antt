@@ -1,15 +1,15 @@
--- The least sets of a grammar, as sets that are claimed of its nodes.
+-- The least sets of a grammar, as claimed sets of its nodes.
 use Rattle.std.specs.Prelude.{Bool, ℕ, suc, if◌then◌else◌, List, [], ◌∷◌}
-use Rattle.pg_value.specs.Grammar.{Grammar}
+use Rattle.pg_grammar_value.specs.Grammar.{Grammar}
 use Rattle.pg_start.specs.declared.kind.StartKind.{StartKind}
-use Rattle.pg_bit_set.specs.Numbers.{contains, set_at}
+use Rattle.pg_graph_bits.specs.Numbers.{contains, set_at}
 use Rattle.pg_graph.specs.Marks.{is_marked}
 use Rattle.pg_sets.specs.Sets.{Sets}
-use Rattle.pg_costs.specs.Levels.{level_of}
-use Rattle.pg_own_starts.specs.declared.listed.ListedStart.{ListedStart}
+use Rattle.pg_predict_costs.specs.Levels.{level_of}
+use Rattle.pg_sets_own.specs.declared.listed.ListedStart.{ListedStart}
 use Rattle.pg_derive.specs.ClosedSets.{NodeSets}
 
--- those of some starts whose numbers are in a set, the first start having the number k
+-- the starts with numbers in a set, where the first start of the list has the number k
 abbrev pub numbered_in : (ℕ → Bool) → ℕ → List ListedStart → List StartKind
 numbered_in is_in k [] = []
 numbered_in is_in k (listed ∷ others) = if is_in k then listed.start ∷ numbered_in is_in (suc k) others else numbered_in is_in (suc k) others

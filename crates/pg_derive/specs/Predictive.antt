@@ -1,32 +1,32 @@
--- When sets that are claimed of a grammar's nodes are closed and show that it is predictive: what a parser meets next tells
--- it which way to go. Sets are closed where they cover what they have to, so that they may be wider than need be; what
--- has to be apart is what is claimed.
+-- When claimed sets of a grammar's nodes are closed and show that it is predictive: what comes next in a text shows a parser
+-- which way to go. Sets are closed if they cover what they must, so they may be wider than necessary; the
+-- claimed sets themselves must be apart.
 use Rattle.std.specs.Prelude.{◌≡◌, ◌<◌, ◌+◌, ℕ, List, [], ◌∷◌, true, false, Some, slice_get, length}
 use Rattle.std.specs.List.{Contains}
-use Rattle.pg_value.specs.Grammar.{Grammar}
-use Rattle.pg_form.specs.declared.class.ClassPart.{ClassPart}
-use Rattle.pg_form.specs.Forms.{Node}
-use Rattle.pg_form.specs.declared.form.Form.TheVariants as form
-use Rattle.pg_form.specs.declared.form.Leaf.{Leaf}
-use Rattle.pg_form.specs.declared.form.Leaf.TheVariants as leaf
-use Rattle.pg_form.specs.declared.form.Around.{Around}
-use Rattle.pg_form.specs.declared.form.Around.TheVariants as kind
-use Rattle.pg_value.specs.declared.grammar.Rule as declared
-use Rattle.pg_form.specs.declared.decl.Role.{Role}
-use Rattle.pg_form.specs.declared.operators_item.OperatorsItem.{OperatorsItem}
-use Rattle.pg_form.specs.declared.word_item.WordItem.{WordItem}
+use Rattle.pg_grammar_value.specs.Grammar.{Grammar}
+use Rattle.pg_grammar_form.specs.declared.class.ClassPart.{ClassPart}
+use Rattle.pg_grammar_form.specs.Forms.{Node}
+use Rattle.pg_grammar_form.specs.declared.form.Form.TheVariants as form
+use Rattle.pg_grammar_form.specs.declared.form.Leaf.{Leaf}
+use Rattle.pg_grammar_form.specs.declared.form.Leaf.TheVariants as leaf
+use Rattle.pg_grammar_form.specs.declared.form.Around.{Around}
+use Rattle.pg_grammar_form.specs.declared.form.Around.TheVariants as kind
+use Rattle.pg_grammar_value.specs.declared.grammar.Rule as declared
+use Rattle.pg_grammar_form.specs.declared.decl.Role.{Role}
+use Rattle.pg_grammar_form.specs.declared.operators_item.OperatorsItem.{OperatorsItem}
+use Rattle.pg_grammar_form.specs.declared.word_item.WordItem.{WordItem}
 use Rattle.pg_start.specs.Apart.{Apart}
 use Rattle.pg_start.specs.declared.kind.StartKind.{StartKind}
 use Rattle.pg_start.specs.declared.kind.StartKind.TheVariants.{End}
 use Rattle.pg_language.specs.Runs.{HasAt, StandsAt, IsWordAt, IsKeywordAt, IsOperatorAt}
 use Rattle.pg_table.specs.Tables.{Table, ComesFrom}
 use Rattle.pg_table.specs.Fitting.{IsAmong}
-use Rattle.pg_form.specs.Operators.{Operator}
+use Rattle.pg_grammar_form.specs.Operators.{Operator}
 use Rattle.pg_derive.specs.ClosedSets.{NodeSets, Meets, NeverMeets, Covers, Within, AllApart, AllNullable, BeginsParts, PartsFollowed, PartsFall}
 
 -- ---- leaves
 
--- the first character of some characters stands at the place
+-- the first of these characters stands at the place
 pub record BeginsAt (text : List ℕ) (place : ℕ) (characters : List ℕ) : Type 0 where
   pub character : ℕ
   pub first : slice_get characters 0 ≡ Some character
@@ -39,7 +39,7 @@ pub record IsSomeWordAt (g : Grammar) (w : ℕ) (text : List ℕ) (place : ℕ) 
   pub word : List ℕ
   pub there : IsWordAt g text item place word
 
--- a string has a character
+-- a string has at least one character
 pub record StringIsPredictive (sets : NodeSets) (p : ℕ) (characters : List ℕ) : Type 0 where
   pub spelled : 0 < length characters
   pub first : Meets (sets.first p) (λ text place. BeginsAt text place characters)
@@ -49,7 +49,7 @@ pub record IsSomeKeywordAt (g : Grammar) (class : List ClassPart) (text : List �
   pub role : Role
   pub there : IsKeywordAt g text class role place
 
--- declarations are read by an operators item
+-- declarations need an operators item
 pub record DeclareIsPredictive (g : Grammar) (sets : NodeSets) (p : ℕ) (class : List ClassPart) : Type 0 where
   pub item : OperatorsItem
   pub named : g.operators ≡ Some item
@@ -63,8 +63,8 @@ pub record PartIsPredictive (sets : NodeSets) (p q : ℕ) : Type 0 where
   pub follow : Within (sets.follow p) (sets.follow q)
   pub falls : sets.level q < sets.level p
 
--- what `try` goes back from is a string, or a string that some characters may not follow: then the whole of it is looked
--- at, and not its first character alone; or it is any other part
+-- a `try` around a string, or around a string that some characters may not follow, counts by the whole string,
+-- and not by its first character alone; around any other part it counts as that part
 pub data TryIsPredictive (g : Grammar) (sets : NodeSets) (p q : ℕ) : Type 0 where
   of_part : PartIsPredictive sets p q → TryIsPredictive g sets p q
   of_string : {s : List ℕ} → slice_get g.nodes q ≡ Some (form.Leaf (leaf.String s)) → 0 < length s → sets.level q < sets.level p →
@@ -87,7 +87,7 @@ pub record SeqIsPredictive (sets : NodeSets) (p : ℕ) (parts : List ℕ) : Type
 
 -- ---- choices
 
--- an alternative q, and one after it
+-- an alternative q, and a later one
 pub record ComesBefore (sets : NodeSets) (p q other : ℕ) : Type 0 where
   pub full : sets.nullable q ≡ false
   pub first : AllApart (sets.first q) (sets.first other)
@@ -99,7 +99,7 @@ AlternativesArePredictive sets p (q ∷ qs) = PartIsPredictive sets p q × ((oth
 
 -- ---- repetitions
 
--- a round q
+-- a repetition with the round q
 pub record ManyIsPredictive (sets : NodeSets) (p q : ℕ) : Type 0 where
   pub empty : sets.nullable p ≡ true
   pub full : sets.nullable q ≡ false
@@ -109,7 +109,7 @@ pub record ManyIsPredictive (sets : NodeSets) (p q : ℕ) : Type 0 where
   pub apart : AllApart (sets.first q) (sets.follow p)
   pub falls : sets.level q < sets.level p
 
--- an operand q and a separator r; a round is the sequence of r and q
+-- a chain with an operand q and a separator r; a round is the sequence of r and q
 pub record ChainIsPredictive (sets : NodeSets) (p q r : ℕ) : Type 0 where
   pub empty : sets.nullable q ≡ true → sets.nullable p ≡ true
   pub full : AllNullable sets (r ∷ q ∷ []) → ⊥
@@ -149,7 +149,7 @@ pub record ExpressionIsPredictive (g : Grammar) (sets : NodeSets) (p q : ℕ) : 
 
 -- ---- nodes
 
--- by the leaf
+-- the condition on a leaf
 abbrev pub LeafIsPredictive : Grammar → NodeSets → ℕ → Leaf ℕ → Type 0
 LeafIsPredictive g sets p (leaf.Satisfy class) = Meets (sets.first p) (λ text place. HasAt g text class place)
 LeafIsPredictive g sets p (leaf.String s) = StringIsPredictive sets p s
@@ -158,7 +158,7 @@ LeafIsPredictive g sets p (leaf.NotFollowedBy class) = sets.nullable p ≡ true
 LeafIsPredictive g sets p leaf.EndOfText = sets.nullable p ≡ true
 LeafIsPredictive g sets p (leaf.Declare class) = DeclareIsPredictive g sets p class
 
--- by what stands around a part q
+-- the condition on a form around a part q
 abbrev pub AroundIsPredictive : Grammar → NodeSets → ℕ → Around → ℕ → Type 0
 AroundIsPredictive g sets p kind.Try q = TryIsPredictive g sets p q
 AroundIsPredictive g sets p kind.Text q = PartIsPredictive sets p q
@@ -167,7 +167,7 @@ AroundIsPredictive g sets p (kind.Build used symbol) q = PartIsPredictive sets p
 AroundIsPredictive g sets p (kind.Label message) q = PartIsPredictive sets p q
 AroundIsPredictive g sets p kind.Local q = PartIsPredictive sets p q
 
--- by what stands at the node
+-- the condition on a node
 abbrev pub IsPredictiveAt : Grammar → NodeSets → ℕ → Node → Type 0
 IsPredictiveAt g sets p (form.Leaf l) = LeafIsPredictive g sets p l
 IsPredictiveAt g sets p (form.Seq parts) = SeqIsPredictive sets p parts
@@ -178,7 +178,7 @@ IsPredictiveAt g sets p (form.Rule r) = RuleIsPredictive g sets p r
 IsPredictiveAt g sets p (form.Expression builders q) = ExpressionIsPredictive g sets p q
 IsPredictiveAt g sets p (form.Around k q) = AroundIsPredictive g sets p k q
 
--- each node fits; the end of the text follows the start rule
+-- each node meets its condition; the end of the text follows the start rule
 pub record IsPredictive (g : Grammar) (sets : NodeSets) : Type 0 where
   pub nodes : (p : ℕ) (n : Node) → slice_get g.nodes p ≡ Some n → IsPredictiveAt g sets p n
   pub end : (start : declared.Rule) → slice_get g.rules g.start ≡ Some start → Covers (sets.follow start.body) End

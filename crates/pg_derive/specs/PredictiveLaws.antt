@@ -2,11 +2,11 @@
 use Rattle.std.specs.Prelude.{◌≡◌, ◌<◌, ◌≤◌, ◌⊎◌, ℕ, List, Bool, true, Some, slice_get, length, nat_lt}
 use Rattle.std.specs.Str.{all_scalars}
 use Rattle.pg_tree.specs.Trees.{Tree}
-use Rattle.pg_value.specs.Grammar.{IsGrammar}
-use Rattle.pg_form.specs.declared.form.Form.TheVariants as form
-use Rattle.pg_form.specs.declared.side.Side.TheVariants as side
-use Rattle.pg_value.specs.declared.trail.TrailItem.{TrailItem}
-use Rattle.pg_form.specs.declared.used.BuilderUse.{BuilderUse}
+use Rattle.pg_grammar_value.specs.Grammar.{IsGrammar}
+use Rattle.pg_grammar_form.specs.declared.form.Form.TheVariants as form
+use Rattle.pg_grammar_form.specs.declared.side.Side.TheVariants as side
+use Rattle.pg_grammar_value.specs.declared.trail.TrailItem.{TrailItem}
+use Rattle.pg_grammar_form.specs.declared.used.BuilderUse.{BuilderUse}
 use Rattle.pg_language.specs.Derives.{Spot, Derives}
 use Rattle.pg_table.specs.Tables.{ComesFrom}
 use Rattle.pg_language.specs.Answers.{Given, Answers}
@@ -22,19 +22,19 @@ pub record Predicts (G : Given) (sets : NodeSets) : Type 0 where
   pub predictive : IsPredictive G.grammar sets
   pub text : all_scalars G.text ≡ true
 
--- the node answers ok from one spot to the other, with this forest and trail: with some error, and so many nodes entered
+-- the node answers ok from one spot to the other, with this forest and trail, some error, and some number of nodes entered
 pub record AnswersOk (G : Given) (p : ℕ) (a b : Spot) (forest : List Tree) (trail : List TrailItem) : Type 0 where
   pub error : Error
   pub count : ℕ
   pub answers : Answers G p a (ok (nat_lt a.place b.place) b forest trail error) count
 
--- a derivation of a node which ends where something that can follow the node comes next is what the node answers
+-- a derivation of a node that ends where something that can follow the node comes next is the node's answer
 abbrev pub DerivationsAreAnswers : Type 0
 DerivationsAreAnswers = (G : Given) (sets : NodeSets) → Predicts G sets → (p : ℕ) (a b : Spot) (forest : List Tree) (trail : List TrailItem) →
     ComesFrom G.grammar a.table → Derives G.grammar G.text p a b forest trail → SomeMatches G.text (sets.follow p) b.place →
     AnswersOk G p a b forest trail
 
--- and so there is no other such derivation
+-- there is at most one such derivation
 abbrev pub DerivationsAreUnique : Type 0
 DerivationsAreUnique = (G : Given) (sets : NodeSets) → Predicts G sets → (p : ℕ) (a b c : Spot) (forest others : List Tree) (trail items : List TrailItem) →
     ComesFrom G.grammar a.table → Derives G.grammar G.text p a b forest trail → SomeMatches G.text (sets.follow p) b.place →
@@ -50,7 +50,7 @@ abbrev pub AnswersExist : Type 0
 AnswersExist = (G : Given) (sets : NodeSets) → Predicts G sets → (p : ℕ) → p < length G.grammar.nodes → (a : Spot) → ComesFrom G.grammar a.table → a.place ≤ length G.text →
     HasAnswer G p a
 
--- where an alternative of a choice fails after consumed input, no alternative after it derives anything that ends where
+-- if an alternative of a choice fails after consumed input, no later alternative derives anything that ends where
 -- something that can follow the choice comes next
 abbrev pub LosesNoAlternative : Given → NodeSets → Type 0
 LosesNoAlternative G sets = (p : ℕ) (parts : List ℕ) → slice_get G.grammar.nodes p ≡ Some (form.Choice parts) →
@@ -69,7 +69,7 @@ EachRoundConsumes G = (p q : ℕ) → slice_get G.grammar.nodes p ≡ Some (form
 abbrev pub RoundsConsume : Type 0
 RoundsConsume = (G : Given) (sets : NodeSets) → Predicts G sets → EachRoundConsumes G
 
--- so does each separator of a chain with the operand after it
+-- each link of a chain, a separator with the operand after it, consumes
 abbrev pub EachLinkConsumes : Given → Type 0
 EachLinkConsumes G = (p q r : ℕ) (used : BuilderUse) →
     ((slice_get G.grammar.nodes p ≡ Some (form.Chain side.Left used q r)) ⊎ (slice_get G.grammar.nodes p ≡ Some (form.Chain side.Right used q r))) →

@@ -1,7 +1,7 @@
--- What runs of the start rule, with the end of the text after it, say of a whole text, as one fact each.
+-- Laws of runs of the start rule over a whole text, with the end of the text after it, as one fact each.
 use Rattle.std.specs.Prelude.{◌≡◌, ℕ, List, Bool, length, nat_lt}
 use Rattle.pg_tree.specs.Trees.{Tree}
-use Rattle.pg_value.specs.declared.trail.TrailItem.{TrailItem}
+use Rattle.pg_grammar_value.specs.declared.trail.TrailItem.{TrailItem}
 use Rattle.pg_table.specs.Tables.{Table, ComesFrom}
 use Rattle.pg_language.specs.Answers.{Given}
 use Rattle.pg_language.specs.Derives.{Spot, DerivesText}
@@ -28,13 +28,13 @@ pub data TextIsAnswered (G : Given) (table : Table) : Type 0 where
 abbrev pub TextsAreAnswered : Type 0
 TextsAreAnswered = (G : Given) (sets : NodeSets) → Predicts G sets → (table : Table) → ComesFrom G.grammar table → TextIsAnswered G table
 
--- a text that is derived is answered ok, with that forest and trail
+-- a text that is derived is answered ok, with the derivation's forest and trail
 abbrev pub DerivedTextsAreAnswered : Type 0
 DerivedTextsAreAnswered = (G : Given) (sets : NodeSets) → Predicts G sets → (before after : Table) (forest : List Tree) (trail : List TrailItem) →
     ComesFrom G.grammar before → DerivesText G.grammar G.text before after forest trail →
     (e : Error) × (m : ℕ) × AnswersText G before (ok (nat_lt 0 (length G.text)) (record { place = length G.text; table = after }) forest trail e) m
 
--- and so a text that is refused is derived in no way
+-- a text that is refused isn't derived
 abbrev pub RefusedTextsAreNotDerived : Type 0
 RefusedTextsAreNotDerived = (G : Given) (sets : NodeSets) → Predicts G sets → (before : Table) (c : Bool) (e : Error) (m : ℕ) → ComesFrom G.grammar before →
     AnswersText G before (failed c e) m →

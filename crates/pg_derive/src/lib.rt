@@ -1,7 +1,7 @@
-//! Laws of the language: what is so of every derivation and every answer (`pg_language`).
+//! Laws of the language: what holds for every derivation and every answer (`pg_language`).
 //!
-//! `laws` has those of every grammar, `predictive` and `whole_texts` those of the grammars that a parser never has to go
-//! back in, by whatever sets show them to be so, and `accepted` says when a grammar is one of these.
+//! `laws` has those of every grammar. `predictive` and `whole_texts` have those of grammars on which a parser never has to
+//! backtrack, by any sets that show them to be so. `accepted` says which grammars these are.
 #![tactic(auto)]
 
 mod accepted;

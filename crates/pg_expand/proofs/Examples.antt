@@ -2,9 +2,9 @@
 use Rattle.std.proofs.Common.{◌≡◌, List, [], ◌∷◌, refl, arith}
 use Rattle.std.specs.Prelude.{codes}
 use Rattle.std.specs.List.{AllByRecursion}
-use Rattle.pg_form.specs.Operators.{Operator, IsOperator}
-use Rattle.pg_form.specs.declared.decl.Role.TheVariants.{InfixLeft, Prefix, Postfix}
-use Rattle.pg_value.specs.declared.trail.Fixity.TheVariants as fixity
+use Rattle.pg_grammar_form.specs.Operators.{Operator, IsOperator}
+use Rattle.pg_grammar_form.specs.declared.decl.Role.TheVariants.{InfixLeft, Prefix, Postfix}
+use Rattle.pg_grammar_value.specs.declared.trail.Fixity.TheVariants as fixity
 use Rattle.pg_table.specs.Trails.{applied}
 use Rattle.pg_table.specs.Fitting.{term, prefixed, postfixed, joined}
 use Rattle.pg_expand.specs.Readings.{Token, a_term, an_operator}

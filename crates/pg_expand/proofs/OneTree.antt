@@ -1,9 +1,9 @@
 -- Two fitting trees with one reading are equal.
 use Rattle.std.proofs.Common.{◌≡◌, ◌≤◌, List, [], ◌∷◌, ◌++◌, inl, inr, refl, sym, subst, arith}
-use Rattle.pg_form.specs.Operators.{Operator}
-use Rattle.pg_form.specs.declared.decl.Role.TheVariants.{InfixLeft, InfixRight}
-use Rattle.pg_value.specs.declared.trail.Fixity.{Fixity}
-use Rattle.pg_value.specs.declared.trail.Fixity.TheVariants as fixity
+use Rattle.pg_grammar_form.specs.Operators.{Operator}
+use Rattle.pg_grammar_form.specs.declared.decl.Role.TheVariants.{InfixLeft, InfixRight}
+use Rattle.pg_grammar_value.specs.declared.trail.Fixity.{Fixity}
+use Rattle.pg_grammar_value.specs.declared.trail.Fixity.TheVariants as fixity
 use Rattle.pg_table.specs.Fitting.{Expression, term, prefixed, postfixed, joined, row, rank, IsFitting}
 use Rattle.pg_expand.proofs.Members.{Among, among_after, split_at}
 use Rattle.pg_expand.proofs.Ranks.{sides_differ, Mark, blank, mark, marks, same_operator, same_side, within, operand_infix, side_infix, left_infix}

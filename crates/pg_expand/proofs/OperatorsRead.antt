@@ -1,8 +1,8 @@
 -- The operators of a tree in reading order tell its reading: their sides tell where the terms stand.
 use Rattle.std.proofs.Common.{◌≡◌, List, [], ◌∷◌, ◌++◌, refl, sym, ap, ◌∙◌, append_assoc, append-nil}
-use Rattle.pg_value.specs.declared.trail.AppliedOperator.{AppliedOperator}
-use Rattle.pg_value.specs.declared.trail.Fixity.{Fixity}
-use Rattle.pg_value.specs.declared.trail.Fixity.TheVariants as fixity
+use Rattle.pg_grammar_value.specs.declared.trail.AppliedOperator.{AppliedOperator}
+use Rattle.pg_grammar_value.specs.declared.trail.Fixity.{Fixity}
+use Rattle.pg_grammar_value.specs.declared.trail.Fixity.TheVariants as fixity
 use Rattle.pg_table.specs.Fitting.{Expression, term, prefixed, postfixed, joined}
 use Rattle.pg_table.specs.Trails.{applied, operators_read}
 use Rattle.pg_expand.specs.Readings.{Token, a_term, an_operator, reading}

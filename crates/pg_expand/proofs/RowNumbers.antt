@@ -2,7 +2,7 @@
 use Rattle.std.proofs.Common.{◌≡◌, ◌⊎◌, ◌<◌, ◌≤◌, ◌+◌, ◌-◌, ◌==◌, ℕ, zero, suc, Bool, true, false, cond, List, [], ◌∷◌, length, slice_get, get_or, set, Some, None, inl, inr, refl, sym, ap, subst, ◌∙◌, eq-eqb, eqb-true, arith}
 use Rattle.std.proofs.lemmas.Bool.{cases_eq}
 use Rattle.std.proofs.lemmas.List.{get_or-set_same, get_or-set_other}
-use Rattle.pg_form.specs.Operators.{Operator}
+use Rattle.pg_grammar_form.specs.Operators.{Operator}
 use Rattle.pg_table.specs.Rows.{holds, rows_from, row_of, rows}
 use Rattle.pg_table.specs.Fitting.{row}
 use Rattle.pg_expand.proofs.Members.{Among}

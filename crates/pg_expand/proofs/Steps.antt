@@ -2,7 +2,7 @@
 use Rattle.std.proofs.Common.{◌≡◌, ◌+◌, ◌<◌, ℕ, Bool, true, false, cond, List, [], ◌∷◌, ◌++◌, length, take, get_or, filter, map, refl, sym, ap, ◌∙◌, append-nil}
 use Rattle.std.proofs.lemmas.List.{map-append}
 use Rattle.std.proofs.lemmas.List.Elements.{filter_more}
-use Rattle.pg_form.specs.Operators.{Operator}
+use Rattle.pg_grammar_form.specs.Operators.{Operator}
 use Rattle.pg_table.specs.Rows.{holds}
 use Rattle.pg_expand.specs.declared.rows.Row.{Row}
 use Rattle.pg_expand.specs.Rows.{row_at}

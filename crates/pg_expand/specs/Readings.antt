@@ -1,11 +1,11 @@
--- The reading of an operator tree: what stands in a text from left to right.
+-- The reading of an operator tree: its terms and operators in the order of the text.
 use Rattle.std.specs.Prelude.{List, [], ◌∷◌, ◌++◌}
-use Rattle.pg_value.specs.declared.trail.AppliedOperator.{AppliedOperator}
-use Rattle.pg_value.specs.declared.trail.Fixity.TheVariants as fixity
+use Rattle.pg_grammar_value.specs.declared.trail.AppliedOperator.{AppliedOperator}
+use Rattle.pg_grammar_value.specs.declared.trail.Fixity.TheVariants as fixity
 use Rattle.pg_table.specs.Fitting.{Expression, term, prefixed, postfixed, joined}
 use Rattle.pg_table.specs.Trails.{applied}
 
--- a term, or an operator: its symbol, and on which side of its operands it stands
+-- a term, or an operator: its symbol, and the side of its operands on which it stands
 pub data Token : Type 0 where
   a_term : Token
   an_operator : AppliedOperator → Token

@@ -1,22 +1,22 @@
--- The parser of the rows read as a grammar: what each row derives, in no order of trying (Text.Parsec.Expr). The parsers
--- that tell an ambiguous use never succeed, so they derive nothing.
+-- The parser of the rows read as a grammar: what each row derives, in any order of trying (Text.Parsec.Expr). The parsers that report an ambiguous
+-- use never succeed, so they derive nothing.
 use Rattle.std.specs.Prelude.{List, [], ◌∷◌, ◌++◌}
-use Rattle.pg_form.specs.Operators.{Operator}
-use Rattle.pg_value.specs.declared.trail.Fixity.TheVariants as fixity
+use Rattle.pg_grammar_form.specs.Operators.{Operator}
+use Rattle.pg_grammar_value.specs.declared.trail.Fixity.TheVariants as fixity
 use Rattle.pg_table.specs.Trails.{applied}
 use Rattle.pg_expand.specs.declared.rows.Row.{Row}
 use Rattle.pg_table.specs.Fitting.{Expression, term, prefixed, postfixed, joined, IsAmong}
 use Rattle.pg_expand.specs.Readings.{Token, a_term, an_operator}
 
--- what is derived: lists of tokens, each with its tree
+-- a language: lists of tokens, each with its tree
 abbrev pub Language : Type 1
 Language = List Token → Expression → Type 0
 
--- a term is read as the tree of a term
+-- a term alone, with the tree of a term
 pub data IsTerm : List Token → Expression → Type 0 where
   a_lone_term : IsTerm (a_term ∷ []) term
 
--- an operand of a row: what the tighter rows derive, with a prefix of the row or none, and a postfix of it or none
+-- an operand of a row: what the tighter rows derive, perhaps with one prefix of the row before it and one postfix after it
 pub data IsOperand (row : Row) (tighter : Language) : List Token → Expression → Type 0 where
   bare : {s : List Token} {x : Expression} → tighter s x → IsOperand row tighter s x
   with_prefix : {s : List Token} {o : Operator} {x : Expression} → IsAmong row.prefix o → tighter s x →
@@ -27,12 +27,12 @@ pub data IsOperand (row : Row) (tighter : Language) : List Token → Expression 
       IsOperand row tighter (an_operator (applied fixity.Prefix o) ∷ (s ++ an_operator (applied fixity.Postfix p) ∷ [])) (postfixed p (prefixed o x))
 
 mutual
-  -- after an operand x: a right-associative operator, an operand, and what follows that
+  -- after an operand x: a right-associative operator, an operand, and what follows it
   pub data GoesRight (row : Row) (tighter : Language) : Expression → List Token → Expression → Type 0 where
     right : {s t : List Token} {o : Operator} {x y z : Expression} → IsAmong row.right o → IsOperand row tighter s y → MayGoRight row tighter y t z →
         GoesRight row tighter x (an_operator (applied fixity.Infix o) ∷ (s ++ t)) (joined o x z)
 
-  -- so, or nothing
+  -- perhaps such a continuation, or nothing
   pub data MayGoRight (row : Row) (tighter : Language) : Expression → List Token → Expression → Type 0 where
     on_right : {s : List Token} {x y : Expression} → GoesRight row tighter x s y → MayGoRight row tighter x s y
     ends_right : {x : Expression} → MayGoRight row tighter x [] x
@@ -43,13 +43,13 @@ mutual
     left : {s t : List Token} {o : Operator} {x y z : Expression} → IsAmong row.left o → IsOperand row tighter s y → MayGoLeft row tighter (joined o x y) t z →
         GoesLeft row tighter x (an_operator (applied fixity.Infix o) ∷ (s ++ t)) z
 
-  -- so, or nothing
+  -- perhaps such a continuation, or nothing
   pub data MayGoLeft (row : Row) (tighter : Language) : Expression → List Token → Expression → Type 0 where
     on_left : {s : List Token} {x y : Expression} → GoesLeft row tighter x s y → MayGoLeft row tighter x s y
     ends_left : {x : Expression} → MayGoLeft row tighter x [] x
 
--- what a row derives over the tighter ones: an operand, and after it right-associative operators with their operands, or
--- left-associative ones, or one that is not associative, or nothing
+-- what a row derives over the tighter ones: an operand, and after it right-associative operators with their operands, or left-associative ones, or
+-- one non-associative one, or nothing
 pub data RowDerives (row : Row) (tighter : Language) : List Token → Expression → Type 0 where
   by_right : {s t : List Token} {x y : Expression} → IsOperand row tighter s x → GoesRight row tighter x t y → RowDerives row tighter (s ++ t) y
   by_left : {s t : List Token} {x y : Expression} → IsOperand row tighter s x → GoesLeft row tighter x t y → RowDerives row tighter (s ++ t) y

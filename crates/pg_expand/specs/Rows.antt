@@ -1,8 +1,8 @@
--- The rows of a table, as the parser of an expression takes them: the tightest first, each row's operators by role.
+-- The rows of a table as the parser of an expression needs them: the tightest first, each row's operators by role.
 use Rattle.std.specs.Prelude.{ℕ, zero, suc, Bool, true, false, ◌==◌, List, [], filter, map, slice_get, unwrap_or}
-use Rattle.pg_form.specs.Operators.{Operator}
-use Rattle.pg_form.specs.declared.decl.Role.{Role}
-use Rattle.pg_form.specs.declared.decl.Role.TheVariants.{InfixLeft, InfixRight, InfixNone, Prefix, Postfix}
+use Rattle.pg_grammar_form.specs.Operators.{Operator}
+use Rattle.pg_grammar_form.specs.declared.decl.Role.{Role}
+use Rattle.pg_grammar_form.specs.declared.decl.Role.TheVariants.{InfixLeft, InfixRight, InfixNone, Prefix, Postfix}
 use Rattle.pg_expand.specs.declared.rows.Row.{Row}
 use Rattle.pg_table.specs.Rows.{rows}
 use Rattle.pg_table.specs.Tables.{is_prefix}
@@ -36,7 +36,7 @@ is_postfix InfixNone = false
 is_postfix Prefix = false
 is_postfix Postfix = true
 
--- operators by role, each role's in their order
+-- operators by role, each role's in order
 abbrev pub by_role : List Operator → Row
 by_role operators = record {
   right = filter (λ o. is_right o.role) operators;
@@ -54,7 +54,7 @@ row_at operators p = by_role (filter (λ o. o.precedence == p) operators)
 abbrev pub rows_of : List Operator → List Row
 rows_of operators = map (row_at operators) (rows operators)
 
--- whether the second role is the first
+-- whether the second role equals the first
 abbrev pub is_role : Role → Role → Bool
 is_role InfixLeft = is_left
 is_role InfixRight = is_right
@@ -70,7 +70,7 @@ of_role InfixNone row = row.non
 of_role Prefix row = row.prefix
 of_role Postfix row = row.postfix
 
--- the row with a number, from 1, the tightest; with any other number it has no operators
+-- the row with a number, from 1, the tightest; for any other number a row without operators
 abbrev pub row_numbered : List Operator → ℕ → Row
 row_numbered operators zero = by_role []
 row_numbered operators (suc k) = unwrap_or (slice_get (rows_of operators) k) (by_role [])

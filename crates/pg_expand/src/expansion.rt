@@ -6,14 +6,13 @@ ghost use Rattle.pg_expand.specs.Rows.{row_at, rows_of};
 ghost use Rattle.pg_expand.specs.Laws.{DeriveFittingTrees};
 
 use crate::rows::{Row, RowList, Rows};
-use pg_form::{Decl, NodeId};
+use pg_grammar_form::{Decl, NodeId};
 use pg_table::{PRECEDENCES, Table};
 use std::alloc::{AllocError, Global};
 
-/// The rows of a table over a term: the precedences that hold an operator, 9 first, each with its operators by role, each
-/// role's in the table's order. The only error is that memory ran out.
+/// The rows of a table over a term: the precedences that have an operator, 9 first, each with its operators by role, each role's in the table's order.
 ///
-/// Read as a grammar the rows derive just the trees that fit the table.
+/// Read as a grammar, the rows derive exactly the trees that fit the table.
 pub fn expand(alloc: Global, table: &Table, term: NodeId) -> Result<Rows, AllocError>
     ensures term { IfOk result (λ rows. rows.term ≡ term) }
     ensures rows { IfOk result (λ rows. rows.rows ≡ rows_of table.now.operators) }

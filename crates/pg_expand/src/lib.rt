@@ -1,8 +1,7 @@
 //! Expressions: a table's operators as the rows of `buildExpressionParser` (Text.Parsec.Expr), and what these rows derive.
 //!
-//! [`expand`] gives the rows, the tightest first. `specs/RowGrammar.antt` is the parser of the rows read as a grammar; its
-//! trees are just those that fit the table (`pg_table`), which is a clause of `expand` and a law. A [`Lookup`] has the same
-//! operators by their symbols, each with the number of its row.
+//! [`expand`] gives the rows, the tightest first. `specs/RowGrammar.antt` is the parser of the rows read as a grammar. It derives exactly the trees that fit
+//! the table (`pg_table`), which is a clause of `expand` and a law. A [`Lookup`] has the same operators by their symbols, each with the number of its row.
 #![tactic(auto)]
 
 mod expansion;

@@ -1,8 +1,7 @@
 //! A table's operators by their symbols, each with its row.
 //!
-//! A look-up is made once for an expression. Where an operator may stand, the run of operator characters is looked up once, and
-//! each row is asked which of what was found is its own: that says the same as going through the row's operators
-//! ([`crate::rows_and_lookups_agree`]).
+//! A look-up is made once for an expression. Wherever an operator may stand, the run of operator characters is looked up once, and each row picks its own
+//! operators from those found. That gives the same as searching the row's operators ([`crate::rows_and_lookups_agree`]).
 
 ghost use Rattle.std.specs.Prelude.{◌≡◌, ◌<◌, ℕ, [], slice_index, IfOk, OnOk};
 ghost use Rattle.pg_table.specs.Rows.{row_of};
@@ -10,7 +9,7 @@ ghost use Rattle.pg_expand.specs.Rows.{is_role};
 
 use crate::expansion::holds;
 use indexmap::IndexMap;
-use pg_form::{Decl, Role};
+use pg_grammar_form::{Decl, Role};
 use pg_table::Table;
 use std::alloc::{AllocError, Global};
 use std::marker::Model;
@@ -55,7 +54,7 @@ impl Model for Lookup {
 impl Lookup {
     ghost use Rattle.pg_expand.specs.Lookups.{found, IsAdded, IsLookupOf};
 
-    /// The table's operators, each with its row. The only error is that memory ran out.
+    /// The table's operators, each with its row.
     pub fn of(alloc: Global, table: &Table) -> Result<Lookup, AllocError>
         ensures { IfOk result (IsLookupOf table.now.operators) }
     {
@@ -63,8 +62,7 @@ impl Lookup {
         Lookup::with_capacity(alloc, operators.len())?.with_all(alloc, operators)
     }
 
-    /// The operators with this symbol, in the table's order. They are found by hashing, whatever the table holds, and it takes
-    /// no memory.
+    /// The operators with this symbol, in the table's order. It finds them by hashing, and takes no memory.
     pub fn find(&self, symbol: &[char]) -> &[RowOperator]
         ensures { result.now ≡ found self.now symbol.now }
     {
@@ -74,7 +72,7 @@ impl Lookup {
         }
     }
 
-    /// No operators, with room for so many symbols.
+    /// An empty look-up with room for `count` symbols.
     fn with_capacity(alloc: Global, count: usize) -> Result<Lookup, AllocError>
         ensures { IfOk result (λ lookup. lookup ≡ []) }
     {
@@ -82,7 +80,7 @@ impl Lookup {
         Ok(Lookup { groups })
     }
 
-    /// These operators, each with its row among them, where there are none yet.
+    /// The look-up of these operators, each with its row among them. It has to be empty before.
     fn with_all(self, alloc: Global, operators: &[Decl]) -> Result<Lookup, AllocError>
         requires { self ≡ [] }
         ensures { IfOk result (IsLookupOf operators.now) }
@@ -112,7 +110,7 @@ impl Lookup {
     }
 }
 
-/// Whether the second role is the first.
+/// Whether the second role equals the first.
 fn is_role(wanted: Role, role: Role) -> bool
     ensures { result ≡ is_role wanted role }
 {

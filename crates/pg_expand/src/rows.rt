@@ -1,17 +1,17 @@
 //! Rows: operators of one precedence, by role.
 //!
-//! A row is made by [`crate::expand`] alone. That its operators have one precedence, and those of a list one role, is what
-//! that call promises, and no invariant of these types.
+//! Only [`crate::expand`] makes rows. That a row's operators have one precedence, and those of a list one role, is a promise of that call and not an
+//! invariant of these types.
 
 ghost use Rattle.std.specs.Prelude.{◌≡◌, [], ◌∷◌, ◌++◌, List, OnOk};
-ghost use Rattle.pg_form.specs.Operators.{Operator};
+ghost use Rattle.pg_grammar_form.specs.Operators.{Operator};
 ghost use Rattle.pg_expand.specs.Rows.{by_role};
 
-use pg_form::{Decl, NodeId, Role};
+use pg_grammar_form::{Decl, NodeId, Role};
 use std::alloc::{AllocError, Global};
 use std::marker::Model;
 
-/// Some operators, in order, seen as their list.
+/// A list of operators, in order.
 #[derive(Drop)]
 pub struct Operators {
     operators: Vec<Decl>,
@@ -19,7 +19,7 @@ pub struct Operators {
 
 impl Model for Operators {
     ghost use Rattle.std.specs.Prelude.{List};
-    ghost use Rattle.pg_form.specs.Operators.{Operator};
+    ghost use Rattle.pg_grammar_form.specs.Operators.{Operator};
 
     ghost Value = { List Operator };
 
@@ -34,7 +34,7 @@ impl Operators {
         self.operators.as_slice()
     }
 
-    /// No operators, in a list that can grow.
+    /// The empty list, which can grow.
     fn new(alloc: Global) -> Operators
         ensures { result ≡ [] }
     {
@@ -43,7 +43,7 @@ impl Operators {
         }
     }
 
-    /// Adds an operator at the end.
+    /// Appends an operator.
     fn push(&mut self, operator: Decl) -> Result<(), AllocError>
         ensures { OnOk result (self.new ≡ self.old ++ operator ∷ []) }
     {
@@ -81,7 +81,7 @@ impl Row {
         }
     }
 
-    /// Adds an operator at the end of those of its role.
+    /// Appends an operator to those of its role.
     pub(crate) fn add(&mut self, operator: Decl) -> Result<(), AllocError>
         ensures { OnOk result ((before : List Operator) → self.old ≡ by_role before → self.new ≡ by_role (before ++ operator ∷ [])) }
     {
@@ -95,7 +95,7 @@ impl Row {
     }
 }
 
-/// Some rows, the tightest first, seen as their list.
+/// A list of rows, the tightest first.
 #[derive(Drop)]
 pub struct RowList {
     rows: Vec<Row>,
@@ -118,7 +118,7 @@ impl RowList {
         self.rows.as_slice()
     }
 
-    /// These rows.
+    /// The list of these rows.
     pub(crate) fn new(rows: Vec<Row>) -> RowList
         ensures { result ≡ rows.items }
     {
@@ -126,7 +126,7 @@ impl RowList {
     }
 }
 
-/// A table's rows over a term, as the parser of an expression takes them.
+/// A table's rows over a term, as the parser of an expression needs them.
 #[derive(Drop)]
 pub struct Rows {
     /// The node of the term.

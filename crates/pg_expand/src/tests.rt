@@ -1,9 +1,9 @@
-//! What no clause says: rows worked out by hand, and that the call succeeds with ample memory.
+//! What no contract says: rows worked out by hand, and that the call succeeds with ample memory.
 
 ghost use Rattle.std.specs.Prelude.{◌<◌, ◌≤◌, length, IfOk};
 
 use super::*;
-use pg_form::{Decl, NodeId, Role};
+use pg_grammar_form::{Decl, NodeId, Role};
 use pg_table::Table;
 use pg_text::{Characters, Texts};
 use std::alloc::{AllocError, Global};
@@ -32,7 +32,7 @@ fn table_of(alloc: Global, declared: &[Declared]) -> Result<Table, Fail> {
     Ok(Table::of_declarations(alloc, reserved, 64, decls.as_slice())?)
 }
 
-/// The symbols of some operators after a text.
+/// A text with the symbols of some operators after it.
 fn with_symbols(mut text: String, operators: &Operators) -> Result<String, Fail> {
     for operator in operators.as_slice() {
         for c in operator.symbol() {
@@ -42,8 +42,8 @@ fn with_symbols(mut text: String, operators: &Operators) -> Result<String, Fail>
     Ok(text)
 }
 
-/// The term's number and the rows: each has the symbols of the operators that associate to the right, to the left and to
-/// neither side, of the prefixes and of the postfixes.
+/// The term's number and the rows. Each row shows the symbols of its operators that associate to the right, to the left and to neither side, of its prefixes
+/// and of its postfixes.
 fn shown(alloc: Global, rows: &Rows) -> Result<String, Fail> {
     let mut text = format!(in alloc; "{}", rows.term.index())?;
     for row in rows.rows.as_slice() {

@@ -1,13 +1,13 @@
 //! The alternatives of a choice that meet.
 
-use pg_form::NodeId;
-use pg_known::Known;
+use pg_explain_context::Known;
+use pg_grammar_form::NodeId;
 use std::alloc::{AllocError, Global};
 
-/// How many alternatives are told of at most.
+/// The most alternatives that are named.
 pub(crate) const MOST: usize = 8;
 
-/// The numbers, from 1, of the alternatives that can begin with a start. The only error is that memory ran out.
+/// The numbers, counting from 1, of the alternatives that can begin with a start.
 pub(crate) fn beginning_with(
     alloc: Global,
     known: &Known,
@@ -23,7 +23,7 @@ pub(crate) fn beginning_with(
     Ok(numbers)
 }
 
-/// Whether the alternatives that begin with the first two starts are those that begin with the other two, each or the other way round.
+/// Whether each alternative begins with the first two starts just as it does with the other two, in this order or swapped.
 pub(crate) fn begin_alike(
     known: &Known,
     node: NodeId,
@@ -48,7 +48,7 @@ fn both_alike(
     })
 }
 
-/// How many pairs of two alternatives meet of which one begins with the one start and the other with the other one.
+/// The number of pairs of different alternatives that meet because one begins with `one` and the other with `other`.
 pub(crate) fn pairs(known: &Known, node: NodeId, one: usize, other: usize) -> usize {
     let mut with_one: usize = 0;
     let mut with_other: usize = 0;
@@ -67,7 +67,7 @@ pub(crate) fn pairs(known: &Known, node: NodeId, one: usize, other: usize) -> us
     if one == other { pairs / 2 } else { pairs }
 }
 
-/// Numbers in words: `1`, `1 and 2`, `1, 2 and 3`, or the first of them and how many more there are. The only error is that memory ran out.
+/// Numbers in words: `1`, `1 and 2`, `1, 2 and 3`, or the first of them and how many more there are.
 pub(crate) fn numbers_words(alloc: Global, numbers: &[usize]) -> Result<String, AllocError> {
     let mut words = String::new(alloc);
     push_numbers(alloc, &mut words, numbers)?;
@@ -75,7 +75,7 @@ pub(crate) fn numbers_words(alloc: Global, numbers: &[usize]) -> Result<String, 
     Ok(words)
 }
 
-/// Pushes the first of these numbers in words.
+/// Appends the first of these numbers in words.
 fn push_numbers(alloc: Global, words: &mut String, numbers: &[usize]) -> Result<(), AllocError> {
     for (at, number) in numbers.iter().enumerate() {
         if at >= MOST {
@@ -94,7 +94,7 @@ fn push_numbers(alloc: Global, words: &mut String, numbers: &[usize]) -> Result<
     Ok(())
 }
 
-/// Pushes how many more there are, if there are any.
+/// Appends how many more there are, if any.
 fn push_more(alloc: Global, words: &mut String, more: usize) -> Result<(), AllocError> {
     if more == 0 {
         return Ok(());

@@ -1,16 +1,18 @@
-//! Findings at a node that share their cause, which are told as one.
+//! Findings at a node with a common cause, which are explained as one.
 //!
-//! They say of the same alternatives, the same repetition or the same expression that it meets the same thing, and differ by the starts at
-//! which it does.
+//! They say that the same alternatives, the same repetition or the same expression meet the same thing, and differ only in the starts where they meet.
 
 use crate::alternatives::{begin_alike, pairs};
 use crate::headlines::gap;
-use pg_form::NodeId;
-use pg_known::Known;
-use pg_predict::ViolationKind;
+use pg_explain_context::Known;
+use pg_grammar_form::NodeId;
+use pg_predict::{FindingsAt, ViolationKind};
 use std::alloc::{AllocError, Global};
 
-/// What meets, and the starts at which it does: of what meets operators or a gap both are the same.
+/// The most findings at a node that are looked at.
+const MOST_AT_NODE: usize = 128;
+
+/// What meets, and the starts where it does. If it meets operators or a gap, both starts are the same.
 #[derive(Clone, Copy)]
 pub(crate) struct Meeting {
     who: Who,
@@ -21,7 +23,7 @@ pub(crate) struct Meeting {
 #[derive(Clone, Copy, PartialEq, Eq)]
 enum Who {
     Alternatives,
-    /// The alternative with this number, and what follows.
+    /// The alternative with this number meets what follows.
     Alternative(usize),
     Round,
     Operand,
@@ -29,7 +31,7 @@ enum Who {
     Gap(&'static str),
 }
 
-/// Findings of one cause: the first of them, at which starts the others meet, and how many there are.
+/// Findings with a common cause: the first of them, the starts where the others meet, and how many there are.
 #[derive(Drop)]
 pub(crate) struct Cause {
     pub(crate) kind: ViolationKind<usize>,
@@ -37,21 +39,24 @@ pub(crate) struct Cause {
     pub(crate) count: usize,
 }
 
-/// The causes of the findings at a node, in the order of their first ones. The only error is that memory ran out.
+/// The causes of the findings at a node, in the order of their first findings.
 pub(crate) fn causes_of(
     alloc: Global,
     known: &Known,
     node: NodeId,
-    kinds: Vec<ViolationKind<usize>>,
+    at_node: &mut FindingsAt,
 ) -> Result<Vec<Cause>, AllocError> {
     let mut causes = Vec::new(alloc);
-    for kind in kinds {
-        add(alloc, known, node, kind, &mut causes)?;
+    for _ in 0..MOST_AT_NODE {
+        match at_node.next() {
+            Some(finding) => add(alloc, known, node, finding.into_kind(), &mut causes)?,
+            None => break,
+        }
     }
     Ok(causes)
 }
 
-/// Adds a finding to the cause that it shares, or as a new one.
+/// Adds a finding to its cause, or makes a new cause of it.
 fn add(
     alloc: Global,
     known: &Known,
@@ -79,7 +84,7 @@ fn add(
     Ok(())
 }
 
-/// Joins a finding to its cause, unless it was told of the other way round.
+/// Adds a finding to its cause, unless that has it already with the starts swapped.
 fn join(known: &Known, node: NodeId, cause: &mut Cause, met: Meeting) -> Result<(), AllocError> {
     if is_told(known, node, cause, met) {
         return Ok(());
@@ -89,7 +94,7 @@ fn join(known: &Known, node: NodeId, cause: &mut Cause, met: Meeting) -> Result<
     Ok(())
 }
 
-/// Whether two starts are among those of a cause.
+/// Whether a cause already has these two starts.
 fn is_told(known: &Known, node: NodeId, cause: &Cause, met: Meeting) -> bool {
     let first = match met_by(known, node, &cause.kind) {
         Some(first) => same_starts(first, met),
@@ -103,7 +108,7 @@ fn same_starts(one: Meeting, other: Meeting) -> bool {
         || (one.who == Who::Alternatives && one.one == other.other && one.other == other.one)
 }
 
-/// How many findings there are of what meets at these starts.
+/// How many findings these starts account for.
 fn findings(known: &Known, node: NodeId, met: Meeting) -> usize {
     match met.who {
         Who::Alternatives => pairs(known, node, met.one, met.other),
@@ -111,7 +116,7 @@ fn findings(known: &Known, node: NodeId, met: Meeting) -> usize {
     }
 }
 
-/// Whether what meets has this cause.
+/// Whether a meeting has this cause.
 fn shares(known: &Known, node: NodeId, cause: &Cause, met: Meeting) -> bool {
     match met_by(known, node, &cause.kind) {
         Some(first) => {
@@ -123,7 +128,7 @@ fn shares(known: &Known, node: NodeId, cause: &Cause, met: Meeting) -> bool {
     }
 }
 
-/// What meets by a finding, if something does.
+/// The meeting that a finding is about, if it is about one.
 pub(crate) fn met_by(known: &Known, node: NodeId, kind: &ViolationKind<usize>) -> Option<Meeting> {
     let (who, one, other) = match kind {
         ViolationKind::AlternativesMeet(_, _, one, other) => (Who::Alternatives, *one, *other),

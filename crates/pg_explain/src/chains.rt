@@ -1,65 +1,39 @@
-//! Through which rules and nodes a start comes to where it is met.
+//! The rules and nodes through which a start comes to where it meets another.
 
 use crate::steps::Steps;
-use pg_form::{Form, NodeId};
-use pg_known::{
-    Known, body_place, dead_ends, mention, rule_name, shortest_way, span_of, written_at,
+use pg_explain_context::{
+    Known, SetOf, body_place, mention, rule_name, span_of, way_of_start, written_at,
 };
+use pg_grammar_form::{Form, NodeId};
 use std::alloc::{AllocError, Global};
 
-/// A first or a follow set, by the number of its node.
-#[derive(Clone, Copy)]
-enum SetOf {
-    First(usize),
-    Follow(usize),
-}
-
-/// How the start with this number comes to begin a node, in words. The only error is that memory ran out.
+/// How the start with this number comes to begin a node, in words.
 pub(crate) fn first_chain(
     alloc: Global,
     known: &Known,
     start: usize,
     node: NodeId,
 ) -> Result<String, AllocError> {
-    chain(alloc, known, start, node.index())
+    chain(alloc, known, start, SetOf::First(node.index()))
 }
 
-/// How the start with this number comes to follow a node, in words. The only error is that memory ran out.
+/// How the start with this number comes to follow a node, in words.
 pub(crate) fn follow_chain(
     alloc: Global,
     known: &Known,
     start: usize,
     node: NodeId,
 ) -> Result<String, AllocError> {
-    chain(
-        alloc,
-        known,
-        start,
-        known.count().saturating_add(node.index()),
-    )
+    chain(alloc, known, start, SetOf::Follow(node.index()))
 }
 
-/// A shortest way backwards from a set to one that has the start by itself, in words.
-fn chain(alloc: Global, known: &Known, start: usize, set: usize) -> Result<String, AllocError> {
-    let marks = sets_with(alloc, known, start)?;
-    let ends = dead_ends(alloc, &known.contained, &marks)?;
-    let way = shortest_way(alloc, &known.contained, &marks, &ends, set)?;
+/// A shortest way from a set back to one that has the start by itself, in words.
+fn chain(alloc: Global, known: &Known, start: usize, set: SetOf) -> Result<String, AllocError> {
+    let way = way_of_start(alloc, known, start, set)?;
     told_way(alloc, known, &way)
 }
 
-/// Marks on the first and follow sets that have the start.
-fn sets_with(alloc: Global, known: &Known, start: usize) -> Result<Vec<bool>, AllocError> {
-    let mut marks = Vec::new(alloc);
-    for node in 0..known.count() {
-        marks.push(known.sets.first(NodeId::new(node)).contains(start))?;
-    }
-    for node in 0..known.count() {
-        marks.push(known.sets.follow(NodeId::new(node)).contains(start))?;
-    }
-    Ok(marks)
-}
-
-/// The steps of a way, from set to set.
+/// The steps of a way from set to set, in words.
 fn told_way(alloc: Global, known: &Known, way: &[usize]) -> Result<String, AllocError> {
     let mut steps = Steps::new(alloc);
     let [first, after @ ..] = way else {
@@ -70,25 +44,17 @@ fn told_way(alloc: Global, known: &Known, way: &[usize]) -> Result<String, Alloc
         tell_step(
             alloc,
             known,
-            set_of(known, to),
-            set_of(known, *from),
+            SetOf::at(known, to),
+            SetOf::at(known, *from),
             &mut steps,
         )?;
         to = *from;
     }
-    tell_end(alloc, known, set_of(known, to), &mut steps)?;
+    tell_end(alloc, known, SetOf::at(known, to), &mut steps)?;
     steps.text(alloc)
 }
 
-/// The set with this number.
-fn set_of(known: &Known, set: usize) -> SetOf {
-    match set.checked_sub(known.count()) {
-        None => SetOf::First(set),
-        Some(node) => SetOf::Follow(node),
-    }
-}
-
-/// Tells how a start comes to one set from the other.
+/// Appends how a start comes from one set to the other.
 fn tell_step(
     alloc: Global,
     known: &Known,
@@ -110,7 +76,7 @@ fn tell_step(
     }
 }
 
-/// Tells how a node begins with a part: through a rule, or after parts that can be empty.
+/// Appends how a node begins with a part: through a rule, or after parts that can be empty.
 fn tell_front(
     alloc: Global,
     known: &Known,
@@ -138,7 +104,7 @@ fn tell_front(
     }
 }
 
-/// Tells that the parts before one can be empty, if there are any.
+/// Appends that the parts before one can be empty, if there are any.
 fn tell_passed(
     alloc: Global,
     known: &Known,
@@ -155,7 +121,7 @@ fn tell_passed(
     Ok(())
 }
 
-/// Tells that a node can be empty, before what comes then.
+/// Appends that a node can be empty, ahead of a further step.
 fn tell_empty(
     alloc: Global,
     known: &Known,
@@ -167,7 +133,7 @@ fn tell_empty(
     steps.lead(words)
 }
 
-/// Tells that the next round follows, where a node follows itself.
+/// Appends that the next round follows, where a node follows itself.
 fn tell_next(
     alloc: Global,
     node: NodeId,
@@ -181,8 +147,8 @@ fn tell_next(
     }
 }
 
-/// Tells how what follows another node follows one: after a use of its rule, or where the other can be empty. A node is before its parts, and
-/// those after it are next to it.
+/// Appends why what follows the other node also follows this one: this one ends a use of its rule, or the other can be empty. In the numbering, a node comes
+/// before its parts, and the next part comes right after it.
 fn tell_after(
     alloc: Global,
     known: &Known,
@@ -206,7 +172,7 @@ fn is_body(known: &Known, node: NodeId) -> bool {
     known.grammar.rules().iter().any(|rule| rule.body == node)
 }
 
-/// Tells where a start comes from.
+/// Appends where a start comes from.
 fn tell_end(alloc: Global, known: &Known, set: SetOf, steps: &mut Steps) -> Result<(), AllocError> {
     match set {
         SetOf::First(node) => {
@@ -218,7 +184,7 @@ fn tell_end(alloc: Global, known: &Known, set: SetOf, steps: &mut Steps) -> Resu
     }
 }
 
-/// Tells what follows a node by itself: the end of the text, after the rule to start with, or operators.
+/// Appends what follows a node by itself: the end of the text after the start rule, or operators.
 fn tell_last(
     alloc: Global,
     known: &Known,

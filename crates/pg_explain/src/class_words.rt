@@ -1,16 +1,16 @@
-//! Classes of characters in words: by the name that the grammar has for one, else by their ranges.
+//! Classes of characters in words: by the grammar's name for them if there is one, else by their ranges.
 
 use crate::quoted::push_quoted;
 use pg_class::Class;
-use pg_form::{ClassExpression, ClassPart, Leaf, Node, NodeId};
-use pg_known::{Known, text_of};
+use pg_explain_context::{Known, text_of};
+use pg_grammar_form::{ClassExpression, ClassPart, Leaf, Node, NodeId};
 use pg_tree::Label;
 use std::alloc::{AllocError, Global};
 
-/// How many ranges of a class are told; `..` stands for those after them.
+/// The most ranges of a class that are shown; `..` stands for the others.
 const MOST_RANGES: usize = 4;
 
-/// The class of the start with this number, in words. The only error is that memory ran out.
+/// The class of the start with this number, in words.
 pub(crate) fn class_words(
     alloc: Global,
     known: &Known,
@@ -34,14 +34,14 @@ pub(crate) fn class_words(
     }
 }
 
-/// A character in quotes. The only error is that memory ran out.
+/// A character in quotes.
 pub(crate) fn quoted(alloc: Global, c: char) -> Result<String, AllocError> {
     let mut text = String::new(alloc);
     push_quoted(alloc, &mut text, &[c])?;
     Ok(text)
 }
 
-/// The number of the first class item that is this class, if there is one.
+/// The number of the first class item with these characters, if there is one.
 fn item_of(known: &Known, class: &Class) -> Option<usize> {
     known.classes.iter().position(|item| item.equals(class))
 }
@@ -56,7 +56,7 @@ fn item_words(alloc: Global, known: &Known, number: usize) -> Result<String, All
     }
 }
 
-/// The name of the predicate that gives this start somewhere by itself, if there is one.
+/// The name of a predicate that gives this start by itself somewhere, if there is one.
 fn predicate_of<'k>(known: &'k Known, start: usize) -> Option<&'k Label> {
     for (number, node) in known.grammar.nodes().iter().enumerate() {
         if let Some(name) = lone_predicate(node) {
@@ -68,7 +68,7 @@ fn predicate_of<'k>(known: &'k Known, start: usize) -> Option<&'k Label> {
     None
 }
 
-/// The name of the predicate that a leaf asks alone, if it does.
+/// The name of the predicate that is a leaf's whole class, if it is one.
 fn lone_predicate(node: &Node) -> Option<&Label> {
     match node.leaf()? {
         Leaf::Satisfy(class) => predicate_in(class),
@@ -94,7 +94,7 @@ fn predicate_in(class: &ClassExpression) -> Option<&Label> {
     }
 }
 
-/// The kind of characters that a predicate names, with its article.
+/// The kind of characters that a predicate stands for, with its article.
 fn kind_words(alloc: Global, name: &str) -> Result<String, AllocError> {
     if begins_with_vowel(name) {
         format!(in alloc; "an {name}")
@@ -110,7 +110,7 @@ fn begins_with_vowel(name: &str) -> bool {
     }
 }
 
-/// The first ranges, and that there are more where there are.
+/// The first ranges, and whether there are more.
 fn ranges_words(alloc: Global, ranges: &[(char, char)]) -> Result<String, AllocError> {
     let mut text = String::from_str(alloc, "a character of ")?;
     for (number, range) in ranges.iter().enumerate() {
@@ -126,7 +126,7 @@ fn ranges_words(alloc: Global, ranges: &[(char, char)]) -> Result<String, AllocE
     Ok(text)
 }
 
-/// Pushes a range as a grammar file has it.
+/// Appends a range as it is written in a grammar file.
 fn push_range(alloc: Global, text: &mut String, low: char, high: char) -> Result<(), AllocError> {
     push_quoted(alloc, text, &[low])?;
     if low != high {

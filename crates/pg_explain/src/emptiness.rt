@@ -1,13 +1,15 @@
 //! How a node can be empty.
 
 use crate::steps::Steps;
-use pg_form::{Form, Node, NodeId};
+use pg_explain_context::{
+    Known, body_place, dead_ends, mention, nullable_marks, rule_name, shortest_way,
+};
+use pg_grammar_form::{Form, Node, NodeId};
+use pg_grammar_value::Grammar;
 use pg_graph::{Numbers, empty_lists, join};
-use pg_known::{Known, body_place, dead_ends, mention, nullable_marks, rule_name, shortest_way};
-use pg_value::Grammar;
 use std::alloc::{AllocError, Global};
 
-/// How a node can be empty, in words: a shortest way down to what takes nothing. The only error is that memory ran out.
+/// How a node can be empty, in words: a shortest way down to something that consumes nothing.
 pub(crate) fn emptiness(alloc: Global, known: &Known, node: NodeId) -> Result<String, AllocError> {
     let graph = empty_by(alloc, known.grammar)?;
     let marks = nullable_marks(alloc, known.sets, known.count())?;
@@ -16,7 +18,7 @@ pub(crate) fn emptiness(alloc: Global, known: &Known, node: NodeId) -> Result<St
     told_way(alloc, known, &way)
 }
 
-/// For each node those that one alone makes empty.
+/// For each node, the nodes that make it empty by themselves when they are empty.
 fn empty_by(alloc: Global, grammar: &Grammar) -> Result<Vec<Numbers>, AllocError> {
     let mut graph = empty_lists(alloc, grammar.nodes().len())?;
     for (number, node) in grammar.nodes().iter().enumerate() {
@@ -25,7 +27,7 @@ fn empty_by(alloc: Global, grammar: &Grammar) -> Result<Vec<Numbers>, AllocError
     Ok(graph)
 }
 
-/// Adds the edges from a node to those that one alone makes it empty.
+/// Adds edges from a node to the nodes that make it empty by themselves.
 fn join_parts(
     grammar: &Grammar,
     number: usize,
@@ -56,7 +58,7 @@ fn join_each(number: usize, parts: &[NodeId], graph: &mut Vec<Numbers>) -> Resul
     Ok(())
 }
 
-/// The rules on a way, and what takes nothing at its end.
+/// The rules on a way, and what consumes nothing at its end.
 fn told_way(alloc: Global, known: &Known, way: &[usize]) -> Result<String, AllocError> {
     let mut steps = Steps::new(alloc);
     let Some((last, before)) = way.split_last() else {
@@ -70,7 +72,7 @@ fn told_way(alloc: Global, known: &Known, way: &[usize]) -> Result<String, Alloc
     steps.text(alloc)
 }
 
-/// Tells the rule that is used at a node, if one is.
+/// Appends the rule that a node uses, if it uses one.
 fn tell_rule(
     alloc: Global,
     known: &Known,
@@ -86,15 +88,15 @@ fn tell_rule(
     }
 }
 
-/// Why nothing is taken at a node.
+/// Why a node consumes nothing.
 fn nothing_words(alloc: Global, known: &Known, node: NodeId) -> Result<String, AllocError> {
     let named = mention(alloc, known, node)?;
     match known.form(node) {
-        Some(Form::Leaf(_)) => format!(in alloc; "{named} takes nothing"),
-        Some(Form::Many(_)) => format!(in alloc; "{named} can have no round"),
+        Some(Form::Leaf(_)) => format!(in alloc; "{named} reads nothing"),
+        Some(Form::Many(_)) => format!(in alloc; "{named} can have no rounds"),
         Some(Form::Seq(parts)) => {
             if parts.as_slice().is_empty() {
-                format!(in alloc; "{named} has no part")
+                format!(in alloc; "{named} has no parts")
             } else {
                 format!(in alloc; "each part of {named} can be empty")
             }

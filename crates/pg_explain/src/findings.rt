@@ -1,21 +1,20 @@
-//! A finding, told in lines.
+//! The lines on a finding.
 
 use crate::causes::Cause;
 use crate::emptiness::emptiness;
-use crate::headlines::headline;
-use crate::lines::{
+use crate::finding_lines::{
     push_also, push_alternative, push_alternatives, push_both, push_first, push_follow, push_gap,
     push_line, push_operator,
 };
 use crate::marked::marks_of;
 use crate::recursion::recursion;
-use pg_excerpt::push_excerpt;
-use pg_form::{NodeId, RuleId};
-use pg_known::{Known, place_in, place_text, span_of};
+use pg_explain_context::{Known, place_in, place_text, span_of};
+use pg_grammar_form::{NodeId, RuleId};
 use pg_predict::{ViolationKind, code};
+use pg_text_excerpt::push_excerpt;
 use std::alloc::{AllocError, Global};
 
-/// Where something is wrong, and its code. The only error is that memory ran out.
+/// Where a finding is, and its code.
 pub(crate) fn head(
     alloc: Global,
     known: &Known,
@@ -27,32 +26,20 @@ pub(crate) fn head(
     format!(in alloc; "{place}: {code}")
 }
 
-/// A cause of findings at a node, in lines: where it is, what is wrong, and how that comes about. The only error is that memory ran out.
+/// The lines on a cause of findings at a node, after the first line: where it is, and how it comes about.
 pub(crate) fn told(
     alloc: Global,
     known: &Known,
     node: NodeId,
     cause: &Cause,
-    head: &str,
+    first: String,
 ) -> Result<String, AllocError> {
-    let mut page = first_line(alloc, known, node, &cause.kind, head)?;
+    let mut page = first;
     push_told(alloc, &mut page, known, node, cause)?;
     Ok(page)
 }
 
-/// What is wrong, in a line with its end.
-fn first_line(
-    alloc: Global,
-    known: &Known,
-    node: NodeId,
-    kind: &ViolationKind<usize>,
-    head: &str,
-) -> Result<String, AllocError> {
-    let words = headline(alloc, known, node, kind)?;
-    format!(in alloc; "{head} {words}\n")
-}
-
-/// Pushes the file's line with what is marked in it, and how it comes about.
+/// Appends the file's line with its marks, and how the finding comes about.
 fn push_told(
     alloc: Global,
     page: &mut String,
@@ -65,7 +52,7 @@ fn push_told(
     push_also(alloc, page, known, &cause.also)
 }
 
-/// Pushes the file's line with what is marked in it.
+/// Appends the file's line with its marks.
 fn push_marked(
     alloc: Global,
     page: &mut String,
@@ -78,7 +65,7 @@ fn push_marked(
     push_excerpt(alloc, page, known.file.name, known.file.text, first, &marks)
 }
 
-/// Pushes how it comes about.
+/// Appends how the finding comes about.
 fn push_lines(
     alloc: Global,
     page: &mut String,
@@ -119,12 +106,12 @@ fn push_lines(
         ViolationKind::GapMeets(start) => push_gap_met(alloc, page, known, node, *start),
         ViolationKind::StepCostOver => push_line(
             page,
-            "a parse could take that many steps for each character; no text loses anything",
+            "parsing could take that many steps per character; no text is lost because of it",
         ),
     }
 }
 
-/// Pushes what follows, and with what both begin.
+/// Appends what follows, and what both begin with.
 fn push_follow_met(
     alloc: Global,
     page: &mut String,
@@ -137,7 +124,7 @@ fn push_follow_met(
     push_both(alloc, page, known, one, other)
 }
 
-/// Pushes how a rule comes back to itself.
+/// Appends how a rule leads back to itself.
 fn push_recursion(
     alloc: Global,
     page: &mut String,
@@ -148,11 +135,11 @@ fn push_recursion(
         return Ok(());
     };
     let way = recursion(alloc, known, RuleId::new(place.rule))?;
-    let line = format!(in alloc; "it comes back to itself before anything is taken: {way}")?;
+    let line = format!(in alloc; "it reaches itself again before it reads anything: {way}")?;
     push_line(page, line.as_str())
 }
 
-/// Pushes how a node can be empty.
+/// Appends how a node can be empty.
 fn push_emptiness(
     alloc: Global,
     page: &mut String,
@@ -160,11 +147,11 @@ fn push_emptiness(
     node: NodeId,
 ) -> Result<(), AllocError> {
     let words = emptiness(alloc, known, node)?;
-    let line = format!(in alloc; "it takes nothing where {words}")?;
+    let line = format!(in alloc; "it is empty when {words}")?;
     push_line(page, line.as_str())
 }
 
-/// Pushes what a gap meets.
+/// Appends what a gap meets.
 fn push_gap_met(
     alloc: Global,
     page: &mut String,
@@ -173,7 +160,7 @@ fn push_gap_met(
     start: usize,
 ) -> Result<(), AllocError> {
     if start >= known.sets.starts().len() {
-        push_line(page, "operators begin with what a gap has")?;
+        push_line(page, "operators can begin with a character of the gap")?;
     } else if known.begins_term(node, start) {
         let term = known.round(node, start);
         push_first(alloc, page, known, "an operand", term, start)?;

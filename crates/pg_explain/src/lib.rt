@@ -1,8 +1,8 @@
-//! What is wrong with a grammar, told for people.
+//! Explanations of what is wrong with a grammar, for people.
 //!
-//! A finding is told with the starts that meet in words, the way of rules and nodes by which each comes to where it is met, and a character
-//! that both take. Nothing is claimed here: what is wrong comes from `pg_predict`, and a way goes along the edges of the sets, of which
-//! `pg_sets` is proved to hand starts on along them. So the code owes that it is safe and ends, and its words are held by tests.
+//! A finding is explained by the starts that meet, the rules and nodes through which each comes there, and a character that begins both. Nothing is claimed
+//! here: the findings come from `pg_predict`, and a way goes along the edges of the sets, along which `pg_sets` is proved to pass starts on. The code is
+//! proved to be safe and to end, and tests check its words.
 #![tactic(auto)]
 
 mod alternatives;
@@ -10,16 +10,18 @@ mod causes;
 mod chains;
 mod class_words;
 mod emptiness;
+mod finding_lines;
 mod findings;
 mod headlines;
-mod lines;
 mod marked;
-mod page;
+mod meeting;
 mod quoted;
 mod recursion;
+mod sections;
 mod steps;
 mod words;
 
-pub use page::{Explanation, Section, explain_findings};
-pub use pg_known::GrammarFile;
+pub use pg_explain_context::GrammarFile;
+pub use pg_explain_recipes::Recipe;
 pub use quoted::push_quoted;
+pub use sections::{Explanation, Section, explain_findings};

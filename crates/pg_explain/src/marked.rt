@@ -1,15 +1,14 @@
-//! What is marked in the file for a finding.
+//! The marks in the file for a finding.
 
 use crate::alternatives::{MOST, beginning_with};
 use crate::recursion::next_head;
-use pg_excerpt::Mark;
-use pg_form::NodeId;
-use pg_known::{Known, front_use, place_in, span_of};
+use pg_explain_context::{Known, front_use, place_in, span_of};
+use pg_grammar_form::NodeId;
 use pg_predict::ViolationKind;
+use pg_text_excerpt::Mark;
 use std::alloc::{AllocError, Global};
 
-/// The marks for a finding, in their order in the file: the alternatives by their numbers, or what it is about. The only error is that
-/// memory ran out.
+/// The marks for a finding, in their order in the file: the alternatives with their numbers, or what the finding is about.
 pub(crate) fn marks_of(
     alloc: Global,
     known: &Known,
@@ -24,7 +23,7 @@ pub(crate) fn marks_of(
     in_order(alloc, &marks)
 }
 
-/// Pushes the marks for a finding, unless it is about the node itself.
+/// Adds the marks for a finding, unless it is about the node itself.
 fn push_marks(
     alloc: Global,
     known: &Known,
@@ -59,7 +58,7 @@ fn push_marks(
     }
 }
 
-/// Pushes marks of the alternatives that begin with a start.
+/// Adds marks of the alternatives that begin with a start.
 fn push_beginning(
     alloc: Global,
     known: &Known,
@@ -71,7 +70,7 @@ fn push_beginning(
     push_alternatives(known, node, &numbers, marks)
 }
 
-/// The use of a rule at the front of this one by which that comes back to itself; the rule's body, if it isn't found.
+/// The use of a rule that this rule begins with and that leads back to it, or the rule's body if there is none.
 fn coming_back(alloc: Global, known: &Known, node: NodeId) -> Result<NodeId, AllocError> {
     let Some(place) = place_in(known, node) else {
         return Ok(node);
@@ -85,7 +84,7 @@ fn coming_back(alloc: Global, known: &Known, node: NodeId) -> Result<NodeId, All
     }
 }
 
-/// Pushes a plain mark of a node.
+/// Adds an unnumbered mark of a node.
 fn push_plain(known: &Known, node: NodeId, marks: &mut Vec<Mark>) -> Result<(), AllocError> {
     let span = span_of(known, node);
     marks.push(Mark {
@@ -96,7 +95,7 @@ fn push_plain(known: &Known, node: NodeId, marks: &mut Vec<Mark>) -> Result<(), 
     Ok(())
 }
 
-/// Pushes marks of the first alternatives with these numbers that were written and aren't marked.
+/// Adds marks of the first alternatives with these numbers, if they were written by themselves and aren't marked yet.
 fn push_alternatives(
     known: &Known,
     node: NodeId,

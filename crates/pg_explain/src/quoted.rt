@@ -2,7 +2,7 @@
 
 use std::alloc::{AllocError, Global};
 
-/// Pushes the characters in quotes. The only error is that memory ran out.
+/// Appends the characters in quotes. Fails where memory runs out.
 pub fn push_quoted(
     alloc: Global,
     page: &mut String,
@@ -15,7 +15,7 @@ pub fn push_quoted(
     page.push_str("\"")
 }
 
-/// Pushes a character as a literal of a grammar file has it.
+/// Appends a character as it is written in a literal of a grammar file.
 fn push_escaped(alloc: Global, page: &mut String, c: char) -> Result<(), AllocError> {
     match c {
         '"' => page.push_str("\\\""),
@@ -28,7 +28,7 @@ fn push_escaped(alloc: Global, page: &mut String, c: char) -> Result<(), AllocEr
     }
 }
 
-/// Pushes the escape of a character's number.
+/// Appends the escape with a character's number.
 fn push_code(alloc: Global, page: &mut String, c: char) -> Result<(), AllocError> {
     let code = u32::from(c);
     let escape = format!(in alloc; "\\u{{{code:x}}}")?;

@@ -1,18 +1,18 @@
-//! How a rule comes back to itself before anything is taken.
+//! How a rule leads back to itself before anything is consumed.
 
 use crate::steps::Steps;
-use pg_form::RuleId;
+use pg_explain_context::{Known, body_place, rule_name, shortest_way};
+use pg_grammar_form::RuleId;
 use pg_graph::{Numbers, empty_lists, join};
-use pg_known::{Known, body_place, rule_name, shortest_way};
 use std::alloc::{AllocError, Global};
 
-/// The rules of a shortest way from a rule to itself, each of which heads the one before it, in words. The only error is that memory ran out.
+/// The rules of a shortest way from a rule to itself, in words. Each begins with the next one.
 pub(crate) fn recursion(alloc: Global, known: &Known, rule: RuleId) -> Result<String, AllocError> {
     let way = way_back(alloc, known, rule)?;
     told_way(alloc, known, rule, &way)
 }
 
-/// The rule at the front of this one by which it comes back to itself, if it does. The only error is that memory ran out.
+/// The rule that this rule begins with and that leads back to it, if there is one.
 pub(crate) fn next_head(
     alloc: Global,
     known: &Known,
@@ -25,7 +25,7 @@ pub(crate) fn next_head(
     }
 }
 
-/// A shortest way from a rule to itself through heads: the number of rules stands for where it begins.
+/// A shortest way from a rule to itself through the rules that each begins with. At its beginning, the rule has the number of rules as its number.
 fn way_back(alloc: Global, known: &Known, rule: RuleId) -> Result<Vec<usize>, AllocError> {
     let count = known.grammar.rules().len();
     let graph = headed(alloc, known, rule, count)?;
@@ -34,7 +34,7 @@ fn way_back(alloc: Global, known: &Known, rule: RuleId) -> Result<Vec<usize>, Al
     shortest_way(alloc, &graph, &marks, &ends, count)
 }
 
-/// For each rule its heads, and last those of the rule that is come back to, so that a way that begins there ends at the rule.
+/// For each rule, the rules that it begins with. A copy of this rule comes last, so that a way that begins there ends at the rule.
 fn headed(
     alloc: Global,
     known: &Known,
@@ -56,7 +56,7 @@ fn join_heads(heads: &[RuleId], number: usize, graph: &mut Vec<Numbers>) -> Resu
     Ok(())
 }
 
-/// A mark on this number alone, of so many.
+/// Marks for `count` numbers, of which only this one is set.
 fn only(alloc: Global, count: usize, number: usize) -> Result<Vec<bool>, AllocError> {
     let mut marks = Vec::new(alloc);
     for other in 0..count {
@@ -65,7 +65,7 @@ fn only(alloc: Global, count: usize, number: usize) -> Result<Vec<bool>, AllocEr
     Ok(marks)
 }
 
-/// The names of the rules on a way, the one that it begins with first, and where their bodies stand.
+/// The names of the rules on a way, the first rule first, and where their bodies stand.
 fn told_way(
     alloc: Global,
     known: &Known,

@@ -1,24 +1,24 @@
-//! Steps of a way, told one after another in a line.
+//! The steps of a way, one after another in a line.
 //!
-//! Of a long way the first steps and the last are told, and how many are between.
+//! Of a long way, only the first and last steps are shown, and how many are between.
 
-use pg_known::{Known, push_position};
+use pg_explain_context::{Known, push_position};
 use std::alloc::{AllocError, Global};
 
-/// How many steps are told at the front of a long way.
+/// How many steps of a long way are shown at its front.
 const FRONT: usize = 8;
 
-/// How many are told at its end.
+/// How many are shown at its end.
 const END: usize = 4;
 
-/// A step, and whether the next one goes on with it.
+/// A step, and whether the next one continues its sentence.
 #[derive(Drop)]
 struct Step {
     words: String,
     is_lead: bool,
 }
 
-/// The steps that were told, and the place that was told last.
+/// The steps so far, and the place that was shown last.
 #[derive(Drop)]
 pub(crate) struct Steps {
     steps: Vec<Step>,
@@ -26,7 +26,7 @@ pub(crate) struct Steps {
 }
 
 impl Steps {
-    /// No step.
+    /// No steps.
     pub(crate) fn new(alloc: Global) -> Steps {
         Steps {
             steps: Vec::new(alloc),
@@ -34,7 +34,7 @@ impl Steps {
         }
     }
 
-    /// Tells a step. The only error is that memory ran out.
+    /// Adds a step.
     pub(crate) fn tell(&mut self, words: String) -> Result<(), AllocError> {
         self.steps.push(Step {
             words,
@@ -43,7 +43,7 @@ impl Steps {
         Ok(())
     }
 
-    /// Tells a step that the next one goes on with. The only error is that memory ran out.
+    /// Adds a step whose sentence the next one continues.
     pub(crate) fn lead(&mut self, words: String) -> Result<(), AllocError> {
         self.steps.push(Step {
             words,
@@ -52,7 +52,7 @@ impl Steps {
         Ok(())
     }
 
-    /// Tells a step and its place in the file, unless that was told last. The only error is that memory ran out.
+    /// Adds a step with its place in the file, unless that place was shown last.
     pub(crate) fn tell_at(
         &mut self,
         alloc: Global,
@@ -68,7 +68,7 @@ impl Steps {
         self.tell(words)
     }
 
-    /// What was told. The only error is that memory ran out.
+    /// The line.
     pub(crate) fn text(&self, alloc: Global) -> Result<String, AllocError> {
         let left_out = self.steps.len().saturating_sub(FRONT.saturating_add(END));
         let mut text = String::new(alloc);
@@ -79,8 +79,9 @@ impl Steps {
                 text.push_str(step.words.as_str())?;
                 joint = if step.is_lead { " " } else { ", " };
             } else if number == FRONT {
-                let words = format!(in alloc; "{joint}{left_out} steps more")?;
-                text.push_str(words.as_str())?;
+                let words = if left_out == 1 { "step" } else { "steps" };
+                let more = format!(in alloc; "{joint}{left_out} more {words}")?;
+                text.push_str(more.as_str())?;
                 joint = ", ";
             }
         }

@@ -2,13 +2,13 @@
 
 use crate::class_words::class_words;
 use crate::quoted::push_quoted;
-use pg_form::WordItem;
-use pg_known::{Known, text_of};
-use pg_own_starts::ListedStart;
+use pg_explain_context::{Known, text_of};
+use pg_grammar_form::WordItem;
+use pg_sets_own::ListedStart;
 use pg_start::StartKind;
 use std::alloc::{AllocError, Global};
 
-/// The start with this number, in words; none for one that isn't there. The only error is that memory ran out.
+/// The start with this number, in words; empty if there is none.
 pub(crate) fn start_words(
     alloc: Global,
     known: &Known,

@@ -1,53 +1,52 @@
--- What a file is refused with: which fault, and at which position.
+-- How a file is refused: with which fault, and at which position.
 use Rattle.std.specs.Prelude.{◌≡◌, ℕ, min, List, length, take, Option, Some, None, unwrap_or, Contains}
 use Rattle.std.specs.Str.{chars, IsUtf8, IsValidUpTo}
 use Rattle.pg_text.specs.Position.{position_of}
 use Rattle.pg_text.specs.declared.position.Pos.{Pos}
-use Rattle.pg_tokens.specs.Tokens.{Token, bad}
-use Rattle.pg_tokens.specs.Lexical.{Spelled}
-use Rattle.pg_tokens.specs.Lexing.{placed_of}
+use Rattle.pg_file_tokens.specs.Tokens.{Token, bad}
+use Rattle.pg_file_tokens.specs.Lexical.{Spelled}
+use Rattle.pg_file_tokens.specs.Lexing.{placed_of}
 use Rattle.pg_file.specs.declared.file.TheConstants.{LAST_PLACE}
 use Rattle.pg_file.specs.declared.error.ReadError.{ReadError}
 use Rattle.pg_file.specs.declared.error.ReadError.TheVariants as unread
-use Rattle.pg_file.specs.declared.fault.FaultKind.{FaultKind}
-use Rattle.pg_file.specs.declared.fault.FaultKind.TheVariants.{NotUtf8, BadToken, UnexpectedToken, UnknownName, NameTwice, NoStart, BadLiteral, LimitPassed, NotAdmitted}
-use Rattle.pg_file.specs.declared.fault.FileError.{FileError}
-use Rattle.pg_file.specs.declared.fault.FileError.TheVariants.{Fault, Memory}
+use Rattle.pg_file.specs.declared.file_fault.FaultKind.{FaultKind}
+use Rattle.pg_file.specs.declared.file_fault.FaultKind.TheVariants.{NotUtf8, BadToken, UnexpectedToken, UnknownName, NameTwice, NoStart, BadLiteral, LimitPassed, NotAdmitted}
+use Rattle.pg_file.specs.declared.file_fault.FileError.{FileError}
+use Rattle.pg_file.specs.declared.file_fault.FileError.TheVariants.{Fault, Memory}
 
 -- ---- positions
 
--- the position that is shown of a place: of one after the end that of the end, and of one too far for a position the last
+-- the position shown for a place; a place after the end has that of the end, and one too far for a position the last that can be shown
 abbrev pub shown_position : List ℕ → ℕ → Pos
 shown_position characters place = position_of characters (min (min place (length characters)) LAST_PLACE)
 
--- the end of some characters
+-- the position of the end of these characters
 abbrev pub end_position : List ℕ → Pos
 end_position characters = shown_position characters (length characters)
 
 -- ---- where bytes and characters are at fault
 
--- the bytes aren't UTF-8, and the position is the one after the longest prefix that is
+-- the bytes aren't UTF-8, and the position is that after their longest UTF-8 prefix
 pub record IsAfterUtf8 (bytes : List ℕ) (position : Pos) : Type 0 where
   pub wrong : ¬ (IsUtf8 bytes)
   pub valid : ℕ
   pub longest : IsValidUpTo bytes valid
   pub after : position ≡ end_position (chars (take valid bytes))
 
--- the characters spell no tokens: where they are read from the left, this is the place of the one that is bad, which is the
--- last
+-- the characters spell no tokens; read from the left, the bad token is at this place, and it is the last
 pub record IsBadAt (characters : List ℕ) (place : ℕ) : Type 0 where
   pub none : (tokens : List Token) → Spelled characters tokens → ⊥
   pub there : Contains (placed_of characters) (place, bad)
 
--- and that is its position
+-- the characters spell no tokens, and this is the position of the bad one
 pub record IsAtBadToken (characters : List ℕ) (position : Pos) : Type 0 where
   pub place : ℕ
   pub is_bad : IsBadAt characters place
   pub shown : position ≡ shown_position characters place
 
--- ---- what is answered
+-- ---- the errors returned
 
--- a fault of this kind at this position is one of a file with these bytes
+-- this kind of fault is one of a file with these bytes, at this position
 abbrev pub IsFaultAt : List ℕ → Pos → FaultKind → Type 0
 IsFaultAt bytes position NotUtf8 = IsAfterUtf8 bytes position
 IsFaultAt bytes position BadToken = IsUtf8 bytes × IsAtBadToken (chars bytes) position
@@ -59,24 +58,24 @@ IsFaultAt bytes position BadLiteral = IsUtf8 bytes
 IsFaultAt bytes position LimitPassed = IsUtf8 bytes
 IsFaultAt bytes position (NotAdmitted fault) = IsUtf8 bytes
 
--- what a file with these bytes is refused with, unless memory ran out
+-- a file with these bytes is refused with this error, unless memory ran out
 abbrev pub IsRefusalOf : List ℕ → FileError → Type 0
 IsRefusalOf bytes (Fault fault) = IsFaultAt bytes fault.position fault.kind
 IsRefusalOf bytes Memory = Unit {0}
 
--- the error says that of a file's bytes those of these characters are UTF-8, and no longer prefix, unless memory ran out
+-- the error says that these characters are a file's longest UTF-8 prefix, unless memory ran out
 abbrev pub IsNotUtf8After : List ℕ → FileError → Type 0
 IsNotUtf8After characters (Fault fault) = fault ≡ record { kind = NotUtf8; position = end_position characters }
 IsNotUtf8After characters Memory = Unit {0}
 
 -- ---- within the characters
 
--- the place is there, and is such a one
+-- there is a place, and it has the property
 abbrev pub IsPlace : (ℕ → Type 0) → Option ℕ → Type 0
 IsPlace Such (Some place) = Such place
 IsPlace Such None = ⊥
 
--- a fault of this kind may be at this place, where a bad token stands at such places
+-- this kind of fault may be at this place, given the places of bad tokens
 abbrev pub IsKindAt : (ℕ → Type 0) → Option ℕ → FaultKind → Type 0
 IsKindAt Bad place NotUtf8 = ⊥
 IsKindAt Bad place BadToken = IsPlace Bad place
@@ -88,12 +87,12 @@ IsKindAt Bad place BadLiteral = Unit {0}
 IsKindAt Bad place LimitPassed = Unit {0}
 IsKindAt Bad place (NotAdmitted fault) = Unit {0}
 
--- so is an error that is a fault
+-- the fault of this error may be at its place
 abbrev pub IsErrorAt : (ℕ → Type 0) → ReadError → Type 0
 IsErrorAt Bad unread.Memory = Unit {0}
 IsErrorAt Bad (unread.Fault kind place) = IsKindAt Bad place kind
 
--- how an error is shown
+-- an error with its position shown
 abbrev pub shown_error : List ℕ → ReadError → FileError
 shown_error characters unread.Memory = Memory
 shown_error characters (unread.Fault kind place) =

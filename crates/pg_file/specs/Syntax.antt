@@ -1,21 +1,21 @@
 -- The tokens of a grammar file, the items that they spell, and the grammar that these make.
 use Rattle.std.specs.Prelude.{◌≡◌, ℕ, List, length}
 use Rattle.pg_pred.specs.Offer.{Offer}
-use Rattle.pg_value.specs.Fits.{Fits}
-use Rattle.pg_value.specs.Grammar.{Grammar}
+use Rattle.pg_grammar_value.specs.Fits.{Fits}
+use Rattle.pg_grammar_value.specs.Grammar.{Grammar}
 use Rattle.pg_table.specs.Tables.{initial, whole, ComesFrom}
-use Rattle.pg_tokens.specs.declared.token.Lexeme.{Lexeme}
-use Rattle.pg_tokens.specs.Lexical.{SpelledIfGood, OnlySpelled}
-use Rattle.pg_tokens.specs.Lexing.{placed_of}
-use Rattle.pg_tokens.specs.View.{tokens_of, placed_tokens_of}
-use Rattle.pg_items.specs.Entries.{entries_of}
-use Rattle.pg_items.specs.declared.item.Item.{Item}
-use Rattle.pg_parser.specs.Items.{AreItems, OnlyItems}
-use Rattle.pg_making.specs.Spells.{SpelledWithinDepth}
-use Rattle.pg_making.specs.declared.making.PlacedGrammar.{PlacedGrammar}
+use Rattle.pg_file_tokens.specs.declared.token.Lexeme.{Lexeme}
+use Rattle.pg_file_tokens.specs.Lexical.{SpelledIfGood, OnlySpelled}
+use Rattle.pg_file_tokens.specs.Lexing.{placed_of}
+use Rattle.pg_file_tokens.specs.View.{tokens_of, placed_tokens_of}
+use Rattle.pg_file_items.specs.Entries.{entries_of}
+use Rattle.pg_file_items.specs.declared.item.Item.{Item}
+use Rattle.pg_file_parser.specs.Items.{AreItems, OnlyItems}
+use Rattle.pg_file_making.specs.Spells.{SpelledWithinDepth}
+use Rattle.pg_file_making.specs.declared.making.PlacedGrammar.{PlacedGrammar}
 use Rattle.pg_file.specs.declared.syntax.Syntax.{Syntax}
 
--- the tokens are those that are read from these characters, each at its place, and spell these items and no others
+-- these are the tokens of the characters, each at its place, and they spell these items and no others
 pub record IsSyntaxOf (characters : List ℕ) (lexemes : List Lexeme) (items : List Item) : Type 0 where
   pub places : placed_tokens_of lexemes ≡ placed_of characters
   pub spelled : SpelledIfGood characters (tokens_of lexemes)
@@ -23,7 +23,7 @@ pub record IsSyntaxOf (characters : List ℕ) (lexemes : List Lexeme) (items : L
   pub written : AreItems (tokens_of lexemes) (entries_of items)
   pub only_items : OnlyItems (tokens_of lexemes) (entries_of items)
 
--- they spell this grammar and no other, the offer fits it, and the spans and the table are its own
+-- the syntax is that of the characters, which spell this grammar and no other; the offer fits it, and the spans and the table are its own
 pub record IsReadFrom (offer : Offer) (characters : List ℕ) (syntax : Syntax) (placed : PlacedGrammar) : Type 0 where
   pub syntax_is : IsSyntaxOf characters syntax.lexemes.items syntax.items.items
   pub spelled : SpelledWithinDepth offer characters placed.grammar

@@ -1,14 +1,14 @@
--- What is printed of a fault of a grammar file, as bytes.
+-- The printed text of a fault of a grammar file, as bytes.
 use Rattle.std.specs.Prelude.{ℕ, List, ◌++◌, codes}
 use Rattle.std.specs.Fmt.{decimal}
 use Rattle.pg_table.specs.FaultLabels.{fault_label}
-use Rattle.pg_file.specs.declared.fault.FaultKind.{FaultKind}
-use Rattle.pg_file.specs.declared.fault.FaultKind.TheVariants.{NotUtf8, BadToken, UnexpectedToken, UnknownName, NameTwice, NoStart, BadLiteral, LimitPassed, NotAdmitted}
-use Rattle.pg_file.specs.declared.fault.FileFault.{FileFault}
-use Rattle.pg_file.specs.declared.fault.FileError.{FileError}
-use Rattle.pg_file.specs.declared.fault.FileError.TheVariants.{Fault, Memory}
+use Rattle.pg_file.specs.declared.file_fault.FaultKind.{FaultKind}
+use Rattle.pg_file.specs.declared.file_fault.FaultKind.TheVariants.{NotUtf8, BadToken, UnexpectedToken, UnknownName, NameTwice, NoStart, BadLiteral, LimitPassed, NotAdmitted}
+use Rattle.pg_file.specs.declared.file_fault.FileFault.{FileFault}
+use Rattle.pg_file.specs.declared.file_fault.FileError.{FileError}
+use Rattle.pg_file.specs.declared.file_fault.FileError.TheVariants.{Fault, Memory}
 
--- a label for scripts, and then words
+-- a label for scripts, followed by words
 abbrev pub kind_text : FaultKind → List ℕ
 kind_text NotUtf8 = codes "F1 not UTF-8"
 kind_text BadToken = codes "F2 bad token"

@@ -1,28 +1,28 @@
-//! Why a file was not read.
+//! Why a file wasn't read.
 //!
-//! The first fault from the left is the one that is answered, and at one place the one with the lowest number.
+//! The leftmost fault is reported, and at one place the one with the lowest number.
 
 ghost use Rattle.std.specs.Prelude.{◌≡◌, ℕ, true, Option};
 ghost use Rattle.std.specs.List.{list_any};
 ghost use Rattle.pg_file.specs.declared.error.ReadError.TheVariants.{Memory};
 ghost use Rattle.pg_file.specs.Answers.{IsFault};
 ghost use Rattle.pg_file.specs.Refusals.{IsErrorAt, IsKindAt};
-ghost use Rattle.pg_making.specs.Making.{IsRefusal};
-ghost use Rattle.pg_parser.specs.Given as given;
-ghost use Rattle.pg_tokens.specs.View.{is_bad_at};
+ghost use Rattle.pg_file_making.specs.Making.{IsRefusal};
+ghost use Rattle.pg_file_parser.specs.Given as given;
+ghost use Rattle.pg_file_tokens.specs.View.{is_bad_at};
 
-use crate::fault::FaultKind;
-use pg_making::{GrammarError, NameFaultKind};
-use pg_parser::{SyntaxError, SyntaxFault};
-use pg_tokens::{Lexeme, has_bad_at};
+use crate::file_fault::FaultKind;
+use pg_file_making::{GrammarError, NameFaultKind};
+use pg_file_parser::{SyntaxError, SyntaxFault};
+use pg_file_tokens::{Lexeme, has_bad_at};
 use std::alloc::{AllocError, AllocFailed};
 
-/// Why a file was not read.
+/// Why a file wasn't read.
 #[derive(Debug, Drop)]
 pub enum ReadError {
     /// Memory ran out.
     Memory,
-    /// A fault of the file, and how many characters stand before it; `None` is the end of the file.
+    /// A fault of the file, and how many characters stand before it; `None` stands for the end of the file.
     Fault(FaultKind, Option<usize>),
 }
 
@@ -42,7 +42,7 @@ impl<T: Drop> From<AllocFailed<T>> for ReadError {
     }
 }
 
-/// Why no items are read from these tokens.
+/// The error for tokens that no items are read from.
 pub fn syntax_error(error: SyntaxError, lexemes: &[Lexeme]) -> ReadError
     ensures fault { IsFault result → given.IsFault error }
     ensures kind { IsErrorAt (λ place. list_any (is_bad_at place) lexemes.now ≡ true) result }
@@ -53,7 +53,7 @@ pub fn syntax_error(error: SyntaxError, lexemes: &[Lexeme]) -> ReadError
     }
 }
 
-/// The fault of a file that a fault of its tokens at a place is.
+/// The kind of a file's fault for a fault of its tokens at a place.
 pub fn kind_of(fault: SyntaxFault, place: Option<usize>, lexemes: &[Lexeme]) -> FaultKind
     ensures { IsKindAt (λ place. list_any (is_bad_at place) lexemes.now ≡ true) place result }
 {
@@ -64,7 +64,7 @@ pub fn kind_of(fault: SyntaxFault, place: Option<usize>, lexemes: &[Lexeme]) -> 
     }
 }
 
-/// What an unexpected token at a place is: a bad one, where it is none.
+/// The kind for an unexpected token at a place: a bad token if it is one.
 fn unexpected_kind(place: Option<usize>, lexemes: &[Lexeme]) -> FaultKind
     ensures { IsKindAt (λ place. list_any (is_bad_at place) lexemes.now ≡ true) place result }
 {
@@ -74,7 +74,7 @@ fn unexpected_kind(place: Option<usize>, lexemes: &[Lexeme]) -> FaultKind
     }
 }
 
-/// Why no grammar is made of items.
+/// The error for items that make no grammar.
 pub fn grammar_error(error: GrammarError) -> ReadError
     ensures fault { IsFault result → IsRefusal error }
     ensures kind { IsErrorAt (λ place. ⊥) result }
@@ -85,7 +85,7 @@ pub fn grammar_error(error: GrammarError) -> ReadError
     }
 }
 
-/// The fault of a file that a fault of a name is.
+/// The kind of a file's fault for a fault of a name.
 pub fn kind_of_name(kind: NameFaultKind) -> FaultKind
     ensures { (place : Option ℕ) → IsKindAt (λ place. ⊥) place result }
 {

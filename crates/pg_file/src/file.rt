@@ -1,41 +1,40 @@
-//! Reading a grammar file: from its bytes to its grammar, or to its first fault and where that stands.
+//! Reading a grammar file: from its bytes to its grammar, or to its first fault with its position.
 //!
-//! Which fault is the first: bytes that are no UTF-8; then, from the left, bad tokens, unexpected ones, bad literals and
-//! passed limits, at one place the one with the lowest number; then, in file order, faults of names and of initial
-//! operators. That a grammar is read exactly where the file spells one is proved, and so are the first two of these faults
-//! with their positions, as far as they are answered; the order of the others and their positions are tested.
+//! The order of faults is this: bytes that aren't UTF-8; then, from the left, bad tokens, unexpected ones, bad literals and passed limits, at one place the
+//! one with the lowest number; then, in file order, faults of names and of initial operators. That a grammar is read exactly if the file spells one is
+//! proved, and so are the positions of the first two kinds of faults when they are reported. The order of the others and their positions are tested.
 
 ghost use Rattle.std.specs.Prelude.{◌≡◌, ◌≤◌, ◌↔◌, length, IfOk, IfErr, OnOk, IsNone};
 ghost use Rattle.std.specs.Str.{chars, IsUtf8};
 ghost use Rattle.pg_pred.specs.Offer.{offer_of};
-ghost use Rattle.pg_value.specs.Fits.{Fits};
-ghost use Rattle.pg_value.specs.Grammar.{Grammar};
-ghost use Rattle.pg_making.specs.Spells.{SpellsWithinLimits, SpelledWithinDepth};
+ghost use Rattle.pg_grammar_value.specs.Fits.{Fits};
+ghost use Rattle.pg_grammar_value.specs.Grammar.{Grammar};
+ghost use Rattle.pg_file_making.specs.Spells.{SpellsWithinLimits, SpelledWithinDepth};
 ghost use Rattle.pg_table.specs.Tables.{initial, whole, ComesFrom};
 ghost use Rattle.pg_file.specs.Syntax.{IsSyntaxOf, IsReadFrom};
 ghost use Rattle.pg_file.specs.Answers.{IsAnswered, IsFault};
 ghost use Rattle.pg_file.specs.Refusals.{IsBadAt, IsErrorAt, IsNotUtf8After, IsRefusalOf, shown_error, shown_position};
 
 use crate::error::{ReadError, grammar_error, kind_of};
-use crate::fault::{FaultKind, FileError, FileFault};
+use crate::file_fault::{FaultKind, FileError, FileFault};
 use crate::syntax::{Syntax, syntax_of};
-use pg_making::{PlacedGrammar, grammar_of};
-use pg_parser::{SyntaxError, read_items};
+use pg_file_making::{PlacedGrammar, grammar_of};
+use pg_file_parser::{SyntaxError, read_items};
+use pg_file_tokens::lex_up_to;
+use pg_grammar_value::Grammar;
 use pg_pred::Registry;
 use pg_text::{characters_of, position_in};
-use pg_tokens::lex_up_to;
-use pg_value::Grammar;
 use std::alloc::Global;
 
 /// The most bytes of a grammar file.
 const FILE_LIMIT: usize = 262_144;
 
-/// The furthest place that has a position of its own; a fault after it is reported there.
+/// The last place that has a position of its own; a fault after it is reported there.
 const LAST_PLACE: usize = (1 << 28) - 1;
 
-/// The grammar that the bytes of a file spell, which the registry fits (ours).
+/// The grammar that the bytes of a file spell, which fits the registry (ours).
 ///
-/// F1 to F9 with its position where they spell none, or pass the limit on length, 262,144 bytes, or on nesting, 64
+/// F1 to F9 with its position if they spell none, or pass the limit on length, 262,144 bytes, or on nesting, 64
 /// parentheses.
 pub fn read(alloc: Global, bytes: &[u8], registry: &Registry) -> Result<Grammar, FileError>
     ensures ok { IfOk result (SpellsWithinLimits (offer_of registry.now) bytes.now) }
@@ -47,10 +46,10 @@ pub fn read(alloc: Global, bytes: &[u8], registry: &Registry) -> Result<Grammar,
     Ok(grammar)
 }
 
-/// The same, with the characters of the form that was written for each node (ours).
+/// As `read`, together with the span of the written form for each node (ours).
 ///
-/// A form that stands for several nodes gives each of them its own span, but for those of its parts: `many1(p)` is written
-/// for a `seq`, a `many` in it and the nodes of `p` twice, and the `seq` and the `many` have the span of the whole.
+/// If a form stands for several nodes, each gets its span, except for the nodes of its parts. For example, `many1(p)` stands for a `seq`, a `many` in it and
+/// the nodes of `p` twice; the `seq` and the `many` have the span of the whole.
 pub fn read_placed(
     alloc: Global,
     bytes: &[u8],
@@ -72,7 +71,7 @@ pub fn read_placed(
     }
 }
 
-/// A grammar file that was read: its characters, what they spell, and the grammar.
+/// A grammar file that was read: its characters, its tokens and items, and the grammar.
 #[derive(Drop)]
 pub struct ReadFile {
     pub characters: Vec<char>,
@@ -80,21 +79,21 @@ pub struct ReadFile {
     pub placed: PlacedGrammar,
 }
 
-/// The same, with all that is made on the way, so that nobody has to make it again: the characters of the file, its tokens and items,
-/// and the operator table that the grammar begins with (ours).
+/// As `read_placed`, together with all that is made on the way, so that it need not be made again: the characters of the file, its tokens and items, and the
+/// initial operator table (ours).
 pub fn read_file(alloc: Global, bytes: &[u8], registry: &Registry) -> Result<ReadFile, FileError>
-    // The bytes spell the grammar, which the registry fits.
+    // The bytes spell the grammar, which fits the registry.
     ensures ok { IfOk result (λ read. SpellsWithinLimits (offer_of registry.now) bytes.now read.placed.grammar) }
     ensures fits { IfOk result (λ read. Fits (offer_of registry.now) read.placed.grammar) }
 
-    // What is made beside it.
+    // The results beside it.
     ensures characters { IfOk result (λ read. read.characters.items ≡ chars bytes.now) }
     ensures syntax { IfOk result (λ read. IsSyntaxOf (chars bytes.now) read.syntax.lexemes.items read.syntax.items.items) }
     ensures spans { IfOk result (λ read. length read.placed.spans.items ≡ length read.placed.grammar.nodes) }
     ensures initial { IfOk result (λ read. initial read.placed.grammar ≡ whole read.placed.table) }
     ensures comes { IfOk result (λ read. ComesFrom read.placed.grammar read.placed.table) }
 
-    // Where they spell one it is that, unless memory runs out; and else there is a fault, with its position.
+    // If they spell a grammar, it is this one, unless memory runs out; otherwise there is a fault with its position.
     ensures only { (g : Grammar) → SpellsWithinLimits (offer_of registry.now) bytes.now g → IfOk result (λ read. read.placed.grammar ≡ g) }
     ensures refused { (g : Grammar) → SpellsWithinLimits (offer_of registry.now) bytes.now g → IfErr result (λ e. e ≡ FileError.Memory) }
     ensures err { IfErr result (IsRefusalOf bytes.now) }
@@ -121,7 +120,7 @@ pub fn read_file(alloc: Global, bytes: &[u8], registry: &Registry) -> Result<Rea
     }
 }
 
-/// What a text with these characters spells, if it isn't too long.
+/// The tokens, items and grammar of a text with these characters, if it isn't too long.
 fn text_read(
     alloc: Global,
     text: &str,
@@ -139,7 +138,7 @@ fn text_read(
     }
 }
 
-/// The grammar that the characters of a file spell, after their tokens and items.
+/// The grammar that the characters of a file spell, with their tokens and items.
 fn grammar_in(
     alloc: Global,
     characters: &[char],
@@ -159,8 +158,8 @@ fn grammar_in(
     }
 }
 
-/// Why a file is refused whose length limit is passed by the character at this place: a fault up to there, if there
-/// is one, or the limit.
+/// The error for a file that is too long, where the character at this place passes the limit: a fault up to there, if
+/// there is one, and otherwise the limit.
 fn fault_before(alloc: Global, characters: &[char], limit: usize) -> ReadError
     ensures { IsErrorAt (IsBadAt characters.now) result }
 {
@@ -178,7 +177,7 @@ fn fault_before(alloc: Global, characters: &[char], limit: usize) -> ReadError
     }
 }
 
-/// The place of the first character that ends after the limit, if the file is longer.
+/// The place of the first character that passes the limit, if the file is too long.
 fn limit_place(text: &str) -> Option<usize>
     ensures { IsNone result ↔ (length text.now ≤ FILE_LIMIT) }
 {
@@ -189,7 +188,7 @@ fn limit_place(text: &str) -> Option<usize>
     Some(text.char_indices().take_while(ends_within).count())
 }
 
-/// The fault of a file in which only the first bytes are UTF-8.
+/// The fault of a file that is UTF-8 only in these first bytes.
 fn not_utf8(alloc: Global, front: &[u8]) -> FileError
     requires { IsUtf8 front.now }
     ensures { IsNotUtf8After (chars front.now) result }
@@ -203,7 +202,7 @@ fn not_utf8(alloc: Global, front: &[u8]) -> FileError
     }
 }
 
-/// Why a file with these characters isn't read, with the position of its fault.
+/// The error for a file with these characters, with the position of its fault.
 fn reported(error: ReadError, characters: &[char]) -> FileError
     ensures { result ≡ shown_error characters.now error }
 {

@@ -3,19 +3,19 @@
 ghost use Rattle.std.specs.Prelude.{◌≡◌, true, List, IfOk, IfErr};
 ghost use Rattle.std.specs.List.{list_any};
 ghost use Rattle.pg_pred.specs.Offer.{Offer};
-ghost use Rattle.pg_value.specs.Grammar.{Grammar};
-ghost use Rattle.pg_making.specs.Spells.{SpelledWithinDepth};
-ghost use Rattle.pg_tokens.specs.View.{is_bad_at, tokens_of};
-ghost use Rattle.pg_items.specs.Entries.{Entry, entries_of};
-ghost use Rattle.pg_parser.specs.Items.{AreItems, OnlyItems};
+ghost use Rattle.pg_grammar_value.specs.Grammar.{Grammar};
+ghost use Rattle.pg_file_making.specs.Spells.{SpelledWithinDepth};
+ghost use Rattle.pg_file_tokens.specs.View.{is_bad_at, tokens_of};
+ghost use Rattle.pg_file_items.specs.Entries.{Entry, entries_of};
+ghost use Rattle.pg_file_parser.specs.Items.{AreItems, OnlyItems};
 ghost use Rattle.pg_file.specs.Syntax.{IsSyntaxOf};
 ghost use Rattle.pg_file.specs.Answers.{IsFault};
 ghost use Rattle.pg_file.specs.Refusals.{IsBadAt, IsErrorAt};
 
 use crate::error::{ReadError, syntax_error};
-use pg_items::Item;
-use pg_parser::read_items;
-use pg_tokens::{Lexeme, lex};
+use pg_file_items::Item;
+use pg_file_parser::read_items;
+use pg_file_tokens::{Lexeme, lex};
 use std::alloc::Global;
 
 /// The tokens of a file, and the items that they spell.

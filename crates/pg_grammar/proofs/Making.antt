@@ -6,29 +6,29 @@ use Rattle.std.proofs.lemmas.List.{length-append, length-map, map-append}
 use Rattle.std.specs.Str.{bytes_eq}
 use Rattle.std.specs.Option.{option_map_or}
 use Rattle.std.specs.List.{AllByRecursion, list_any}
-use Rattle.pg_form.specs.Preorder.{roots, parts_from}
-use Rattle.pg_form.specs.Names.{Name, has_name, place_of_name, number_of, name_at, AreDistinct}
-use Rattle.pg_form.specs.Forms.{BaseForm, Node, part_count, has_bad_literal, has_unknown_class, has_unknown_name, lacks_alternative, IsBody}
-use Rattle.pg_form.specs.Classes.{lacks_item, descends}
-use Rattle.pg_form.specs.ClassItems.{item_name, has_item, NameEarlier}
-use Rattle.pg_form.specs.Contents.{class_parts}
-use Rattle.pg_form.specs.WordItems.{word_name, has_word, word_lacks_item, word_has_bad_literal, AreWords}
-use Rattle.pg_form.specs.OperatorsItems.{lacks_operators, AreOperators}
-use Rattle.pg_value.specs.Grammar.{Grammar, IsGrammar, rule_name, rule_body, rule_names, word_names, is_misspelled}
-use Rattle.pg_value.proofs.Sites.{nodes_classes}
+use Rattle.pg_grammar_form.specs.Preorder.{roots, parts_from}
+use Rattle.pg_grammar_form.specs.Names.{Name, has_name, place_of_name, number_of, name_at, AreDistinct}
+use Rattle.pg_grammar_form.specs.Forms.{BaseForm, Node, part_count, has_bad_literal, has_unknown_class, has_unknown_name, lacks_alternative, IsBody}
+use Rattle.pg_grammar_form.specs.Classes.{lacks_item, descends}
+use Rattle.pg_grammar_form.specs.ClassItems.{item_name, has_item, NameEarlier}
+use Rattle.pg_grammar_form.specs.Contents.{class_parts}
+use Rattle.pg_grammar_form.specs.WordItems.{word_name, has_word, word_lacks_item, word_has_bad_literal, AreWords}
+use Rattle.pg_grammar_form.specs.OperatorsItems.{lacks_operators, AreOperators}
+use Rattle.pg_grammar_value.specs.Grammar.{Grammar, IsGrammar, rule_name, rule_body, rule_names, word_names, is_misspelled}
+use Rattle.pg_grammar_value.proofs.Sites.{nodes_classes}
 use Rattle.pg_grammar.specs.Made.{Made, IsMade, IsReady, AreNumbers, Says, with_rule, with_class, with_word, rule_fault, class_fault, word_fault, finish_fault, is_incomplete, made_words, passes_limit, class_passes_limit, word_passes_limit}
 use Rattle.pg_grammar.specs.Numbering.{node_of, nodes_with, nodes_from}
-use Rattle.pg_form.specs.declared.class.ClassPart.{ClassPart}
-use Rattle.pg_form.specs.declared.class.ClassPart.TheVariants.{Literal, Range, Union, Complement, Class, Predicate}
-use Rattle.pg_form.specs.declared.class_item.ClassItem.{ClassItem}
-use Rattle.pg_value.specs.declared.grammar.Rule.{Rule}
-use Rattle.pg_form.specs.declared.operators_item.OperatorsItem.{OperatorsItem}
-use Rattle.pg_form.specs.declared.word_item.WordItem.{WordItem}
-use Rattle.pg_grammar.specs.declared.fault.MakerFault.{MakerFault}
-use Rattle.pg_grammar.specs.declared.fault.MakerFault.TheVariants.{NoStart}
-use Rattle.pg_form.proofs.Each.{any-map}
-use Rattle.pg_form.proofs.Lookup.{number_is_found, place_is_number, place_is_none}
-use Rattle.pg_form.proofs.Preorder.{SpellForms-append, length-roots}
+use Rattle.pg_grammar_form.specs.declared.class.ClassPart.{ClassPart}
+use Rattle.pg_grammar_form.specs.declared.class.ClassPart.TheVariants.{Literal, Range, Union, Complement, Class, Predicate}
+use Rattle.pg_grammar_form.specs.declared.class_item.ClassItem.{ClassItem}
+use Rattle.pg_grammar_value.specs.declared.grammar.Rule.{Rule}
+use Rattle.pg_grammar_form.specs.declared.operators_item.OperatorsItem.{OperatorsItem}
+use Rattle.pg_grammar_form.specs.declared.word_item.WordItem.{WordItem}
+use Rattle.pg_grammar.specs.declared.maker_fault.MakerFault.{MakerFault}
+use Rattle.pg_grammar.specs.declared.maker_fault.MakerFault.TheVariants.{NoStart}
+use Rattle.pg_grammar_form.proofs.Each.{any-map}
+use Rattle.pg_grammar_form.proofs.Lookup.{number_is_found, place_is_number, place_is_none}
+use Rattle.pg_grammar_form.proofs.Preorder.{SpellForms-append, length-roots}
 use Rattle.pg_grammar.proofs.Numbers.{counts-nodes_from, preorder-nodes_from, forms-nodes_from, named-nodes_from, words_named-nodes_from, length-nodes_from}
 
 -- a test that fails in two lists fails in both together

@@ -2,14 +2,14 @@
 use Rattle.std.proofs.Common.{◌≡◌, ℕ, zero, suc, ◌+◌, false, List, [], ◌∷◌, length, map, take, refl, sym, ap}
 use Rattle.std.proofs.lemmas.Bool.{or_parts, not-false}
 use Rattle.std.specs.List.{AllByRecursion, list_any}
-use Rattle.pg_form.specs.Preorder.{SpellForms}
-use Rattle.pg_form.specs.Names.{Name, has_name}
-use Rattle.pg_form.specs.Forms.{BaseForm, part_count, parts_of, node_part_count, form_of, has_unknown_name, InPreorder, NamesRule, NamesWord}
-use Rattle.pg_form.specs.declared.form.Form.TheVariants as form
-use Rattle.pg_form.specs.declared.form.Leaf.TheVariants as leaf
+use Rattle.pg_grammar_form.specs.Preorder.{SpellForms}
+use Rattle.pg_grammar_form.specs.Names.{Name, has_name}
+use Rattle.pg_grammar_form.specs.Forms.{BaseForm, part_count, parts_of, node_part_count, form_of, has_unknown_name, InPreorder, NamesRule, NamesWord}
+use Rattle.pg_grammar_form.specs.declared.form.Form.TheVariants as form
+use Rattle.pg_grammar_form.specs.declared.form.Leaf.TheVariants as leaf
 use Rattle.pg_grammar.specs.Numbering.{first_part, second_part, node_of, nodes_from}
-use Rattle.pg_form.proofs.Lookup.{number_is_found}
-use Rattle.pg_form.proofs.Preorder.{length-parts}
+use Rattle.pg_grammar_form.proofs.Lookup.{number_is_found}
+use Rattle.pg_grammar_form.proofs.Preorder.{length-parts}
 
 -- ---- one node
 

@@ -5,17 +5,17 @@ use Rattle.std.proofs.lemmas.List.{length-map}
 use Rattle.std.proofs.lemmas.Slice.Eq.{bytes_eq-Decides}
 use Rattle.std.specs.Str.{bytes_eq}
 use Rattle.std.specs.List.{AllByRecursion}
-use Rattle.pg_form.specs.Preorder.{roots}
-use Rattle.pg_form.specs.Names.{Name, has_name, number_of, name_at, AreDistinct}
-use Rattle.pg_form.specs.Forms.{Node, part_count, parts_of, node_part_count, form_of, InPreorder, NamesRule, NamesWord}
-use Rattle.pg_value.specs.Grammar.{Grammar, IsGrammar, rule_name, rule_body, rule_names, word_names}
+use Rattle.pg_grammar_form.specs.Preorder.{roots}
+use Rattle.pg_grammar_form.specs.Names.{Name, has_name, number_of, name_at, AreDistinct}
+use Rattle.pg_grammar_form.specs.Forms.{Node, part_count, parts_of, node_part_count, form_of, InPreorder, NamesRule, NamesWord}
+use Rattle.pg_grammar_value.specs.Grammar.{Grammar, IsGrammar, rule_name, rule_body, rule_names, word_names}
 use Rattle.pg_grammar.specs.Made.{Made, Says, made_words}
 use Rattle.pg_grammar.specs.Numbering.{node_of, nodes_from}
-use Rattle.pg_form.specs.WordItems.{word_name}
-use Rattle.pg_form.specs.declared.form.Form.TheVariants as form
-use Rattle.pg_form.specs.declared.form.Leaf.TheVariants as leaf
-use Rattle.pg_value.specs.declared.grammar.Rule.{Rule}
-use Rattle.pg_form.proofs.Lookup.{number_is_found}
+use Rattle.pg_grammar_form.specs.WordItems.{word_name}
+use Rattle.pg_grammar_form.specs.declared.form.Form.TheVariants as form
+use Rattle.pg_grammar_form.specs.declared.form.Leaf.TheVariants as leaf
+use Rattle.pg_grammar_value.specs.declared.grammar.Rule.{Rule}
+use Rattle.pg_grammar_form.proofs.Lookup.{number_is_found}
 
 -- ---- numbers of names
 

@@ -1,4 +1,4 @@
--- The capacity of the lists into which what was made is numbered.
+-- The capacity of the lists for the nodes and rules of a grammar.
 use Rattle.std.specs.Prelude.{◌≡◌, ◌≤◌, [], length, vec_capacity}
 use Rattle.pg_grammar.specs.Made.{Made}
 use Rattle.pg_grammar.specs.declared.numbering.Numbers.{Numbers}

@@ -1,26 +1,26 @@
--- What a maker has been given, and the grammar that is made of it.
+-- What a maker has received, and the grammar that is made of it.
 use Rattle.std.specs.Prelude.{◌≡◌, ◌<◌, ◌≤◌, ◌+◌, ℕ, ◌++◌, if◌then◌else◌, Bool, false, ◌||◌, nat_lt, nat_le, List, [], ◌∷◌, length, map, Option, Some, None}
 use Rattle.std.specs.List.{list_any, AllByRecursion}
 use Rattle.std.specs.Option.{is_some, option_map_or}
-use Rattle.pg_form.specs.Preorder.{SpellForms, roots, parts_from}
-use Rattle.pg_form.specs.Names.{Name, name_at, has_name, AreDistinct}
-use Rattle.pg_form.specs.Forms.{BaseForm, part_count, lacks_alternative, has_bad_literal, has_long_text, has_unknown_name, has_unknown_class}
-use Rattle.pg_form.specs.Classes.{lacks_item, descends, is_long}
-use Rattle.pg_form.specs.ClassItems.{AreClasses, has_item}
-use Rattle.pg_form.specs.WordItems.{word_name, has_word, word_lacks_item, word_has_bad_literal, word_has_long_text, AreWords}
-use Rattle.pg_form.specs.Literals.{is_long_literal}
-use Rattle.pg_form.specs.Operators.{Operator, IsOperator}
-use Rattle.pg_form.specs.OperatorsItems.{operators_lack_item, operators_have_bad_literal, operators_pass_limit, lacks_operators, AreOperators}
-use Rattle.pg_value.specs.Grammar.{Grammar, IsGrammar, rule_names, forms_of, is_misspelled}
-use Rattle.pg_form.specs.declared.class.ClassPart.{ClassPart}
-use Rattle.pg_form.specs.declared.class_item.ClassItem.{ClassItem}
-use Rattle.pg_form.specs.declared.operators_item.OperatorsItem.{OperatorsItem}
-use Rattle.pg_form.specs.declared.word_item.WordItem.{WordItem}
-use Rattle.pg_grammar.specs.declared.fault.MakerFault.{MakerFault}
-use Rattle.pg_grammar.specs.declared.fault.MakerFault.TheVariants.{UnknownName, NameTwice, NoStart, BadLiteral, LimitPassed}
+use Rattle.pg_grammar_form.specs.Preorder.{SpellForms, roots, parts_from}
+use Rattle.pg_grammar_form.specs.Names.{Name, name_at, has_name, AreDistinct}
+use Rattle.pg_grammar_form.specs.Forms.{BaseForm, part_count, lacks_alternative, has_bad_literal, has_long_text, has_unknown_name, has_unknown_class}
+use Rattle.pg_grammar_form.specs.Classes.{lacks_item, descends, is_long}
+use Rattle.pg_grammar_form.specs.ClassItems.{AreClasses, has_item}
+use Rattle.pg_grammar_form.specs.WordItems.{word_name, has_word, word_lacks_item, word_has_bad_literal, word_has_long_text, AreWords}
+use Rattle.pg_grammar_form.specs.Literals.{is_long_literal}
+use Rattle.pg_grammar_form.specs.Operators.{Operator, IsOperator}
+use Rattle.pg_grammar_form.specs.OperatorsItems.{operators_lack_item, operators_have_bad_literal, operators_pass_limit, lacks_operators, AreOperators}
+use Rattle.pg_grammar_value.specs.Grammar.{Grammar, IsGrammar, rule_names, forms_of, is_misspelled}
+use Rattle.pg_grammar_form.specs.declared.class.ClassPart.{ClassPart}
+use Rattle.pg_grammar_form.specs.declared.class_item.ClassItem.{ClassItem}
+use Rattle.pg_grammar_form.specs.declared.operators_item.OperatorsItem.{OperatorsItem}
+use Rattle.pg_grammar_form.specs.declared.word_item.WordItem.{WordItem}
+use Rattle.pg_grammar.specs.declared.maker_fault.MakerFault.{MakerFault}
+use Rattle.pg_grammar.specs.declared.maker_fault.MakerFault.TheVariants.{UnknownName, NameTwice, NoStart, BadLiteral, LimitPassed}
 
--- the name of the rule to start with, the class items, the word items, the operators item, the initial declarations, the
--- rules' names, and the base forms of their bodies, one body after another
+-- the name of the start rule, the class items, the word items, the operators item, the initial declarations, the rules' names, and the base forms of
+-- their bodies, one body after another
 pub record Made : Type 0 where
   pub start : Option Name
   pub classes : List ClassItem
@@ -34,27 +34,27 @@ pub record Made : Type 0 where
 abbrev pub nothing_made : Made
 nothing_made = record { start = None; classes = []; words = []; operators = None; initials = []; names = []; forms = [] }
 
--- a rule more
+-- with one rule more
 abbrev pub with_rule : Made → Name → List BaseForm → Made
 with_rule made name body = record made { names = made.names ++ name ∷ []; forms = made.forms ++ body }
 
--- the start named
+-- with the start rule named
 abbrev pub with_start : Made → Name → Made
 with_start made name = record made { start = Some name }
 
--- a class item more
+-- with one class item more
 abbrev pub with_class : Made → Name → List ClassPart → Made
 with_class made name class = record made { classes = made.classes ++ record { name = name; class = class } ∷ [] }
 
--- a word item more
+-- with one word item more
 abbrev pub with_word : Made → WordItem → Made
 with_word made item = record made { words = made.words ++ item ∷ [] }
 
--- the operators item
+-- with the operators item
 abbrev pub with_operators : Made → OperatorsItem → Made
 with_operators made item = record made { operators = Some item }
 
--- an initial declaration more
+-- with one initial declaration more
 abbrev pub with_initial : Made → Operator → Made
 with_initial made operator = record made { initials = made.initials ++ operator ∷ [] }
 
@@ -62,7 +62,7 @@ with_initial made operator = record made { initials = made.initials ++ operator 
 abbrev pub made_words : Made → List Name
 made_words made = map word_name made.words
 
--- whether a body names a rule or a word item that isn't there, or operators are used and their item isn't there
+-- whether a body names a rule or a word item that doesn't exist, or operators are used without an operators item
 abbrev pub is_incomplete : Made → Bool
 is_incomplete made =
     list_any (has_unknown_name made.names (made_words made)) made.forms || lacks_operators made.operators made.initials made.forms
@@ -71,7 +71,7 @@ is_incomplete made =
 abbrev pub has_start : Made → Bool
 has_start made = option_map_or (has_name made.names) made.start false
 
--- the grammar says what was made, with a number for each name and each part; as it is a grammar, it is the only one that does
+-- the grammar has the contents that were made, with a number for each name and each part; as it is a grammar, only one has them
 pub record Says (made : Made) (g : Grammar) : Type 0 where
   pub sound : IsGrammar g
   pub start : made.start ≡ Some (name_at (rule_names g) g.start)
@@ -82,7 +82,7 @@ pub record Says (made : Made) (g : Grammar) : Type 0 where
   pub names : made.names ≡ rule_names g
   pub forms : made.forms ≡ forms_of g
 
--- what a maker keeps true
+-- the invariant of a maker
 pub record IsMade (made : Made) : Type 0 where
   pub whole : SpellForms (length made.names) (map part_count made.forms)
   pub distinct : AreDistinct made.names
@@ -97,8 +97,7 @@ pub record IsMade (made : Made) : Type 0 where
   pub few_rules : length made.names ≤ 512
   pub few_nodes : length made.forms ≤ 8192
 
--- whether a name, a literal or symbol, the rules or the nodes would be too many with this rule: over 64 and 1,024
--- characters, over 512 rules, over 8,192 nodes
+-- whether this rule would pass a limit: a name over 64 characters, a literal or symbol over 1,024, over 512 rules, over 8,192 nodes
 abbrev pub passes_limit : Made → Name → List BaseForm → Bool
 passes_limit made name body =
     (nat_lt 64 (length name) || list_any has_long_text body) || (nat_le 512 (length made.names) || nat_lt 8192 (length made.forms + length body))
@@ -111,7 +110,7 @@ rule_fault made name body =
     if list_any has_bad_literal body then Some BadLiteral else
     if passes_limit made name body then Some LimitPassed else None
 
--- whether a name, a literal or the class items would be too many with this one: over 64 and 1,024 characters, over 256 items
+-- whether this class item would pass a limit: a name over 64 characters, a literal over 1,024, over 256 items
 abbrev pub class_passes_limit : Made → Name → List ClassPart → Bool
 class_passes_limit made name class = (nat_lt 64 (length name) || list_any is_long class) || nat_le 256 (length made.classes)
 
@@ -123,7 +122,7 @@ class_fault made name class =
     if list_any descends class then Some BadLiteral else
     if class_passes_limit made name class then Some LimitPassed else None
 
--- whether a name, a literal or the word items would be too many with this one: over 64 and 1,024 characters, over 64 items
+-- whether this word item would pass a limit: a name over 64 characters, a literal over 1,024, over 64 items
 abbrev pub word_passes_limit : Made → WordItem → Bool
 word_passes_limit made item = (nat_lt 64 (length item.name) || word_has_long_text item) || nat_le 64 (length made.words)
 
@@ -153,13 +152,13 @@ finish_fault made =
     if is_incomplete made then Some UnknownName else
     if has_start made then None else Some NoStart
 
--- nothing is in the way of a grammar that starts with this rule
+-- nothing prevents a grammar with this start rule
 pub record IsReady (made : Made) (start : ℕ) : Type 0 where
   pub known : is_incomplete made ≡ false
   pub below : start < length made.names
   pub named : made.start ≡ Some (name_at made.names start)
 
--- these are the numbers of what was made: of each form's parts, of the rules' bodies, and of the rule to start with
+-- these are the numbers of each form's parts, of the rules' bodies, and of the start rule
 pub record AreNumbers (made : Made) (parts : List (List ℕ)) (bodies : List ℕ) (start : ℕ) : Type 0 where
   pub ready : IsReady made start
   pub own : parts ≡ parts_from 0 (map part_count made.forms)

@@ -1,19 +1,18 @@
-//! What is judged of base forms before a maker takes them.
+//! The checks of base forms before a maker accepts them.
 //!
-//! Each judgement is over what stands in the form: its class expression, its builders, its literal and its name. A maker
-//! relies on them for F4, F7 and F8.
+//! Each check is over the contents of a form: its class expression, its builders, its literal and its name. A maker relies on them for F4, F7 and F8.
 
 ghost use Rattle.std.specs.Prelude.{◌≡◌, false, not, [], length, map, unwrap_or};
-ghost use Rattle.pg_form.specs.Names.{has_name};
+ghost use Rattle.pg_grammar_form.specs.Names.{has_name};
 ghost use Rattle.std.specs.List.{list_any};
 ghost use Rattle.std.specs.Option.{option_map_or};
-ghost use Rattle.pg_form.specs.Classes.{descends, is_long, lacks_item};
-ghost use Rattle.pg_form.specs.Contents.{class_parts, builders_in, is_declaration, leaf_in, literal_in, name_in, word_in, all_builders};
-ghost use Rattle.pg_form.specs.Forms.{has_bad_literal, has_long_name, has_long_text, has_unknown_name, has_unknown_class, is_empty_string, uses_operators};
-ghost use Rattle.pg_form.specs.WordItems.{word_name};
+ghost use Rattle.pg_grammar_form.specs.Classes.{descends, is_long, lacks_item};
+ghost use Rattle.pg_grammar_form.specs.Contents.{class_parts, builders_in, is_declaration, leaf_in, literal_in, name_in, word_in, all_builders};
+ghost use Rattle.pg_grammar_form.specs.Forms.{has_bad_literal, has_long_name, has_long_text, has_unknown_name, has_unknown_class, is_empty_string, uses_operators};
+ghost use Rattle.pg_grammar_form.specs.WordItems.{word_name};
 
 use crate::names::{has_name, has_word};
-use pg_form::{
+use pg_grammar_form::{
     Around, BaseForm, BuilderUse, Form, LITERAL_LIMIT, Leaf, NAME_LIMIT, OperatorBuilders,
     WordItem, characters_in,
 };
@@ -36,7 +35,7 @@ fn has_descending_range(form: &BaseForm) -> bool
     }
 }
 
-/// Whether it is a string, and that is empty.
+/// Whether it is an empty string.
 fn is_empty_string(form: &BaseForm) -> bool
     ensures { result ≡ is_empty_string form.now }
 {
@@ -46,7 +45,7 @@ fn is_empty_string(form: &BaseForm) -> bool
     }
 }
 
-/// Whether a literal, symbol or message has more than 1,024 characters, or a name more than 64.
+/// Whether a literal, symbol or message has more than 1,024 characters, or a name has more than 64.
 fn has_long_text(form: &BaseForm) -> bool
     ensures { result ≡ has_long_text form.now }
 {
@@ -56,7 +55,7 @@ fn has_long_text(form: &BaseForm) -> bool
         || name_length(form) > NAME_LIMIT
 }
 
-/// Whether a literal of its class expression has more than 1,024 characters, or the name of a predicate more than 64.
+/// Whether a literal of its class expression has more than 1,024 characters, or the name of a predicate has more than 64.
 fn has_long_class(form: &BaseForm) -> bool
     ensures { result ≡ list_any is_long (class_parts form.now) }
 {
@@ -101,7 +100,7 @@ fn has_long_name(used: &BuilderUse) -> bool
     characters_in(used.name.as_str()) > NAME_LIMIT
 }
 
-/// How many characters its string, symbol or message has.
+/// The number of characters of its string, symbol or message.
 fn literal_length(form: &BaseForm) -> usize
     ensures { result ≡ length (literal_in form.now) }
 {
@@ -119,7 +118,7 @@ fn literal_length(form: &BaseForm) -> usize
     }
 }
 
-/// How many characters the name of its rule or word item has.
+/// The number of characters of the name of its rule or word item.
 fn name_length(form: &BaseForm) -> usize
     ensures { result ≡ length (name_in form.now) }
 {
@@ -129,7 +128,7 @@ fn name_length(form: &BaseForm) -> usize
     }
 }
 
-/// How many characters the name of its word item has.
+/// The number of characters of the name of its word item.
 fn word_length(form: &BaseForm) -> usize
     ensures { result ≡ length (unwrap_or (word_in form.now) []) }
 {
@@ -139,7 +138,7 @@ fn word_length(form: &BaseForm) -> usize
     }
 }
 
-/// Whether a rule or a word item is named that isn't among these.
+/// Whether a form names a rule or a word item that isn't among these.
 fn has_unknown_name(rules: &[Characters], words: &[WordItem], form: &BaseForm) -> bool
     ensures { result ≡ has_unknown_name rules.now (map word_name words.now) form.now }
 {
@@ -163,7 +162,7 @@ fn lacks_word(words: &[WordItem], name: &Characters) -> bool
     !has_word(words, name.as_slice())
 }
 
-/// Whether a class item is named that isn't among so many.
+/// Whether a form names a class item other than the first `count`.
 fn has_unknown_class(count: usize, form: &BaseForm) -> bool
     ensures { result ≡ has_unknown_class count form.now }
 {
@@ -173,7 +172,7 @@ fn has_unknown_class(count: usize, form: &BaseForm) -> bool
     }
 }
 
-/// Whether operators are read or declared.
+/// Whether a form reads or declares operators.
 fn uses_operators(form: &BaseForm) -> bool
     ensures { result ≡ uses_operators form.now }
 {
@@ -193,7 +192,7 @@ fn declares(form: &BaseForm) -> bool
     }
 }
 
-// ---- of several forms
+// ---- checks of several forms
 
 /// Whether a string is empty, or a range descends.
 pub(crate) fn has_bad_literals(body: &[BaseForm]) -> bool
@@ -202,14 +201,14 @@ pub(crate) fn has_bad_literals(body: &[BaseForm]) -> bool
     body.iter().any(has_bad_literal)
 }
 
-/// Whether a literal, symbol or message has more than 1,024 characters, or a name that is referred to more than 64.
+/// Whether a literal, symbol or message has more than 1,024 characters, or a name that is used has more than 64.
 pub(crate) fn has_long_texts(body: &[BaseForm]) -> bool
     ensures { result ≡ list_any has_long_text body.now }
 {
     body.iter().any(has_long_text)
 }
 
-/// Whether a form names a class item that isn't among so many.
+/// Whether a form names a class item other than the first `count`.
 pub(crate) fn lacks_class(count: usize, forms: &[BaseForm]) -> bool
     ensures { result ≡ list_any (has_unknown_class count) forms.now }
 {

@@ -1,27 +1,29 @@
-//! Grammars: a [`Maker`] takes the parts of one, one after another, and finishes it.
+//! Grammars: a [`Maker`] receives the parts of one, one after another, and finishes it.
 //!
-//! What a grammar consists of (`pg_form`) and what is read of one (`pg_value`) is named here again, so that whoever makes
-//! grammars needs no other crate; layers that make none stand on those two. What is handed in is judged first (`judged`), and a refusal changes nothing. At the end each form gets the numbers of its
-//! parts (`numbering`) and of what it names (`nodes`). What was handed in determines the grammar (`laws`).
+//! This crate re-exports the contents of a grammar (`pg_grammar_form`) and its readers (`pg_grammar_value`), so that code that makes grammars needs no other
+//! crate. Layers that make none build on those two. A maker checks each part first (`judged`), and a refusal changes nothing. At the end each form gets the
+//! numbers of its parts (`numbering`) and of what it names (`nodes`). The parts determine the grammar (`laws`).
 #![tactic(auto)]
 
-mod fault;
 mod judged;
 mod laws;
 mod maker;
+mod maker_fault;
 mod names;
 mod nodes;
 mod numbering;
 mod spelled;
 
-pub use fault::{MakerFault, Unfinished};
 pub use laws::grammars_are_unique;
 pub use maker::Maker;
-pub use pg_form::{
+pub use maker_fault::{MakerFault, Unfinished};
+pub use pg_grammar_form::{
     Around, BaseForm, BuilderUse, CLASS_LIMIT, ClassExpression, ClassId, ClassItem, ClassPart,
     Decl, Form, LITERAL_LIMIT, Leaf, NAME_LIMIT, NODE_LIMIT, NextForm, Node, NodeId,
     OPERATOR_LIMIT, OperatorBuilders, OperatorsItem, Parts, PredicateUse, RULE_LIMIT, Role, RuleId,
     Side, WORD_LIMIT, WordId, WordItem,
 };
+pub use pg_grammar_value::{
+    AppliedOperator, AppliedOperators, Fixity, Grammar, Rule, Trail, TrailItem,
+};
 pub use pg_text::Texts;
-pub use pg_value::{AppliedOperator, AppliedOperators, Fixity, Grammar, Rule, Trail, TrailItem};

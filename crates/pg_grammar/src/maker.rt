@@ -1,33 +1,32 @@
-//! Making a grammar: its parts are handed in one after another, and the names of rules and words are judged at the end.
+//! Making a grammar: a maker receives its parts one after another, and checks the names of rules and words at the end.
 //!
-//! A rule or a word item may so be named before it is handed in, and operators be used before their item is; a class item
-//! is named by its number, once it is there. A refused call leaves
-//! the maker as it was. Faults have the labels of the grammar file; of several that a call could answer, it answers the
-//! one with the lowest number.
+//! So a rule or a word item may be named before the maker has it, and operators may be used before their item. A class item is named by its number, once the
+//! maker has it. A refused call leaves the maker as it was. Faults have the labels of the grammar file; if several apply to a call, it returns the one with
+//! the lowest number.
 
 ghost use Rattle.std.specs.Prelude.{◌≡◌, ◌<◌, ◌≤◌, ◌↔◌, length, map, option_and_then, Err, MatchOption, IsOk, IsOkUnless, IsSome, IsNone, IfOk, IfErr, OnOk, OnErr, IsErrOf, IsErrAnd};
-ghost use Rattle.pg_form.specs.Names.{place_of_name};
-ghost use Rattle.pg_form.specs.ClassItems.{has_item};
+ghost use Rattle.pg_grammar_form.specs.Names.{place_of_name};
+ghost use Rattle.pg_grammar_form.specs.ClassItems.{has_item};
 
-use crate::fault::{MakerFault, Unfinished};
 use crate::judged::{has_bad_literals, has_long_texts, lacks_class, lacks_name, use_operators};
+use crate::maker_fault::{MakerFault, Unfinished};
 use crate::names::{has_name, has_word, place_of_name};
 use crate::nodes::{nodes_of, rules_of};
 use crate::numbering::{Numbers, numbers_of};
 use crate::spelled::go_through_strings;
-use pg_character_sets::ContentSets;
-use pg_form::{
+use pg_grammar_classes::ContentSets;
+use pg_grammar_form::{
     BaseForm, CLASS_LIMIT, ClassExpression, ClassId, ClassItem, Decl, LITERAL_LIMIT, NAME_LIMIT,
     NODE_LIMIT, OperatorsItem, RULE_LIMIT, RuleId, WORD_LIMIT, WordId, WordItem,
 };
+use pg_grammar_value::Grammar;
 use pg_text::{Characters, Texts};
-use pg_value::Grammar;
 use std::alloc::{AllocError, Global};
 use std::marker::Model;
 
-/// A grammar in the making, seen as what it was given so far: each rule's body is one whole form, the rules have
-/// different names, so have the class items and the word items, each class item that is named is there, no string or
-/// reserved text is empty, no range descends and no limit is passed.
+/// A grammar in the making, seen as the parts received so far. Each rule's body is one whole form. Rules have distinct
+/// names, and so have class items and word items. Each class item that is named exists, no string or reserved text is
+/// empty, no range descends and no limit is passed.
 #[derive(Drop)]
 pub struct Maker {
     start: Option<Characters>,
@@ -50,13 +49,13 @@ impl Model for Maker {
 }
 
 impl Maker {
-    ghost use Rattle.pg_form.specs.Forms.{IsBody};
+    ghost use Rattle.pg_grammar_form.specs.Forms.{IsBody};
     ghost use Rattle.pg_grammar.specs.Made.{nothing_made, with_start, with_class, with_word, with_operators, with_initial, with_rule, class_fault, word_fault, operators_fault, initial_fault, rule_fault, word_passes_limit, passes_limit, is_incomplete, finish_fault, IsReady, AreNumbers, Says};
     ghost use Rattle.pg_grammar.specs.Capacity.{HasCapacity};
-    ghost use Rattle.pg_form.specs.Contents.{class_parts};
-    ghost use Rattle.pg_character_sets.specs.Contents.{AreContentSets};
+    ghost use Rattle.pg_grammar_form.specs.Contents.{class_parts};
+    ghost use Rattle.pg_grammar_classes.specs.Contents.{AreContentSets};
 
-    /// A maker that was given nothing yet. It takes no memory until it is.
+    /// A maker without parts. It takes no memory until it receives some.
     pub fn new(alloc: Global) -> Maker
         ensures { result ≡ nothing_made }
     {
@@ -71,7 +70,7 @@ impl Maker {
         }
     }
 
-    /// Names the rule to start with. F5 where that was done before, F8 where the name has over 64 characters.
+    /// Names the start rule. F5 if it was named before, F8 if the name has over 64 characters.
     pub fn start(&mut self, name: Characters) -> Result<(), MakerFault>
         ensures ok { OnOk result (self.new ≡ with_start self.old name) }
         ensures twice { IsErrOf result MakerFault.NameTwice ↔ IsSome self.old.start }
@@ -89,11 +88,11 @@ impl Maker {
         Ok(())
     }
 
-    /// Adds a class item at the end, and answers its number.
+    /// Adds a class item at the end, and returns its number.
     ///
-    /// F4 where the expression names a class item that isn't there yet; F5 where a class item has this name; F7 where
-    /// a range descends; F8 where the name, or a predicate's, has over 64 characters, a literal over 1,024, or the
-    /// grammar would have over 256 class items.
+    /// F4 if the expression names a class item that doesn't exist yet; F5 if a class item has this name; F7 if a range
+    /// descends; F8 if the name, or a predicate's, has over 64 characters, a literal has over 1,024, or the grammar
+    /// would have over 256 class items.
     pub fn class(&mut self, name: Characters, class: ClassExpression) -> Result<ClassId, MakerFault>
         ensures ok { OnOk result (self.new ≡ with_class self.old name class) }
         ensures number { IfOk result (λ id. id ≡ length self.old.classes) }
@@ -108,11 +107,10 @@ impl Maker {
         Ok(id)
     }
 
-    /// Adds a word item at the end, and answers its number.
+    /// Adds a word item at the end, and returns its number.
     ///
-    /// F4 where an expression names a class item that isn't there; F5 where a word item has this name; F7 where a range
-    /// descends or a reserved text is empty; F8 where the name, or a predicate's, has over 64 characters, a literal over
-    /// 1,024, or the grammar would have over 64 word items.
+    /// F4 if an expression names a class item that doesn't exist; F5 if a word item has this name; F7 if a range descends or a reserved text is empty; F8 if
+    /// the name, or a predicate's, has over 64 characters, a literal has over 1,024, or the grammar would have over 64 word items.
     pub fn word(
         &mut self,
         name: Characters,
@@ -141,9 +139,8 @@ impl Maker {
 
     /// Adds the operators item. It takes no memory.
     ///
-    /// F4 where an expression names a class item that isn't there; F5 where the operators item is there already; F7 where
-    /// a range descends or a reserved symbol is empty; F8 where a literal has over 1,024 characters or the name of a
-    /// predicate over 64, or `max` isn't from 1 to 64.
+    /// F4 if an expression names a class item that doesn't exist; F5 if there is an operators item already; F7 if a range descends or a reserved symbol is
+    /// empty; F8 if a literal has over 1,024 characters, the name of a predicate has over 64, or `max` isn't from 1 to 64.
     pub fn operators(
         &mut self,
         class: ClassExpression,
@@ -168,8 +165,7 @@ impl Maker {
         Ok(())
     }
 
-    /// Adds an initial declaration at the end. F8 where its symbol has over 1,024 characters. Whether a table takes it is
-    /// judged by who makes the table.
+    /// Adds an initial declaration at the end. F8 if its symbol has over 1,024 characters. Whoever makes the table checks whether the table admits it.
     pub fn initial(&mut self, declaration: Decl) -> Result<(), MakerFault>
         ensures ok { OnOk result (self.new ≡ with_initial self.old declaration) }
         ensures refused { MatchOption (initial_fault declaration) (IsOkUnless result MakerFault.Memory) (λ fault. result ≡ Err fault) }
@@ -182,11 +178,10 @@ impl Maker {
         Ok(())
     }
 
-    /// Adds a rule at the end, its body given as base forms in preorder. The caller owes that they are one whole form.
+    /// Adds a rule at the end, with its body as base forms in preorder. The caller owes that they are one whole form.
     ///
-    /// F4 where the body names a class item that isn't there; F5 where a rule has this name; F7 where a string is empty
-    /// or a range descends; F8 where a name has over 64 characters, a literal, symbol or message over 1,024, or the grammar
-    /// would have over 512 rules or 8,192 nodes.
+    /// F4 if the body names a class item that doesn't exist; F5 if a rule has this name; F7 if a string is empty or a range descends; F8 if a name has over
+    /// 64 characters, a literal, symbol or message has over 1,024, or the grammar would have over 512 rules or 8,192 nodes.
     pub fn rule(&mut self, name: Characters, body: Vec<BaseForm>) -> Result<(), MakerFault>
         requires { IsBody body.items }
         ensures ok { OnOk result (self.new ≡ with_rule self.old name body.items) }
@@ -206,9 +201,9 @@ impl Maker {
         Ok(())
     }
 
-    /// The grammar of all that was given. F4 where a body names a rule or a word item that isn't there, or where it reads or
-    /// declares operators, or an initial declaration was given, and the operators item isn't there; F6 where no start was named or it names no
-    /// rule. A refusal hands the maker back as it was.
+    /// The grammar of all parts received. F4 if a body names a rule or a word item that doesn't exist, or if there is no operators item although a body reads
+    /// or declares operators or there is an initial declaration. F6 if no start rule was named or the name isn't a rule's. A refusal hands the maker back as
+    /// it was.
     pub fn finish(self) -> Result<Grammar, Unfinished>
         ensures ok { IfOk result (Says self) }
         ensures refused { MatchOption (finish_fault self) (IfErr result (λ e. e.fault ≡ MakerFault.Memory)) (λ fault. IsErrAnd result (λ e. e.fault ≡ fault)) }
@@ -258,7 +253,7 @@ impl Maker {
         None
     }
 
-    /// Whether a name, a literal or the word items would be too many with this one.
+    /// Whether this word item would pass a limit: a name or literal too long, or too many word items.
     fn word_passes_limit(&self, item: &WordItem) -> bool
         ensures { result ≡ word_passes_limit self.now item.now }
     {
@@ -303,7 +298,7 @@ impl Maker {
         None
     }
 
-    /// Whether a name, a literal, the rules or the nodes would be too many with this rule.
+    /// Whether this rule would pass a limit: a name or literal too long, or too many rules or nodes.
     fn passes_limit(&self, name: &Characters, body: &[BaseForm]) -> bool
         ensures { result ≡ passes_limit self.now name.now body.now }
     {
@@ -313,7 +308,7 @@ impl Maker {
             || body.len() > NODE_LIMIT - self.forms.len()
     }
 
-    /// The number of the rule to start with, and those of all forms, with the maker kept.
+    /// The number of the start rule, and those of all forms. The maker stays.
     fn numbers(&self) -> Result<(RuleId, Numbers), MakerFault>
         ensures ok { IfOk result (λ x. AreNumbers self.now x.1.parts.items x.1.bodies.items x.0) }
         ensures room { IfOk result (λ x. HasCapacity self.now x.1) }
@@ -327,7 +322,7 @@ impl Maker {
         }
     }
 
-    /// What the class expressions contain that were given. The only error is that memory ran out.
+    /// The sets of the class expressions received.
     fn sets(&self) -> Result<ContentSets, AllocError>
         ensures { IfOk result (AreContentSets self.now.classes self.now.words self.now.operators (map class_parts self.now.forms)) }
     {
@@ -340,7 +335,7 @@ impl Maker {
         )
     }
 
-    /// All that a grammar is made of beside what was given, with the maker kept.
+    /// Everything else that the grammar needs beside the parts received. The maker stays.
     fn ready(&self) -> Result<(RuleId, Numbers, ContentSets), MakerFault>
         ensures ok { IfOk result (λ x. AreNumbers self.now x.1.parts.items x.1.bodies.items x.0) }
         ensures room { IfOk result (λ x. HasCapacity self.now x.1) }
@@ -354,7 +349,7 @@ impl Maker {
         }
     }
 
-    /// The grammar of all that was given, with these numbers and sets. What was given is moved into it.
+    /// The grammar of all parts received, with these numbers and sets. The parts are moved into it.
     fn grammar(self, start: RuleId, numbers: Numbers, sets: ContentSets) -> Grammar
         requires numbers { AreNumbers self numbers.parts.items numbers.bodies.items start }
         requires sets { AreContentSets self.classes self.words self.operators (map class_parts self.forms) sets }
@@ -383,7 +378,7 @@ impl Maker {
         )
     }
 
-    /// Whether a rule or a word item that is named, or the operators item where operators are used, isn't there.
+    /// Whether a rule or a word item that is named doesn't exist, or operators are used without an operators item.
     fn is_incomplete(&self) -> bool
         ensures { result ≡ is_incomplete self.now }
     {
@@ -392,7 +387,7 @@ impl Maker {
             || self.operators.is_none() && (!self.initials.is_empty() || use_operators(forms))
     }
 
-    /// The number of the rule to start with, where all that is named is there.
+    /// The number of the start rule, if everything that is named exists.
     fn start_number(&self) -> Result<RuleId, MakerFault>
         ensures ok { IfOk result (IsReady self.now) }
         ensures refused { MatchOption (finish_fault self.now) (IsOk result) (λ fault. result ≡ Err fault) }
@@ -415,7 +410,7 @@ fn has_item(items: &[ClassItem], name: &[char]) -> bool
     items.iter().any(|item| item.name.as_slice() == name)
 }
 
-/// How many names stand before the one to start with, if one was named and is among these.
+/// The index of the start rule's name, if one was given and is among these.
 fn place_of_start(names: &[Characters], start: &Option<Characters>) -> Option<usize>
     ensures { result ≡ option_and_then (place_of_name names.now) start.now }
 {

@@ -1,14 +1,14 @@
-//! Looking names up in a list of names.
+//! Looking up names in a list.
 //!
-//! Names are compared character by character, from the first name to the last. A maker relies on it for F4, F5 and
-//! F6, and the numbering for the numbers of the rules and word items that bodies name.
+//! Names are compared character by character, from the first name to the last. A maker relies on it for F4, F5 and F6,
+//! and for the numbers of the rules and word items that bodies name.
 
 ghost use Rattle.std.specs.Prelude.{◌≡◌, position};
 ghost use Rattle.std.specs.Str.{bytes_eq};
-ghost use Rattle.pg_form.specs.Names.{has_name, place_of_name};
-ghost use Rattle.pg_form.specs.WordItems.{has_word};
+ghost use Rattle.pg_grammar_form.specs.Names.{has_name, place_of_name};
+ghost use Rattle.pg_grammar_form.specs.WordItems.{has_word};
 
-use pg_form::WordItem;
+use pg_grammar_form::WordItem;
 use pg_text::Characters;
 
 /// Whether the name is among these.
@@ -18,7 +18,7 @@ pub fn has_name(names: &[Characters], name: &[char]) -> bool
     names.iter().any(|other| other.as_slice() == name)
 }
 
-/// How many names stand before the first that is this one, if it is among them.
+/// The index of the first occurrence of the name, if it is among these.
 pub fn place_of_name(names: &[Characters], name: &[char]) -> Option<usize>
     ensures { result ≡ place_of_name names.now name.now }
 {
@@ -32,7 +32,7 @@ pub fn has_word(words: &[WordItem], name: &[char]) -> bool
     words.iter().any(|word| word.name.as_slice() == name)
 }
 
-/// How many word items stand before the first with this name, if there is one.
+/// The index of the first word item with this name, if there is one.
 pub fn place_of_word(words: &[WordItem], name: &[char]) -> Option<usize>
     ensures { result ≡ position (λ word. bytes_eq word.name name.now) words.now }
 {

@@ -1,22 +1,22 @@
 //! From base forms to nodes: each form gets the numbers of its parts and of what it names.
 //!
-//! The forms and the rules' names are moved, each into its place in a list that has room for all, so that this takes no
-//! memory and can't be refused.
+//! The forms and the rules' names are moved into lists with room for all of them, so this takes no memory and can't be
+//! refused.
 
 ghost use Rattle.std.specs.Prelude.{◌≡◌, ◌≤◌, [], map, length, vec_capacity};
-ghost use Rattle.pg_form.specs.Forms.{leaf_with};
+ghost use Rattle.pg_grammar_form.specs.Forms.{leaf_with};
 ghost use Rattle.pg_grammar.specs.Numbering.{first_part, second_part, node_of, nodes_with};
-ghost use Rattle.pg_form.specs.Names.{number_of};
-ghost use Rattle.pg_value.specs.Grammar.{rule_name, rule_body};
-ghost use Rattle.pg_form.specs.WordItems.{word_name};
+ghost use Rattle.pg_grammar_form.specs.Names.{number_of};
+ghost use Rattle.pg_grammar_value.specs.Grammar.{rule_name, rule_body};
+ghost use Rattle.pg_grammar_form.specs.WordItems.{word_name};
 
 use crate::names::{place_of_name, place_of_word};
-use pg_form::{BaseForm, Form, Leaf, Node, NodeId, Parts, RuleId, WordId, WordItem};
+use pg_grammar_form::{BaseForm, Form, Leaf, Node, NodeId, Parts, RuleId, WordId, WordItem};
+use pg_grammar_value::Rule;
 use pg_text::Characters;
-use pg_value::Rule;
 use std::collections::VecDeque;
 
-/// The nodes of these forms with these parts, of which there are as many, in an empty list with room for them.
+/// The nodes of these forms with their parts, a list of parts for each form. `room` is an empty list with room for them.
 pub(crate) fn nodes_of(
     room: Vec<Node>,
     names: &[Characters],
@@ -91,21 +91,21 @@ fn second(parts: &Parts) -> NodeId
     }
 }
 
-/// The number of the word item with this name, which is there.
+/// The number of the word item with this name, which exists.
 fn number_of_word(words: &[WordItem], name: &Characters) -> WordId
     ensures { result ≡ number_of (map word_name words.now) name.now }
 {
     WordId::new(place_of_word(words, name.as_slice()).unwrap_or(0))
 }
 
-/// The number of the rule with this name, which is there.
+/// The number of the rule with this name, which exists.
 fn number_of_rule(names: &[Characters], name: &Characters) -> RuleId
     ensures { result ≡ number_of names.now name.now }
 {
     RuleId::new(place_of_name(names, name.as_slice()).unwrap_or(0))
 }
 
-/// The rules with these names and bodies, of which there are as many, in an empty list with room for them.
+/// The rules with these names and bodies, a body for each name. `room` is an empty list with room for them.
 pub(crate) fn rules_of(
     room: Vec<Rule>,
     names: Vec<Characters>,

@@ -1,30 +1,30 @@
-//! The numbers that a grammar's forms go by: of each form's parts, and of the rules' bodies.
+//! The numbers of a grammar's forms: of each form's parts, and of the rules' bodies.
 //!
-//! The forms are gone through from the last to the first, since a form's parts are the whole forms that stand next
-//! after it. What is waiting to become a part, or to stay a rule's body, is kept first to last. Nothing is moved yet:
-//! so whoever wants memory that isn't there still has what it came with.
+//! The forms are read from the last to the first, since a form's parts are the next whole forms. The forms that wait to
+//! become parts, or to stay rules' bodies, are kept in order. Nothing is moved yet: so if memory runs out, the caller
+//! still has everything.
 
 ghost use Rattle.std.specs.Prelude.{◌≡◌, ◌≤◌, [], take, drop, map, length, IfOk, OnOk, vec_capacity};
-ghost use Rattle.pg_form.specs.Preorder.{roots, parts_from};
-ghost use Rattle.pg_form.specs.Forms.{part_count};
+ghost use Rattle.pg_grammar_form.specs.Preorder.{roots, parts_from};
+ghost use Rattle.pg_grammar_form.specs.Forms.{part_count};
 
-use pg_form::{BaseForm, Node, NodeId, Parts};
-use pg_value::Rule;
+use pg_grammar_form::{BaseForm, Node, NodeId, Parts};
+use pg_grammar_value::Rule;
 use std::alloc::{AllocError, Global};
 use std::collections::VecDeque;
 
 /// The numbers of some forms, and empty lists with room for their nodes and for the rules.
 #[derive(Drop)]
 pub(crate) struct Numbers {
-    /// For each form those of its parts.
+    /// For each form the numbers of its parts.
     pub parts: VecDeque<Parts>,
-    /// Those of the forms that are no part of another.
+    /// The numbers of the forms that aren't parts.
     pub bodies: VecDeque<NodeId>,
     pub nodes: Vec<Node>,
     pub rules: Vec<Rule>,
 }
 
-/// The numbers of these forms, and room for their nodes and for so many rules.
+/// The numbers of these forms, and room for their nodes and for this many rules.
 pub(crate) fn numbers_of(
     alloc: Global,
     forms: &[BaseForm],
@@ -48,7 +48,7 @@ pub(crate) fn numbers_of(
     })
 }
 
-/// For each of these forms the numbers of its parts, and the numbers of those that are no part of another.
+/// For each of these forms the numbers of its parts, and the numbers of the forms that aren't parts.
 fn parts_and_roots(
     alloc: Global,
     forms: &[BaseForm],
@@ -67,7 +67,7 @@ fn parts_and_roots(
     Ok((parts, roots))
 }
 
-/// The first so many numbers, taken out.
+/// Takes the first `count` numbers out.
 fn taken(alloc: Global, roots: &mut VecDeque<NodeId>, count: usize) -> Result<Parts, AllocError>
     ensures parts { IfOk result (λ parts. parts ≡ take count roots.old.items) }
     ensures rest { OnOk result (roots.new.items ≡ drop count roots.old.items) }

@@ -1,17 +1,17 @@
-//! That strings are of characters.
+//! That strings consist of characters.
 //!
-//! A `char` is a character by its type, but a list of them tells the prover nothing of those in it. So they are gone
-//! through once, each by itself, when a rule is handed in.
+//! A `char` is a character by its type, but the prover learns nothing of the members of a list of them. So when a rule
+//! is added, its strings are read once, one character at a time.
 
 ghost use Rattle.std.specs.Prelude.{◌≡◌, false, true};
 ghost use Rattle.std.specs.Char.{IsScalar};
 ghost use Rattle.std.specs.List.{list_any};
 ghost use Rattle.std.specs.Str.{all_scalars};
-ghost use Rattle.pg_value.specs.Grammar.{is_misspelled};
+ghost use Rattle.pg_grammar_value.specs.Grammar.{is_misspelled};
 
-use pg_form::BaseForm;
+use pg_grammar_form::BaseForm;
 
-/// Goes through the strings of forms.
+/// Reads the strings of forms.
 pub(crate) fn go_through_strings(forms: &[BaseForm])
     ensures { list_any is_misspelled forms.now ≡ false }
 {
@@ -20,7 +20,7 @@ pub(crate) fn go_through_strings(forms: &[BaseForm])
     }
 }
 
-/// Goes through a form's string, if it is one.
+/// Reads a form's string, if it is one.
 fn go_through_string(form: &BaseForm)
     ensures { is_misspelled form.now ≡ false }
 {
@@ -30,7 +30,7 @@ fn go_through_string(form: &BaseForm)
     }
 }
 
-/// Goes through characters.
+/// Reads characters.
 fn go_through(characters: &[char])
     ensures { all_scalars characters.now ≡ true }
 {
@@ -39,7 +39,7 @@ fn go_through(characters: &[char])
     }
 }
 
-/// A character is one.
+/// A `char` is a character.
 fn go_by(character: char)
     ensures { IsScalar character }
 {}

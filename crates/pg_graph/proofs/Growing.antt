@@ -2,7 +2,7 @@
 use Rattle.std.proofs.Common.{◌≡◌, ℕ, zero, suc, ◌+◌, ◌<◌, ◌≤◌, Bool, true, false, not, List, [], ◌∷◌, length, count_by, cond, zero-add, refl, sym, ◌∙◌, arith}
 use Rattle.std.proofs.lemmas.Bool.{true≢false}
 use Rattle.std.proofs.lemmas.List.Sums.{sum_by-append}
-use Rattle.pg_bit_set.specs.Numbers.{contains, set_at}
+use Rattle.pg_graph_bits.specs.Numbers.{contains, set_at}
 
 -- a set that has a number is there
 pub set_below : (sets : List (List Bool)) (v k : ℕ) → contains (set_at sets v) k ≡ true → v < length sets

@@ -5,7 +5,7 @@ use Rattle.std.proofs.lemmas.Bool.{cases_eq, cases_Bool, true≢false, or_cases,
 use Rattle.std.proofs.lemmas.List.{get_or-set_same, get_or-set_other}
 use Rattle.std.proofs.lemmas.List.Sums.{sum_by-set}
 use Rattle.std.specs.Prelude.{◌==◌}
-use Rattle.pg_bit_set.specs.Numbers.{contains, set_at, Adds}
+use Rattle.pg_graph_bits.specs.Numbers.{contains, set_at, Adds}
 use Rattle.pg_graph.specs.Graphs.{has}
 use Rattle.pg_graph.specs.Marks.{is_marked}
 use Rattle.pg_graph.specs.Spread.{IsHandedOn}

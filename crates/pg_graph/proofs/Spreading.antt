@@ -3,11 +3,11 @@ use Rattle.std.proofs.Common.{◌≡◌, ℕ, ◌+◌, ◌-◌, ◌/◌, ◌<◌
 use Rattle.std.specs.Prelude.{◌↔◌}
 use Rattle.std.proofs.lemmas.Bool.{cases_eq, cases_lt, true≢false, lt-ltb, le-ltb}
 use Rattle.std.proofs.lemmas.List.{get_or-set_same, get_or-set_other, get_or-replicate, get_or_past, length-replicate}
-use Rattle.pg_bit_set.specs.Numbers.{contains, set_at}
+use Rattle.pg_graph_bits.specs.Numbers.{contains, set_at}
 use Rattle.pg_graph.specs.Graphs.{has, numbers_at, IsReached, root, onward, AreSpread}
 use Rattle.pg_graph.specs.Marks.{is_marked}
 use Rattle.pg_graph.specs.Spread.{with_number, with_number_each, vertex_at, IsHandedOn}
-use Rattle.pg_bit_set.proofs.Inside.{contains_below}
+use Rattle.pg_graph_bits.proofs.Inside.{contains_below}
 use Rattle.pg_graph.proofs.Growing.{set_below}
 use Rattle.pg_graph.proofs.Lists.{has_first, has_after, has_cases}
 

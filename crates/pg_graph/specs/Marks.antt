@@ -1,4 +1,4 @@
--- Marks on numbered things: a list with one for each.
+-- Marks on numbered things: a list with one mark for each.
 use Rattle.std.specs.Prelude.{ℕ, Bool, false, List, slice_index_or}
 
 -- whether a number is marked; one past the end isn't

@@ -1,29 +1,29 @@
 -- How sets of numbers are handed on from vertex to vertex of a graph.
 use Rattle.std.specs.Prelude.{◌≡◌, ◌⊎◌, ◌<◌, ◌≤◌, ◌+◌, ◌*◌, ◌/◌, ◌-◌, nat_lt, ℕ, Bool, true, false, not, if◌then◌else◌, List, [], ◌∷◌, length, slice_set}
 use Rattle.std.specs.List.{sum_by, count_by}
-use Rattle.pg_bit_set.specs.Numbers.{contains, set_at}
+use Rattle.pg_graph_bits.specs.Numbers.{contains, set_at}
 use Rattle.pg_graph.specs.Graphs.{has}
 use Rattle.pg_graph.specs.Marks.{is_marked}
 
--- the sets, with a number more in one of them
+-- the sets, with a number added to one of them
 abbrev pub with_number : List (List Bool) → ℕ → ℕ → List (List Bool)
 with_number sets k n = slice_set sets k (slice_set (set_at sets k) n true)
 
--- the sets, with a number more in each of these
+-- the sets, with a number added to each of these
 abbrev pub with_number_each : List (List Bool) → List ℕ → ℕ → List (List Bool)
 with_number_each sets [] n = sets
 with_number_each sets (k ∷ ks) n = with_number_each (with_number sets k n) ks n
 
--- the vertex at a place of the order in which sets are handed on: the first half of the vertices backwards, the second half
--- forwards, and once more backwards
+-- the vertex whose turn it is: first the lower half of the vertices in descending order, then the upper half in ascending order, then the upper half
+-- in descending order
 abbrev pub vertex_at : ℕ → ℕ → ℕ
 vertex_at count at = if nat_lt at (count / 2) then count / 2 - 1 - at else (if nat_lt at count then at else count - 1 - (at - count))
 
--- how much is left to do at most: each number that is not in a set may still come, and make that set wait
+-- a bound on the work left: each number that isn't in a set may still be added and make that set wait
 abbrev pub left_to_do : List (List Bool) → List Bool → ℕ
 left_to_do sets waits = 2 * sum_by (count_by not) sets + count_by (λ wait. wait) waits
 
--- a set is handed on to those that these edges lead to; sets that grow then wait
+-- a set is handed on along its edges; sets that grow by that then wait
 pub record IsHandedOn (edges : List ℕ) (from : ℕ) (sets : List (List Bool)) (waits : List Bool) (new : List (List Bool)) (waiting : List Bool) : Type 0 where
   pub long : length new ≡ length sets
   pub marks : length waiting ≡ length waits

@@ -1,4 +1,4 @@
-//! Sets as walks: what each vertex of a graph is reached from.
+//! The lists of roots from which each vertex is reached, by walks.
 ghost use Rattle.std.specs.Prelude.{length, IfOk};
 ghost use Rattle.pg_graph.specs.Graphs.{IsGathered};
 
@@ -6,8 +6,8 @@ use crate::numbers::{Numbers, empty_lists, join_each};
 use crate::walk::reached;
 use std::alloc::{AllocError, Global};
 
-/// For each vertex the numbers of those lists of roots from which it is reached, from the lowest up. There is a walk for
-/// each list of roots, so it takes as long as the answer is large. The only error is that memory ran out.
+/// For each vertex, in ascending order, the numbers of the lists of roots from which it is reached. It walks once for each list of roots, so the time grows
+/// with the size of the answer.
 pub fn gathered(
     alloc: Global,
     graph: &[Numbers],

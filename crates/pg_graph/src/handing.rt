@@ -1,19 +1,19 @@
-//! Sets that are handed on along the edges of a graph, until nobody gets a new number.
+//! Sets that are handed on along the edges of a graph until none grows.
 //!
-//! Each vertex has a set of numbers. One that waits hands its set on along its edges, and whichever set grows by that waits
-//! in turn. Any order of turns gives the same sets. In this one most sets have all that they get before they hand it on:
-//! first sets get theirs from nodes after, follow sets from nodes before and, in sequences, from those after.
+//! Each vertex has a set of numbers. A vertex that waits hands its set on along its edges, and whichever set grows by that waits in turn. The order of turns
+//! doesn't change the sets. In this order most sets are complete before they are handed on: first sets get their numbers from later nodes, follow sets from
+//! earlier nodes and, in sequences, from later ones.
 ghost use Rattle.std.specs.Prelude.{◌≡◌, ◌<◌, ◌≤◌, ◌+◌, ◌/◌, ℕ, [], false, true, length, replicate, IfOk, MatchOption};
-ghost use Rattle.pg_bit_set.specs.Numbers.{set_at};
+ghost use Rattle.pg_graph_bits.specs.Numbers.{set_at};
 ghost use Rattle.pg_graph.specs.Graphs.{AreSpread};
 ghost use Rattle.pg_graph.specs.Marks.{is_marked};
 ghost use Rattle.pg_graph.specs.Spread.{with_number_each, vertex_at, IsHandedOn};
 
 use crate::numbers::Numbers;
-use pg_bit_set::{BitSet, unite_within};
+use pg_graph_bits::{BitSet, unite_within};
 use std::alloc::{AllocError, Global};
 
-/// For each vertex the numbers of those lists of roots from which it is reached. The only error is that memory ran out.
+/// For each vertex the set of the numbers of those lists of roots from which it is reached.
 pub fn spread(
     alloc: Global,
     graph: &[Numbers],
@@ -36,7 +36,7 @@ pub fn spread(
     Ok(sets)
 }
 
-/// So many sets without a number, each for numbers below the limit. The only error is that memory ran out.
+/// `count` empty sets, each for numbers below the limit.
 fn empty_sets(alloc: Global, count: usize, limit: usize) -> Result<Vec<BitSet>, AllocError>
     ensures { IfOk result (λ sets. sets.items ≡ replicate count (replicate limit false)) }
 {
@@ -47,7 +47,7 @@ fn empty_sets(alloc: Global, count: usize, limit: usize) -> Result<Vec<BitSet>, 
     Ok(sets)
 }
 
-/// Adds a number to each of these sets that is there.
+/// Adds a number to each of the sets with these indices, as far as they exist.
 fn insert_each(sets: &mut [BitSet], at: &[usize], number: usize)
     requires { (v : ℕ) → v < length sets.old → number < length (set_at sets.old v) }
     ensures { sets.new ≡ with_number_each sets.old at.now number }
@@ -59,8 +59,8 @@ fn insert_each(sets: &mut [BitSet], at: &[usize], number: usize)
     }
 }
 
-/// The vertex at a place of the order: the first half of so many stands there from its last on, then the second half from
-/// its first on, and once more from its last on.
+/// The vertex whose turn it is: first the lower half of the vertices in descending order, then the upper half in ascending order, then the upper half in
+/// descending order.
 fn vertex_at(count: usize, at: usize) -> usize
     requires { at < count + count / 2 }
     ensures { result ≡ vertex_at count at }
@@ -74,7 +74,7 @@ fn vertex_at(count: usize, at: usize) -> usize
     }
 }
 
-/// The place of a vertex that waits: the next from this place on, or else the first. None is there if no vertex waits.
+/// The first place from this one on whose vertex waits, or else the first of all. None if no vertex waits.
 fn next_waiting(waits: &[bool], place: usize) -> Option<usize>
     ensures { MatchOption result ((v : ℕ) → is_marked waits.now v ≡ false) (λ at.
         (at < length waits.now + length waits.now / 2) × (is_marked waits.now (vertex_at (length waits.now) at) ≡ true)) }
@@ -92,7 +92,7 @@ fn next_waiting(waits: &[bool], place: usize) -> Option<usize>
     None
 }
 
-/// Hands a set on along these edges; sets that grow by that wait.
+/// Hands a set on along these edges. Sets that grow by that then wait.
 fn hand_on(edges: &[usize], from: usize, sets: &mut [BitSet], waits: &mut [bool])
     requires from { from < length sets.old }
     requires waits { length waits.old ≡ length sets.old }

@@ -1,7 +1,7 @@
-//! Graphs of numbered vertices, as lists of numbers: for each vertex those that an edge leads to.
+//! Graphs of numbered vertices, as lists of numbers: for each vertex the numbers of its successors.
 //!
-//! What is reached from some vertices is walked (`walk`, `gather`); sets that name many numbers are handed on along the edges
-//! instead, as sets of bits (`handing`). Marks are lists with one for each of some numbered things.
+//! Vertices reached from some roots are found by walks (`walk`, `gather`). Sets that name many numbers are handed on along the edges instead, as sets of
+//! bits (`handing`). Marks are lists with one mark for each numbered thing.
 #![tactic(auto)]
 
 mod gather;

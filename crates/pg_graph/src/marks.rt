@@ -1,4 +1,4 @@
-//! Marks on numbered things: a list with one for each.
+//! Marks on numbered things: a list with one mark for each.
 
 ghost use Rattle.std.specs.Prelude.{◌≡◌};
 ghost use Rattle.pg_graph.specs.Marks.{is_marked};

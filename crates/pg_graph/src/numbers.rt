@@ -1,4 +1,4 @@
-//! Lists of numbers, of which there is one for each of some numbered things.
+//! Lists of numbers, one for each numbered thing.
 //!
 //! Contracts see each as the list of its numbers, so a slice of them is a list of lists.
 ghost use Rattle.std.specs.Prelude.{◌≡◌, [], ◌∷◌, ◌++◌, replicate, OnOk, IfOk};
@@ -7,7 +7,7 @@ ghost use Rattle.pg_graph.specs.Graphs.{numbers_at, joined, joined_each};
 use std::alloc::{AllocError, Global};
 use std::marker::Model;
 
-/// Numbers in order.
+/// A list of numbers.
 #[derive(Drop)]
 pub struct Numbers {
     numbers: Vec<usize>,
@@ -22,7 +22,7 @@ impl Model for Numbers {
 }
 
 impl Numbers {
-    /// No number. It takes no memory.
+    /// The empty list. It takes no memory.
     pub fn new(alloc: Global) -> Numbers
         ensures { result ≡ [] }
     {
@@ -38,7 +38,7 @@ impl Numbers {
         self.numbers.as_slice()
     }
 
-    /// Adds a number at the end. The only error is that memory ran out.
+    /// Appends a number.
     pub fn push(&mut self, number: usize) -> Result<(), AllocError>
         ensures { OnOk result (self.new ≡ self.old ++ number ∷ []) }
     {
@@ -47,7 +47,7 @@ impl Numbers {
     }
 }
 
-/// So many lists without a number.
+/// `count` empty lists.
 pub fn empty_lists(alloc: Global, count: usize) -> Result<Vec<Numbers>, AllocError>
     ensures { IfOk result (λ lists. lists.items ≡ replicate count []) }
 {
@@ -58,7 +58,7 @@ pub fn empty_lists(alloc: Global, count: usize) -> Result<Vec<Numbers>, AllocErr
     Ok(lists)
 }
 
-/// The numbers of one of the lists; none of a list that isn't there.
+/// The list with this index; empty if there is none.
 pub fn numbers_at(lists: &[Numbers], list: usize) -> &[usize]
     ensures { result.now ≡ numbers_at lists.now list }
 {
@@ -68,7 +68,7 @@ pub fn numbers_at(lists: &[Numbers], list: usize) -> &[usize]
     }
 }
 
-/// Adds a number at the end of one of the lists, if it is there. The only error is that memory ran out.
+/// Appends a number to the list with this index, if it exists.
 pub fn join(lists: &mut [Numbers], list: usize, number: usize) -> Result<(), AllocError>
     ensures { OnOk result (lists.new ≡ joined lists.old list number) }
 {
@@ -78,7 +78,7 @@ pub fn join(lists: &mut [Numbers], list: usize, number: usize) -> Result<(), All
     Ok(())
 }
 
-/// Adds a number at the end of each of these lists that is there. The only error is that memory ran out.
+/// Appends a number to each of the lists with these indices, as far as they exist.
 pub(crate) fn join_each(
     lists: &mut [Numbers],
     at: &[usize],

@@ -1,7 +1,7 @@
-//! The walk over a graph: which vertices are reached from some.
+//! The walk over a graph: which vertices are reached from some roots.
 //!
-//! Each vertex that is reached is met once, and marked then; the edges after it are followed in the order in which the
-//! vertices were met. Heads are found so; sets that name many numbers are handed on instead (`handing.rt`).
+//! The walk meets each reached vertex once and marks it. It follows the edges of the vertices in the order in which it
+//! met them. The heads of rules are found this way; sets that name many numbers are handed on instead (`handing.rt`).
 ghost use Rattle.std.specs.Prelude.{◌≡◌, ◌<◌, ◌↔◌, ℕ, true, length, OnOk, IfOk};
 ghost use Rattle.std.specs.Bool.{OnTrue};
 ghost use Rattle.pg_graph.specs.Graphs.{has, AreOnce, IsReached};
@@ -10,7 +10,7 @@ ghost use Rattle.pg_graph.specs.Walk.{is_new, with_all_met};
 use crate::numbers::Numbers;
 use std::alloc::{AllocError, Global};
 
-/// The vertices that are reached from the roots, each once. The only error is that memory ran out.
+/// The vertices that are reached from the roots, each once.
 pub(crate) fn reached(
     alloc: Global,
     graph: &[Numbers],
@@ -32,7 +32,7 @@ pub(crate) fn reached(
     Ok(met)
 }
 
-/// Notes those of the vertices that have no mark yet, and marks them. The only error is that memory ran out.
+/// Meets the vertices that have no mark yet, and marks them.
 fn meet_all(
     vertices: &[usize],
     marks: &mut Vec<bool>,

@@ -3,10 +3,10 @@ use Rattle.std.proofs.Common.{◌≡◌, ℕ, zero, List, [], ◌++◌, Bool, tr
 use Rattle.pg_tree.specs.Trees.{Tree}
 use Rattle.pg_tree.specs.declared.shape.Shape.{Shape}
 use Rattle.pg_language.specs.Derives.{Spot, Link, folded, Derives, DerivesLinks, no_link}
-use Rattle.pg_value.specs.declared.trail.TrailItem.{TrailItem}
+use Rattle.pg_grammar_value.specs.declared.trail.TrailItem.{TrailItem}
 use Rattle.pg_language.specs.Answers.{Given}
 use Rattle.pg_language.specs.Errors.{Error}
-use Rattle.pg_form.specs.declared.side.Side.{Side}
+use Rattle.pg_grammar_form.specs.declared.side.Side.{Side}
 use Rattle.pg_language.specs.Reactions.{unless_begun}
 use Rattle.pg_language.proofs.Derived.{WhereOk}
 

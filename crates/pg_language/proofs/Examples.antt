@@ -5,30 +5,30 @@ use Rattle.std.specs.List.{list_any}
 use Rattle.std.specs.Str.{bytes_eq, encode_utf8_all}
 use Rattle.pg_tree.specs.Trees.{Tree, node, kids_of}
 use Rattle.pg_tree.specs.declared.shape.Shape.TheVariants as shape
-use Rattle.pg_value.specs.Grammar.{Grammar}
-use Rattle.pg_form.specs.Operators.{Operator}
-use Rattle.pg_form.specs.declared.class.ClassPart.{ClassPart}
-use Rattle.pg_form.specs.declared.class.ClassPart.TheVariants.{Literal, Range}
-use Rattle.pg_form.specs.declared.decl.Role.TheVariants.{InfixLeft, InfixRight, InfixNone, Prefix, Postfix}
-use Rattle.pg_form.specs.Forms.{Node}
-use Rattle.pg_form.specs.declared.form.Form.TheVariants as form
-use Rattle.pg_form.specs.declared.form.Leaf.TheVariants as leaf
-use Rattle.pg_form.specs.declared.form.Around.TheVariants as kind
-use Rattle.pg_form.specs.declared.side.Side.TheVariants as side
-use Rattle.pg_form.specs.declared.operators_item.OperatorsItem.{OperatorsItem}
-use Rattle.pg_form.specs.declared.used.BuilderUse.{BuilderUse}
-use Rattle.pg_form.specs.declared.used.OperatorBuilders.{OperatorBuilders}
-use Rattle.pg_form.specs.declared.word_item.WordItem.{WordItem}
+use Rattle.pg_grammar_value.specs.Grammar.{Grammar}
+use Rattle.pg_grammar_form.specs.Operators.{Operator}
+use Rattle.pg_grammar_form.specs.declared.class.ClassPart.{ClassPart}
+use Rattle.pg_grammar_form.specs.declared.class.ClassPart.TheVariants.{Literal, Range}
+use Rattle.pg_grammar_form.specs.declared.decl.Role.TheVariants.{InfixLeft, InfixRight, InfixNone, Prefix, Postfix}
+use Rattle.pg_grammar_form.specs.Forms.{Node}
+use Rattle.pg_grammar_form.specs.declared.form.Form.TheVariants as form
+use Rattle.pg_grammar_form.specs.declared.form.Leaf.TheVariants as leaf
+use Rattle.pg_grammar_form.specs.declared.form.Around.TheVariants as kind
+use Rattle.pg_grammar_form.specs.declared.side.Side.TheVariants as side
+use Rattle.pg_grammar_form.specs.declared.operators_item.OperatorsItem.{OperatorsItem}
+use Rattle.pg_grammar_form.specs.declared.used.BuilderUse.{BuilderUse}
+use Rattle.pg_grammar_form.specs.declared.used.OperatorBuilders.{OperatorBuilders}
+use Rattle.pg_grammar_form.specs.declared.word_item.WordItem.{WordItem}
 use Rattle.pg_table.specs.Fitting.{term, prefixed, postfixed, joined, IsFitting}
-use Rattle.pg_value.specs.declared.trail.TrailItem.{TrailItem}
-use Rattle.pg_value.specs.declared.trail.TrailItem.TheVariants.{Alt, Rounds, Ops}
-use Rattle.pg_value.specs.declared.trail.Fixity.TheVariants as fixity
+use Rattle.pg_grammar_value.specs.declared.trail.TrailItem.{TrailItem}
+use Rattle.pg_grammar_value.specs.declared.trail.TrailItem.TheVariants.{Alt, Rounds, Ops}
+use Rattle.pg_grammar_value.specs.declared.trail.Fixity.TheVariants as fixity
 use Rattle.pg_table.specs.Trails.{applied}
 use Rattle.pg_table.specs.Tables.{admit_fault, Admits}
-use Rattle.pg_table.specs.declared.fault.AdmitFault.{AdmitFault}
+use Rattle.pg_table.specs.declared.admit_fault.AdmitFault.{AdmitFault}
 use Rattle.pg_language.specs.Runs.{StandsAt, IsWordAt, IsOperatorAt, IsDeclarationAt, keyword, goes_on, past_run, run_at}
-use Rattle.pg_form.specs.ClassItems.{has_character}
-use Rattle.pg_form.specs.declared.decl.Role.{Role}
+use Rattle.pg_grammar_form.specs.ClassItems.{has_character}
+use Rattle.pg_grammar_form.specs.declared.decl.Role.{Role}
 use Rattle.pg_language.specs.Derives as derives
 use Rattle.pg_language.specs.Derives.{Spot, after as further, leaf_of, declaration_tree, Derives, DerivesForm, at_node, satisfy, string, word, not_followed_by, end_of_text, declare, seq, choice, many, rule, expression, no_part, first_part, no_round, first_round, no_link, first_link, a_term, a_prefix, a_postfix, an_infix}
 

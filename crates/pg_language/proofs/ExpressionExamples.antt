@@ -2,10 +2,10 @@
 use Rattle.std.proofs.Common.{◌≡◌, ℕ, suc, List, [], ◌∷◌, true, false, None, refl}
 use Rattle.std.specs.Prelude.{codes, reverse}
 use Rattle.pg_tree.specs.Trees.{Tree}
-use Rattle.pg_form.specs.Operators.{Operator}
-use Rattle.pg_form.specs.declared.decl.Role.TheVariants.{InfixRight, InfixNone}
-use Rattle.pg_value.specs.declared.trail.TrailItem.TheVariants.{Ops}
-use Rattle.pg_value.specs.declared.trail.Fixity.TheVariants as fixity
+use Rattle.pg_grammar_form.specs.Operators.{Operator}
+use Rattle.pg_grammar_form.specs.declared.decl.Role.TheVariants.{InfixRight, InfixNone}
+use Rattle.pg_grammar_value.specs.declared.trail.TrailItem.TheVariants.{Ops}
+use Rattle.pg_grammar_value.specs.declared.trail.Fixity.TheVariants as fixity
 use Rattle.pg_table.specs.Trails as trails
 use Rattle.pg_expand.specs.Rows.{rows_of}
 use Rattle.pg_message.specs.Messages.{no_messages}

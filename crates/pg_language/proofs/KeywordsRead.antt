@@ -5,13 +5,13 @@ use Rattle.std.specs.Int.{is_in_range}
 use Rattle.std.proofs.Math.Bool.{or-true}
 use Rattle.std.proofs.lemmas.Bool.Decides.{nat_tests}
 use Rattle.std.proofs.lemmas.Slice.Eq.{bytes_eq-Decides}
-use Rattle.pg_form.specs.ClassItems.{has_character}
-use Rattle.pg_form.specs.Operators.{Operator}
-use Rattle.pg_form.specs.declared.class.ClassPart.{ClassPart}
-use Rattle.pg_form.specs.declared.decl.Role.{Role}
-use Rattle.pg_form.specs.declared.decl.Role.TheVariants.{InfixLeft, InfixRight, InfixNone, Prefix, Postfix}
-use Rattle.pg_form.specs.declared.operators_item.OperatorsItem.{OperatorsItem}
-use Rattle.pg_value.specs.Grammar.{Grammar}
+use Rattle.pg_grammar_form.specs.ClassItems.{has_character}
+use Rattle.pg_grammar_form.specs.Operators.{Operator}
+use Rattle.pg_grammar_form.specs.declared.class.ClassPart.{ClassPart}
+use Rattle.pg_grammar_form.specs.declared.decl.Role.{Role}
+use Rattle.pg_grammar_form.specs.declared.decl.Role.TheVariants.{InfixLeft, InfixRight, InfixNone, Prefix, Postfix}
+use Rattle.pg_grammar_form.specs.declared.operators_item.OperatorsItem.{OperatorsItem}
+use Rattle.pg_grammar_value.specs.Grammar.{Grammar}
 use Rattle.pg_language.specs.Runs.{past_run, stands_at, StandsAt, keyword, goes_on, IsKeywordAt, IsDeclarationAt}
 use Rattle.pg_language.specs.Declarations.{no_symbol, declared, goes_on_with, has_keyword, roles, role_at, symbol_read, digit_value, digit_read, keyword_read, declaration_at}
 use Rattle.pg_language.proofs.DeclarationsDerived.{keyword_there}

@@ -3,19 +3,19 @@ use Rattle.std.proofs.Common.{◌≡◌, ◌==◌, ◌+◌, ℕ, suc, cond, subs
 use Rattle.std.specs.Prelude.{Option, Some, None, slice_get, nat_eq}
 use Rattle.std.specs.List.{list_any, common_prefix_len}
 use Rattle.std.specs.Str.{bytes_eq}
-use Rattle.pg_form.specs.ClassItems.{has_character}
-use Rattle.pg_value.specs.Grammar.{Grammar}
-use Rattle.pg_form.specs.declared.class.ClassPart.{ClassPart}
-use Rattle.pg_form.specs.declared.form.Form.TheVariants as form
-use Rattle.pg_form.specs.declared.form.Leaf.{Leaf}
-use Rattle.pg_form.specs.declared.form.Leaf.TheVariants as leaf
-use Rattle.pg_form.specs.declared.word_item.WordItem.{WordItem}
+use Rattle.pg_grammar_form.specs.ClassItems.{has_character}
+use Rattle.pg_grammar_value.specs.Grammar.{Grammar}
+use Rattle.pg_grammar_form.specs.declared.class.ClassPart.{ClassPart}
+use Rattle.pg_grammar_form.specs.declared.form.Form.TheVariants as form
+use Rattle.pg_grammar_form.specs.declared.form.Leaf.{Leaf}
+use Rattle.pg_grammar_form.specs.declared.form.Leaf.TheVariants as leaf
+use Rattle.pg_grammar_form.specs.declared.word_item.WordItem.{WordItem}
 use Rattle.pg_language.specs.Outcomes.{Outcome}
 use Rattle.pg_language.specs.Derives as derives
 use Rattle.pg_language.specs.Derives.{Spot, DerivesForm, satisfy, string, word, not_followed_by, end_of_text}
 use Rattle.pg_language.specs.Runs.{run_at}
 use Rattle.pg_language.specs.Leaves.{satisfy_next, satisfy_outcome, word_read, word_next, word_outcome, not_followed_next, not_followed_outcome, matched, string_outcome, end_outcome, some_word_outcome, some_declare_outcome, leaf_outcome}
-use Rattle.pg_form.specs.declared.operators_item.OperatorsItem.{OperatorsItem}
+use Rattle.pg_grammar_form.specs.declared.operators_item.OperatorsItem.{OperatorsItem}
 use Rattle.pg_language.specs.Declarations.{declare_outcome}
 use Rattle.pg_language.proofs.DeclarationsDerived.{declare_derived}
 use Rattle.pg_language.proofs.Derived.{WhereOk, ok_if}

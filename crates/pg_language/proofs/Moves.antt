@@ -5,26 +5,26 @@ use Rattle.std.specs.List.{list_any}
 use Rattle.std.specs.Str.{bytes_eq}
 use Rattle.pg_tree.specs.Trees.{Tree}
 use Rattle.pg_tree.specs.declared.shape.Shape.{Shape}
-use Rattle.pg_form.specs.ClassItems.{has_character}
-use Rattle.pg_value.specs.Grammar.{Grammar}
-use Rattle.pg_form.specs.declared.class.ClassPart.{ClassPart}
-use Rattle.pg_form.specs.Forms.{Node}
-use Rattle.pg_form.specs.declared.form.Form.TheVariants as form
-use Rattle.pg_form.specs.declared.form.Leaf.TheVariants as leaf
-use Rattle.pg_value.specs.declared.trail.TrailItem.{TrailItem}
-use Rattle.pg_value.specs.declared.trail.Fixity.{Fixity}
-use Rattle.pg_value.specs.declared.trail.Fixity.TheVariants as fixity
-use Rattle.pg_form.specs.declared.used.BuilderUse.{BuilderUse}
+use Rattle.pg_grammar_form.specs.ClassItems.{has_character}
+use Rattle.pg_grammar_value.specs.Grammar.{Grammar}
+use Rattle.pg_grammar_form.specs.declared.class.ClassPart.{ClassPart}
+use Rattle.pg_grammar_form.specs.Forms.{Node}
+use Rattle.pg_grammar_form.specs.declared.form.Form.TheVariants as form
+use Rattle.pg_grammar_form.specs.declared.form.Leaf.TheVariants as leaf
+use Rattle.pg_grammar_value.specs.declared.trail.TrailItem.{TrailItem}
+use Rattle.pg_grammar_value.specs.declared.trail.Fixity.{Fixity}
+use Rattle.pg_grammar_value.specs.declared.trail.Fixity.TheVariants as fixity
+use Rattle.pg_grammar_form.specs.declared.used.BuilderUse.{BuilderUse}
 use Rattle.pg_expand.specs.declared.rows.Row.{Row}
-use Rattle.pg_form.specs.declared.word_item.WordItem.{WordItem}
+use Rattle.pg_grammar_form.specs.declared.word_item.WordItem.{WordItem}
 use Rattle.pg_language.specs.Derives.{Spot, at, applied}
 use Rattle.pg_language.specs.Runs.{run_at}
 use Rattle.pg_language.specs.Answers as answers
 use Rattle.pg_language.specs.Answers.{Given, Answers, entered, AnswersForm, nothing, seq, choice, many, rule, AnswersParts, part, AfterPart, part_last, part_failed, part_stuck, part_ok, AnswersAlternatives, no_alternative, alternative, AfterAlternative, alternative_consumed, alternative_stands, alternative_waits, alternative_commits, alternative_failed, alternative_stuck, AnswersRounds, round, AfterRound, round_ended, round_failed, round_empty, round_stuck, round_ok, AnswersChain, first_operand, AfterFirst, first_failed, first_stuck, first_ok, AnswersLinks, link, AfterSeparator, separator_failed, separator_stuck, separator_ok, AfterOperand, operand_failed, operand_stuck, operand_ok, AnswersRows, only_term, loosest_row, AnswersRowOperand, row_operand, AfterRowOperand, row_failed, row_stuck, row_ok, AnswersTail, row_tail, AfterRight, right_stands, right_commits, right_stuck, right_failed, AfterLeft, left_stands, left_commits, left_stuck, left_failed, AnswersRight, right_side, AfterRightOperator, right_unread, right_read, AfterRightOperand, right_operand_failed, right_operand_stuck, right_operand_ok, AnswersLeft, left_side, AfterLeftOperator, left_unread, left_read, AfterLeftOperand, left_operand_failed, left_operand_stuck, left_operand_ok, AnswersNon, neither_side, AfterNonOperator, non_unread, non_read}
-use Rattle.pg_form.specs.Operators.{Operator}
-use Rattle.pg_form.specs.declared.operators_item.OperatorsItem.{OperatorsItem}
+use Rattle.pg_grammar_form.specs.Operators.{Operator}
+use Rattle.pg_grammar_form.specs.declared.operators_item.OperatorsItem.{OperatorsItem}
 use Rattle.pg_table.specs.Tables.{admit_fault}
-use Rattle.pg_table.specs.declared.fault.AdmitFault.{AdmitFault}
+use Rattle.pg_table.specs.declared.admit_fault.AdmitFault.{AdmitFault}
 use Rattle.pg_language.specs.Declarations.{Declaration, no_keyword, no_digit, no_symbol, declared, declaration_at, unless_refused, declaration_outcome, declare_outcome}
 use Rattle.pg_language.specs.Errors.{Error, merge}
 use Rattle.pg_language.specs.OperatorReads.{Read, read_at}
@@ -32,9 +32,9 @@ use Rattle.pg_language.specs.Leaves.{taken, satisfy_next, word_read, word_next, 
 use Rattle.pg_language.specs.Outcomes.{Outcome, ok, failed, empty_round}
 use Rattle.pg_language.specs.Reactions.{then_rest, then_round, noted, after_failure, unless_consumed, surrounded, as_finished, unless_begun}
 use Rattle.pg_language.specs.RowReactions.{Setting, then_stretch, then_operand, as_applied, or_return, past_prefix, with_prefix, postfix_outcome, with_postfix, labelled_operator, ambiguous_right, ambiguous_left, ambiguous_non, or_ambiguous, with_last}
-use Rattle.pg_form.specs.declared.side.Side.{Side}
-use Rattle.pg_form.specs.declared.form.Around.{Around}
-use Rattle.pg_form.specs.declared.form.Leaf.{Leaf}
+use Rattle.pg_grammar_form.specs.declared.side.Side.{Side}
+use Rattle.pg_grammar_form.specs.declared.form.Around.{Around}
+use Rattle.pg_grammar_form.specs.declared.form.Leaf.{Leaf}
 use Rattle.pg_language.proofs.DeclarationsDerived.{Stands, declaration_stands, declaration_moves}
 use Rattle.pg_language.proofs.Flags.{moved, stayed, both_moved}
 use Rattle.pg_language.proofs.ReadOn.{is_read, read_on}

@@ -2,15 +2,15 @@
 use Rattle.std.proofs.Common.{◌≡◌, ◌⊎◌, ◌<◌, ◌≤◌, ℕ, zero, suc, Bool, true, false, List, [], ◌∷◌, ◌++◌, inl, inr, refl, sym, ap, subst, ◌∙◌, append-nil, append_assoc, arith}
 use Rattle.std.specs.Prelude.{Option, Some, None}
 use Rattle.pg_tree.specs.Trees.{Tree}
-use Rattle.pg_form.specs.Operators.{Operator}
-use Rattle.pg_form.specs.declared.decl.Role.{Role}
-use Rattle.pg_form.specs.declared.used.BuilderUse.{BuilderUse}
-use Rattle.pg_form.specs.declared.decl.Role.TheVariants.{InfixLeft, InfixRight, InfixNone, Prefix, Postfix}
-use Rattle.pg_value.specs.declared.trail.Fixity.{Fixity}
-use Rattle.pg_value.specs.declared.trail.Fixity.TheVariants as fixity
-use Rattle.pg_value.specs.declared.trail.AppliedOperator.{AppliedOperator}
-use Rattle.pg_value.specs.declared.trail.TrailItem.{TrailItem}
-use Rattle.pg_value.specs.declared.trail.TrailItem.TheVariants.{Ops}
+use Rattle.pg_grammar_form.specs.Operators.{Operator}
+use Rattle.pg_grammar_form.specs.declared.decl.Role.{Role}
+use Rattle.pg_grammar_form.specs.declared.used.BuilderUse.{BuilderUse}
+use Rattle.pg_grammar_form.specs.declared.decl.Role.TheVariants.{InfixLeft, InfixRight, InfixNone, Prefix, Postfix}
+use Rattle.pg_grammar_value.specs.declared.trail.Fixity.{Fixity}
+use Rattle.pg_grammar_value.specs.declared.trail.Fixity.TheVariants as fixity
+use Rattle.pg_grammar_value.specs.declared.trail.AppliedOperator.{AppliedOperator}
+use Rattle.pg_grammar_value.specs.declared.trail.TrailItem.{TrailItem}
+use Rattle.pg_grammar_value.specs.declared.trail.TrailItem.TheVariants.{Ops}
 use Rattle.pg_language.specs.Derives.{Spot, at, applied, Derives, DerivesExpression, a_term, a_prefix, a_postfix, an_infix}
 use Rattle.pg_table.specs.Fitting.{Expression, term, prefixed, postfixed, joined, row, rank, IsPrefixed, IsUnary, IsJoined, IsFittingSide, IsInfix, IsAmong, IsFitting}
 use Rattle.pg_language.specs.Runs.{IsOperatorAt}

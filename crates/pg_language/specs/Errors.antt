@@ -9,7 +9,7 @@ use Rattle.pg_message.specs.declared.answer.AnswerKind.{AnswerKind}
 use Rattle.pg_message.specs.declared.error.ParseError.{ParseError}
 use Rattle.pg_tree.specs.Json.{quoted}
 
--- an error's place and its messages: its position follows from the text
+-- the place and the messages of an error; its position follows from the text
 pub record Error : Type 0 where
   pub place : ℕ
   pub messages : Messages
@@ -20,54 +20,54 @@ with_position position e = record { place = e.place; position = position; messag
 abbrev pub without_position : ParseError → Error
 without_position e = record { place = e.place; messages = e.messages }
 
--- the error as it stands in a text
+-- the error with its position in a text
 abbrev pub in_text : List ℕ → Error → ParseError
 in_text text e = with_position (position_of text e.place) e
 
--- two errors merged, in which positions have no part
+-- two errors merged, without positions
 abbrev pub merge : Error → Error → Error
 merge one other = without_position (merged (with_position start one) (with_position start other))
 
--- the error of a labelled parser that answered so
+-- the error of a labelled parser that gave this kind of answer
 abbrev pub relabel : AnswerKind → Text → Error → Error
 relabel kind name e = without_position (labelled (with_position start e) kind name)
 
--- ---- what is said
+-- ---- messages
 
 -- the characters in double quotes
 abbrev pub quote : List ℕ → Text
 quote characters = quoted (encode_utf8_all characters)
 
--- the character that comes next, or the empty text for the end
+-- the next character in quotes, or the empty text at the end
 abbrev pub next_text : Option ℕ → Text
 next_text None = []
 next_text (Some c) = quote (c ∷ [])
 
--- what stands at a place
+-- the message for what is at a place
 abbrev pub seen_at : List ℕ → ℕ → Text
 seen_at text i = next_text (slice_get text i)
 
 abbrev pub no_messages_at : ℕ → Error
 no_messages_at i = record { place = i; messages = no_messages }
 
--- what was seen is all that is said
+-- an error with this message alone
 abbrev pub stopped_by : Text → ℕ → Error
 stopped_by seen i = record { place = i; messages = record no_messages { system_unexpected = seen ∷ [] } }
 
--- the same, and this was expected
+-- an error with this message, and that this was expected
 abbrev pub stopped_before : Text → Text → ℕ → Error
 stopped_before expected seen i =
     record { place = i; messages = record no_messages { system_unexpected = seen ∷ []; expected = expected ∷ [] } }
 
--- a parser's own words, as they are
+-- an error with a parser's own words
 abbrev pub told : Text → ℕ → Error
 told words i = record { place = i; messages = record no_messages { plain = words ∷ [] } }
 
--- a parser's own word for what it doesn't take
+-- an error with a parser's own word for what it refuses
 abbrev pub refused : Text → ℕ → Error
 refused unexpected i = record { place = i; messages = record no_messages { unexpected = unexpected ∷ [] } }
 
--- the same, and this was expected
+-- an error with a parser's own word for what it refuses, and that this was expected
 abbrev pub refused_before : Text → Text → ℕ → Error
 refused_before expected unexpected i =
     record { place = i; messages = record no_messages { unexpected = unexpected ∷ []; expected = expected ∷ [] } }

@@ -1,32 +1,32 @@
--- The answers of the forms that read the text themselves.
+-- The outcomes of leaves, the forms that read the text themselves.
 use Rattle.std.specs.Prelude.{ℕ, suc, ◌+◌, ◌==◌, nat_eq, nat_lt, if◌then◌else◌, List, [], ◌∷◌, ◌++◌, true, false, Option, Some, None, length, slice_get, drop, codes}
 use Rattle.std.specs.List.{list_any, common_prefix_len}
 use Rattle.std.specs.Str.{bytes_eq}
-use Rattle.pg_form.specs.ClassItems.{has_character}
-use Rattle.pg_value.specs.Grammar.{Grammar}
-use Rattle.pg_form.specs.declared.class.ClassPart.{ClassPart}
-use Rattle.pg_form.specs.declared.word_item.WordItem.{WordItem}
-use Rattle.pg_form.specs.declared.form.Leaf.{Leaf}
-use Rattle.pg_form.specs.declared.form.Leaf.TheVariants as leaf
+use Rattle.pg_grammar_form.specs.ClassItems.{has_character}
+use Rattle.pg_grammar_value.specs.Grammar.{Grammar}
+use Rattle.pg_grammar_form.specs.declared.class.ClassPart.{ClassPart}
+use Rattle.pg_grammar_form.specs.declared.word_item.WordItem.{WordItem}
+use Rattle.pg_grammar_form.specs.declared.form.Leaf.{Leaf}
+use Rattle.pg_grammar_form.specs.declared.form.Leaf.TheVariants as leaf
 use Rattle.pg_language.specs.Derives.{Spot, after, leaf_of}
-use Rattle.pg_form.specs.declared.operators_item.OperatorsItem.{OperatorsItem}
+use Rattle.pg_grammar_form.specs.declared.operators_item.OperatorsItem.{OperatorsItem}
 use Rattle.pg_language.specs.Declarations.{declare_outcome}
 use Rattle.pg_language.specs.Runs.{run_at}
 use Rattle.pg_language.specs.Errors.{quote, seen_at, no_messages_at, stopped_by, stopped_before, refused, refused_before}
 use Rattle.pg_language.specs.Outcomes.{Outcome, ok, failed}
 
--- these characters were taken, as one leaf
+-- these characters were read, as one leaf
 abbrev pub taken : Spot → List ℕ → Outcome
 taken a s = let b : Spot = after a (length s) in ok true b (leaf_of s ∷ []) [] (no_messages_at b.place)
 
--- ---- by the character that comes next, if one does
+-- ---- by the next character, if there is one
 
 abbrev pub satisfy_next : Grammar → List ClassPart → Spot → Option ℕ → Outcome
 satisfy_next g class a None = failed false (stopped_by [] a.place)
 satisfy_next g class a (Some c) =
     if has_character g.classes class c then taken a (c ∷ []) else failed false (stopped_by (quote (c ∷ [])) a.place)
 
--- a word that was read is refused where it is reserved
+-- a word that was read; it is refused if it is reserved
 abbrev pub word_read : WordItem → Spot → List ℕ → Outcome
 word_read item a s = if list_any (λ reserved. bytes_eq reserved s) item.reserved
     then failed false (refused (codes "reserved word " ++ quote s) a.place)
@@ -58,11 +58,11 @@ word_outcome g text item a = word_next g text item a (slice_get text a.place)
 abbrev pub not_followed_outcome : Grammar → List ℕ → List ClassPart → Spot → Outcome
 not_followed_outcome g text class a = not_followed_next g class a (slice_get text a.place)
 
--- how many of the characters stand at the place, one after another
+-- how many of these characters are at the place, one after another
 abbrev pub matched : List ℕ → List ℕ → ℕ → ℕ
 matched text s i = common_prefix_len nat_eq s (drop i text)
 
--- the characters, all of them: the error stands at their start and names the first that differs
+-- all of these characters; the error is at their start and names the first that differs
 abbrev pub string_outcome : List ℕ → List ℕ → Spot → Outcome
 string_outcome text s a = let n : ℕ = matched text s a.place in
     if n == length s then taken a s else
@@ -74,9 +74,9 @@ end_outcome text a = if a.place == length text
     then ok false a [] [] (stopped_before (codes "end of input") [] a.place)
     else failed false (refused_before (codes "end of input") (seen_at text a.place) a.place)
 
--- ---- by the leaf
+-- ---- by the kind of leaf
 
--- a word of the item, if it is there
+-- a word of the item, if the item exists
 abbrev pub some_word_outcome : Grammar → List ℕ → Spot → Option WordItem → Option Outcome
 some_word_outcome g text a None = None
 some_word_outcome g text a (Some item) = Some (word_outcome g text item a)
@@ -86,7 +86,7 @@ abbrev pub some_declare_outcome : Grammar → List ℕ → List ClassPart → Sp
 some_declare_outcome g text class a None = None
 some_declare_outcome g text class a (Some item) = Some (declare_outcome g text item class a)
 
--- what a leaf answers
+-- the outcome of a leaf
 abbrev pub leaf_outcome : Grammar → List ℕ → Leaf ℕ → Spot → Option Outcome
 leaf_outcome g text (leaf.Satisfy class) a = Some (satisfy_outcome g text class a)
 leaf_outcome g text (leaf.String s) a = Some (string_outcome text s a)

@@ -3,9 +3,9 @@ use Rattle.std.proofs.Common.{◌≤◌, ◌+◌, ◌*◌, ℕ, length, arith}
 use Rattle.pg_sets.specs.Sets.{Sets}
 use Rattle.pg_table.specs.Tables.{Table, ComesFrom}
 use Rattle.pg_language.specs.Answers.{Given}
-use Rattle.pg_costs.specs.StepCost.{IsStepCost}
+use Rattle.pg_predict_costs.specs.StepCost.{IsStepCost}
 use Rattle.pg_derive.specs.Accepted.{Accepts}
-use Rattle.pg_bound.proofs.InTime.{accepted_texts}
+use Rattle.pg_derive_bound.proofs.InTime.{accepted_texts}
 use Rattle.pg_machine.specs.CheckedRuns.{IsTextAnswer}
 use Rattle.pg_machine.specs.Outcomes.{outcome_of}
 use Rattle.pg_machine.specs.declared.answer.Answer.{Answer}

@@ -4,4 +4,5 @@ pub mod Enough
 pub mod Whole
 pub mod FewSteps
 pub mod Probed
+pub mod BothReadings
 pub mod OneTurn

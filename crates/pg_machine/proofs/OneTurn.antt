@@ -1,8 +1,8 @@
 -- At most one turn is one turn, since a last one changes nothing.
 use Rattle.std.proofs.Common.{◌≡◌, ◌≤◌, ◌⊎◌, inl, inr, ℕ, zero, suc, [], ◌∷◌, true, refl, sym, ap, ◌∙◌, arith}
 use Rattle.pg_language.specs.Answers.{Given}
-use Rattle.pg_turns.specs.Tape.{Tape, tape_at, tape_with, tape_endless, tape_turn, tape_is_last}
-use Rattle.pg_turns.specs.TapeRuns.{IsAfter}
+use Rattle.pg_machine_turns.specs.Tape.{Tape, tape_at, tape_with, tape_endless, tape_turn, tape_is_last}
+use Rattle.pg_machine_turns.specs.TapeRuns.{IsAfter}
 
 last_stays : (G : Given) (x : Tape) → tape_is_last x ≡ true → x ≡ tape_turn G x
 last_stays G (tape_at p i fs v t x T) l = cc

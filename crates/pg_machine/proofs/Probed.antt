@@ -1,6 +1,6 @@
 -- An accepted grammar's probe that may take enough steps ends with an answer.
 use Rattle.std.proofs.Common.{◌≡◌, ◌≤◌, ◌*◌, ℕ, refl, subst, arith}
-use Rattle.pg_bound.specs.Bound.{AcceptedStartsComeToAnswers, IsAnswer}
+use Rattle.pg_derive_bound.specs.Bound.{AcceptedStartsComeToAnswers, IsAnswer}
 use Rattle.pg_language.specs.Answers.{Given, Answers, AnswersStart}
 use Rattle.pg_language.specs.Outcomes as outcome
 use Rattle.pg_language.specs.Outcomes.{Outcome}
@@ -11,7 +11,7 @@ use Rattle.pg_machine.specs.declared.answer.Answer.{Answer}
 use Rattle.pg_machine.specs.declared.answer.Outcome as ended
 use Rattle.pg_machine.specs.declared.answer.Outcome.TheVariants.{Answered, StepsUsed, EmptyRound}
 use Rattle.pg_table.specs.Tables.{Table}
-use Rattle.pg_value.specs.declared.grammar.Rule as declared
+use Rattle.pg_grammar_value.specs.declared.grammar.Rule as declared
 
 -- the start rule has one outcome
 one_start : {G : Given} {table : Table} {o q : Outcome} {m n : ℕ} → AnswersStart G table o m → AnswersStart G table q n → o ≡ q

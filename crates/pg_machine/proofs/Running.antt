@@ -1,11 +1,11 @@
--- What holds of a run from the start rule, turn by turn, and what it ends with.
+-- What holds of a run from the start rule, turn by turn, and how it ends.
 use Rattle.std.proofs.Common.{◌≡◌, ℕ, zero, suc, ◌+◌, ◌*◌, ◌≤◌, ◌<◌, ◌-◌, ◌⊎◌, inl, inr, List, [], ◌∷◌, ◌++◌, length, Bool, true, false, refl, sym, ap, subst, ◌∙◌, arith, drop}
 use Rattle.std.specs.Prelude.{Option, Some, None, slice_get, option_map}
 use Rattle.pg_pred.specs.Offer.{Offer}
-use Rattle.pg_value.specs.Fits.{Fits}
-use Rattle.pg_value.specs.Grammar.{rule_body}
-use Rattle.pg_value.specs.declared.grammar.Rule as declared
-use Rattle.pg_value.specs.declared.trail.TrailItem.{TrailItem}
+use Rattle.pg_grammar_value.specs.Fits.{Fits}
+use Rattle.pg_grammar_value.specs.Grammar.{rule_body}
+use Rattle.pg_grammar_value.specs.declared.grammar.Rule as declared
+use Rattle.pg_grammar_value.specs.declared.trail.TrailItem.{TrailItem}
 use Rattle.pg_table.specs.Tables.{Table}
 use Rattle.pg_language.specs.Derives.{Spot}
 use Rattle.pg_language.specs.Answers.{Given, Answers, AnswersStart}
@@ -13,27 +13,27 @@ use Rattle.pg_language.specs.Errors.{Error}
 use Rattle.pg_language.specs.Outcomes as outcome
 use Rattle.pg_language.specs.Outcomes.{Outcome}
 use Rattle.pg_language.proofs.Sound.{sound}
-use Rattle.pg_turns.specs.Spots.{spot_at}
-use Rattle.pg_turns.specs.Frames.{Frame}
+use Rattle.pg_machine_turns.specs.Spots.{spot_at}
+use Rattle.pg_machine_turns.specs.Frames.{Frame}
 use Rattle.pg_message_tape.specs.Messages.{TapeMessage, error_of}
 use Rattle.pg_machine.specs.Outcomes.{outcome_of, IsDerived, IsOutcome, outcome_on, Ends}
-use Rattle.pg_turns.specs.Shows.{no_frames, stands_parts, Shows, shows_at, shows_succeeded, shows_failed, shows_stuck, shows_endless}
-use Rattle.pg_turns.specs.Tape.{OnFrame, Tape, tape_at, tape_turn, tape_is_last}
-use Rattle.pg_turns.specs.Ready.{IsTapeReady}
-use Rattle.pg_turns.specs.TapeRuns.{IsAfter}
-use Rattle.pg_lists.specs.RunTrees.{RunTrees, no_run_trees}
-use Rattle.pg_turns.specs.Turns.{State, at_node, with_outcome, endless, turn, is_last}
+use Rattle.pg_machine_turns.specs.Shows.{no_frames, stands_parts, Shows, shows_at, shows_succeeded, shows_failed, shows_stuck, shows_endless}
+use Rattle.pg_machine_turns.specs.Tape.{OnFrame, Tape, tape_at, tape_turn, tape_is_last}
+use Rattle.pg_machine_turns.specs.Ready.{IsTapeReady}
+use Rattle.pg_machine_turns.specs.TapeRuns.{IsAfter}
+use Rattle.pg_machine_lists.specs.RunTrees.{RunTrees, no_run_trees}
+use Rattle.pg_machine_turns.specs.Turns.{State, at_node, with_outcome, endless, turn, is_last}
 use Rattle.pg_message_tape.specs.TapeErrors.{Says, says}
 use Rattle.pg_machine.specs.declared.answer.Outcome as ended
 use Rattle.pg_machine.specs.declared.answer.Outcome.TheVariants.{Answered, StepsUsed, EmptyRound}
 use Rattle.pg_message_tape.specs.declared.message_tape.TapeError.{TapeError}
 use Rattle.pg_message_tape.proofs.Merged.{drop_seam}
-use Rattle.pg_turns.proofs.Hiding.{none_mean, all_kept}
-use Rattle.pg_turns.proofs.Ready.{turn_ready}
-use Rattle.pg_turns.proofs.Runs.{Run, run_start, run_turn, run_answer, run_shorter, run_endless}
-use Rattle.pg_turns.proofs.Turned.{turn_shown, last_shown}
+use Rattle.pg_machine_turns.proofs.Hiding.{none_mean, all_kept}
+use Rattle.pg_machine_turns.proofs.Ready.{turn_ready}
+use Rattle.pg_machine_turns.proofs.Runs.{Run, run_start, run_turn, run_answer, run_shorter, run_endless}
+use Rattle.pg_machine_turns.proofs.Turned.{turn_shown, last_shown}
 
--- the machine has this tape after so many turns, of at most so many, from the start rule at the start of the text
+-- the machine has this tape after `steps` turns, of at most `most`, from the start rule at the start of the text
 pub record Running (offer : Offer) (G : Given) (T : Table) (most steps : ℕ) (x : Tape) : Type 0 where
   pub rule : declared.Rule
   pub is_start : slice_get G.grammar.rules G.grammar.start ≡ Some rule

@@ -1,5 +1,5 @@
 -- What an answer to a whole text says of its derivations.
-use Rattle.pg_turns.specs.Spots.{spot_at}
+use Rattle.pg_machine_turns.specs.Spots.{spot_at}
 use Rattle.std.proofs.Common.{◌≡◌, ◌<◌, ◌≤◌, ◌+◌, ◌-◌, ◌*◌, ◌^◌, ◌∙◌, ℕ, min, arith, Bool, sym, subst}
 use Rattle.std.specs.Prelude.{Option, Some, None, IfSome, IfNone, Result, Ok, Err, IfOk}
 use Rattle.pg_text.specs.Position.{position_of}
@@ -20,7 +20,7 @@ use Rattle.pg_machine.specs.declared.answer.Success.{Success}
 some_node : {G : Given} {p m : ℕ} {a : Spot} {o : Outcome} → Answers G p a o m → 0 < m
 some_node (entered there d) = omega arith
 
--- the end of the text is one node more, and two turns, where it is asked for
+-- the end of the text is one more node, and two more turns, after an ok answer
 counted : (o : Outcome) (m k : ℕ) → 0 < m → k + 1 ≡ 2 * m → k ≤ 2 ^ 64 - 1 → steps_to_end o k ≡ min (2 * nodes_to_end o m - 1) (2 ^ 64 - 1)
 counted (ok c b v t e) m k l h f = omega arith
 counted (failed c e) m k l h f = omega arith

@@ -1,9 +1,9 @@
--- What a run of an accepted grammar says of a whole text.
+-- What a run of an accepted grammar shows about a whole text.
 use Rattle.std.specs.Prelude.{◌≡◌, ◌+◌, ◌-◌, ◌*◌, ◌^◌, ℕ, min, List, length}
 use Rattle.pg_text.specs.Position.{position_of}
 use Rattle.pg_tree.specs.Trees.{Tree}
-use Rattle.pg_value.specs.Grammar.{Grammar}
-use Rattle.pg_value.specs.declared.trail.TrailItem.{TrailItem}
+use Rattle.pg_grammar_value.specs.Grammar.{Grammar}
+use Rattle.pg_grammar_value.specs.declared.trail.TrailItem.{TrailItem}
 use Rattle.pg_sets.specs.Sets.{Sets}
 use Rattle.pg_language.specs.Derives.{DerivesText}
 use Rattle.pg_table.specs.Tables.{Table}
@@ -15,19 +15,19 @@ use Rattle.pg_machine.specs.Outcomes.{outcome_of}
 use Rattle.pg_machine.specs.declared.answer.Answer.{Answer}
 use Rattle.pg_machine.specs.declared.answer.Success.{Success}
 
--- nothing is wrong with the grammar, as some sets show; the text is one of characters
+-- some sets show that nothing is wrong with the grammar; the text is one of characters
 abbrev pub HasAcceptedGrammar : Given → Type 0
 HasAcceptedGrammar G = (sets : Sets) × Accepts G sets
 
--- the answer is the relation's, of the start rule and the end of the text after it, with its error's position, after two
--- turns for each node but one for the first, which are counted up to the greatest number
+-- the answer is the relation's, of the start rule with the end of the text after it, with its error's position, after two
+-- turns for each node but one for the first, counted up to the greatest number
 pub record IsTextAnswer (G : Given) (table : Table) (a : Answer) : Type 0 where
   pub nodes : ℕ
   pub answers : AnswersText G table (outcome_of a) nodes
   pub position : a.error.position ≡ position_of G.text a.error.place
   pub steps : a.steps ≡ min (2 * nodes - 1) (2 ^ 64 - 1)
 
--- the text is derived so, to its end, and in no other way
+-- this derives the text to its end, and nothing else does
 pub record IsOnlyDerivation (g : Grammar) (text : List ℕ) (table : Table) (s : Success) : Type 0 where
   pub end : s.place ≡ length text
   pub derives : DerivesText g text table s.table s.forest s.trail
@@ -38,9 +38,9 @@ pub record IsOnlyDerivation (g : Grammar) (text : List ℕ) (table : Table) (s :
 abbrev pub IsUnderivable : Grammar → List ℕ → Table → Type 0
 IsUnderivable g text table = (after : Table) (forest : List Tree) (trail : List TrailItem) → ¬ (DerivesText g text table after forest trail)
 
--- ---- on the way there
+-- ---- steps
 
--- the turns that were counted, with those of the end of the text where it is asked for: it is entered, and its answer is handed
+-- the number of turns, with those for the end of the text after an ok answer: the end is entered, and its answer is passed
 -- on
 abbrev pub steps_to_end : Outcome → ℕ → ℕ
 steps_to_end (ok c b v t e) k = min (k + 2) (2 ^ 64 - 1)

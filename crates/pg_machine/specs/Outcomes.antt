@@ -1,4 +1,4 @@
--- What a run may end with.
+-- The outcomes of a run.
 use Rattle.std.specs.Prelude.{◌≡◌, ◌<◌, ◌≤◌, ◌+◌, ◌*◌, ℕ, List, [], ◌∷◌, Bool, Option, Some, None, drop}
 use Rattle.pg_text.specs.Position.{position_of}
 use Rattle.pg_language.specs.Derives.{Spot, Derives}
@@ -8,21 +8,22 @@ use Rattle.pg_language.specs.Errors.{Error, without_position}
 use Rattle.pg_language.specs.Outcomes as outcome
 use Rattle.pg_language.specs.Outcomes.{Outcome}
 use Rattle.pg_message_tape.specs.Messages.{error_of}
-use Rattle.pg_turns.specs.Spots.{spot_at}
-use Rattle.pg_turns.specs.Tape.{Tape, tape_at, tape_with, tape_endless}
+use Rattle.pg_machine_turns.specs.Spots.{spot_at}
+use Rattle.pg_machine_turns.specs.Tape.{Tape, tape_at, tape_with, tape_endless}
 use Rattle.pg_machine.specs.declared.answer.Answer.{Answer}
 use Rattle.pg_machine.specs.declared.answer.Success.{Success}
 use Rattle.pg_machine.specs.declared.answer.Outcome as ended
 use Rattle.pg_machine.specs.declared.answer.Outcome.TheVariants.{Answered, StepsUsed, EmptyRound}
-use Rattle.pg_turns.specs.declared.frame.Reply.{Reply}
-use Rattle.pg_turns.specs.declared.frame.Reply.TheVariants as reply
-use Rattle.pg_turns.specs.declared.machine.Machine.{Machine}
+use Rattle.pg_machine_turns.specs.declared.frame.Reply.{Reply}
+use Rattle.pg_machine_turns.specs.declared.frame.Reply.TheVariants as reply
+use Rattle.pg_machine_turns.specs.declared.machine.Machine.{Machine}
 
--- the outcome that an answer stands for, without its error's position
+-- the outcome of an answer with these parts, without its error's position
 abbrev pub outcome_with : Bool → Error → Option Success → Outcome
 outcome_with consumed e None = outcome.failed consumed e
 outcome_with consumed e (Some s) = outcome.ok consumed (spot_at s.table s.place) s.forest s.trail e
 
+-- an answer of the machine as an outcome of the relation
 abbrev pub outcome_of : Answer → Outcome
 outcome_of a = outcome_with a.consumed (without_position a.error) a.success
 
@@ -40,15 +41,15 @@ pub record IsAnswer (G : Given) (table : Table) (a : Answer) : Type 0 where
   pub steps : a.steps + 1 ≡ 2 * entered
   pub derived : IsDerived G answers.start.body (spot_at table 0) (outcome_of a)
 
--- a run of the start rule within so many steps: it comes to its outcome exactly where that takes no more
+-- a run of the start rule within this many steps: it gives the relation's outcome exactly if that takes no more
 abbrev pub IsOutcome : Given → Table → ℕ → ended.Outcome → Type 0
 IsOutcome G table most (Answered a) = IsAnswer G table a × (a.steps ≤ most)
 IsOutcome G table most StepsUsed = (o : Outcome) (m : ℕ) → AnswersStart G table o m → most + 1 < 2 * m
 IsOutcome G table most EmptyRound = (m : ℕ) × AnswersStart G table outcome.empty_round m × (2 * m ≤ most + 1)
 
--- ---- how the machine ends
+-- ---- the end of the machine's run
 
--- the outcome that lies on the tape, where no frame is left
+-- the outcome on the tape, if no frame is left
 abbrev pub outcome_on : Tape → Option Outcome
 outcome_on (tape_at p i fs v t x T) = None
 outcome_on (tape_with r (f ∷ fs) v t x T) = None
@@ -57,17 +58,17 @@ outcome_on (tape_with (reply.Failed c error) [] v t x T) = Some (outcome.failed 
 outcome_on (tape_with reply.EmptyRound [] v t x T) = Some outcome.empty_round
 outcome_on tape_endless = None
 
--- the tape on which a reply lies that no frame waits for
+-- the tape with a reply for which no frame waits
 abbrev pub last_tape : Reply → Machine → Tape
 last_tape r m = tape_with r [] m.lists.forest m.lists.trail.items m.lists.messages m.table
 
--- the answer is what lies on the tape
+-- the answer is the one on the tape
 pub record IsAnswerOn (text : List ℕ) (tape : Tape) (taken : ℕ) (a : Answer) : Type 0 where
   pub outcome : outcome_on tape ≡ Some (outcome_of a)
   pub position : a.error.position ≡ position_of text a.error.place
   pub steps : a.steps ≡ taken
 
--- so a run ends whose machine has this tape after so many steps
+-- the outcome of a run whose machine has this tape after this many steps
 abbrev pub Ends : List ℕ → Tape → ℕ → ended.Outcome → Type 0
 Ends text tape steps (Answered a) = IsAnswerOn text tape steps a
 Ends text tape steps StepsUsed = outcome_on tape ≡ None

@@ -1,20 +1,20 @@
-//! What a run of a grammar ends with.
+//! The outcome of a run of a grammar.
 
+use pg_grammar_value::Trail;
 use pg_message::ParseError;
 use pg_table::Table;
 use pg_tree::Forest;
-use pg_value::Trail;
 
-/// What an ok answer gives.
+/// The result of an ok answer.
 #[derive(Drop)]
 pub struct Success {
     /// The place up to which the text was read, in characters from 0.
     pub place: usize,
-    /// The operator table in force there.
+    /// The operator table in force at that place.
     pub table: Table,
-    /// What was read, as trees.
+    /// The trees of the text that was read.
     pub forest: Forest,
-    /// What was chosen on the way.
+    /// The choices on the way.
     pub trail: Trail,
 }
 
@@ -23,21 +23,21 @@ pub struct Success {
 pub struct Answer {
     /// Whether input was consumed.
     pub consumed: bool,
-    /// Why the parser failed, or why it didn't go on.
+    /// Why the parser failed, or why it read no further.
     pub error: ParseError,
     /// How many turns it took.
     pub steps: u64,
-    /// What an ok answer gives; there is none in an error answer.
+    /// The result of an ok answer; none in an error answer.
     pub success: Option<Success>,
 }
 
-/// What a run ends with.
+/// How a run ends.
 #[derive(Drop)]
 pub enum Outcome {
     /// The parser answered.
     Answered(Answer),
-    /// P5: it had no answer within the steps that it was given (ours).
+    /// P5: it had no answer within the steps that it was allowed (ours).
     StepsUsed,
-    /// P6: a round of a repetition was ok and consumed nothing, where Text.Parsec stops with a fault.
+    /// P6: a round of a repetition was ok and consumed nothing, for which Text.Parsec raises an error.
     EmptyRound,
 }

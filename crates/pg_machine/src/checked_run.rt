@@ -1,18 +1,19 @@
 //! Runs of a checked grammar over whole texts.
 //!
-//! A run is a probe that may take as many steps as can be counted: by the law of `laws.rt` it ends with an answer, since the step
-//! cost of a checked grammar is within a limit, and so is the length of a text. After an ok answer the text has to end.
+//! A run is a probe with the greatest number of steps that can be counted: by the law of `laws.rt` it ends with an answer, since the step
+//! cost of a checked grammar is within a limit, and so is the length of a text. After an ok answer the text must end.
 
 ghost use Rattle.std.specs.Prelude.{◌≡◌, ◌≤◌, ◌+◌, ◌*◌, length, IfOk, OnOk, IfSome, IfNone};
-ghost use Rattle.pg_value.specs.Fits.{Fits};
+ghost use Rattle.pg_grammar_value.specs.Fits.{Fits};
 ghost use Rattle.pg_pred.specs.Offer.{offer_of};
 ghost use Rattle.pg_table.specs.Tables.{ComesFrom};
 ghost use Rattle.pg_text.specs.Position.{position_of};
-ghost use Rattle.pg_costs.specs.StepCost.{IsStepCost};
+ghost use Rattle.pg_predict_costs.specs.StepCost.{IsStepCost};
 ghost use Rattle.pg_predict.specs.Conditions.{cost_limit};
 ghost use Rattle.pg_derive.specs.Accepted.{Accepts};
 ghost use Rattle.pg_derive.specs.LeastSets.{node_sets};
 ghost use Rattle.pg_derive.specs.PredictiveLaws.{LosesNoAlternative, EachRoundConsumes, EachLinkConsumes};
+ghost use Rattle.pg_derive_backtracking.specs.Backtracking.{StartReadsNothingTwice};
 ghost use Rattle.pg_language.specs.Answers.{given};
 ghost use Rattle.pg_language.specs.Errors.{merge, without_position};
 ghost use Rattle.pg_language.specs.WholeTexts.{at_end};
@@ -24,21 +25,21 @@ ghost use Rattle.pg_machine.specs.Outcomes.{outcome_of};
 use crate::answer::{Answer, Outcome};
 use crate::laws::accepted_probes_answer;
 use crate::probing::probe;
+use pg_grammar_value::Grammar;
 use pg_language::Reading;
+use pg_machine_turns::error_at_end;
 use pg_message::ParseError;
 use pg_pred::Registry;
 use pg_predict::Checked;
 use pg_table::Table;
 use pg_text::Text;
-use pg_turns::error_at_end;
-use pg_value::Grammar;
 use std::alloc::{AllocError, Global};
 
-/// Runs the start rule over the whole text, under the table, in the library's reading, until there is an answer: ok, with
-/// the one derivation of the text, or an error, and then nothing derives it. The answer's steps are the turns that it took,
-/// those of the end of the text among them, or the greatest number where they are more: `2m - 1` for `m` nodes. They are no more
-/// than the grammar's step cost for each character of the text, and for its end. On the way no choice loses an alternative to consumed input, and each round of a repetition and each link of a chain consumes. The
-/// caller owes that the registry fits and that the table comes from the grammar. The only error is that memory ran out.
+/// Runs the start rule over the whole text, under the table, in the library's reading, until there is an answer: ok, with the one derivation of the
+/// text, or an error, and then nothing derives it. The answer's steps are the turns that it took, with those for the end of the text, or the
+/// greatest number if they are more: `2m - 1` for `m` nodes. They are no more than the grammar's step cost for each character of the text, and for
+/// its end. On the way no choice loses an alternative to consumed input, each round of a repetition and each link of a chain consumes, and nothing is
+/// read twice: after a place that a `try` gave back nothing is consumed. The registry must fit, and the table must come from the grammar.
 pub fn run(
     alloc: Global,
     checked: &Checked,
@@ -55,6 +56,7 @@ pub fn run(
     ensures choices { LosesNoAlternative (given Library checked.now.grammar text.now) (node_sets checked.now.grammar checked.now.sets) }
     ensures rounds { EachRoundConsumes (given Library checked.now.grammar text.now) }
     ensures links { EachLinkConsumes (given Library checked.now.grammar text.now) }
+    ensures once { StartReadsNothingTwice (given Library checked.now.grammar text.now) }
 {
     let grammar = accepted(checked, text);
     accepted_probes_answer();
@@ -72,7 +74,7 @@ pub fn run(
     }
 }
 
-/// The grammar, with all that is known of it and of the text.
+/// The grammar, with all known facts about it and the text.
 fn accepted<'a>(checked: &'a Checked, text: &Text) -> &'a Grammar
     ensures grammar { result.now ≡ checked.now.grammar }
     ensures accepts { Accepts (given Library checked.now.grammar text.now) checked.now.sets }
@@ -81,13 +83,13 @@ fn accepted<'a>(checked: &'a Checked, text: &Text) -> &'a Grammar
     ensures short { length text.now ≤ 1048576 }
 {
     let grammar = checked.grammar();
-    // These are called for what they say of their grammar and their text.
+    // These are called for their contracts: facts about the grammar and the text.
     let _nodes = grammar.nodes();
     let _characters = text.characters();
     grammar
 }
 
-/// The answer to a text that has to end after what was read.
+/// The answer for the whole text, which must end where the answer ends.
 fn whole_answer(alloc: Global, text: &Text, answer: Answer) -> Result<Answer, AllocError>
     requires { answer.error.position ≡ position_of text.now answer.error.place }
     ensures outcome { IfOk result (λ whole. outcome_of whole ≡ at_end text.now (outcome_of answer)) }
@@ -109,7 +111,7 @@ fn whole_answer(alloc: Global, text: &Text, answer: Answer) -> Result<Answer, Al
         });
     };
     say_end(alloc, text, success.place, &mut error)?;
-    // The end is a node more: it is entered, and its answer is handed on.
+    // The end is one more node: it is entered, and its answer is passed on.
     let steps = steps.saturating_add(2);
     let ends = success.place == text.len();
     let success = if ends { Some(success) } else { None };
@@ -121,8 +123,7 @@ fn whole_answer(alloc: Global, text: &Text, answer: Answer) -> Result<Answer, Al
     })
 }
 
-/// What is said at the place, where the text has to end, comes after the error of what was read up to it. The only error
-/// is that memory ran out.
+/// Merges the error of a text that has to end at the place into the error of what was read before.
 fn say_end(
     alloc: Global,
     text: &Text,

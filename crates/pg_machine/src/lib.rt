@@ -1,8 +1,8 @@
-//! Runs of the machine (`pg_turns`) from a grammar's start rule.
+//! Runs of the machine (`pg_machine_turns`) from a grammar's start rule.
 //!
-//! [`probe`] runs any grammar, in so many turns at most. An answer is the one of the relation in `pg_language`, its error
-//! and its trail among it; [`probe_watched`] shows each turn to a watcher. [`run`] does so for checked grammars, which answer every text, until the answer is there, and
-//! asks for the end of the text.
+//! [`probe`] runs any grammar, with a limit on the turns. Its answer is the one of the relation in `pg_language`, with its error
+//! and its trail; [`probe_watched`] shows each turn to a watcher. [`run`] runs a checked grammar, which answers every text, until the answer is there, and
+//! then requires the end of the text.
 #![tactic(auto)]
 
 mod answer;

@@ -1,29 +1,28 @@
-//! Runs of a grammar's start rule, on any grammar.
+//! Probes: runs of any grammar's start rule.
 
 ghost use Rattle.std.specs.Prelude.{◌≡◌, slice_get, option_map, Some, None, IfOk, IfSome, IfNone};
-ghost use Rattle.pg_value.specs.Grammar.{rule_body};
+ghost use Rattle.pg_grammar_value.specs.Grammar.{rule_body};
 ghost use Rattle.pg_pred.specs.Offer.{offer_of};
-ghost use Rattle.pg_value.specs.Fits.{Fits};
+ghost use Rattle.pg_grammar_value.specs.Fits.{Fits};
 ghost use Rattle.pg_machine.specs.Outcomes.{IsOutcome, Ends, last_tape, outcome_on};
 ghost use Rattle.pg_language.specs.Answers.{given};
-ghost use Rattle.pg_turns.specs.View.{tape_of};
+ghost use Rattle.pg_machine_turns.specs.View.{tape_of};
 
 use crate::answer::{Answer, Outcome, Success};
-use pg_form::NodeId;
+use pg_grammar_form::NodeId;
+use pg_grammar_value::{Grammar, Trail};
 use pg_language::Reading;
-use pg_lists::RunForest;
+use pg_machine_lists::{Context, Given, RunForest};
+use pg_machine_turns::{Machine, Mode, Reply};
 use pg_pred::Registry;
 use pg_table::Table;
 use pg_text::Text;
-use pg_turns::{Machine, Mode, Reply};
-use pg_value::{Grammar, Trail};
 use std::alloc::{AllocError, Global};
 use std::mem::replace;
 
-/// Runs the start rule at the beginning of the text, under the table, in at most so many turns: each enters a node or
-/// hands an answer on, so that `m` nodes take `2m - 1`. The answer has the table in a copy. P5 is answered exactly where
-/// what the start rule comes to, an answer or P6, takes more turns, or where it comes to nothing: rules go round, or a chain
-/// goes on without an end. The caller owes that the registry fits. The only error is that memory ran out.
+/// Runs the start rule at the beginning of the text, under the table, in at most this many turns: each enters a node or passes an answer on, so `m`
+/// nodes take `2m - 1`. The answer has a copy of the table. The outcome is P5 exactly if the start rule's answer or P6 takes more
+/// turns, or if there is none: rules recur without end, or a chain goes on without an end. The registry must fit.
 pub fn probe<'a>(
     alloc: Global,
     grammar: &'a Grammar,
@@ -39,7 +38,16 @@ pub fn probe<'a>(
     let own = table.copy(alloc)?;
     let mut machine = Machine::new(alloc, own);
     let begun = Mode::At(start_of(grammar), 0);
-    let progress = machine.turns(alloc, grammar, registry, text, reading, begun, max_steps)?;
+    let context = Context {
+        alloc,
+        registry,
+        given: Given {
+            reading,
+            grammar,
+            text,
+        },
+    };
+    let progress = machine.turns(context, begun, max_steps)?;
     let outcome = ended(alloc, text, &mut machine, progress.mode, progress.steps);
     drop(machine);
     outcome
@@ -53,7 +61,7 @@ pub(crate) fn start_of(grammar: &Grammar) -> NodeId
     grammar.rules()[start].body
 }
 
-/// What a run ends with after so many turns. What the machine holds then isn't said.
+/// The outcome of a run after this many turns. The state of the machine is then unspecified.
 pub(crate) fn ended(
     alloc: Global,
     text: &Text,
@@ -94,7 +102,7 @@ pub(crate) fn ended(
     }
 }
 
-/// The reply that no frame waits for, if there is one.
+/// The reply, if no frame waits for it.
 fn last_reply(machine: &Machine<'_>, mode: Mode) -> Option<Reply>
     ensures some { IfSome result (λ reply. tape_of mode machine.now ≡ last_tape reply machine.now) }
     ensures none { IfNone result (outcome_on (tape_of mode machine.now) ≡ None) }
@@ -112,7 +120,7 @@ fn last_reply(machine: &Machine<'_>, mode: Mode) -> Option<Reply>
     }
 }
 
-/// What an ok answer gives that ends at this place, with the machine's trees and items. The only error is that memory ran out.
+/// The result of an ok answer that ends at this place, with the machine's trees and items.
 fn success(alloc: Global, machine: &mut Machine<'_>, end: usize) -> Result<Success, AllocError>
     ensures place { IfOk result (λ success. success.place ≡ end) }
     ensures table { IfOk result (λ success. success.table ≡ machine.old.table) }

@@ -1,41 +1,42 @@
-//! Runs that are watched: what is told of a run is told of the one that answers.
+//! Watched runs: a watcher sees the run that answers.
 //!
-//! A watcher sees the machine before each turn and the mode after it, and changes nothing of either. So a run that is watched answers what
-//! [`crate::probe`] answers, and is proved so turn by turn.
+//! It sees the machine before each turn and the mode after it, and changes neither. So a watched run gives the same answer as
+//! [`crate::probe`], which is proved turn by turn.
 
 ghost use Rattle.std.specs.Prelude.{◌≡◌, ◌≤◌, ◌⊎◌, ◌-◌, ◌^◌, true, IfOk};
 ghost use Rattle.pg_pred.specs.Offer.{offer_of};
-ghost use Rattle.pg_value.specs.Fits.{Fits};
+ghost use Rattle.pg_grammar_value.specs.Fits.{Fits};
 ghost use Rattle.pg_language.specs.Answers.{given};
 ghost use Rattle.pg_machine.specs.Outcomes.{IsOutcome};
-ghost use Rattle.pg_turns.specs.Ready.{IsTapeReady};
-ghost use Rattle.pg_turns.specs.Tape.{tape_turn, tape_is_last};
-ghost use Rattle.pg_turns.specs.TapeRuns.{IsAfter, IsTapeReadyFor};
-ghost use Rattle.pg_turns.specs.View.{tape_of};
+ghost use Rattle.pg_machine_turns.specs.Ready.{IsTapeReady};
+ghost use Rattle.pg_machine_turns.specs.Tape.{tape_turn, tape_is_last};
+ghost use Rattle.pg_machine_turns.specs.TapeRuns.{IsAfter, IsTapeReadyFor};
+ghost use Rattle.pg_machine_turns.specs.View.{tape_of};
 
 use crate::answer::Outcome;
 use crate::probing::{ended, start_of};
+use pg_grammar_value::Grammar;
 use pg_language::Reading;
+use pg_machine_lists::{Context, Given};
+use pg_machine_turns::{Machine, Mode, Progress};
 use pg_pred::Registry;
 use pg_table::Table;
 use pg_text::Text;
-use pg_turns::{Machine, Mode, Progress};
-use pg_value::Grammar;
 use std::alloc::{AllocError, Global};
 
-/// Who watches a run. The only error is that memory ran out, and then the run stops.
+/// A watcher of a run. The only error is that memory ran out, and then the run stops.
 pub trait Watcher {
-    /// Sees the machine, and in which mode its next turn begins.
+    /// Sees the machine, and the mode in which its next turn begins.
     fn see(&mut self, machine: &Machine<'_>, mode: &Mode) -> Result<(), AllocError>;
 
     /// Sees the mode in which that turn ended.
     fn follow(&mut self, after: &Mode) -> Result<(), AllocError>;
 
-    /// Sees the machine and its mode after the last turn, and how many turns there were.
+    /// Sees the machine and its mode after the last turn, and the number of turns.
     fn end(&mut self, machine: &Machine<'_>, mode: &Mode, steps: u64) -> Result<(), AllocError>;
 }
 
-/// What is run: a grammar's start rule at the beginning of a text, in this reading. The registry has the predicates and builders that the grammar names.
+/// The input of a run: a grammar's start rule at the beginning of a text, in this reading. The registry has the predicates and builders that the grammar names.
 #[derive(Clone, Copy)]
 pub struct Run<'a> {
     pub grammar: &'a Grammar,
@@ -44,7 +45,7 @@ pub struct Run<'a> {
     pub reading: Reading,
 }
 
-/// Runs the start rule as [`crate::probe`] does, with the same answer, while it is watched. The caller owes that the registry fits. The only error is
+/// Runs the start rule as [`crate::probe`] does, with the same answer, and shows the run to a watcher. The registry must fit. The only error is
 /// that memory ran out, for the run or for its watcher.
 pub fn probe_watched<W: Watcher>(
     alloc: Global,
@@ -66,7 +67,7 @@ pub fn probe_watched<W: Watcher>(
     outcome
 }
 
-/// Makes turns until none is left, or so many were made, each of which is watched. The caller owes what the machine asks for as many turns.
+/// Makes turns until none is left, or as many as given, and shows each to the watcher. The machine's conditions must hold for that many turns.
 fn watched_turns<'a, W: Watcher>(
     alloc: Global,
     run: &Run<'a>,
@@ -104,14 +105,15 @@ fn one_turn<'a>(
     ensures { IfOk result (λ next. tape_of next machine.new ≡
         tape_turn (given run.now.reading run.now.grammar.now run.now.text.now) (tape_of mode machine.old)) }
 {
-    let progress = machine.turns(
+    let context = Context {
         alloc,
-        run.grammar,
-        run.registry,
-        run.text,
-        run.reading,
-        mode,
-        1,
-    )?;
+        registry: run.registry,
+        given: Given {
+            reading: run.reading,
+            grammar: run.grammar,
+            text: run.text,
+        },
+    };
+    let progress = machine.turns(context, mode, 1)?;
     Ok(progress.mode)
 }

@@ -1,23 +1,23 @@
--- Errors: how two are merged, and what a label makes of one.
+-- Errors: how two are merged, and what a label does to one.
 use Rattle.std.specs.Prelude.{[], ◌∷◌, ◌&&◌, not, nat_lt, if◌then◌else◌}
 use Rattle.pg_message.specs.Messages.{Text, is_empty, with_messages}
 use Rattle.pg_message.specs.declared.answer.AnswerKind.{AnswerKind}
 use Rattle.pg_message.specs.declared.answer.AnswerKind.TheVariants.{ConsumedOk, ConsumedError, EmptyOk, EmptyError}
 use Rattle.pg_message.specs.declared.error.ParseError.{ParseError}
 
--- the one at the later place, or at one place the first with the messages of both
+-- the error at the later place, or at the same place the first with the messages of both
 abbrev pub later : ParseError → ParseError → ParseError
 later one other = if nat_lt one.place other.place then other else
     if nat_lt other.place one.place then one else
     record one { messages = with_messages one.messages other.messages }
 
--- the only one with messages, or else the later one
+-- the error that has messages, if the other has none; otherwise the later one
 abbrev pub merged : ParseError → ParseError → ParseError
 merged one other = if is_empty one.messages && not (is_empty other.messages) then other else
     if is_empty other.messages && not (is_empty one.messages) then one else
     later one other
 
--- this name is all that is expected
+-- the error with this name as all that was expected
 abbrev pub renamed : ParseError → Text → ParseError
 renamed error name = record error { messages = record error.messages { expected = name ∷ [] } }
 

@@ -5,17 +5,18 @@ use Rattle.std.specs.Str.{bytes_eq}
 use Rattle.pg_message.specs.declared.kind.MessageKind.{MessageKind}
 use Rattle.pg_message.specs.declared.kind.MessageKind.TheVariants.{SystemUnexpected, Unexpected, Expected, Plain}
 
--- the bytes of UTF-8
+-- a text, as its bytes in UTF-8
 abbrev pub Text : Type 0
 Text = List ℕ
 
--- the texts of each kind, in the order in which they came
+-- the texts of each kind, in the order in which they were added
 pub record Messages : Type 0 where
   pub system_unexpected : List Text
   pub unexpected : List Text
   pub expected : List Text
   pub plain : List Text
 
+-- no message of any kind
 abbrev pub no_messages : Messages
 no_messages = record { system_unexpected = []; unexpected = []; expected = []; plain = [] }
 
@@ -31,7 +32,7 @@ of_kind m Unexpected = m.unexpected
 of_kind m Expected = m.expected
 of_kind m Plain = m.plain
 
--- a text after the others of its kind
+-- the messages with a text added at the end of its kind
 abbrev pub with_message : Messages → MessageKind → Text → Messages
 with_message m SystemUnexpected text = record m { system_unexpected = m.system_unexpected ++ text ∷ [] }
 with_message m Unexpected text = record m { unexpected = m.unexpected ++ text ∷ [] }
@@ -41,20 +42,20 @@ with_message m Plain text = record m { plain = m.plain ++ text ∷ [] }
 abbrev pub has_text : List Text → Text → Bool
 has_text texts text = list_any (λ other. bytes_eq other text) texts
 
--- how many of the other texts aren't there
+-- how many of the other texts are missing from these
 abbrev pub missing_count : List Text → List Text → ℕ
 missing_count texts others = count_by (λ text. not (has_text texts text)) others
 
--- a text after the others, unless it is there already
+-- the texts with one more at the end, unless it is there already
 abbrev pub with_text : List Text → Text → List Text
 with_text texts text = if has_text texts text then texts else texts ++ text ∷ []
 
--- each of the new texts in turn, unless it is there already
+-- the texts with each of the new ones added in turn, unless it is there already
 abbrev pub with_texts : List Text → List Text → List Text
 with_texts texts [] = texts
 with_texts texts (first ∷ rest) = with_texts (with_text texts first) rest
 
--- the texts of other messages, each after those of its kind, unless it is there already
+-- the messages with those of another error added, each text unless its kind has it already
 abbrev pub with_messages : Messages → Messages → Messages
 with_messages m n = record {
   system_unexpected = with_texts m.system_unexpected n.system_unexpected;
@@ -63,7 +64,7 @@ with_messages m n = record {
   plain = with_texts m.plain n.plain;
 }
 
--- the same, where texts that are there already are said again
+-- as `with_messages`, but texts that are there already are added again
 abbrev pub with_repeats : Messages → Messages → Messages
 with_repeats m n = record {
   system_unexpected = m.system_unexpected ++ n.system_unexpected;

@@ -7,47 +7,47 @@ use Rattle.pg_message.specs.declared.error.ParseError.{ParseError}
 abbrev pub has_bytes : Text → Bool
 has_bytes text = not (length text == 0)
 
--- the texts that aren't empty, each once, in the order in which they first stand
+-- the texts that aren't empty, each once, in the order of their first occurrence
 abbrev pub shown_texts : List Text → List Text
 shown_texts texts = with_texts [] (filter has_bytes texts)
 
--- what stands before a text that isn't the first, from those after it
+-- the joint before a text, from the texts after it
 abbrev pub joint : List Text → List ℕ
 joint [] = codes " or "
 joint (next ∷ rest) = codes ", "
 
--- the texts after the first of a list
+-- the texts after the first, with their joints
 abbrev pub further_texts : List Text → List ℕ
 further_texts [] = []
 further_texts (next ∷ rest) = joint rest ++ (next ++ further_texts rest)
 
--- a line of texts after some words, or no line where there is no text
+-- a line of some words and the texts, or nothing if there are none
 abbrev pub line_of : List ℕ → List Text → List ℕ
 line_of words [] = []
 line_of words (first ∷ rest) = words ++ (first ++ (further_texts rest ++ codes "\n"))
 
--- what stood where a leaf failed; the empty text is the end of input
+-- the line for what stopped a leaf; the empty text stands for the end of input
 abbrev pub system_text : Text → List ℕ
 system_text text = if length text == 0 then codes "unexpected end of input\n" else
     codes "unexpected " ++ (text ++ codes "\n")
 
--- of system-unexpected texts the first is shown
+-- only the first system-unexpected text is shown
 abbrev pub system_line : List Text → List ℕ
 system_line [] = []
 system_line (first ∷ rest) = system_text first
 
--- unexpected texts are shown in place of system-unexpected ones
+-- unexpected texts take precedence over system-unexpected ones
 abbrev pub unexpected_line : Messages → List ℕ
 unexpected_line m = if length m.unexpected == 0 then system_line m.system_unexpected else
     line_of (codes "unexpected ") (shown_texts m.unexpected)
 
--- all that stands after the colon
+-- everything after the colon
 abbrev pub messages_text : Messages → List ℕ
 messages_text m = if is_empty m then codes "unknown parse error\n" else
     codes "\n" ++ (unexpected_line m ++ (line_of (codes "expecting ") (shown_texts m.expected) ++
     line_of [] (shown_texts m.plain)))
 
--- the file's name as it is, the line and the column, and the messages
+-- the file's name unescaped, the line and the column, and the messages
 abbrev pub printed : ParseError → Text → List ℕ
 printed error name = codes "\"" ++ name ++ codes "\" (line " ++ decimal error.position.line ++
     codes ", column " ++ decimal error.position.column ++ codes "):" ++ messages_text error.messages

@@ -1,13 +1,13 @@
-//! The four ways in which a parser answers.
+//! The four kinds of a parser's answer.
 
-/// How a parser answered: whether it consumed input, and whether it is content (the Parsec report).
+/// How a parser answered: whether it consumed input, and whether it succeeded (the Parsec report).
 #[derive(Clone, Copy, Debug, PartialEq, Eq)]
 pub enum AnswerKind {
-    /// It consumed input and gave a value.
+    /// It consumed input and succeeded.
     ConsumedOk,
     /// It consumed input and failed.
     ConsumedError,
-    /// It gave a value and consumed nothing.
+    /// It succeeded and consumed nothing.
     EmptyOk,
     /// It failed and consumed nothing.
     EmptyError,

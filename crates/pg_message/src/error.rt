@@ -1,8 +1,8 @@
-//! Errors of parsers, and what becomes of them as parsers answer one after another.
+//! Errors of parsers, and how they are merged and labelled as parsers answer one after another.
 //!
-//! An error stands at a place, whose position it has too, and has messages. Two errors become one by Text.Parsec's
-//! rule, but that a text that is there already is not said again. Texts are moved and never copied; what runs out of
-//! memory leaves the error as it was.
+//! An error has a place, the position of that place, and messages. Two errors are merged by Text.Parsec's rule, except
+//! that a text that is there already isn't added again. Texts are moved and never copied. If memory runs out, the error
+//! stays as it was.
 
 ghost use Rattle.std.specs.Prelude.{◌≡◌, string_bytes, OnOk, OnErr};
 ghost use Rattle.pg_message.specs.Messages.{no_messages, with_message};
@@ -16,19 +16,19 @@ use std::alloc::{AllocError, Global};
 use std::cmp::Ordering;
 use std::mem::swap;
 
-/// What is known of why a parser failed, or didn't go on.
+/// Why a parser failed, or why it didn't go on.
 #[derive(Debug, Drop)]
 pub struct ParseError {
-    /// The place where it stands, in characters from 0.
+    /// Its place in the text, in characters from 0.
     pub place: usize,
     /// The line and the column of the place.
     pub position: Pos,
-    /// What is said of it.
+    /// Its messages.
     pub messages: Messages,
 }
 
 impl ParseError {
-    /// The error without messages at a place, whose position is handed in with it. It takes no memory.
+    /// An error without messages at a place. The caller gives the place's position with it. It takes no memory.
     pub fn new(alloc: Global, place: usize, position: Pos) -> ParseError
         ensures place { result.place ≡ place }
         ensures position { result.position ≡ position }
@@ -41,7 +41,7 @@ impl ParseError {
         }
     }
 
-    /// Puts a text at the end of its kind, also where it is there already. The only error is that memory ran out; the
+    /// Adds a text at the end of its kind, even if it is there already. The only error is running out of memory; the
     /// text is then gone.
     pub fn add(&mut self, kind: MessageKind, text: String) -> Result<(), AllocError>
         ensures ok { OnOk result (self.new ≡
@@ -51,10 +51,10 @@ impl ParseError {
         self.messages.push(kind, text)
     }
 
-    /// Makes one error of this one and of that of a later answer: the only one with messages, or else the one at the
-    /// later place, or at one place this one with the other's messages after its own, but for texts that are there
-    /// already (Text.Parsec.Error keeps these twice, and prints them once). The only error is that memory ran out; the
-    /// other is then gone.
+    /// Merges this error with that of a later answer. If only one has messages, that one is left; otherwise the one at
+    /// the later place. At the same place this one is left, with the other's messages after its own, except for texts
+    /// that are there already (Text.Parsec.Error keeps these twice, and prints them once). The only error is running
+    /// out of memory; the other is then gone.
     pub fn merge(&mut self, mut other: ParseError) -> Result<(), AllocError>
         ensures ok { OnOk result (self.new ≡ merged self.old other) }
         ensures err { OnErr result (self.new ≡ self.old) }
@@ -62,7 +62,7 @@ impl ParseError {
         self.merge_out_of(&mut other)
     }
 
-    /// The same out of an error that is lent, of which nothing is said afterwards.
+    /// As `merge`, with the other error borrowed; what is left in that one is unspecified.
     fn merge_out_of(&mut self, other: &mut ParseError) -> Result<(), AllocError>
         ensures ok { OnOk result (self.new ≡ merged self.old other.old) }
         ensures err { OnErr result (self.new ≡ self.old) }
@@ -81,8 +81,8 @@ impl ParseError {
         Ok(())
     }
 
-    /// Names what was expected, where a parser with a label consumed nothing: the name stands in place of all expected
-    /// texts (Text.Parsec's `<?>`). The error of an ok answer stays as it is if it has no messages. It takes no memory.
+    /// Puts a label's name in place of all expected texts, if the parser consumed nothing (Text.Parsec's `<?>`). The
+    /// error of a successful answer stays as it is if it has no messages. It takes no memory.
     pub fn label(&mut self, answer: AnswerKind, name: String)
         ensures { self.new ≡ labelled self.old answer (string_bytes name) }
     {

@@ -1,14 +1,14 @@
 //! The four kinds of messages.
 
-/// What a message is about (Text.Parsec.Error).
+/// The kind of a message (Text.Parsec.Error).
 #[derive(Clone, Copy, Debug, PartialEq, Eq)]
 pub enum MessageKind {
-    /// What stood where a leaf failed; the empty text is the end of input.
+    /// What stopped a leaf. The empty text stands for the end of input.
     SystemUnexpected,
-    /// What a parser itself calls unexpected.
+    /// What a parser itself reports as unexpected.
     Unexpected,
-    /// What would have been taken.
+    /// What was expected.
     Expected,
-    /// Words that are printed as they are.
+    /// A text that is printed as it is.
     Plain,
 }

@@ -1,6 +1,6 @@
-//! What is so of every error, beyond what a single call says.
+//! Laws about every error, beyond what a single call says.
 //!
-//! A law is a function that does nothing when it runs: its clause is the law, and whoever calls it has the clause.
+//! A law is a function that does nothing when it runs. Its clause is the law, and calling the function gives the clause.
 
 ghost use Rattle.std.specs.Prelude.{◌≡◌, ◌≤◌, true};
 ghost use Rattle.pg_message.specs.Messages.{Text, Messages, is_empty, with_messages, with_repeats};
@@ -14,8 +14,8 @@ pub fn merging_is_associative()
         merged first (merged second third) ≡ merged (merged first second) third }
 {}
 
-/// The law that an error without messages changes none that stands at its place or after it, from either side. At one
-/// place the positions have to be equal, as they are in one text.
+/// The law that merging with an error without messages changes no error at its place or after it, from either side. At
+/// the same place the positions have to be equal, as they are in one text.
 pub fn errors_without_messages_change_nothing()
     ensures after { (error nothing : ParseError) → is_empty nothing.messages ≡ true →
         nothing.place ≤ error.place → merged error nothing ≡ error }
@@ -24,8 +24,8 @@ pub fn errors_without_messages_change_nothing()
         merged nothing error ≡ error }
 {}
 
-/// The law that repeats aren't printed: an error that leaves out the texts that it has already prints as one that says
-/// them again, which is how Text.Parsec.Error merges.
+/// The law that repeats aren't printed: an error prints the same whether merging drops the texts that it has already or
+/// keeps them twice, as Text.Parsec.Error does.
 pub fn repeats_are_not_printed()
     ensures { (error : ParseError) (more : Messages) (name : Text) →
         printed (record error { messages = with_messages error.messages more }) name ≡

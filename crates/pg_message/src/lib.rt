@@ -1,8 +1,8 @@
-//! The errors of parsers: places, messages, and the text that is printed of them.
+//! The errors of parsers: places, messages, and their printed text.
 //!
 //! A [`ParseError`] has a place in the text, its position, and [`Messages`], which are texts by kind. Errors are merged
-//! as parsers answer one after another, and [`render`] prints one as Text.Parsec would. Whoever makes an error owes
-//! that the position is the place's, and writes the texts with their quotes: nothing here looks at what is parsed.
+//! as parsers answer one after another, and [`render`] prints one as Text.Parsec would. Code that makes an error owes
+//! that the position is the place's, and writes the texts with their quotes: nothing here reads the parsed text.
 #![tactic(auto)]
 
 mod answer;

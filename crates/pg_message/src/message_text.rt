@@ -1,7 +1,7 @@
 //! The text of one message.
 //!
-//! Contracts see it as the bytes of UTF-8, since all that is done with it is to compare and to print it. It is a type
-//! of its own so that definitions can speak of lists of texts.
+//! Contracts see it as its bytes in UTF-8, since it is only compared and printed. It is a type of its own so that
+//! definitions can speak of lists of texts.
 
 ghost use Rattle.std.specs.Prelude.{◌≡◌, string_bytes};
 ghost use Rattle.std.specs.Str.{bytes_eq};
@@ -47,7 +47,7 @@ impl MessageText {
     }
 }
 
-// What stands in the unused places of a `SmallVec`.
+// The unused slots of a `SmallVec` hold this.
 impl MadeWith<Global> for MessageText {
     fn made_with(alloc: Global) -> MessageText {
         MessageText {

@@ -1,8 +1,8 @@
 //! The messages of an error: four lists of texts, one for each kind.
 //!
-//! Each list keeps its first text in place, which is all that most have, so that most errors are made and merged
-//! without an allocation. Texts are moved from error to error and never copied. What runs out of memory leaves the
-//! messages as they were, since room is made in all lists before anything moves, and only for texts that are new.
+//! Each list keeps its first text inline. Most lists have no more, so most errors are made and merged without an
+//! allocation. Texts are moved from error to error and never copied. If memory runs out, the messages stay as they
+//! were: room is made in all lists before anything moves, and only for texts that are new.
 
 ghost use Rattle.std.specs.Prelude.{◌≡◌, ◌∷◌, [], string_bytes, OnOk, OnErr};
 ghost use Rattle.smallvec.specs.SmallVec.{HasRoomFor};
@@ -18,7 +18,7 @@ use std::mem::replace;
 /// The texts of one kind.
 type Texts = SmallVec<MessageText, 1>;
 
-/// The messages of an error, by kind and in the order in which they came.
+/// The messages of an error, by kind and in the order in which they were added.
 #[derive(Debug, Drop)]
 pub struct Messages {
     system_unexpected: Texts,
@@ -41,7 +41,7 @@ impl Model for Messages {
 }
 
 impl Messages {
-    /// No messages, which takes no memory.
+    /// No messages. It takes no memory.
     pub(crate) fn new(alloc: Global) -> Messages
         ensures { result ≡ no_messages }
     {
@@ -63,7 +63,7 @@ impl Messages {
             && self.plain.is_empty()
     }
 
-    /// The texts of one kind, in the order in which they came.
+    /// The texts of one kind, in the order in which they were added.
     pub fn of_kind(&self, kind: MessageKind) -> &[MessageText]
         ensures { result.now ≡ of_kind self.now kind }
     {
@@ -75,7 +75,7 @@ impl Messages {
         }
     }
 
-    /// Puts a text at the end of its kind, also where it is there already.
+    /// Adds a text at the end of its kind, even if it is there already.
     pub(crate) fn push(&mut self, kind: MessageKind, text: String) -> Result<(), AllocError>
         ensures ok { OnOk result (self.new ≡ with_message self.old kind (string_bytes text)) }
         ensures err { OnErr result (self.new ≡ self.old) }
@@ -90,7 +90,7 @@ impl Messages {
         Ok(())
     }
 
-    /// Moves the other messages behind those of their kinds, but for texts that are there already.
+    /// Moves the other messages after those of their kinds, except for texts that are there already.
     pub(crate) fn append(&mut self, other: &mut Messages) -> Result<(), AllocError>
         ensures ok { OnOk result (self.new ≡ with_messages self.old other.old) }
         ensures err { OnErr result (self.new ≡ self.old) }
@@ -106,7 +106,7 @@ impl Messages {
         Ok(())
     }
 
-    /// Makes this name all that is expected. It takes no memory.
+    /// Makes this name all that was expected. It takes no memory.
     pub(crate) fn rename(&mut self, name: String)
         ensures { self.new ≡ record self.old { expected = string_bytes name ∷ [] } }
     {
@@ -116,7 +116,7 @@ impl Messages {
     }
 }
 
-/// Makes room for those of the other texts that aren't there yet.
+/// Makes room for the other texts that aren't there yet.
 fn make_room(texts: &mut Texts, others: &Texts) -> Result<(), AllocError>
     ensures items { texts.new.items ≡ texts.old.items }
     ensures ok { OnOk result (HasRoomFor texts.new (missing_count texts.old.items others.now.items)) }
@@ -124,7 +124,7 @@ fn make_room(texts: &mut Texts, others: &Texts) -> Result<(), AllocError>
     texts.reserve(missing_count(texts.as_slice(), others.as_slice()))
 }
 
-/// Moves those of the other texts to the end that aren't there yet.
+/// Moves the other texts that aren't there yet to the end.
 fn append_reserved(texts: &mut Texts, others: &mut Texts)
     requires { HasRoomFor texts.old (missing_count texts.old.items others.old.items) }
     ensures { texts.new.items ≡ with_texts texts.old.items others.old.items }

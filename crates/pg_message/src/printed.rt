@@ -1,8 +1,8 @@
-//! The text that is printed of an error.
+//! The printed text of an error.
 //!
 //! The first line names the file and the position. The others are Text.Parsec's: what was unexpected, what was
-//! expected, and plain messages, each with its texts in the order of their first occurrence, or the words for an error
-//! of which nothing is known.
+//! expected, and plain messages, each with its texts in the order of their first occurrence. An error without messages
+//! gets the words for an unknown error.
 
 ghost use Rattle.std.specs.Prelude.{◌≡◌, ◌++◌, [], map, string_bytes, IfOk, OnOk};
 ghost use Rattle.pg_message.specs.Messages.{has_text};
@@ -15,8 +15,7 @@ use crate::messages::Messages;
 use pg_text::Pos;
 use std::alloc::{AllocError, Global};
 
-/// The text that says where the error stands in the file of this name, and what is said of it. Each of its lines ends
-/// with a line feed. The only error is that memory ran out.
+/// The text of an error: where it stands in the file with this name, and its messages. Each line ends with a line feed.
 pub fn render(alloc: Global, error: &ParseError, name: &str) -> Result<String, AllocError>
     ensures { IfOk result (λ text. string_bytes text ≡ printed error.now name.now) }
 {
@@ -60,7 +59,7 @@ fn push_system(first: &str, text: &mut String) -> Result<(), AllocError>
     write!(text, "unexpected {first}\n")
 }
 
-/// A line of those texts that aren't empty, after some words, or nothing where there is none.
+/// Pushes a line of some words and the texts that aren't empty, or nothing if there are none.
 fn push_line(words: &str, texts: &[MessageText], text: &mut String) -> Result<(), AllocError>
     ensures { OnOk result (string_bytes text.new ≡
         string_bytes text.old ++ line_of words.now (shown_texts texts.now)) }
@@ -86,7 +85,7 @@ fn push_further(rest: &[&str], text: &mut String) -> Result<(), AllocError>
     Ok(())
 }
 
-/// What stands before a text, from those after it.
+/// The joint before a text, from the texts after it.
 fn joint(rest: &[&str]) -> &'static str
     ensures { result.now ≡ joint (map (λ one. one.now) rest.now) }
 {

@@ -1,4 +1,4 @@
-//! What no clause says: that calls succeed, and that printed texts are those of Text.Parsec.
+//! What no contract says: that calls succeed, and that printed texts are those of Text.Parsec.
 use super::*;
 use MessageKind::{Expected, Plain, SystemUnexpected, Unexpected};
 use pg_text::Pos;
@@ -19,7 +19,7 @@ fn error_at(
     Ok(error)
 }
 
-/// What is printed of an error with these messages.
+/// The printed text of an error with these messages.
 fn printed(alloc: Global, messages: &[(MessageKind, &str)]) -> Result<String, AllocError> {
     render(alloc, &error_at(alloc, 4, messages)?, "t")
 }

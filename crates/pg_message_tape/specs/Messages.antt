@@ -1,4 +1,4 @@
--- What messages say, and the error that a list of them makes.
+-- What messages say, and the error that a list of them makes up.
 use Rattle.std.specs.Prelude.{ℕ, Bool, true, false, not, ◌==◌, if◌then◌else◌, List, [], ◌∷◌, ◌++◌, filter, length, take, drop, codes}
 use Rattle.std.specs.Str.{encode_utf8_all}
 use Rattle.pg_message.specs.Messages.{Text, Messages, no_messages, with_text}
@@ -32,7 +32,7 @@ message_kind WantedNameless = Expected
 message_kind WantedOperator = Expected
 message_kind (Ambiguous side) = Plain
 
--- how a side is said
+-- a side as the word in a message
 abbrev pub side_words : Sided → List ℕ
 side_words sided.Left = codes "left"
 side_words sided.Right = codes "right"
@@ -56,19 +56,19 @@ message_text (Ambiguous side) = ambiguous_words (side_words side)
 abbrev pub tape_message_of : Message → TapeMessage
 tape_message_of message = record { kind = message_kind message; text = message_text message }
 
--- one message more, unless it is there already
+-- the messages with one more, unless it is there already
 abbrev pub with_message_once : Messages → MessageKind → Text → Messages
 with_message_once m SystemUnexpected text = record m { system_unexpected = with_text m.system_unexpected text }
 with_message_once m Unexpected text = record m { unexpected = with_text m.unexpected text }
 with_message_once m Expected text = record m { expected = with_text m.expected text }
 with_message_once m Plain text = record m { plain = with_text m.plain text }
 
--- each of these in turn
+-- the messages with each of these added in turn
 abbrev pub with_messages_once : Messages → List TapeMessage → Messages
 with_messages_once m [] = m
 with_messages_once m (s ∷ ss) = with_messages_once (with_message_once m s.kind s.text) ss
 
--- the error at a place of which all this is said
+-- the error at a place with these messages, each kept once
 abbrev pub error_of : ℕ → List TapeMessage → Error
 error_of place ss = record { place = place; messages = with_messages_once no_messages ss }
 
@@ -78,19 +78,19 @@ is_expected Unexpected = false
 is_expected Expected = true
 is_expected Plain = false
 
--- those that aren't about what would have been taken
+-- the messages that don't say what was expected
 abbrev pub unexpected : List TapeMessage → List TapeMessage
 unexpected ss = filter (λ s. not (is_expected s.kind)) ss
 
--- a name as a message
+-- a name as a message that it was expected
 abbrev pub named : List ℕ → TapeMessage
 named name = record { kind = Expected; text = encode_utf8_all name }
 
--- after the first messages, this name is all that is expected
+-- the messages after the first `from` keep only what isn't an expectation, followed by this name as the only one expected
 abbrev pub relabelled : List ℕ → ℕ → List TapeMessage → List TapeMessage
 relabelled name from ss = take from ss ++ unexpected (drop from ss) ++ named name ∷ []
 
--- what is said where the text has to end, at its end and before it
+-- the error of a parser of the end of the text, at the end and before it
 abbrev pub end_error : List ℕ → ℕ → Error
 end_error text place = if place == length text
     then stopped_before (codes "end of input") [] place

@@ -1,4 +1,4 @@
--- What rows say in turn, kept as one with a count.
+-- Messages that rows repeat in turn, kept as one entry with a count.
 use Rattle.std.specs.Prelude.{ℕ, zero, suc, Bool, true, false, List, [], ◌∷◌}
 use Rattle.std.specs.List.{flat_map, sum_by}
 use Rattle.pg_message.specs.declared.kind.MessageKind.TheVariants.{Expected}
@@ -7,21 +7,21 @@ use Rattle.pg_message_tape.specs.declared.message.Message.{Message}
 use Rattle.pg_message_tape.specs.declared.message.Message.TheVariants.{WantedNameless}
 use Rattle.pg_message_tape.specs.declared.repeated.Repeated.{Repeated}
 
--- that something without a name would have been taken
+-- that something without a name was expected
 abbrev pub nameless : TapeMessage
 nameless = record { kind = Expected; text = [] }
 
--- a message, or that in its place
+-- a message, or the nameless one in its place
 abbrev pub or_nameless : Bool → Message → TapeMessage
 or_nameless true m = nameless
 or_nameless false m = tape_message_of m
 
--- so many messages, of two in turn
+-- the first n messages of two that alternate
 abbrev pub in_turn : ℕ → TapeMessage → TapeMessage → List TapeMessage
 in_turn zero a b = []
 in_turn (suc n) a b = a ∷ in_turn n b a
 
--- whose turn it is after so many
+-- which of two alternating things comes after n of them
 abbrev pub turn_after : {A : Type 0} → ℕ → A → A → A
 turn_after zero a b = a
 turn_after (suc n) a b = turn_after n b a
@@ -32,33 +32,33 @@ first_of r = or_nameless r.nameless_first r.message
 abbrev pub second_of : Repeated → TapeMessage
 second_of r = or_nameless r.nameless_second r.message
 
--- what comes next in turn
+-- the message that would continue an entry
 abbrev pub next_of : Repeated → TapeMessage
 next_of r = turn_after r.more (second_of r) (first_of r)
 
--- the first, and as many more in turn
+-- the messages of an entry: the first, and `more` others in turn
 abbrev pub repeated : Repeated → List TapeMessage
 repeated r = first_of r ∷ in_turn r.more (second_of r) (first_of r)
 
--- all of them in turn
+-- the messages of all entries, in order
 abbrev pub said : List Repeated → List TapeMessage
 said rs = flat_map repeated rs
 
--- how many it says after its first
+-- how many messages an entry has after its first
 abbrev pub times_more : Repeated → ℕ
 times_more r = r.more
 
--- how many more messages there are than entries
+-- how many more messages than entries there are
 abbrev pub more_said : List Repeated → ℕ
 more_said rs = sum_by times_more rs
 
--- how many of so many in turn aren't nameless, from whether the first and the second are
+-- how many of n alternating messages aren't nameless, given whether the first and the second are
 abbrev pub own_in_turn : ℕ → Bool → Bool → ℕ
 own_in_turn zero first second = 0
 own_in_turn (suc n) true second = own_in_turn n second true
 own_in_turn (suc n) false second = suc (own_in_turn n second false)
 
--- how many times an entry says its message
+-- how many times an entry's own message occurs in it
 abbrev pub own_times : Repeated → ℕ
 own_times r = own_in_turn (suc r.more) r.nameless_first r.nameless_second
 

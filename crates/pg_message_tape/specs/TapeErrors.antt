@@ -1,4 +1,4 @@
--- The errors of answers as they lie on one list of messages.
+-- The errors of answers as positions on one list of messages.
 use Rattle.std.specs.Prelude.{ℕ, Bool, true, false, not, ◌&&◌, ◌==◌, nat_lt, if◌then◌else◌, List, ◌++◌, length, take, drop}
 use Rattle.pg_language.specs.Errors.{Error}
 use Rattle.pg_message_tape.specs.Messages.{TapeMessage, error_of}
@@ -8,21 +8,21 @@ use Rattle.pg_message_tape.specs.declared.message_tape.KeptError.{KeptError}
 abbrev pub tape_error : ℕ → ℕ → TapeError
 tape_error place from = record { place = place; from = from }
 
--- the error is kept, with all messages that there are after its first
+-- an error as it is kept while the list has `upto` messages
 abbrev pub kept_at : ℕ → TapeError → KeptError
 kept_at upto error = record { place = error.place; from = error.from; upto = upto }
 
--- it is the last one again
+-- a kept error as that of the last answer again
 abbrev pub as_last : KeptError → TapeError
 as_last kept = record { place = kept.place; from = kept.from }
 
--- of two errors the second is left, the first, or both as one
+-- what is left of two errors: the second, the first, or both merged
 pub data Left : Type 0 where
   second : Left
   first : Left
   both : Left
 
--- from whether the first and the second have no messages, and their places
+-- which is left, from whether each has no messages, and from their places
 abbrev pub left_of : Bool → Bool → ℕ → ℕ → Left
 left_of none_first none_second i j =
     if none_first && not none_second then second else if none_second && not none_first then first else
@@ -48,7 +48,7 @@ merged_tape_error kept error x = left_tape_error (left_here kept error x) kept e
 abbrev pub merged_messages : KeptError → TapeError → List TapeMessage → List TapeMessage
 merged_messages kept error x = left_messages (left_here kept error x) kept error x
 
--- the same where the answer's own stands alone once it has consumed
+-- as above, but once the answer has consumed something its own error stands alone
 abbrev pub tape_error_after : Bool → KeptError → TapeError → List TapeMessage → TapeError
 tape_error_after true kept error x = error
 tape_error_after false kept error x = merged_tape_error kept error x
@@ -57,13 +57,13 @@ abbrev pub messages_after : Bool → KeptError → TapeError → List TapeMessag
 messages_after true kept error x = x
 messages_after false kept error x = merged_messages kept error x
 
--- ---- what errors these are
+-- ---- the errors that these stand for
 
--- the error of the last answer: after the first list some messages that don't matter, and then its own
+-- a tape error stands for this error: the list is a first part, then some messages that don't matter, then the error's own
 pub data Says : List TapeMessage → TapeError → Error → List TapeMessage → Type 0 where
   says : {x : List TapeMessage} {place : ℕ} (g m : List TapeMessage) → Says x (tape_error place (length (x ++ g))) (error_of place m) ((x ++ g) ++ m)
 
--- the same of an error that is kept
+-- as `Says`, for a kept error
 pub data Holds : List TapeMessage → KeptError → Error → List TapeMessage → Type 0 where
   holds : {x : List TapeMessage} {place : ℕ} (g m : List TapeMessage) → Holds x (kept_at (length ((x ++ g) ++ m)) (tape_error place (length (x ++ g))))
       (error_of place m) ((x ++ g) ++ m)

@@ -1,10 +1,9 @@
-//! What is said of errors while a run lasts.
+//! The messages of errors while a run lasts.
 //!
-//! A run merges, drops and relabels far more errors than are printed, so its messages lie on one list, each of them a few
-//! words of the grammar and the text: a [`MessageTape`]. An error of an answer is a place on that list, and becomes one with
-//! texts only where it stands in the end. `specs/TapeErrors.antt` says which errors of `pg_language` those on the list are;
-//! proofs/ shows that merging and relabelling them does to the list what the relation of answers does to errors. The turns
-//! of the machine rely on it.
+//! A run merges, drops and relabels far more errors than it prints. So its messages lie on one list, a [`MessageTape`], and each of them is a few words that
+//! point into the grammar and the text. An error of an answer is a position on that list, and gets texts only if it is reported in the end.
+//! `specs/TapeErrors.antt` says which errors of `pg_language` the positions stand for. The proofs show that merging and relabelling on the list agree with
+//! what the relation of answers does to errors. The steps of the machine rely on it.
 #![tactic(auto)]
 
 mod message;

@@ -1,7 +1,7 @@
-//! The messages of errors while a grammar runs: what they say, and not yet their texts.
+//! The messages of errors while a grammar runs, before they become texts.
 //!
-//! Most errors are dropped, so a text is made only of those that stand in the end. What a message says lies in the
-//! grammar and in the text that is parsed.
+//! Most errors are dropped, so texts are made only of the messages that are reported in the end. A message points into
+//! the grammar and the text that is parsed.
 
 ghost use Rattle.std.specs.Prelude.{◌≡◌, ◌++◌, codes, string_bytes, IfOk};
 ghost use Rattle.pg_language.specs.Declarations.{not_admitted};
@@ -20,33 +20,33 @@ use std::alloc::{AllocError, Global};
 pub enum Message<'a> {
     /// A leaf stopped at this character, or at the end of the text.
     Stopped(Option<char>),
-    /// A parser doesn't take this character, or the end of the text.
+    /// A parser refused this character, or the end of the text.
     Refused(Option<char>),
-    /// A parser doesn't take this word, which is reserved.
+    /// A parser refused this word because it is reserved.
     Reserved(&'a [char]),
-    /// These characters would have been taken.
+    /// These characters were expected.
     Wanted(&'a [char]),
-    /// The end of the text would have been taken.
+    /// The end of the text was expected.
     WantedEnd,
-    /// What has this name would have been taken.
+    /// Something with this name was expected.
     Named(&'a [char]),
-    /// The keyword of a declaration would have been taken.
+    /// The keyword of a declaration was expected.
     WantedDeclaration,
-    /// A digit that says how tightly an operator binds would have been taken.
+    /// A digit for the precedence of an operator was expected.
     WantedPrecedence,
-    /// The symbol of an operator would have been taken.
+    /// The symbol of an operator was expected.
     WantedSymbol,
-    /// The table doesn't admit an operator with this symbol, for this reason.
+    /// The operator table doesn't admit an operator with this symbol, for this reason.
     NotAdmitted(AdmitFault, &'a [char]),
-    /// Something without a name would have been taken: an operator before or after an operand.
+    /// Something without a name was expected: a prefix or postfix operator.
     WantedNameless,
-    /// An operator between two operands would have been taken.
+    /// An infix operator was expected.
     WantedOperator,
-    /// An operator that associates to this side has no one meaning here.
+    /// An operator with this associativity is ambiguous here.
     Ambiguous(Sided),
 }
 
-/// To which side an operator between two operands associates.
+/// The side to which an infix operator associates.
 #[derive(Clone, Copy)]
 pub enum Sided {
     Left,
@@ -55,7 +55,7 @@ pub enum Sided {
 }
 
 impl Message<'_> {
-    /// What it is about.
+    /// Its kind.
     pub(crate) fn kind(&self) -> MessageKind
         ensures { result ≡ message_kind self.now }
     {
@@ -76,7 +76,7 @@ impl Message<'_> {
         }
     }
 
-    /// Whether it is about what would have been taken.
+    /// Whether it says what was expected.
     pub(crate) fn is_expected(&self) -> bool
         ensures { result ≡ is_expected (message_kind self.now) }
     {
@@ -97,7 +97,7 @@ impl Message<'_> {
         }
     }
 
-    /// Its text. The only error is that memory ran out.
+    /// Its text.
     pub(crate) fn text(&self, alloc: Global) -> Result<String, AllocError>
         ensures { IfOk result (λ text. string_bytes text ≡ message_text self.now) }
     {
@@ -119,7 +119,7 @@ impl Message<'_> {
     }
 }
 
-/// What is said of an ambiguous use.
+/// The text for an ambiguous use of an operator.
 fn ambiguous(side: Sided) -> &'static str
     ensures { result.now ≡ ambiguous_words (side_words side) }
 {
@@ -148,7 +148,7 @@ fn next_text(alloc: Global, next: Option<char>) -> Result<String, AllocError>
     }
 }
 
-/// What is said of a reserved word.
+/// The text for a reserved word.
 fn reserved_word(alloc: Global, word: &[char]) -> Result<String, AllocError>
     ensures { IfOk result (λ said. string_bytes said ≡ codes "reserved word " ++ quote word.now) }
 {
@@ -156,7 +156,7 @@ fn reserved_word(alloc: Global, word: &[char]) -> Result<String, AllocError>
     format!(in alloc; "reserved word {quoted}")
 }
 
-/// What is said of a symbol that the table refuses.
+/// The text for a symbol that the operator table refuses.
 fn not_admitted(alloc: Global, symbol: &[char], fault: AdmitFault) -> Result<String, AllocError>
     ensures { IfOk result (λ said. string_bytes said ≡ not_admitted symbol.now fault) }
 {

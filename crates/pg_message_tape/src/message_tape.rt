@@ -1,7 +1,7 @@
-//! The messages of all errors of a run that may still be wanted, on one list.
+//! One list with the messages of all errors of a run that may still be wanted.
 //!
-//! An error's own messages stand together; those of the error of the last answer stand last. So errors are merged by
-//! leaving messages where they are, and dropped by cutting the list.
+//! The messages of one error stand together, and those of the last answer's error stand at the end. So errors are
+//! merged by leaving their messages in place, and dropped by cutting the list.
 
 ghost use Rattle.std.specs.Prelude.{◌≡◌, ◌∷◌, ◌++◌, ◌-◌, ◌<◌, [], if◌then◌else◌, length, map, take, drop, IfOk, OnErr, OnOk};
 ghost use Rattle.pg_language.specs.Errors.{without_position};
@@ -17,32 +17,32 @@ use pg_text::{Characters, Pos};
 use std::alloc::{AllocError, Global};
 use std::marker::Model;
 
-/// The error of the last answer: where it stands, and where its messages begin, which are the last of all.
+/// The error of the last answer: its place, and where its messages begin. They reach to the end of the list.
 #[derive(Clone, Copy)]
 pub struct TapeError {
-    /// The place where it stands, in characters from 0.
+    /// Its place in the text, in characters from 0.
     pub place: usize,
-    /// How many messages stand before its own.
+    /// How many messages stand before its first.
     pub from: usize,
 }
 
-/// The error of an answer before, which is kept to be merged with later ones.
+/// The error of an earlier answer, kept to be merged with later ones.
 #[derive(Clone, Copy)]
 pub struct KeptError {
-    /// The place where it stands, in characters from 0.
+    /// Its place in the text, in characters from 0.
     pub place: usize,
-    /// How many messages stand before its own.
+    /// How many messages stand before its first.
     pub from: usize,
-    /// How many messages stand before those that came after it.
+    /// How many messages stand before the first that was added after it.
     pub upto: usize,
 }
 
 /// The messages, seen as the list of their kinds and texts.
 #[derive(Drop)]
 pub struct MessageTape<'a> {
-    /// The messages, with what rows say in turn kept once.
+    /// The messages, where repetitions by rows share an entry.
     entries: Vec<Repeated<'a>>,
-    /// How many messages there are more than entries.
+    /// How many more messages than entries there are.
     more: usize,
 }
 
@@ -58,11 +58,11 @@ impl<'a> Model for MessageTape<'a> {
     ghost invariant = { λ t. (t.more ≡ more_said t.entries.items) × (t.more < 2 ^ 63) };
 }
 
-/// More messages than entries than this are never there: what comes then is an entry of its own.
+/// The number of messages exceeds that of entries by at most this. A message beyond that becomes an entry of its own.
 const MOST_MORE: usize = usize::MAX / 2;
 
 impl<'a> MessageTape<'a> {
-    /// No messages. It takes no memory.
+    /// An empty tape. It takes no memory.
     pub fn new(alloc: Global) -> MessageTape<'a>
         ensures { result ≡ [] }
     {
@@ -81,7 +81,7 @@ impl<'a> MessageTape<'a> {
         self.entries.len() + self.more
     }
 
-    /// Puts a message at the end. The only error is that memory ran out.
+    /// Appends a message.
     #[inline(always)]
     pub fn push(&mut self, message: Message<'a>) -> Result<(), AllocError>
         ensures { OnOk result (self.new ≡ self.old ++ tape_message_of message.entry ∷ []) }
@@ -92,7 +92,7 @@ impl<'a> MessageTape<'a> {
         self.push_new(message)
     }
 
-    /// Puts a message at the end, as an entry of its own. The only error is that memory ran out.
+    /// Appends a message as an entry of its own.
     #[inline(always)]
     fn push_new(&mut self, message: Message<'a>) -> Result<(), AllocError>
         ensures { OnOk result (self.new ≡ self.old ++ tape_message_of message.entry ∷ []) }
@@ -106,8 +106,7 @@ impl<'a> MessageTape<'a> {
         Ok(())
     }
 
-    /// Says the message as one more of the last entry, if it comes next there in turn and can be counted; answers whether it
-    /// was.
+    /// Counts the message in the last entry if it comes next there in turn and can be counted. Returns whether it did.
     #[inline(never)]
     fn say_in_turn(&mut self, message: &Message<'_>) -> bool
         ensures { self.new ≡ (if result then self.old ++ tape_message_of message.now ∷ [] else self.old) }
@@ -122,7 +121,7 @@ impl<'a> MessageTape<'a> {
         again
     }
 
-    /// Drops all but so many of the first messages, or none where there are fewer.
+    /// Keeps the first `count` messages, or all if there are fewer.
     #[inline(always)]
     pub fn cut(&mut self, count: usize)
         ensures { self.new ≡ take count self.old }
@@ -134,7 +133,7 @@ impl<'a> MessageTape<'a> {
         }
     }
 
-    /// The same where some are counted: entry by entry.
+    /// As `cut`, entry by entry, where some entries have a count.
     #[inline(never)]
     fn cut_counted(&mut self, count: usize)
         ensures { self.new ≡ take count self.old }
@@ -144,7 +143,7 @@ impl<'a> MessageTape<'a> {
         }
     }
 
-    /// Drops what the last entry says after the first messages, of which there are more.
+    /// Removes messages of the last entry, as far as they aren't among the first `count`. The tape has more than `count`.
     fn cut_last(&mut self, count: usize)
         requires { count < length self.old }
         ensures shorter { length self.new < length self.old }
@@ -154,7 +153,7 @@ impl<'a> MessageTape<'a> {
         self.more -= shorten(&mut self.entries, most);
     }
 
-    /// The error of the last answer, to be merged with later ones.
+    /// The error of the last answer as one to be merged with later ones.
     #[inline(always)]
     pub fn kept(&self, error: TapeError) -> KeptError
         ensures { result ≡ kept_at (length self.now) error }
@@ -166,9 +165,8 @@ impl<'a> MessageTape<'a> {
         }
     }
 
-    /// One error of one that is kept and that of the last answer: the only one with messages, or else the later one, or
-    /// at one place the first with the messages of both. The only error is that memory ran out; what the list holds then isn't
-    /// said.
+    /// Merges a kept error with that of the last answer. If only one of them has messages, that one is left; otherwise the later one. At the same place the
+    /// kept one is left with the messages of both. The only error is running out of memory, and then what the list holds is unspecified.
     pub fn merge(&mut self, kept: KeptError, error: TapeError) -> Result<TapeError, AllocError>
         ensures error { IfOk result (λ merged. merged ≡ merged_tape_error kept error self.old) }
         ensures messages { OnOk result (self.new ≡ merged_messages kept error self.old) }
@@ -193,7 +191,7 @@ impl<'a> MessageTape<'a> {
         Ok(before(kept))
     }
 
-    /// Takes out the messages from the one place on up to the other.
+    /// Removes the messages from index `from` up to `upto`.
     fn close(&mut self, from: usize, upto: usize) -> Result<(), AllocError>
         ensures { OnOk result (self.new ≡ take from (take upto self.old) ++ drop upto self.old) }
     {
@@ -209,7 +207,7 @@ impl<'a> MessageTape<'a> {
         self.put_back(last)
     }
 
-    /// Takes off the messages after the first, which are a tape of their own then.
+    /// Moves the messages after the first `from` to a tape of their own.
     fn take_off(&mut self, from: usize) -> Result<MessageTape<'a>, AllocError>
         ensures after { IfOk result (λ own. own ≡ drop from self.old) }
         ensures before { OnOk result (self.new ≡ take from self.old) }
@@ -224,7 +222,7 @@ impl<'a> MessageTape<'a> {
         })
     }
 
-    /// The same where some are counted: entry by entry.
+    /// As `take_off`, entry by entry, where some entries have a count.
     fn take_off_counted(&mut self, from: usize) -> Result<MessageTape<'a>, AllocError>
         ensures after { IfOk result (λ own. own ≡ drop from self.old) }
         ensures before { OnOk result (self.new ≡ take from self.old) }
@@ -234,7 +232,7 @@ impl<'a> MessageTape<'a> {
         Ok(own)
     }
 
-    /// A tape of the messages after the first.
+    /// A copy of the messages after the first `from`.
     fn copied(&self, from: usize) -> Result<MessageTape<'a>, AllocError>
         ensures { IfOk result (λ own. own ≡ drop from self.now) }
     {
@@ -244,7 +242,7 @@ impl<'a> MessageTape<'a> {
         Ok(own)
     }
 
-    /// Puts what is said after some messages at the end.
+    /// Appends the messages of a remainder.
     fn push_after(&mut self, after: Remainder<'_, 'a>) -> Result<(), AllocError>
         ensures { OnOk result (self.new ≡ self.old ++ drop after.entry.skipped (said after.entry.entries.now)) }
     {
@@ -255,7 +253,7 @@ impl<'a> MessageTape<'a> {
         Ok(())
     }
 
-    /// Puts what an entry says at the end, but for so many messages; answers how many of those it doesn't say.
+    /// Appends the messages of an entry after the first `skipped`. Returns how many of those to skip the entry didn't have.
     fn push_but(&mut self, entry: Repeated<'a>, skipped: usize) -> Result<usize, AllocError>
         ensures pushed { OnOk result (self.new ≡ self.old ++ drop skipped (repeated entry.entry)) }
         ensures left { IfOk result (λ left. left ≡ skipped - length (repeated entry.entry)) }
@@ -268,7 +266,7 @@ impl<'a> MessageTape<'a> {
         Ok(0)
     }
 
-    /// Puts what an entry says at the end.
+    /// Appends the messages of an entry.
     fn push_repeated(&mut self, entry: Repeated<'a>) -> Result<(), AllocError>
         ensures { OnOk result (self.new ≡ self.old ++ repeated entry.entry) }
     {
@@ -281,7 +279,7 @@ impl<'a> MessageTape<'a> {
         Ok(())
     }
 
-    /// Puts the messages of another tape at the end.
+    /// Appends the messages of another tape.
     fn put_back(&mut self, other: MessageTape<'a>) -> Result<(), AllocError>
         ensures { OnOk result (self.new ≡ self.old ++ other.entry) }
     {
@@ -296,8 +294,8 @@ impl<'a> MessageTape<'a> {
         Ok(())
     }
 
-    /// Makes this name all that is expected in the error whose messages begin at that number. The only error is that memory
-    /// ran out; what the list holds then isn't said.
+    /// Makes this name the only expectation of the error whose messages begin at index `from`. The only error is running out of memory, and then what the
+    /// list holds is unspecified.
     pub fn relabel(&mut self, from: usize, name: &'a Characters) -> Result<(), AllocError>
         ensures { OnOk result (self.new ≡ relabelled name.now from self.old) }
     {
@@ -306,7 +304,7 @@ impl<'a> MessageTape<'a> {
         self.push(Message::Named(name.as_slice()))
     }
 
-    /// Puts those of the messages at the end that aren't about what would have been taken.
+    /// Appends the messages of these entries that don't say what was expected.
     fn push_unexpected(&mut self, entries: &[Repeated<'a>]) -> Result<(), AllocError>
         ensures { OnOk result (self.new ≡ self.old ++ unexpected (said entries.now)) }
     {
@@ -316,7 +314,7 @@ impl<'a> MessageTape<'a> {
         Ok(())
     }
 
-    /// Puts those that an entry says at the end that aren't about what would have been taken.
+    /// Appends the messages of an entry that don't say what was expected.
     fn push_own(&mut self, entry: Repeated<'a>) -> Result<(), AllocError>
         ensures { OnOk result (self.new ≡ self.old ++ unexpected (repeated entry.entry)) }
     {
@@ -332,7 +330,7 @@ impl<'a> MessageTape<'a> {
         })
     }
 
-    /// The error of the last answer with its texts. Its position is handed in. The only error is that memory ran out.
+    /// The error of the last answer with its texts. The caller gives its position.
     pub fn error(
         &self,
         alloc: Global,
@@ -347,7 +345,7 @@ impl<'a> MessageTape<'a> {
     }
 }
 
-/// The error that was kept, which is the last one again.
+/// A kept error as that of the last answer again.
 fn before(kept: KeptError) -> TapeError
     ensures place { result.place ≡ kept.place }
     ensures from { result.from ≡ kept.from }
@@ -358,7 +356,7 @@ fn before(kept: KeptError) -> TapeError
     }
 }
 
-/// Takes off the entries after the first. Where memory runs out all stay.
+/// Splits off the entries after the first. If memory runs out, all stay.
 fn split_off<'a>(
     entries: &mut Vec<Repeated<'a>>,
     from: usize,

@@ -1,8 +1,8 @@
-//! Messages that follow one another in turn, kept as one with a count.
+//! Messages that alternate, kept as one entry with a count.
 //!
-//! Each row of an expression that reads no prefix says the same at the same place: something without a name, or what stands
-//! there and then that. A text may open an expression at each depth. So what rows say is counted, and takes the room of one
-//! message. `specs/Repeats.antt` says which messages entries stand for; the tape of messages relies on it.
+//! Each row of an expression that reads no prefix adds the same messages at the same place: that something without a name was expected, alone or after the
+//! message of what stopped there. A text may open an expression at each depth, so such repetitions are counted and take the room of one message.
+//! `specs/Repeats.antt` says which messages entries stand for; the tape of messages relies on it.
 
 ghost use Rattle.std.specs.Prelude.{◌≡◌, ◌∷◌, ◌++◌, ◌+◌, ◌<◌, ◌≤◌, ℕ, true, [], if◌then◌else◌, length, take, drop};
 ghost use Rattle.pg_message_tape.specs.Messages.{tape_message_of};
@@ -11,19 +11,18 @@ ghost use Rattle.pg_message_tape.specs.Repeats.{said, more_said, repeated, first
 
 use crate::message::Message;
 
-/// A message and something without a name, or one of these again and again: the first, and how many more are said in turn
-/// right after that.
+/// An entry: two messages that alternate, each either the message or the nameless one. It has the first, and `more` after it.
 #[derive(Clone, Copy)]
 pub(crate) struct Repeated<'a> {
     pub message: Message<'a>,
     pub more: u32,
-    /// Whether the first, the third and so on say that something without a name would have been taken.
+    /// Whether the first, the third and so on say that something without a name was expected.
     pub nameless_first: bool,
-    /// Whether the second, the fourth and so on say it.
+    /// Whether the second, the fourth and so on say so.
     pub nameless_second: bool,
 }
 
-/// What is said after some messages: all that the entries say, but for so many messages at the front.
+/// The messages of some entries but for the first `skipped`.
 #[derive(Clone, Copy)]
 pub(crate) struct Remainder<'m, 'a> {
     pub entries: &'m [Repeated<'a>],
@@ -31,21 +30,21 @@ pub(crate) struct Remainder<'m, 'a> {
 }
 
 impl<'a> Repeated<'a> {
-    /// What it says first.
+    /// Its first message.
     pub fn first(&self) -> Message<'a>
         ensures { tape_message_of result ≡ first_of self.now }
     {
         or_nameless(self.nameless_first, self.message)
     }
 
-    /// What it says second, if it says so much.
+    /// Its second message, if it has one.
     pub fn second(&self) -> Message<'a>
         ensures { tape_message_of result ≡ second_of self.now }
     {
         or_nameless(self.nameless_second, self.message)
     }
 
-    /// What it would say next.
+    /// The message that would continue it.
     fn next(&self) -> Message<'a>
         ensures { tape_message_of result ≡ next_of self.now }
     {
@@ -56,7 +55,7 @@ impl<'a> Repeated<'a> {
         }
     }
 
-    /// All that it says but for so many messages at the front.
+    /// The entry without its first `skipped` messages.
     pub fn without(self, skipped: usize) -> Repeated<'a>
         requires { skipped ≤ self.more }
         ensures { repeated result ≡ drop skipped (repeated self.entry) }
@@ -74,7 +73,7 @@ impl<'a> Repeated<'a> {
         }
     }
 
-    /// How many times it says its message.
+    /// How many times its own message occurs in it.
     pub fn own_times(&self) -> usize
         ensures { result ≡ own_times self.now }
     {
@@ -88,7 +87,7 @@ impl<'a> Repeated<'a> {
     }
 }
 
-/// The message, or that something without a name would have been taken.
+/// The message, or the nameless one in its place.
 fn or_nameless<'a>(replaced: bool, message: Message<'a>) -> Message<'a>
     ensures { tape_message_of result ≡ or_nameless replaced message.entry }
 {
@@ -99,7 +98,7 @@ fn or_nameless<'a>(replaced: bool, message: Message<'a>) -> Message<'a>
     }
 }
 
-/// Whether it says that something without a name would have been taken.
+/// Whether it says that something without a name was expected.
 #[inline(always)]
 pub(crate) fn is_nameless(message: &Message<'_>) -> bool
     ensures { result ≡ is_nameless message.now }
@@ -121,8 +120,7 @@ pub(crate) fn is_nameless(message: &Message<'_>) -> bool
     }
 }
 
-/// Whether it is what rows say: that something without a name would have been taken, or, where messages are counted, what
-/// stopped a leaf.
+/// Whether rows repeat such a message: the nameless one, or, where some messages are counted already, one that says what stopped a leaf.
 #[inline(always)]
 pub(crate) fn may_come_in_turn(message: &Message<'_>, counted: usize) -> bool {
     match message {
@@ -142,7 +140,7 @@ pub(crate) fn may_come_in_turn(message: &Message<'_>, counted: usize) -> bool {
     }
 }
 
-/// Whether a message of rows comes as the next in turn.
+/// Whether a message is the one that comes next in turn.
 fn is_next(next: &Message<'_>, message: &Message<'_>) -> bool
     ensures { result ≡ true → tape_message_of message.now ≡ tape_message_of next.now }
 {
@@ -163,7 +161,7 @@ fn is_next(next: &Message<'_>, message: &Message<'_>) -> bool
     }
 }
 
-/// Whether it says that a leaf stopped there.
+/// Whether it says that a leaf stopped at this character or at the end.
 fn is_stopped(message: &Message<'_>, at: Option<char>) -> bool
     ensures { result ≡ true → tape_message_of message.now ≡ tape_message_of (Stopped at) }
 {
@@ -184,7 +182,7 @@ fn is_stopped(message: &Message<'_>, at: Option<char>) -> bool
     }
 }
 
-/// Says the message as one more of the last entry, if it comes next there in turn and can be counted; answers whether it was.
+/// Counts the message in the last entry if it comes next there in turn and can be counted. Returns whether it did.
 pub(crate) fn say_in_turn<'a>(entries: &mut Vec<Repeated<'a>>, message: &Message<'_>) -> bool
     ensures said { said entries.new.items ≡ (if result then said entries.old.items ++ tape_message_of message.now ∷ [] else said entries.old.items) }
     ensures more { more_said entries.new.items ≡ (if result then more_said entries.old.items + 1 else more_said entries.old.items) }
@@ -205,7 +203,8 @@ pub(crate) fn say_in_turn<'a>(entries: &mut Vec<Repeated<'a>>, message: &Message
     }
 }
 
-/// Takes off what the last entry says, or so many messages of it; answers by how much fewer are said more than once.
+/// Removes the last entry, or `most` messages of it if it has more. Returns by how much the excess of messages over
+/// entries falls.
 pub(crate) fn shorten<'a>(entries: &mut Vec<Repeated<'a>>, most: usize) -> usize
     requires some { 0 < most }
     requires entry { 0 < length entries.old.items }
@@ -230,7 +229,7 @@ pub(crate) fn shorten<'a>(entries: &mut Vec<Repeated<'a>>, most: usize) -> usize
     }
 }
 
-/// What is said after the first messages, where so many are said in all. It looks at no more entries than that takes.
+/// What is said after the first messages, if there are at least that many. It looks at no more entries than it has to.
 #[tactic(auto, using(crate::proofs::Repeats::one_more))]
 pub(crate) fn after<'m, 'a>(
     entries: &'m [Repeated<'a>],

@@ -1,4 +1,4 @@
-//! Errors with their texts, each of which is said once.
+//! Errors with their texts, each text once.
 
 ghost use Rattle.std.specs.Prelude.{◌≡◌, map, IfOk, OnOk};
 ghost use Rattle.pg_message.specs.Messages.{has_text, of_kind};
@@ -12,8 +12,7 @@ use pg_message::{MessageKind, ParseError};
 use pg_text::Pos;
 use std::alloc::{AllocError, Global};
 
-/// The error at the place of which all this is said, each text once, and so what is said more than once. The only error is
-/// that memory ran out.
+/// The error at a place with the texts of these entries, each once, however often it is repeated.
 pub(crate) fn told_once(
     alloc: Global,
     place: usize,
@@ -28,7 +27,7 @@ pub(crate) fn told_once(
     Ok(error)
 }
 
-/// Says what these entries say, but for what is there already.
+/// Adds the messages of these entries that aren't there yet.
 #[tactic(auto, using(crate::proofs::Repeats::entries_once))]
 fn say_each(
     alloc: Global,
@@ -44,7 +43,7 @@ fn say_each(
     Ok(())
 }
 
-/// Says what an entry says, but for what is there already: no more than two messages are.
+/// Adds the messages of an entry that aren't there yet. An entry has at most two different ones.
 #[tactic(auto, using(crate::proofs::Repeats::first_once, crate::proofs::Repeats::both_once))]
 fn say_entry(alloc: Global, error: &mut ParseError, entry: &Repeated<'_>) -> Result<(), AllocError>
     ensures { OnOk result (error.new ≡
@@ -57,7 +56,7 @@ fn say_entry(alloc: Global, error: &mut ParseError, entry: &Repeated<'_>) -> Res
     say(alloc, error, &entry.second())
 }
 
-/// The error at the place of which all this is said, each text once. The only error is that memory ran out.
+/// The error at a place with the texts of these messages, each once.
 pub fn told(
     alloc: Global,
     place: usize,
@@ -72,7 +71,7 @@ pub fn told(
     Ok(error)
 }
 
-/// Says these messages, but for those that are there already.
+/// Adds the messages that aren't there yet.
 fn say_all(
     alloc: Global,
     error: &mut ParseError,
@@ -87,7 +86,7 @@ fn say_all(
     Ok(())
 }
 
-/// Says one message more, unless it is there already.
+/// Adds a message, unless it is there already.
 fn say(alloc: Global, error: &mut ParseError, message: &Message<'_>) -> Result<(), AllocError>
     ensures { OnOk result (error.new ≡
         record error.old { messages = with_message_once error.old.messages (message_kind message.now) (message_text message.now) }) }
@@ -99,7 +98,7 @@ fn say(alloc: Global, error: &mut ParseError, message: &Message<'_>) -> Result<(
     Ok(())
 }
 
-/// Whether the error has this text among those of the kind.
+/// Whether the error has this text among its messages of this kind.
 fn has_message(error: &ParseError, kind: MessageKind, text: &str) -> bool
     ensures { result ≡ has_text (of_kind error.now.messages kind) text.now }
 {

@@ -5,12 +5,12 @@ use Rattle.pg_tree.specs.declared.shape.Shape.{Shape}
 use Rattle.pg_pred.specs.Names.{Name, under_name}
 use Rattle.pg_pred.specs.declared.registry.Registry.{Registry}
 
--- a class under each predicate's name, and a shape under each builder's
+-- a class for each predicate's name, and a shape for each builder's name
 pub record Offer : Type 0 where
   pub classes : List (Name × List Range)
   pub shapes : List (Name × Shape)
 
--- what a registry offers
+-- the offer of a registry
 abbrev pub offer_of : {T M : Type 0} {F : T → Type 0} {G : M → Type 0} {f : _} {g : _} → Registry T M F G f g → Offer
 offer_of registry = record {
   classes = map (λ p. (string_bytes p.name, p.class)) registry.predicates.items;

@@ -1,8 +1,7 @@
-//! A named shape beside a function that makes trees of it.
+//! A named shape with a function that makes its trees.
 //!
-//! That the function may be called and makes the tree of the shape, unless memory runs out, are facts of the type:
-//! `new` asks them of its caller, and nothing writes a builder once it is made. Whoever calls `make` relies on the
-//! shape alone.
+//! The function may always be called, and makes the tree of the shape unless memory runs out. Both are facts of the
+//! type: `new` requires them, and a builder never changes once it is made. Callers of `make` rely on the shape alone.
 
 ghost use Rattle.std.specs.Prelude.{◌≡◌, string_bytes, IfOk};
 ghost use Rattle.pg_tree.specs.Built.{built};
@@ -12,10 +11,10 @@ use crate::named::Named;
 use pg_tree::{Forest, Shape, Tree};
 use std::alloc::{AllocError, Global};
 
-/// A stored maker of trees, from a symbol and kids.
+/// A stored function that makes a tree of a symbol and kids.
 pub type Make = Box<dyn Fn(Global, &str, Forest) -> Result<Tree, AllocError>>;
 
-/// A named shape, and a function that makes its trees.
+/// A named shape with a function that makes its trees.
 #[derive(Drop)]
 #[derive_where(Debug)]
 pub struct Builder {
@@ -38,7 +37,7 @@ impl Builder {
         Builder { name, shape, make }
     }
 
-    /// The tree of the shape, as the stored function makes it. The only error is that memory ran out.
+    /// The tree of the shape, made by the stored function.
     pub fn make(&self, alloc: Global, symbol: &str, kids: Forest) -> Result<Tree, AllocError>
         ensures { IfOk result (λ tree. tree ≡ built self.now.shape symbol.now kids) }
     {

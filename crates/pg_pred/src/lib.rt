@@ -1,8 +1,9 @@
-//! Stored predicates of characters and stored builders of trees, each with what it is held to.
+//! Stored predicates of characters and stored builders of trees, each with the value that it agrees with.
 //!
-//! A [`Predicate`] keeps a function beside the class that the function tells, a [`Builder`] one beside the shape that
-//! it makes: that the two agree is a fact of the type, owed by whoever makes one. A [`Registry`] lends them by name.
-//! Layers above call what it lends and know the answer from the class or the shape alone.
+//! A [`Predicate`] has a function and the class of the characters for which the function holds. A [`Builder`] has a
+//! function and the shape of the trees that it makes. That the two agree is a fact of the type, owed by whoever makes
+//! one. A [`Registry`] lends them by name. Layers above call what it lends and know the answer from the class or the
+//! shape alone.
 #![tactic(auto)]
 
 mod builder;

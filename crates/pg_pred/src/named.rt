@@ -1,13 +1,13 @@
-//! Looking for names in a list of things that have one.
+//! Looking up names in a list of named things.
 //!
-//! Names are compared byte by byte, from the first thing to the last; nothing here takes memory. The registry judges
-//! its lists by it and finds what it lends.
+//! Names are compared byte by byte, from the first thing to the last, without taking memory. The registry checks its
+//! lists with these and finds what it lends.
 
 ghost use Rattle.std.specs.Prelude.{◌≡◌, ℕ, List, map, find, option_copied};
 ghost use Rattle.std.specs.Str.{bytes_eq};
 ghost use Rattle.pg_pred.specs.Names.{has_name, has_twice};
 
-/// What has a name.
+/// A thing with a name.
 pub trait Named {
     ghost name_of: { Self → List ℕ };
 
@@ -16,7 +16,7 @@ pub trait Named {
         ensures { result.now ≡ name_of self.now };
 }
 
-/// Whether two of these have one name.
+/// Whether two of these have the same name.
 pub fn has_twice<T: Named>(all: &[T]) -> bool
     ensures { result ≡ has_twice (map T.name_of all.now) }
 {

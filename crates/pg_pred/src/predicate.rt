@@ -1,7 +1,7 @@
-//! A named class beside a function that tells it.
+//! A named class with a function that decides membership.
 //!
-//! That the function may be called and answers membership for every character are facts of the type: `new` asks them
-//! of its caller, and nothing writes a predicate once it is made. Whoever calls `holds` relies on the class alone.
+//! The function may always be called, and decides membership for every character. Both are facts of the type: `new`
+//! requires them, and a predicate never changes once it is made. Callers of `holds` rely on the class alone.
 
 ghost use Rattle.std.specs.Prelude.{◌≡◌, string_bytes};
 ghost use Rattle.pg_class.specs.Ranges.{has};
@@ -13,7 +13,7 @@ use pg_class::Class;
 /// A stored test of characters.
 pub type Test = Box<dyn Fn(char) -> bool>;
 
-/// A named class, and a function that tells whether a character is in it.
+/// A named class with a function that decides membership.
 #[derive(Drop)]
 #[derive_where(Debug)]
 pub struct Predicate {
@@ -26,7 +26,7 @@ pub struct Predicate {
 }
 
 impl Predicate {
-    /// The predicate of this function. The caller owes that it answers membership in the class for every character.
+    /// The predicate of this function. The caller owes that it decides membership in the class for every character.
     pub fn new(name: String, class: Class, test: Test) -> Predicate
         requires callable { Test.IsAlwaysCallable test }
         requires tells { Tells class (Test.post test) }

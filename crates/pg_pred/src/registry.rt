@@ -1,8 +1,8 @@
 //! The predicates and builders that a grammar may name.
 //!
-//! No name stands twice among the predicates, nor among the builders: that is a fact of the type, judged by `new`
-//! before it takes anything over. One name may stand in both lists. Layers above see of a registry what it offers:
-//! a class under each predicate's name and a shape under each builder's.
+//! No two predicates have the same name, and no two builders. That is a fact of the type: `new` checks it before it
+//! takes anything over. A predicate and a builder may share a name. Layers above see a registry as its offer: a class
+//! for each predicate's name and a shape for each builder's.
 
 ghost use Rattle.std.specs.Prelude.{◌≡◌, ◌||◌, ◌↔◌, map, find, true, false, Some, string_bytes, option_copied, IsErr, IsNone, IfOk, IfErr, IfSome};
 ghost use Rattle.std.specs.Str.{bytes_eq};
@@ -22,7 +22,7 @@ pub struct Registry {
     pub ghost builders_differ: { has_twice (map (λ b. string_bytes b.name) builders.items) ≡ false },
 }
 
-/// Two predicates have one name, or two builders have. Both lists are handed back.
+/// Two predicates have the same name, or two builders have. Both lists are handed back.
 #[derive(Debug, Drop, Error)]
 #[error("G1 name defined twice")]
 pub struct RegistryFault {
@@ -33,8 +33,8 @@ pub struct RegistryFault {
 impl Registry {
     ghost use Rattle.pg_pred.specs.Offer.{offer_of, predicate_class, builder_shape};
 
-    /// The registry of these lists, which takes no memory. G1 where a name stands twice in one of them; they are then
-    /// handed back as they were.
+    /// The registry of these lists. It takes no memory. G1 if a name occurs twice in one of them; the lists are then
+    /// handed back unchanged.
     pub fn new(
         predicates: Vec<Predicate>,
         builders: Vec<Builder>,

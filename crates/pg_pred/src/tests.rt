@@ -1,7 +1,7 @@
-//! What no clause says: that each call succeeds with ample memory, how long the lists are that a refusal hands back,
-//! and how it is printed.
+//! What no contract says: that each call succeeds with ample memory, how long the lists are that a refusal hands back,
+//! and the printed text of a refusal.
 //!
-//! Each test makes its boxes itself, since of a box that a function handed out no caller would know what it answers.
+//! Each test makes its boxes itself: if a function handed out a box, its caller wouldn't know what the box answers.
 
 use super::*;
 use pg_class::Class;

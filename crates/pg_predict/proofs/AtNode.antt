@@ -3,11 +3,11 @@ use Rattle.std.proofs.Common.{◌≡◌, ℕ, zero, suc, ◌<◌, ◌≤◌, Boo
 use Rattle.std.specs.Prelude.{cond, nat_eq}
 use Rattle.std.specs.List.{filter}
 use Rattle.std.proofs.lemmas.List.Elements.{filter-append}
-use Rattle.pg_value.specs.Grammar.{Grammar, IsGrammar}
-use Rattle.pg_judge.specs.Conditions.{NodeFacts}
-use Rattle.pg_judge.specs.Judged.{Facts, all_below, noted_at, noted_grammar}
-use Rattle.pg_judge.specs.Shown.{AreFacts}
-use Rattle.pg_judge.specs.Violations.{Violation}
+use Rattle.pg_grammar_value.specs.Grammar.{Grammar, IsGrammar}
+use Rattle.pg_predict_conditions.specs.Conditions.{NodeFacts}
+use Rattle.pg_predict_conditions.specs.Judged.{Facts, all_below, noted_at, noted_grammar}
+use Rattle.pg_predict_conditions.specs.Shown.{AreFacts}
+use Rattle.pg_predict_conditions.specs.Violations.{Violation}
 use Rattle.pg_predict.proofs.Lists.{In}
 use Rattle.pg_predict.proofs.Sound.{at_wrong}
 

@@ -6,13 +6,13 @@ use Rattle.std.proofs.Math.Numerals.{add-one}
 use Rattle.std.proofs.lemmas.Bool.{cases_eq}
 use Rattle.std.proofs.lemmas.Grind.{flat_map-append}
 use Rattle.pg_tree.specs.Bytes.{AppendsPrefix}
-use Rattle.pg_judge.specs.Violations.{Violation}
-use Rattle.pg_judge.specs.Judged.{all_below}
+use Rattle.pg_predict_conditions.specs.Violations.{Violation}
+use Rattle.pg_predict_conditions.specs.Judged.{all_below}
 use Rattle.pg_predict.specs.Broken.{first_number, number_of}
-use Rattle.pg_judge.specs.Questions.{found_at}
-use Rattle.pg_pieces.specs.Writing.{Puts}
-use Rattle.pg_judge.specs.declared.violation.ViolationKind.{ViolationKind}
-use Rattle.pg_pieces.proofs.Puts.{puts_both, puts_stopped_within}
+use Rattle.pg_predict_conditions.specs.Questions.{found_at}
+use Rattle.pg_text_pieces.specs.Writing.{Puts}
+use Rattle.pg_predict_conditions.specs.declared.violation.ViolationKind.{ViolationKind}
+use Rattle.pg_text_pieces.proofs.Puts.{puts_both, puts_stopped_within}
 
 -- ---- the first
 

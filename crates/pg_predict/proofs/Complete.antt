@@ -5,32 +5,32 @@ use Rattle.std.specs.Option.{option_map_or}
 use Rattle.std.proofs.Math.Numerals.{add-one}
 use Rattle.std.proofs.lemmas.Bool.{and_from, lt-ltb}
 use Rattle.std.proofs.lemmas.Option.{slice_get_within, get_or_from_slice_get}
-use Rattle.pg_value.specs.Grammar.{Grammar, IsGrammar}
-use Rattle.pg_form.specs.Forms.{Node}
-use Rattle.pg_form.specs.declared.form.Form.TheVariants as form
-use Rattle.pg_value.proofs.Numbers.{bodies_are_nodes}
+use Rattle.pg_grammar_value.specs.Grammar.{Grammar, IsGrammar}
+use Rattle.pg_grammar_form.specs.Forms.{Node}
+use Rattle.pg_grammar_form.specs.declared.form.Form.TheVariants as form
+use Rattle.pg_grammar_value.proofs.Numbers.{bodies_are_nodes}
 use Rattle.pg_sets.specs.Follow.{IsChain}
 use Rattle.pg_sets.specs.Follow as chain
-use Rattle.pg_bit_set.specs.Numbers.{set_at}
-use Rattle.pg_form.specs.declared.used.OperatorBuilders.{OperatorBuilders}
+use Rattle.pg_graph_bits.specs.Numbers.{set_at}
+use Rattle.pg_grammar_form.specs.declared.used.OperatorBuilders.{OperatorBuilders}
 use Rattle.pg_graph.specs.Marks.{is_marked}
-use Rattle.pg_own_starts.specs.declared.listed.ListedStart.{ListedStart}
-use Rattle.pg_form.proofs.Each.{all-get}
-use Rattle.pg_judge.specs.WithStarts.{Starts, kind_with_starts, start_at}
-use Rattle.pg_judge.specs.Conditions.{NodeFacts, ViolatesBy, AreFirstToMeet, BeginsNothing, BeginsLink, EndsNullable}
-use Rattle.pg_judge.specs.Conditions as violates
-use Rattle.pg_form.specs.declared.form.Leaf.TheVariants as leaf
-use Rattle.pg_judge.proofs.GapMeetings.{operators_first, gaps_first, no_term, gap_from}
-use Rattle.pg_judge.specs.Judged.{noted_at, is_costly, Facts, all_starts, operators_meet, gaps_meet, gap_met, noted_start, noted_gap, noted_operand, noted_end, noted, noted_meeting, all_below, part_at, node_meeting, follow_meeting, link_meeting, empty_alternative, empty_alternatives, meeting_alternatives, meetings_of_alternative, alternatives_that_meet, alternative_and_follow, alternatives_and_follow, ends_nullable, noted_chain, noted_form, noted_node}
-use Rattle.pg_judge.specs.Shown.{AreFacts}
-use Rattle.pg_judge.specs.Violations.{Violation}
-use Rattle.pg_judge.specs.declared.violation.ViolationKind.{ViolationKind}
-use Rattle.pg_judge.specs.declared.violation.ViolationKind.TheVariants.{LeftRecursion, EmptyRound, EmptyAlternative, AlternativesMeet, AlternativeMeetsFollow, RoundMeetsFollow, EmptyOperand, OperandMeetsOperators, FollowMeetsOperators, GapMeets, StepCostOver}
-use Rattle.pg_judge.specs.declared.meetings.Meeting.{Meeting}
+use Rattle.pg_sets_own.specs.declared.listed.ListedStart.{ListedStart}
+use Rattle.pg_grammar_form.proofs.Each.{all-get}
+use Rattle.pg_predict_conditions.specs.WithStarts.{Starts, kind_with_starts, start_at}
+use Rattle.pg_predict_conditions.specs.Conditions.{NodeFacts, ViolatesBy, AreFirstToMeet, BeginsNothing, BeginsLink, EndsNullable}
+use Rattle.pg_predict_conditions.specs.Conditions as violates
+use Rattle.pg_grammar_form.specs.declared.form.Leaf.TheVariants as leaf
+use Rattle.pg_predict_conditions.proofs.GapMeetings.{operators_first, gaps_first, no_term, gap_from}
+use Rattle.pg_predict_conditions.specs.Judged.{noted_at, is_costly, Facts, all_starts, operators_meet, gaps_meet, gap_met, noted_start, noted_gap, noted_operand, noted_end, noted, noted_meeting, all_below, part_at, node_meeting, follow_meeting, link_meeting, empty_alternative, empty_alternatives, meeting_alternatives, meetings_of_alternative, alternatives_that_meet, alternative_and_follow, alternatives_and_follow, ends_nullable, noted_chain, noted_form, noted_node}
+use Rattle.pg_predict_conditions.specs.Shown.{AreFacts}
+use Rattle.pg_predict_conditions.specs.Violations.{Violation}
+use Rattle.pg_predict_conditions.specs.declared.violation.ViolationKind.{ViolationKind}
+use Rattle.pg_predict_conditions.specs.declared.violation.ViolationKind.TheVariants.{LeftRecursion, EmptyRound, EmptyAlternative, AlternativesMeet, AlternativeMeetsFollow, RoundMeetsFollow, EmptyOperand, OperandMeetsOperators, FollowMeetsOperators, GapMeets, StepCostOver}
+use Rattle.pg_predict_conditions.specs.declared.meetings.Meeting.{Meeting}
 use Rattle.pg_predict.proofs.Lists.{In, in_left, in_right, all_below_has, noted_has, noted_meeting_has, noted_start_has}
-use Rattle.pg_judge.proofs.Meanings.{shows_first, shows_follow, MeetAt, first_numbers, first_there, follow_there, link_there, node_found, follow_found, link_found}
-use Rattle.pg_judge.proofs.Parts.{parts_below}
-use Rattle.pg_judge.proofs.Pairs.{pair_from}
+use Rattle.pg_predict_conditions.proofs.Meanings.{shows_first, shows_follow, MeetAt, first_numbers, first_there, follow_there, link_there, node_found, follow_found, link_found}
+use Rattle.pg_predict_conditions.proofs.Parts.{parts_below}
+use Rattle.pg_predict_conditions.proofs.Pairs.{pair_from}
 use Rattle.pg_predict.proofs.Sound.{start_is}
 
 -- it is noted of a node

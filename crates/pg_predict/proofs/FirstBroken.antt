@@ -6,18 +6,18 @@ use Rattle.std.proofs.lemmas.Option.{same_Some}
 use Rattle.std.specs.Cmp.{nat_cmp_total}
 use Rattle.std.specs.Cmp.Lexicographic.{lists_total}
 use Rattle.std.specs.Ordering.{ordering_reverse}
-use Rattle.pg_value.specs.Grammar.{Grammar, IsGrammar}
-use Rattle.pg_own_starts.specs.declared.listed.ListedStart.{ListedStart}
+use Rattle.pg_grammar_value.specs.Grammar.{Grammar, IsGrammar}
+use Rattle.pg_sets_own.specs.declared.listed.ListedStart.{ListedStart}
 use Rattle.pg_predict.specs.Broken.{IsFirstBroken, IsFirstNoted, IsTheFirst, IsNotedFirst, first_number}
-use Rattle.pg_judge.specs.Conditions.{NodeFacts, ViolatesBy}
+use Rattle.pg_predict_conditions.specs.Conditions.{NodeFacts, ViolatesBy}
 use Rattle.pg_predict.specs.Findings.{condition_number, violation_key}
-use Rattle.pg_judge.specs.Judged.{Facts, all_below, all_starts, noted_at, noted_grammar}
-use Rattle.pg_judge.specs.Shown.{AreFacts}
-use Rattle.pg_judge.specs.Violations.{Violation}
-use Rattle.pg_judge.specs.WithStarts.{kind_with_starts}
+use Rattle.pg_predict_conditions.specs.Judged.{Facts, all_below, all_starts, noted_at, noted_grammar}
+use Rattle.pg_predict_conditions.specs.Shown.{AreFacts}
+use Rattle.pg_predict_conditions.specs.Violations.{Violation}
+use Rattle.pg_predict_conditions.specs.WithStarts.{kind_with_starts}
 use Rattle.pg_predict.specs.declared.violation.Broken.{Broken}
-use Rattle.pg_judge.specs.declared.violation.ViolationKind.{ViolationKind}
-use Rattle.pg_judge.proofs.Numbered.{less_greater}
+use Rattle.pg_predict_conditions.specs.declared.violation.ViolationKind.{ViolationKind}
+use Rattle.pg_predict_conditions.proofs.Numbered.{less_greater}
 use Rattle.pg_predict.proofs.Below.{first_below, some_numbered}
 use Rattle.pg_predict.proofs.Complete.{violation_noted}
 use Rattle.pg_predict.proofs.Lists.{In, Precedes, Ascends, Tagged, tags_precede, same_number, all_below_has}

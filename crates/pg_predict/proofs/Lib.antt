@@ -1,5 +1,5 @@
-pub use Rattle.pg_judge.proofs.Numbered
-pub use Rattle.pg_judge.proofs.StepCosts
+pub use Rattle.pg_predict_conditions.proofs.Numbered
+pub use Rattle.pg_predict_conditions.proofs.StepCosts
 pub mod Lists
 pub mod Sound
 pub mod Complete
@@ -9,7 +9,7 @@ pub mod Series
 pub mod Rest
 pub mod Told
 pub mod Below
-pub mod Kept
+pub mod Counts
 pub mod FirstBroken
 pub mod AtNode
 pub mod Codes

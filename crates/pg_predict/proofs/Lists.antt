@@ -6,14 +6,14 @@ use Rattle.std.specs.List.{Contains, AllByRecursion}
 use Rattle.std.specs.List.Sorted.{IsStrictlySortedBy}
 use Rattle.std.specs.Ordering.{nat_cmp, ordering_then}
 use Rattle.std.proofs.lemmas.Bool.{cases_eq, true≢false}
-use Rattle.pg_own_starts.specs.declared.listed.ListedStart.{ListedStart}
-use Rattle.pg_judge.specs.WithStarts.{Starts, kind_with_starts, with_starts}
+use Rattle.pg_sets_own.specs.declared.listed.ListedStart.{ListedStart}
+use Rattle.pg_predict_conditions.specs.WithStarts.{Starts, kind_with_starts, with_starts}
 use Rattle.pg_predict.specs.Findings.{condition_number, order_within, violation_key, violation_order}
-use Rattle.pg_judge.specs.Judged.{noted, noted_meeting, noted_start, all_below}
-use Rattle.pg_judge.specs.Violations.{Violation}
-use Rattle.pg_judge.specs.declared.violation.ViolationKind.{ViolationKind}
-use Rattle.pg_judge.specs.declared.violation.ViolationKind.TheVariants.{LeftRecursion, EmptyRound, EmptyAlternative, AlternativesMeet, AlternativeMeetsFollow, RoundMeetsFollow, EmptyOperand, OperandMeetsOperators, FollowMeetsOperators, GapMeets, StepCostOver}
-use Rattle.pg_judge.specs.declared.meetings.Meeting.{Meeting}
+use Rattle.pg_predict_conditions.specs.Judged.{noted, noted_meeting, noted_start, all_below}
+use Rattle.pg_predict_conditions.specs.Violations.{Violation}
+use Rattle.pg_predict_conditions.specs.declared.violation.ViolationKind.{ViolationKind}
+use Rattle.pg_predict_conditions.specs.declared.violation.ViolationKind.TheVariants.{LeftRecursion, EmptyRound, EmptyAlternative, AlternativesMeet, AlternativeMeetsFollow, RoundMeetsFollow, EmptyOperand, OperandMeetsOperators, FollowMeetsOperators, GapMeets, StepCostOver}
+use Rattle.pg_predict_conditions.specs.declared.meetings.Meeting.{Meeting}
 
 -- ---- what is among others
 

@@ -4,13 +4,13 @@ use Rattle.std.specs.Prelude.{nat_lt, if◌then◌else◌, MatchOption}
 use Rattle.std.specs.Option.{option_map_or}
 use Rattle.std.proofs.Math.Numerals.{add-one}
 use Rattle.std.proofs.lemmas.Option.{slice_get_within, slice_get_past}
-use Rattle.pg_value.specs.Grammar.{Grammar}
-use Rattle.pg_form.specs.Forms.{Node}
-use Rattle.pg_judge.specs.Judged.{Facts, all_below, noted_at, noted_node, noted_grammar, noted, is_costly}
-use Rattle.pg_judge.specs.Questions.{form_series_count, node_series, node_questions, asked_node, found_at}
-use Rattle.pg_judge.specs.Suspects.{AreSuspects}
-use Rattle.pg_judge.specs.Violations.{Violation}
-use Rattle.pg_judge.specs.declared.violation.ViolationKind.{ViolationKind}
+use Rattle.pg_grammar_value.specs.Grammar.{Grammar}
+use Rattle.pg_grammar_form.specs.Forms.{Node}
+use Rattle.pg_predict_conditions.specs.Judged.{Facts, all_below, noted_at, noted_node, noted_grammar, noted, is_costly}
+use Rattle.pg_predict_conditions.specs.Questions.{form_series_count, node_series, node_questions, asked_node, found_at}
+use Rattle.pg_predict_conditions.specs.Suspects.{AreSuspects}
+use Rattle.pg_predict_conditions.specs.Violations.{Violation}
+use Rattle.pg_predict_conditions.specs.declared.violation.ViolationKind.{ViolationKind}
 use Rattle.pg_predict.specs.Broken.{first_number}
 use Rattle.pg_predict.specs.Findings.{condition_number}
 use Rattle.pg_predict.specs.declared.asking.Asking.{Asking}

@@ -3,15 +3,15 @@ use Rattle.std.proofs.Common.{◌≡◌, ℕ, zero, suc, ◌+◌, ◌-◌, ◌<�
 use Rattle.std.specs.Prelude.{nat_lt, if◌then◌else◌}
 use Rattle.std.specs.Option.{option_map_or}
 use Rattle.std.proofs.Math.Numerals.{add-one}
-use Rattle.pg_value.specs.Grammar.{Grammar}
-use Rattle.pg_form.specs.Forms.{Node}
-use Rattle.pg_form.specs.declared.form.Form.TheVariants as form
+use Rattle.pg_grammar_value.specs.Grammar.{Grammar}
+use Rattle.pg_grammar_form.specs.Forms.{Node}
+use Rattle.pg_grammar_form.specs.declared.form.Form.TheVariants as form
 use Rattle.pg_graph.specs.Marks.{is_marked}
-use Rattle.pg_judge.specs.Violations.{Violation}
-use Rattle.pg_judge.specs.Judged.{Facts, all_below, part_at, noted_choice, noted_form, noted_node, empty_alternatives, meeting_alternatives, meetings_of_alternative, alternatives_that_meet, alternative_and_follow, alternatives_and_follow, ends_nullable}
-use Rattle.pg_judge.specs.Questions.{choice_series, form_series, form_series_count, node_series, asked_choice, asked_node, choice_questions, node_questions}
-use Rattle.pg_judge.specs.Suspects.{AreSuspects}
-use Rattle.pg_judge.proofs.Unsuspected.{none_noted}
+use Rattle.pg_predict_conditions.specs.Violations.{Violation}
+use Rattle.pg_predict_conditions.specs.Judged.{Facts, all_below, part_at, noted_choice, noted_form, noted_node, empty_alternatives, meeting_alternatives, meetings_of_alternative, alternatives_that_meet, alternative_and_follow, alternatives_and_follow, ends_nullable}
+use Rattle.pg_predict_conditions.specs.Questions.{choice_series, form_series, form_series_count, node_series, asked_choice, asked_node, choice_questions, node_questions}
+use Rattle.pg_predict_conditions.specs.Suspects.{AreSuspects}
+use Rattle.pg_predict_conditions.proofs.Unsuspected.{none_noted}
 
 -- ---- one number after another
 

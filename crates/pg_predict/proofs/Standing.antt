@@ -6,19 +6,19 @@ use Rattle.std.proofs.lemmas.Bool.{cases_lt}
 use Rattle.std.proofs.lemmas.Bool.Decides.{nat_tests}
 use Rattle.std.proofs.lemmas.List.Sums.{sum_by-cons}
 use Rattle.std.proofs.lemmas.Option.{slice_get_within}
-use Rattle.pg_form.specs.Forms.{Node, parts_of, node_part_count, InPreorder}
-use Rattle.pg_value.specs.Grammar.{Grammar, IsGrammar, rule_body}
-use Rattle.pg_form.specs.Preorder.{roots}
-use Rattle.pg_value.specs.declared.grammar.Rule.{Rule}
-use Rattle.pg_value.proofs.Numbers.{bodies_are_nodes}
-use Rattle.pg_form.proofs.Each.{all-get}
-use Rattle.pg_own_starts.specs.declared.listed.ListedStart.{ListedStart}
-use Rattle.pg_judge.specs.Conditions as conditions
-use Rattle.pg_judge.specs.Conditions.{Violates}
+use Rattle.pg_grammar_form.specs.Forms.{Node, parts_of, node_part_count, InPreorder}
+use Rattle.pg_grammar_value.specs.Grammar.{Grammar, IsGrammar, rule_body}
+use Rattle.pg_grammar_form.specs.Preorder.{roots}
+use Rattle.pg_grammar_value.specs.declared.grammar.Rule.{Rule}
+use Rattle.pg_grammar_value.proofs.Numbers.{bodies_are_nodes}
+use Rattle.pg_grammar_form.proofs.Each.{all-get}
+use Rattle.pg_sets_own.specs.declared.listed.ListedStart.{ListedStart}
+use Rattle.pg_predict_conditions.specs.Conditions as conditions
+use Rattle.pg_predict_conditions.specs.Conditions.{Violates}
 use Rattle.pg_predict.specs.Findings.{Finding, AreFindings, finding_of, rule_of, body_of, name_of, number_in_rule, name_text, placed_text, violation_text}
 use Rattle.pg_predict.specs.Places.{Preorder, nothing, node, StandsAs, SpeaksOf}
-use Rattle.pg_judge.specs.Violations.{Violation}
-use Rattle.pg_judge.specs.declared.violation.ViolationKind.{ViolationKind}
+use Rattle.pg_predict_conditions.specs.Violations.{Violation}
+use Rattle.pg_predict_conditions.specs.declared.violation.ViolationKind.{ViolationKind}
 
 -- ---- numbers one after another
 

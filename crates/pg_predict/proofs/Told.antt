@@ -4,22 +4,22 @@ use Rattle.std.specs.Prelude.{codes}
 use Rattle.std.specs.Fmt.{decimal}
 use Rattle.std.specs.Option.{option_map, option_map_or}
 use Rattle.std.proofs.Math.ListN.{get_or-map}
-use Rattle.pg_value.specs.Grammar.{Grammar}
+use Rattle.pg_grammar_value.specs.Grammar.{Grammar}
 use Rattle.pg_start.specs.declared.kind.StartKind.TheVariants.{End}
-use Rattle.pg_own_starts.specs.PrintedStarts.{start_text}
-use Rattle.pg_own_starts.specs.declared.listed.ListedStart.{ListedStart}
-use Rattle.pg_judge.specs.Violations.{Violation}
-use Rattle.pg_judge.specs.WithStarts.{Starts, start_at, kind_with_starts, with_starts}
+use Rattle.pg_sets_own.specs.PrintedStarts.{start_text}
+use Rattle.pg_sets_own.specs.declared.listed.ListedStart.{ListedStart}
+use Rattle.pg_predict_conditions.specs.Violations.{Violation}
+use Rattle.pg_predict_conditions.specs.WithStarts.{Starts, start_at, kind_with_starts, with_starts}
 use Rattle.pg_predict.specs.Findings.{Finding, rule_of, name_of, name_text, number_in_rule, placed_text, condition_number, code_text, words_text, kind_text, violation_text, finding_of, line_of, lines_of}
-use Rattle.pg_judge.specs.Judged.{Facts, all_starts}
+use Rattle.pg_predict_conditions.specs.Judged.{Facts, all_starts}
 use Rattle.pg_predict.specs.Found.{Found, IsThere, found_by, found_there, violations_of, findings_of, lines_found}
 use Rattle.pg_predict.specs.Texts.{name_at, start_text_at, AreTexts, IsSource}
-use Rattle.pg_judge.specs.declared.operator_facts.OperatorFacts.{OperatorFacts}
+use Rattle.pg_predict_conditions.specs.declared.operator_facts.OperatorFacts.{OperatorFacts}
 use Rattle.pg_predict.specs.declared.places.Place.{Place}
 use Rattle.pg_predict.specs.declared.source.Source.{Source}
 use Rattle.pg_predict.specs.declared.texts.Texts.{Texts}
-use Rattle.pg_judge.specs.declared.violation.ViolationKind.{ViolationKind}
-use Rattle.pg_judge.specs.declared.violation.ViolationKind.TheVariants.{LeftRecursion, EmptyRound, EmptyAlternative, AlternativesMeet, AlternativeMeetsFollow, RoundMeetsFollow, EmptyOperand, OperandMeetsOperators, FollowMeetsOperators, GapMeets, StepCostOver}
+use Rattle.pg_predict_conditions.specs.declared.violation.ViolationKind.{ViolationKind}
+use Rattle.pg_predict_conditions.specs.declared.violation.ViolationKind.TheVariants.{LeftRecursion, EmptyRound, EmptyAlternative, AlternativesMeet, AlternativeMeetsFollow, RoundMeetsFollow, EmptyOperand, OperandMeetsOperators, FollowMeetsOperators, GapMeets, StepCostOver}
 
 -- ---- the start of operators
 

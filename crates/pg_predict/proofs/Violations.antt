@@ -7,23 +7,23 @@ use Rattle.std.specs.Ordering.{nat_cmp}
 use Rattle.std.specs.List.{All, Contains}
 use Rattle.std.specs.Option.{option_map_or}
 use lib.ListN.{get_or}
-use Rattle.pg_value.specs.Grammar.{Grammar, IsGrammar}
-use Rattle.pg_form.specs.Forms.{Node}
-use Rattle.pg_form.specs.declared.form.Form.TheVariants as form
-use Rattle.pg_bit_set.specs.Numbers.{set_at}
-use Rattle.pg_form.specs.declared.used.OperatorBuilders.{OperatorBuilders}
+use Rattle.pg_grammar_value.specs.Grammar.{Grammar, IsGrammar}
+use Rattle.pg_grammar_form.specs.Forms.{Node}
+use Rattle.pg_grammar_form.specs.declared.form.Form.TheVariants as form
+use Rattle.pg_graph_bits.specs.Numbers.{set_at}
+use Rattle.pg_grammar_form.specs.declared.used.OperatorBuilders.{OperatorBuilders}
 use Rattle.pg_graph.specs.Marks.{is_marked}
-use Rattle.pg_own_starts.specs.declared.listed.ListedStart.{ListedStart}
-use Rattle.pg_judge.specs.WithStarts.{kind_with_starts, with_starts}
-use Rattle.pg_judge.specs.Conditions.{NodeFacts, ViolatesBy, IsFaultlessBy, least_facts}
+use Rattle.pg_sets_own.specs.declared.listed.ListedStart.{ListedStart}
+use Rattle.pg_predict_conditions.specs.WithStarts.{kind_with_starts, with_starts}
+use Rattle.pg_predict_conditions.specs.Conditions.{NodeFacts, ViolatesBy, IsFaultlessBy, least_facts}
 use Rattle.pg_predict.specs.Findings.{AreViolationsBy, AreFindings, finding_of}
-use Rattle.pg_form.specs.declared.form.Leaf.TheVariants as leaf
-use Rattle.pg_judge.specs.Judged.{noted_at, is_costly, Facts, all_starts, operators_meet, gaps_meet, gap_met, noted_start, noted_gap, noted_operand, noted_end, noted_expression, noted, noted_meeting, all_below, part_at, node_meeting, follow_meeting, link_meeting, empty_alternative, empty_alternatives, meeting_alternatives, meetings_of_alternative, alternatives_that_meet, alternative_and_follow, alternatives_and_follow, ends_nullable, noted_choice, noted_form, noted_node, noted_grammar}
-use Rattle.pg_judge.specs.Shown.{AreFacts}
-use Rattle.pg_judge.specs.Violations.{Violation}
-use Rattle.pg_judge.specs.declared.violation.ViolationKind.{ViolationKind}
-use Rattle.pg_judge.specs.declared.violation.ViolationKind.TheVariants.{LeftRecursion, EmptyRound, EmptyAlternative, AlternativesMeet, AlternativeMeetsFollow, RoundMeetsFollow, EmptyOperand, OperandMeetsOperators, FollowMeetsOperators, GapMeets, StepCostOver}
-use Rattle.pg_judge.specs.declared.meetings.Meeting.{Meeting}
+use Rattle.pg_grammar_form.specs.declared.form.Leaf.TheVariants as leaf
+use Rattle.pg_predict_conditions.specs.Judged.{noted_at, is_costly, Facts, all_starts, operators_meet, gaps_meet, gap_met, noted_start, noted_gap, noted_operand, noted_end, noted_expression, noted, noted_meeting, all_below, part_at, node_meeting, follow_meeting, link_meeting, empty_alternative, empty_alternatives, meeting_alternatives, meetings_of_alternative, alternatives_that_meet, alternative_and_follow, alternatives_and_follow, ends_nullable, noted_choice, noted_form, noted_node, noted_grammar}
+use Rattle.pg_predict_conditions.specs.Shown.{AreFacts}
+use Rattle.pg_predict_conditions.specs.Violations.{Violation}
+use Rattle.pg_predict_conditions.specs.declared.violation.ViolationKind.{ViolationKind}
+use Rattle.pg_predict_conditions.specs.declared.violation.ViolationKind.TheVariants.{LeftRecursion, EmptyRound, EmptyAlternative, AlternativesMeet, AlternativeMeetsFollow, RoundMeetsFollow, EmptyOperand, OperandMeetsOperators, FollowMeetsOperators, GapMeets, StepCostOver}
+use Rattle.pg_predict_conditions.specs.declared.meetings.Meeting.{Meeting}
 use Rattle.pg_predict.specs.Refusals.{IsRefusal, IsRefused, refused_by, findings_noted}
 use Rattle.pg_predict.specs.declared.source.Source.{Source}
 use Rattle.pg_predict.proofs.Complete.{violation_noted}

@@ -2,18 +2,18 @@
 use Rattle.std.specs.Prelude.{◌≡◌, ◌<◌, ℕ, [], ◌∷◌, ◌++◌, codes, List, length, Option, Some, None}
 use Rattle.std.specs.Fmt.{decimal}
 use Rattle.std.specs.Option.{option_map}
-use Rattle.pg_value.specs.Grammar.{Grammar}
-use Rattle.pg_own_starts.specs.declared.listed.ListedStart.{ListedStart}
-use Rattle.pg_judge.specs.Conditions.{NodeFacts, ViolatesBy, IsFaultlessBy}
+use Rattle.pg_grammar_value.specs.Grammar.{Grammar}
+use Rattle.pg_sets_own.specs.declared.listed.ListedStart.{ListedStart}
+use Rattle.pg_predict_conditions.specs.Conditions.{NodeFacts, ViolatesBy, IsFaultlessBy}
 use Rattle.pg_predict.specs.Findings.{condition_number, rule_of, name_of, number_in_rule}
-use Rattle.pg_judge.specs.Judged.{Facts, all_below, noted_at, noted_grammar}
-use Rattle.pg_judge.specs.Violations.{Violation}
+use Rattle.pg_predict_conditions.specs.Judged.{Facts, all_below, noted_at, noted_grammar}
+use Rattle.pg_predict_conditions.specs.Violations.{Violation}
 use Rattle.pg_predict.specs.declared.violation.Broken.{Broken}
-use Rattle.pg_judge.specs.declared.violation.ViolationKind.{ViolationKind}
+use Rattle.pg_predict_conditions.specs.declared.violation.ViolationKind.{ViolationKind}
 
--- ---- by definition
+-- ---- definition
 
--- the condition is broken at a node; at no node before it is any, and at this one none of a smaller number
+-- the condition is broken at the node; none is broken at an earlier node, and none with a smaller number at this one
 pub record IsTheFirst (g : Grammar) (facts : NodeFacts) (broken : Broken) : Type 0 where
   pub kind : ViolationKind ListedStart
   pub violates : ViolatesBy g facts broken.node kind
@@ -22,23 +22,23 @@ pub record IsTheFirst (g : Grammar) (facts : NodeFacts) (broken : Broken) : Type
   pub none_before : (p : ℕ) (other : ViolationKind ListedStart) → p < broken.node → ViolatesBy g facts p other → ⊥
   pub none_smaller : (other : ViolationKind ListedStart) → condition_number other < broken.condition → ViolatesBy g facts broken.node other → ⊥
 
--- there is such a first one, or else nothing is wrong at any node
+-- this is the first broken condition, or nothing is wrong at any node
 abbrev pub IsFirstBroken : Grammar → NodeFacts → Option Broken → Type 0
 IsFirstBroken g facts None = IsFaultlessBy g facts
 IsFirstBroken g facts (Some broken) = IsTheFirst g facts broken
 
--- ---- as it is noted
+-- ---- by computed violations
 
 -- the number of the first condition that is broken, if any is
 abbrev pub first_number : List (Violation ℕ) → Option ℕ
 first_number [] = None
 first_number (v ∷ vs) = Some (condition_number v.kind)
 
--- the number of the condition that is broken in a way, if there is one
+-- the number of the condition that is broken, if any is
 abbrev pub number_of : Option (ViolationKind ℕ) → Option ℕ
 number_of = option_map condition_number
 
--- nothing is noted before the node, and this is the number of what is noted there first
+-- no violation comes before the node, and this is the number of the first violation there
 pub record IsNotedFirst (g : Grammar) (facts : Facts) (broken : Broken) : Type 0 where
   pub node : broken.node < length g.nodes
   pub none_before : all_below (noted_at g facts) broken.node ≡ []
@@ -54,6 +54,6 @@ IsFirstNoted g facts (Some broken) = IsNotedFirst g facts broken
 abbrev pub condition_text : ℕ → List ℕ → ℕ → List ℕ
 condition_text condition name node = codes "C" ++ (decimal condition ++ (codes " " ++ (name ++ (codes ":" ++ decimal node))))
 
--- those of a condition that is broken at a node of a grammar
+-- the text of a condition that is broken at a node of a grammar
 abbrev pub broken_text : Grammar → Broken → List ℕ
 broken_text g broken = condition_text broken.condition (name_of g.rules (rule_of g.rules broken.node)) (number_in_rule g.rules broken.node)

@@ -1,4 +1,4 @@
--- What is said of a grammar that isn't accepted.
+-- The findings of a grammar that isn't accepted.
 use Rattle.std.specs.Prelude.{◌≡◌, ◌+◌, ◌-◌, ◌↔◌, ℕ, nat_le, List, [], ◌∷◌, ◌++◌, map, codes, count_by, slice_get}
 use Rattle.std.specs.Cmp.Lexicographic.{slice_cmp}
 use Rattle.std.specs.Fmt.{decimal}
@@ -8,14 +8,14 @@ use Rattle.std.specs.Option.{option_map_or}
 use Rattle.std.specs.Ordering.{nat_cmp, on}
 use Rattle.std.specs.Str.{encode_utf8_all}
 use Rattle.std.specs.declared.cmp.Ordering.{Ordering}
-use Rattle.pg_value.specs.Grammar.{Grammar, rule_body}
-use Rattle.pg_value.specs.declared.grammar.Rule.{Rule}
-use Rattle.pg_own_starts.specs.PrintedStarts.{start_text}
-use Rattle.pg_own_starts.specs.declared.listed.ListedStart.{ListedStart}
-use Rattle.pg_judge.specs.Conditions.{NodeFacts, ViolatesBy, least_facts}
-use Rattle.pg_judge.specs.Violations.{Violation}
-use Rattle.pg_judge.specs.declared.violation.ViolationKind.{ViolationKind}
-use Rattle.pg_judge.specs.declared.violation.ViolationKind.TheVariants.{LeftRecursion, EmptyRound, EmptyAlternative, AlternativesMeet, AlternativeMeetsFollow, RoundMeetsFollow, EmptyOperand, OperandMeetsOperators, FollowMeetsOperators, GapMeets, StepCostOver}
+use Rattle.pg_grammar_value.specs.Grammar.{Grammar, rule_body}
+use Rattle.pg_grammar_value.specs.declared.grammar.Rule.{Rule}
+use Rattle.pg_sets_own.specs.PrintedStarts.{start_text}
+use Rattle.pg_sets_own.specs.declared.listed.ListedStart.{ListedStart}
+use Rattle.pg_predict_conditions.specs.Conditions.{NodeFacts, ViolatesBy, least_facts}
+use Rattle.pg_predict_conditions.specs.Violations.{Violation}
+use Rattle.pg_predict_conditions.specs.declared.violation.ViolationKind.{ViolationKind}
+use Rattle.pg_predict_conditions.specs.declared.violation.ViolationKind.TheVariants.{LeftRecursion, EmptyRound, EmptyAlternative, AlternativesMeet, AlternativeMeetsFollow, RoundMeetsFollow, EmptyOperand, OperandMeetsOperators, FollowMeetsOperators, GapMeets, StepCostOver}
 
 -- ---- the order
 
@@ -33,8 +33,8 @@ condition_number (FollowMeetsOperators s) = 8
 condition_number (GapMeets s) = 9
 condition_number StepCostOver = 11
 
--- what orders those of one number at a node: the alternatives that they name; that an operand can be empty comes before what
--- it meets
+-- the order among violations of one condition at a node: by the alternatives that they name; an empty operand comes before an
+-- operand that meets something
 abbrev pub order_within : {S : Type 0} → ViolationKind S → List ℕ
 order_within LeftRecursion = []
 order_within EmptyRound = []
@@ -48,18 +48,20 @@ order_within (FollowMeetsOperators s) = []
 order_within (GapMeets s) = []
 order_within StepCostOver = []
 
--- by the number of the node, which stand rule by rule, then by that of the condition, then within it
+-- first by the number of the node (nodes stand rule by rule), then by the number of the condition, then by the order within it
 abbrev pub violation_key : {S : Type 0} → Violation S → List ℕ
 violation_key violation = violation.node ∷ condition_number violation.kind ∷ order_within violation.kind
 
+-- violations by the numbers of node and condition, and then by their alternatives
 abbrev pub violation_order : {S : Type 0} → Violation S → Violation S → Ordering
 violation_order = on violation_key (slice_cmp nat_cmp)
 
--- all that is wrong with a grammar, each once and in order
+-- all violations of a grammar by these facts, each once and in order
 pub record AreViolationsBy (g : Grammar) (facts : NodeFacts) (violations : List (Violation ListedStart)) : Type 0 where
   pub ordered : IsStrictlySortedBy violation_order violations
   pub members : (v : Violation ListedStart) → Contains violations v ↔ ViolatesBy g facts v.node v.kind
 
+-- all violations of a grammar, each once and in order
 abbrev pub AreViolations : Grammar → List (Violation ListedStart) → Type 0
 AreViolations g = AreViolationsBy g (least_facts g)
 
@@ -73,7 +75,7 @@ meeting_text text s t = text s ++ (codes " and " ++ text t)
 abbrev pub code_text : ℕ → List ℕ
 code_text number = codes "C" ++ decimal number
 
--- what is wrong in words, with a text for each start
+-- the words of a violation, with a text for each start
 abbrev pub words_text : {S : Type 0} → (S → List ℕ) → ViolationKind S → List ℕ
 words_text text LeftRecursion = codes "left recursion"
 words_text text EmptyRound = codes "repeated part can be empty"
@@ -87,28 +89,28 @@ words_text text (FollowMeetsOperators s) = codes "follow set meets operators at 
 words_text text (GapMeets s) = codes "gap meets " ++ text s
 words_text text StepCostOver = codes "step cost over 4294967296"
 
--- the code, and what is wrong
+-- the code and the words
 abbrev pub kind_text : {S : Type 0} → (S → List ℕ) → ViolationKind S → List ℕ
 kind_text text kind = code_text (condition_number kind) ++ (codes " " ++ words_text text kind)
 
--- with each start as it is printed
+-- the code and the words, with the printed form of each start
 abbrev pub violation_text : Grammar → ViolationKind ListedStart → List ℕ
 violation_text g = kind_text (start_text g)
 
 -- ---- the places
 
--- the number of the rule that a node stands in: the last whose body isn't after the node
+-- the number of a node's rule: the last rule whose body isn't after the node
 abbrev pub rule_of : List Rule → ℕ → ℕ
 rule_of rules p = count_by (λ rule. nat_le (rule_body rule) p) rules - 1
 
--- its name
+-- the rule's name
 abbrev pub name_text : Rule → List ℕ
 name_text rule = encode_utf8_all rule.name
 
 abbrev pub name_of : List Rule → ℕ → List ℕ
 name_of rules r = option_map_or name_text (slice_get rules r) []
 
--- its body
+-- the rule's body
 abbrev pub body_of : List Rule → ℕ → ℕ
 body_of rules r = option_map_or rule_body (slice_get rules r) 0
 
@@ -118,7 +120,7 @@ number_in_rule rules p = p - body_of rules (rule_of rules p) + 1
 
 -- ---- findings
 
--- a rule, from 0, a node in it, from 1, the number of a condition, and a line
+-- the number of a rule, from 0, of a node in it, from 1, and of a condition, and a line
 pub record Finding : Type 0 where
   pub rule : ℕ
   pub node : ℕ
@@ -132,7 +134,7 @@ placed_text name node text = name ++ (codes ":" ++ (decimal node ++ (codes ": " 
 abbrev pub line_text : Grammar → Violation ListedStart → List ℕ
 line_text g v = placed_text (name_of g.rules (rule_of g.rules v.node)) (number_in_rule g.rules v.node) (violation_text g v.kind)
 
--- what is said of a violation
+-- the finding of a violation
 abbrev pub finding_of : Grammar → Violation ListedStart → Finding
 finding_of g v = record {
   rule = rule_of g.rules v.node;

@@ -1,8 +1,8 @@
-pub use Rattle.pg_judge.specs.Violations
-pub use Rattle.pg_judge.specs.Conditions
-pub use Rattle.pg_judge.specs.WithStarts
-pub use Rattle.pg_judge.specs.Judged
-pub use Rattle.pg_judge.specs.Shown
+pub use Rattle.pg_predict_conditions.specs.Violations
+pub use Rattle.pg_predict_conditions.specs.Conditions
+pub use Rattle.pg_predict_conditions.specs.WithStarts
+pub use Rattle.pg_predict_conditions.specs.Judged
+pub use Rattle.pg_predict_conditions.specs.Shown
 pub mod Findings
 pub mod Places
 pub mod Broken

@@ -1,21 +1,21 @@
 -- What is still to be found: by the questions at a node from one on, and at the nodes after it.
 use Rattle.std.specs.Prelude.{◌+◌, ◌-◌, ℕ, zero, suc, nat_lt, if◌then◌else◌, List, [], ◌++◌, length, Option, slice_get}
 use Rattle.std.specs.Option.{option_map_or}
-use Rattle.pg_value.specs.Grammar.{Grammar}
-use Rattle.pg_form.specs.Forms.{Node}
-use Rattle.pg_judge.specs.Judged.{Facts, is_costly, noted, noted_at}
-use Rattle.pg_judge.specs.Questions.{form_series_count, node_questions, asked_node}
-use Rattle.pg_judge.specs.Violations.{Violation}
-use Rattle.pg_judge.specs.declared.violation.ViolationKind.TheVariants.{StepCostOver}
+use Rattle.pg_grammar_value.specs.Grammar.{Grammar}
+use Rattle.pg_grammar_form.specs.Forms.{Node}
+use Rattle.pg_predict_conditions.specs.Judged.{Facts, is_costly, noted, noted_at}
+use Rattle.pg_predict_conditions.specs.Questions.{form_series_count, node_questions, asked_node}
+use Rattle.pg_predict_conditions.specs.Violations.{Violation}
+use Rattle.pg_predict_conditions.specs.declared.violation.ViolationKind.TheVariants.{StepCostOver}
 use Rattle.pg_predict.specs.declared.asking.Asking.{Asking}
 use Rattle.pg_predict.specs.declared.way.Way.{Way}
 
--- what is noted for so many numbers from one on, one after another
+-- the violations for `count` numbers from one on, in order
 abbrev pub all_from : (ℕ → List (Violation ℕ)) → ℕ → ℕ → List (Violation ℕ)
 all_from note k zero = []
 all_from note k (suc n) = note k ++ all_from note (suc k) n
 
--- for the numbers from one on that are below a limit
+-- the violations for the numbers from one on that are below a limit
 abbrev pub between : (ℕ → List (Violation ℕ)) → ℕ → ℕ → List (Violation ℕ)
 between note k n = all_from note k (n - k)
 
@@ -23,12 +23,12 @@ between note k n = all_from note k (n - k)
 unfoldable pub rest_of_series : Facts → ℕ → Node → ℕ → ℕ → List (Violation ℕ)
 rest_of_series facts p n j k = between (asked_node facts p n j) k (node_questions facts n j)
 
--- that the step cost is above the limit, where it is said at this node: the one question after all series
+-- the violation if a step cost above the limit is reported at this node: the one question after all series
 abbrev pub rest_of_cost : Facts → ℕ → ℕ → List (Violation ℕ)
 rest_of_cost facts p zero = noted (is_costly facts p) p StepCostOver
 rest_of_cost facts p (suc k) = []
 
--- what is found at a node: by the rest of a series, by the series after it, and last of the step cost
+-- what is found at a node: by the rest of a series, by the later series, and by the question on the step cost
 unfoldable pub rest_at : Facts → ℕ → Node → Asking → List (Violation ℕ)
 rest_at facts p n asking =
     if nat_lt asking.series (form_series_count n + 1)

@@ -1,12 +1,12 @@
-//! The questions at a node, one after another, from wherever one is.
+//! The questions at a node, one by one, from any point on.
 //!
-//! They stand in series (`pg_judge`), and after all of these it is asked whether the step cost is said to be above the limit at the node.
-//! Whoever wants to know what is wrong goes this way: no other function asks.
+//! They are in series (`pg_predict_conditions`). The last question, after all series, is whether a step cost above the limit is reported at the node.
+//! Every search for violations goes through here: no other function asks the questions.
 ghost use Rattle.std.specs.Prelude.{◌≡◌, ◌∷◌, [], MatchOption};
 ghost use Rattle.pg_predict.specs.Rest.{rest_at, rest_of_series, rest_of_cost};
 
-use pg_form::{Node, NodeId};
-use pg_judge::{Judge, ViolationKind, ask_node, node_questions, series_count};
+use pg_grammar_form::{Node, NodeId};
+use pg_predict_conditions::{Judge, ViolationKind, ask_node, node_questions, series_count};
 
 /// The next question at a node: the number of its series, and its own.
 #[derive(Clone, Copy)]
@@ -27,7 +27,7 @@ impl Asking {
     }
 }
 
-/// What the next question finds that finds anything, which is then the last that was asked.
+/// The next violation at a node; none if the rest of the questions find none. The next question is then the one after it.
 pub(crate) fn find_next(
     judge: &Judge,
     node: NodeId,
@@ -48,7 +48,7 @@ pub(crate) fn find_next(
     find_cost(judge, node, &mut asking.question)
 }
 
-/// What the next question of a series finds that finds anything.
+/// The next violation in a series; none if the rest of its questions find none.
 fn find_in_series(
     judge: &Judge,
     node: NodeId,
@@ -67,7 +67,7 @@ fn find_in_series(
     None
 }
 
-/// That the step cost is above the limit, if that is said at this node and wasn't yet.
+/// The violation if a step cost above the limit is reported at this node and hasn't been reported yet.
 fn find_cost(judge: &Judge, node: NodeId, question: &mut usize) -> Option<ViolationKind<usize>>
     ensures { MatchOption result (rest_of_cost judge.now node question.old ≡ []) (λ kind. rest_of_cost judge.now node question.old ≡ record { node = node; kind = kind } ∷ rest_of_cost judge.now node question.new) }
 {

@@ -1,25 +1,24 @@
-//! The first condition that is broken by sets that came from anywhere, and where.
+//! The first condition that given sets break, and where.
 //!
-//! Nothing is asked of such sets but their form; whether they hold for a grammar is judged elsewhere.
+//! The sets may come from anywhere and only have to be well formed. Whether they hold for a grammar is judged elsewhere.
 ghost use Rattle.std.specs.Prelude.{◌≡◌, ◌<◌, [], length, string_bytes, IfOk};
 ghost use Rattle.pg_predict.specs.Broken.{IsFirstBroken, broken_text, condition_text};
-ghost use Rattle.pg_judge.specs.Conditions.{claimed_facts};
+ghost use Rattle.pg_predict_conditions.specs.Conditions.{claimed_facts};
 ghost use Rattle.pg_predict.specs.Findings.{name_text, name_of};
-ghost use Rattle.pg_judge.specs.Shown.{AreWellFormed};
+ghost use Rattle.pg_predict_conditions.specs.Shown.{AreWellFormed};
 
 use crate::finds::first_noted;
 use crate::places::place_of;
 use crate::violation::Broken;
-use pg_judge::Judge;
+use pg_grammar_value::{Grammar, Rule};
+use pg_predict_conditions::Judge;
 use pg_sets::Sets;
-use pg_value::{Grammar, Rule};
 use std::alloc::{AllocError, Global};
 
-/// The first condition that is broken at a node by these sets, and by this step cost: at no node before it is any, and at that
-/// one none of a smaller number. None where nothing is broken.
+/// The first condition that is broken at a node by these sets and this step cost: no condition is broken at an earlier node, and none
+/// with a smaller number at this one. None if nothing is broken.
 ///
-/// The sets are taken at their word, and so is the cost; that no rule heads itself (C1) isn't asked. The only error is that
-/// memory ran out.
+/// The sets and the cost aren't checked, and no question asks whether a rule heads itself (C1).
 pub fn first_broken(
     alloc: Global,
     grammar: &Grammar,
@@ -35,8 +34,8 @@ pub fn first_broken(
     Ok(broken)
 }
 
-/// Which condition is broken and where, as in `C2 rule:5`: with the name of the rule in whose body the node stands, and the
-/// node's number there in preorder, from 1. The only error is that memory ran out.
+/// Which condition is broken and where, as in `C2 rule:5`: the name of the rule whose body has the node, and the node's number in that body, in
+/// preorder, from 1.
 pub fn broken_text(alloc: Global, grammar: &Grammar, broken: &Broken) -> Result<String, AllocError>
     requires { broken.now.node < length grammar.now.nodes }
     ensures { IfOk result (λ text. string_bytes text ≡ broken_text grammar.now broken.now) }
@@ -53,7 +52,7 @@ pub fn broken_text(alloc: Global, grammar: &Grammar, broken: &Broken) -> Result<
     )
 }
 
-/// A condition, and a node of the rule with a number. The only error is that memory ran out.
+/// The text of a condition and a node of the rule with this number.
 fn text_at(
     alloc: Global,
     rules: &[Rule],
@@ -69,7 +68,7 @@ fn text_at(
     }
 }
 
-/// A condition, and a node of a rule. The only error is that memory ran out.
+/// The text of a condition and a node of this rule.
 fn text_in_rule(
     alloc: Global,
     rule: &Rule,
@@ -81,7 +80,7 @@ fn text_in_rule(
     format!(in alloc; "C{} {}:{}", condition, rule.name, node)
 }
 
-/// A condition, and a node of a rule that isn't there. The only error is that memory ran out.
+/// The text of a condition and a node of a rule that doesn't exist.
 fn text_in_none(alloc: Global, condition: u8, node: usize) -> Result<String, AllocError>
     ensures { IfOk result (λ text. string_bytes text ≡ condition_text condition [] node) }
 {

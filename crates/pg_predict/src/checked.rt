@@ -1,11 +1,11 @@
-//! A grammar that was checked: nothing is wrong with it, and its sets and its step cost stand beside it.
+//! A checked grammar: nothing is wrong with it, and it has its sets and its step cost.
 //!
-//! That is a fact of the type, which [`crate::check`] alone establishes; whoever runs or explains a checked grammar relies
+//! The type guarantees that, and only [`crate::check`] makes its values. Runs and explanations of a checked grammar rely
 //! on it.
 ghost use Rattle.std.specs.Prelude.{◌≡◌};
 
+use pg_grammar_value::Grammar;
 use pg_sets::Sets;
-use pg_value::Grammar;
 use std::marker::Model;
 
 /// A predictive grammar with its sets and its step cost, seen as the three.
@@ -29,7 +29,7 @@ impl Model for Checked {
 impl Checked {
     ghost use Rattle.pg_predict.specs.Checked.{IsChecked};
 
-    /// The grammar with its sets and its step cost; the caller owes that nothing is wrong with it.
+    /// The grammar with its sets and its step cost. Nothing may be wrong with it.
     pub(crate) fn new(grammar: Grammar, sets: Sets, cost: u64) -> Checked
         requires { IsChecked (record { grammar = grammar; sets = sets; cost = cost }) }
         ensures { result ≡ record { grammar = grammar; sets = sets; cost = cost } }
@@ -41,7 +41,7 @@ impl Checked {
         }
     }
 
-    /// The grammar. It takes no memory.
+    /// The grammar. It allocates no memory.
     pub fn grammar(&self) -> &Grammar
         ensures grammar { result.now ≡ self.now.grammar }
         ensures checked { IsChecked self.now }
@@ -49,7 +49,7 @@ impl Checked {
         &self.grammar
     }
 
-    /// Its sets. It takes no memory.
+    /// Its sets. It allocates no memory.
     pub fn sets(&self) -> &Sets
         ensures sets { result.now ≡ self.now.sets }
         ensures checked { IsChecked self.now }
@@ -57,8 +57,8 @@ impl Checked {
         &self.sets
     }
 
-    /// Its step cost K(G), at most 4,294,967,296: a parse takes no more than so many steps for each character of the text, and
-    /// for its end (ours). It takes no memory.
+    /// Its step cost K(G), at most 4,294,967,296: a parse takes no more than K(G) steps for each character of the text, and
+    /// K(G) for its end (ours). It allocates no memory.
     pub fn cost(&self) -> u64
         ensures cost { result ≡ self.now.cost }
         ensures checked { IsChecked self.now }

@@ -1,15 +1,15 @@
-//! The check: a grammar is accepted where it is predictive, and else all that is wrong with it can be said.
+//! The check: it accepts a grammar that is predictive, and otherwise everything that is wrong with the grammar can be reported.
 ghost use Rattle.std.specs.Prelude.{◌≡◌, IfOk, IfErr};
 ghost use Rattle.pg_predict.specs.Checked.{IsChecked, IsFaultOf};
-ghost use Rattle.pg_judge.specs.Shown.{AreLeastFacts};
+ghost use Rattle.pg_predict_conditions.specs.Shown.{AreLeastFacts};
 
 use crate::checked::Checked;
 use crate::finds::first_noted;
 use crate::refused::Refused;
 use crate::source::Source;
 use crate::texts::texts_of;
-use pg_judge::Judge;
-use pg_value::Grammar;
+use pg_grammar_value::Grammar;
+use pg_predict_conditions::Judge;
 use std::alloc::Global;
 
 /// Why a grammar wasn't accepted.
@@ -17,13 +17,13 @@ use std::alloc::Global;
 pub enum CheckFault {
     /// It isn't predictive.
     Refused(Refused),
-    /// Memory ran out before that was known. It is handed back as it was.
+    /// Memory ran out before that was known. The grammar is handed back unchanged.
     Memory(Grammar),
 }
 
-/// Accepts a grammar where it is predictive, and its step cost is at most 4,294,967,296: where at no node a condition is broken.
+/// Accepts a grammar that is predictive and whose step cost is at most 4,294,967,296, so that no condition is broken at any node.
 ///
-/// Otherwise it is handed back, with all that is wrong with it, or because memory ran out.
+/// Otherwise the grammar is handed back, with everything that is wrong with it, or because memory ran out.
 pub fn check(alloc: Global, grammar: Grammar) -> Result<Checked, CheckFault>
     ensures same { IfOk result (λ checked. checked.grammar ≡ grammar) }
     ensures accepted { IfOk result (λ checked. IsChecked checked) }

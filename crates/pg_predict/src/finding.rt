@@ -1,6 +1,6 @@
-//! What is wrong at a node: one value, whether it is printed, explained or listed.
+//! A finding: what is wrong at a node, in one value, which can be printed, explained or listed.
 ghost use Rattle.std.specs.Prelude.{◌≡◌, ◌++◌, codes, decimal, false, is_err, OnOk, OnErr};
-ghost use Rattle.pg_pieces.specs.Writing.{Puts, pieces_bytes};
+ghost use Rattle.pg_text_pieces.specs.Writing.{Puts, pieces_bytes};
 ghost use Rattle.pg_tree.specs.Bytes.{AppendsPrefix};
 ghost use Rattle.pg_predict.specs.Findings.{code_text, line_of};
 ghost use Rattle.pg_predict.specs.Texts.{name_at};
@@ -8,16 +8,16 @@ ghost use Rattle.pg_predict.specs.Texts.{name_at};
 use crate::places::Place;
 use crate::source::Source;
 use crate::violation::code;
-use pg_form::NodeId;
-use pg_judge::ViolationKind;
-use pg_pieces::{Piece, Stopped, put, put_pieces, show_pieces};
+use pg_grammar_form::NodeId;
+use pg_predict_conditions::ViolationKind;
+use pg_text_pieces::{Piece, Stopped, put, put_pieces, show_pieces};
 use pg_tree::Meter;
 use std::fmt;
 use std::io::Write;
 use std::marker::Model;
 
-/// A finding: that a condition is broken at a node, how, and where the node stands. It is seen as the violation with what is said of
-/// it, and prints as its line, with no line feed.
+/// A finding: which condition is broken, how, and where its node stands. Contracts see it as the violation with its text.
+/// It prints as its line, without a line feed.
 #[derive(Drop)]
 pub struct Finding<'r> {
     source: &'r Source,
@@ -38,7 +38,7 @@ impl<'r> Model for Finding<'r> {
 impl<'r> Finding<'r> {
     ghost use Rattle.pg_predict.specs.Found.{IsThere, found_there};
 
-    /// That of a kind at a place.
+    /// The finding of a kind at a place.
     pub(crate) fn new(source: &'r Source, place: Place, kind: ViolationKind<usize>) -> Finding<'r>
         requires { IsThere source.now place }
         ensures { result ≡ found_there source.now place kind }
@@ -50,22 +50,30 @@ impl<'r> Finding<'r> {
         }
     }
 
-    /// The node (ours). It takes no memory.
+    /// The node (ours). It allocates no memory.
     pub fn node(&self) -> NodeId
         ensures { result ≡ self.now.violation.node }
     {
         self.place.node
     }
 
-    /// How a condition is broken there, with the alternatives and the numbers of the starts that it speaks of (ours). A start is known
-    /// by its number in the sets; that of operators, which needn't be one of theirs, by the number after all of those.
+    /// How a condition is broken there, with its alternatives and the numbers of its starts (ours). A start has
+    /// its number in the sets. The operator start, which needn't be in them, has the number after all of those.
     pub fn kind(&self) -> &ViolationKind<usize>
         ensures { result.now ≡ self.now.violation.kind }
     {
         &self.kind
     }
 
-    /// The number of the rule in whose body the node stands, from 0 in file order (ours).
+    /// That kind, moved out (ours). It allocates no memory.
+    pub fn into_kind(self) -> ViolationKind<usize>
+        ensures { result ≡ self.entry.violation.kind }
+    {
+        let Finding { kind: handed, .. } = self;
+        handed
+    }
+
+    /// The number of the rule whose body has the node, from 0 in file order (ours).
     pub fn rule(&self) -> usize
         ensures { result ≡ self.now.finding.rule }
     {
@@ -86,8 +94,8 @@ impl<'r> Finding<'r> {
         code(&self.kind)
     }
 
-    /// Puts its line, with a line feed, behind what a buffer holds, which is written where it is full (ours). The writer has to be fresh of
-    /// failures. The only error is that it failed, after a prefix of what it was to be given. It takes no memory.
+    /// Appends its line, with a line feed, to a buffer, which is written to the writer when it is full (ours). The writer must not have
+    /// failed yet. The only error is that it fails, after a prefix of what it was to get. It allocates no memory.
     pub fn put<W: Write>(&self, buffer: &mut Vec<u8>, writer: &mut Meter<W>) -> Result<(), Stopped>
         requires fresh { writer.old.failed ≡ false }
         ensures failed { writer.new.failed ≡ is_err result }
@@ -103,7 +111,7 @@ impl<'r> Finding<'r> {
     }
 }
 
-/// What stands before the words of a finding.
+/// The text before the words of a finding.
 fn front<'s>(source: &'s Source, place: &Place, code: &'s str) -> [Piece<'s>; 6]
     ensures { pieces_bytes result ≡ name_at source.now.texts place.now.rule ++ (codes ":" ++ (decimal place.now.number ++ (codes ": " ++ (code.now ++ codes " ")))) }
 {

@@ -1,17 +1,17 @@
-//! The way through all findings of a grammar, which keeps none of them.
+//! An iterator over all findings of a grammar, which keeps none of them.
 ghost use Rattle.std.specs.Prelude.{◌≡◌, ◌<◌, ◌∷◌, [], map, length, MatchOption};
 ghost use Rattle.std.specs.Option.{IfNone};
-ghost use Rattle.pg_judge.specs.Judged.{noted_grammar};
+ghost use Rattle.pg_predict_conditions.specs.Judged.{noted_grammar};
 ghost use Rattle.pg_predict.specs.Texts.{IsSource, place_at};
 
 use crate::finding::Finding;
 use crate::places::{Place, place_of};
 use crate::source::Source;
 use crate::way::{Way, go_on};
-use pg_form::NodeId;
+use pg_grammar_form::NodeId;
 use std::marker::Model;
 
-/// All findings that are still to come, in the order of nodes, conditions and alternatives. It is seen as their list, and takes no memory.
+/// All findings that are still to come, in the order of nodes, conditions and alternatives. Contracts see it as their list. It allocates no memory.
 #[derive(Drop)]
 pub struct Findings<'r> {
     source: &'r Source,
@@ -46,7 +46,7 @@ impl<'r> Findings<'r> {
         }
     }
 
-    /// The next finding; none, where none is left (ours). It takes no memory.
+    /// The next finding, or none if none is left (ours). It allocates no memory.
     pub fn next(&mut self) -> Option<Finding<'r>>
         ensures first { MatchOption result (self.old ≡ []) (λ finding. self.old ≡ finding ∷ self.new) }
         ensures ends { IfNone result (self.new ≡ []) }
@@ -62,7 +62,7 @@ impl<'r> Findings<'r> {
     }
 }
 
-/// The place of a node. It's worked out once for all findings of a node.
+/// The place of a node, computed once for all its findings.
 fn place_after(source: &Source, last: Place, node: usize) -> Place
     requires source { IsSource source.now }
     requires last { last ≡ place_at source.now.grammar.rules last.node }

@@ -1,19 +1,19 @@
-//! The first that is wrong with a grammar.
+//! The first violation of a grammar.
 //!
-//! The functions take no memory, and look no further than the first that is found.
+//! The functions allocate no memory, and stop at the first that they find.
 ghost use Rattle.std.specs.Prelude.{◌≡◌, ◌<◌, length};
-ghost use Rattle.pg_value.specs.Grammar.{IsGrammar};
+ghost use Rattle.pg_grammar_value.specs.Grammar.{IsGrammar};
 ghost use Rattle.pg_predict.specs.Broken.{IsFirstNoted, first_number};
-ghost use Rattle.pg_judge.specs.Judged.{noted_at};
-ghost use Rattle.pg_judge.specs.Suspects.{AreSuspects};
+ghost use Rattle.pg_predict_conditions.specs.Judged.{noted_at};
+ghost use Rattle.pg_predict_conditions.specs.Suspects.{AreSuspects};
 
 use crate::asking::{Asking, find_next};
 use crate::violation::{Broken, condition_number};
-use pg_form::NodeId;
-use pg_judge::Judge;
-use pg_value::Grammar;
+use pg_grammar_form::NodeId;
+use pg_grammar_value::Grammar;
+use pg_predict_conditions::Judge;
 
-/// The first node at which anything is wrong, and the number of the first condition that is broken there.
+/// The first node where anything is wrong, and the number of the first condition that is broken there.
 pub(crate) fn first_noted(judge: &Judge, grammar: &Grammar) -> Option<Broken>
     requires { AreSuspects grammar.now judge.now.sets judge.now.meetings judge.now.suspects }
     ensures noted { IsFirstNoted grammar.now judge.now result }

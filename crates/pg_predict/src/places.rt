@@ -1,10 +1,10 @@
-//! Where nodes stand: in which rule, and as which of its nodes.
+//! Where nodes stand: in which rule, and at which number in its body.
 ghost use Rattle.std.specs.Prelude.{◌≡◌, ◌<◌};
 ghost use Rattle.pg_predict.specs.Findings.{rule_of, body_of, number_in_rule};
 ghost use Rattle.pg_predict.specs.Texts.{place_at};
 
-use pg_form::NodeId;
-use pg_value::Rule;
+use pg_grammar_form::NodeId;
+use pg_grammar_value::Rule;
 
 /// A node, and where it stands.
 #[derive(Clone, Copy)]
@@ -17,7 +17,7 @@ pub struct Place {
     pub number: usize,
 }
 
-/// Where a node stands (ours). It takes no memory.
+/// The place of a node (ours). It allocates no memory.
 pub fn place_of(rules: &[Rule], node: NodeId) -> Place
     requires { node < 8192 }
     ensures { result ≡ place_at rules.now node }
@@ -30,7 +30,7 @@ pub fn place_of(rules: &[Rule], node: NodeId) -> Place
     }
 }
 
-/// The number of the last rule whose body isn't after a node.
+/// The number of the last rule whose body isn't after the node.
 fn rule_of(rules: &[Rule], node: usize) -> usize
     ensures { result ≡ rule_of rules.now node }
 {
@@ -43,7 +43,7 @@ fn rule_of(rules: &[Rule], node: usize) -> usize
     count.saturating_sub(1)
 }
 
-/// The number of the node that is the body of the rule with this number; 0, if there is no such rule.
+/// The number of the body of the rule with this number; 0 if there is no such rule.
 pub fn body_of(rules: &[Rule], rule: usize) -> usize
     ensures { result ≡ body_of rules.now rule }
 {

@@ -1,33 +1,32 @@
-//! A grammar that isn't accepted, and all that is wrong with it.
+//! A grammar that isn't accepted, and everything that is wrong with it.
 //!
-//! The findings can be very many, as those of each two alternatives of a choice. So they are found one by one as somebody goes through
-//! them (`findings.rt`), and never stand in memory together.
-ghost use Rattle.std.specs.Prelude.{◌≡◌, ◌<◌, false, true, length, take, IfOk, OnOk, OnErr, IsErrOf};
+//! There can be very many findings, such as one for every two alternatives of a choice. So they are found one by one on demand
+//! (`findings.rt`), and never stand in memory together.
+ghost use Rattle.std.specs.Prelude.{◌≡◌, ◌<◌, false, true, length, map, OnOk, IsErrOf};
 ghost use Rattle.std.specs.Io.KnownBytes.{Appends};
 ghost use Rattle.pg_tree.specs.Bytes.{AppendsPrefix};
 ghost use Rattle.pg_predict.specs.Findings.{lines_of};
 ghost use Rattle.pg_predict.specs.Found.{findings_of, violations_of};
-ghost use Rattle.pg_predict.specs.Refusals.{kinds_at};
-ghost use Rattle.pg_judge.specs.Violations.{counted};
+ghost use Rattle.pg_predict.specs.Refusals.{violations_at, kinds_at, found_of};
+ghost use Rattle.pg_predict_conditions.specs.Violations.{counted};
 
-use crate::at_node::{count_kinds, first_kinds};
+use crate::at_node::{FindingsAt, count_kinds};
+use crate::finding_lines::write_lines;
 use crate::findings::Findings;
-use crate::lines::write_lines;
 use crate::source::Source;
-use pg_form::NodeId;
-use pg_judge::ViolationKind;
+use pg_grammar_form::NodeId;
+use pg_grammar_value::Grammar;
 use pg_sets::Sets;
 use pg_tree::{Meter, WriteFault};
-use pg_value::Grammar;
-use std::alloc::{AllocError, Global};
+use std::alloc::Global;
 use std::fmt;
 use std::io::Write;
 use std::marker::Model;
 
-/// How many bytes of lines are kept before they are written.
+/// The size of the buffer for lines, in bytes.
 const BUFFER: usize = 65_536;
 
-/// A grammar that isn't predictive, seen with all its findings, at least one, in the order of nodes, numbers and alternatives.
+/// A grammar that isn't predictive. Contracts see it with all its findings, at least one, in the order of nodes, numbers and alternatives.
 #[derive(Drop)]
 pub struct Refused {
     source: Source,
@@ -46,7 +45,7 @@ impl Model for Refused {
 impl Refused {
     ghost use Rattle.pg_predict.specs.Refusals.{IsRefusal, IsRefused, refused_by};
 
-    /// The grammar of the source, in which something is wrong.
+    /// The refused grammar of this source, in which something must be wrong.
     pub(crate) fn new(source: Source) -> Refused
         requires { IsRefusal source }
         ensures { result ≡ refused_by source }
@@ -54,7 +53,7 @@ impl Refused {
         Refused { source }
     }
 
-    /// The grammar. It takes no memory.
+    /// The grammar. It allocates no memory.
     pub fn grammar(&self) -> &Grammar
         ensures grammar { result.now ≡ self.now.grammar }
         ensures refused { IsRefused self.now.grammar self.now }
@@ -62,7 +61,7 @@ impl Refused {
         &self.source.grammar
     }
 
-    /// Its sets. It takes no memory.
+    /// Its sets. It allocates no memory.
     pub fn sets(&self) -> &Sets
         ensures sets { result.now ≡ self.now.sets }
         ensures refused { IsRefused self.now.grammar self.now }
@@ -70,7 +69,7 @@ impl Refused {
         self.source.judge.sets()
     }
 
-    /// The way through all findings, from the first on (ours). It takes no memory.
+    /// All findings, from the first on (ours). It allocates no memory.
     pub fn findings(&self) -> Findings<'_>
         ensures violations { violations_of result ≡ self.now.violations }
         ensures findings { findings_of result ≡ self.now.findings }
@@ -78,22 +77,15 @@ impl Refused {
         Findings::of(&self.source)
     }
 
-    /// What is wrong at a node, in the order of conditions and alternatives, and no more than so many. A start is known by its number
-    /// in the sets; that of operators, which needn't be one of theirs, by the number after all of those. The only error is that
-    /// memory ran out.
-    pub fn kinds_at(
-        &self,
-        alloc: Global,
-        node: NodeId,
-        most: usize,
-    ) -> Result<Vec<ViolationKind<usize>>, AllocError>
+    /// The findings at a node, in the order of conditions and alternatives (ours). It allocates no memory.
+    pub fn findings_at(&self, node: NodeId) -> FindingsAt<'_>
         requires { node < length self.now.grammar.nodes }
-        ensures { IfOk result (λ kinds. kinds.items ≡ take most (kinds_at node self.now.violations)) }
+        ensures { result ≡ map (found_of self.now) (violations_at node self.now.violations) }
     {
-        first_kinds(alloc, &self.source, node, most)
+        FindingsAt::of(&self.source, node)
     }
 
-    /// How many things are wrong at a node; the greatest number that there is stands for more. It takes no memory.
+    /// The number of findings at a node, or the greatest number if there are more. It allocates no memory.
     pub fn count_at(&self, node: NodeId) -> usize
         requires { node < length self.now.grammar.nodes }
         ensures { result ≡ counted (kinds_at node self.now.violations) }
@@ -102,9 +94,9 @@ impl Refused {
     }
 
     /// Writes a line for each finding, with the rule's name, the node's number in it and the text of what is wrong, in as many
-    /// calls as the writer wants. It is not flushed.
+    /// calls as the writer needs. It doesn't flush the writer.
     ///
-    /// The memory that it takes doesn't grow with the findings, and is there before the first byte is written.
+    /// Its memory doesn't grow with the findings, and is allocated before the first byte is written.
     pub fn write_findings<W: Write>(
         &self,
         alloc: Global,
@@ -112,7 +104,7 @@ impl Refused {
     ) -> Result<(), WriteFault>
         requires { writer.old.failed ≡ false }
 
-        // The lines were taken, and no more.
+        // The writer took exactly the lines.
         ensures ok { OnOk result (Appends (W.contents writer.old.inner) (W.contents writer.new.inner) (lines_of self.now.findings)) }
         ensures stays { OnOk result (writer.new.failed ≡ false) }
 

@@ -1,32 +1,32 @@
-//! The words of violations: the one place where they are written.
+//! The words of violations, which are written only here.
 //!
-//! The names of rules and the printed starts are made before, so that a line is put together from pieces, and takes no memory.
+//! The names of rules and the texts of starts are made in advance, so a line is put together from pieces, without allocating.
 ghost use Rattle.std.specs.Prelude.{◌≡◌, ◌++◌, IfOk, map, decimal, string_bytes};
-ghost use Rattle.pg_own_starts.specs.PrintedStarts.{start_text};
-ghost use Rattle.pg_judge.specs.Judged.{all_starts};
-ghost use Rattle.pg_judge.specs.declared.violation.ViolationKind.TheVariants.{AlternativesMeet, AlternativeMeetsFollow, RoundMeetsFollow};
+ghost use Rattle.pg_sets_own.specs.PrintedStarts.{start_text};
+ghost use Rattle.pg_predict_conditions.specs.Judged.{all_starts};
+ghost use Rattle.pg_predict_conditions.specs.declared.violation.ViolationKind.TheVariants.{AlternativesMeet, AlternativeMeetsFollow, RoundMeetsFollow};
 ghost use Rattle.pg_predict.specs.Findings.{name_text, words_text};
 ghost use Rattle.pg_predict.specs.Texts.{AreTexts, name_at, start_text_at};
-ghost use Rattle.pg_pieces.specs.Writing.{pieces_bytes};
+ghost use Rattle.pg_text_pieces.specs.Writing.{pieces_bytes};
 
-use pg_judge::{Judge, ViolationKind};
-use pg_own_starts::{ListedStart, printed_start};
-use pg_pieces::Piece;
-use pg_value::{Grammar, Rule};
+use pg_grammar_value::{Grammar, Rule};
+use pg_predict_conditions::{Judge, ViolationKind};
+use pg_sets_own::{ListedStart, printed_start};
+use pg_text_pieces::Piece;
 use std::alloc::{AllocError, Global};
 
-/// Texts for a grammar's rules and starts, from which what is said of a violation is put together (ours).
+/// The texts of a grammar's rules and starts, from which the words of a violation are put together (ours).
 #[derive(Drop)]
 pub struct Texts {
     /// The names, by the numbers of rules.
     pub names: Vec<String>,
     /// The starts of the sets.
     pub listed: Vec<String>,
-    /// The start of operators; the end, where there are none.
+    /// The operator start, or `end` if there are no operators.
     pub own: String,
 }
 
-/// The texts of a grammar. The only error is that memory ran out.
+/// The texts of a grammar.
 pub(crate) fn texts_of(alloc: Global, grammar: &Grammar, judge: &Judge) -> Result<Texts, AllocError>
     ensures { IfOk result (AreTexts grammar.now (all_starts judge.now)) }
 {
@@ -36,7 +36,7 @@ pub(crate) fn texts_of(alloc: Global, grammar: &Grammar, judge: &Judge) -> Resul
     Ok(Texts { names, listed, own })
 }
 
-/// The names of rules. The only error is that memory ran out.
+/// The names of rules.
 fn names(alloc: Global, rules: &[Rule]) -> Result<Vec<String>, AllocError>
     ensures { IfOk result (λ names. map string_bytes names.items ≡ map name_text rules.now) }
 {
@@ -47,7 +47,7 @@ fn names(alloc: Global, rules: &[Rule]) -> Result<Vec<String>, AllocError>
     Ok(names)
 }
 
-/// Starts in words. The only error is that memory ran out.
+/// The printed forms of starts.
 fn start_texts(
     alloc: Global,
     grammar: &Grammar,
@@ -62,7 +62,7 @@ fn start_texts(
     Ok(texts)
 }
 
-/// The start of operators in words; `end`, where there are none. The only error is that memory ran out.
+/// The printed form of the operator start, or `end` if there are no operators.
 #[tactic(auto, using(crate::proofs::Told::own_some, crate::proofs::Told::own_none))]
 fn own_text(alloc: Global, grammar: &Grammar, judge: &Judge) -> Result<String, AllocError>
     ensures { IfOk result (λ text. string_bytes text ≡ start_text grammar.now (all_starts judge.now).own) }
@@ -74,7 +74,7 @@ fn own_text(alloc: Global, grammar: &Grammar, judge: &Judge) -> Result<String, A
 }
 
 impl Texts {
-    /// The name of a rule; nothing, where there is no such rule (ours).
+    /// The name of a rule; empty if there is no such rule (ours).
     pub fn name(&self, rule: usize) -> &str
         ensures { result.now ≡ name_at self.now rule }
     {
@@ -84,7 +84,7 @@ impl Texts {
         }
     }
 
-    /// The start with this number: one of the sets, or that of operators (ours).
+    /// The text of the start with this number: one of the sets', or the operator start (ours).
     pub fn start(&self, number: usize) -> &str
         ensures { result.now ≡ start_text_at self.now number }
     {
@@ -94,7 +94,7 @@ impl Texts {
         }
     }
 
-    /// What is wrong, in words (ours).
+    /// The words of a violation (ours).
     pub fn words(&self, kind: &ViolationKind<usize>) -> [Piece<'_>; 8]
         ensures { pieces_bytes result ≡ words_text (start_text_at self.now) kind.now }
     {
@@ -123,7 +123,7 @@ impl Texts {
         }
     }
 
-    /// That two alternatives of a choice meet.
+    /// The words for two alternatives of a choice that meet.
     fn alternatives_meet(&self, j: usize, k: usize, one: usize, other: usize) -> [Piece<'_>; 8]
         ensures { pieces_bytes result ≡ words_text (start_text_at self.now) (AlternativesMeet j k one other) }
     {
@@ -139,7 +139,7 @@ impl Texts {
         ]
     }
 
-    /// That an alternative of a choice meets what follows the choice.
+    /// The words for an alternative that meets what follows its choice.
     fn alternative_meets_follow(&self, k: usize, one: usize, other: usize) -> [Piece<'_>; 8]
         ensures { pieces_bytes result ≡ words_text (start_text_at self.now) (AlternativeMeetsFollow k one other) }
     {
@@ -155,7 +155,7 @@ impl Texts {
         ]
     }
 
-    /// That a round of a repetition meets what follows it.
+    /// The words for a round of a repetition that meets what follows it.
     fn round_meets_follow(&self, one: usize, other: usize) -> [Piece<'_>; 8]
         ensures { pieces_bytes result ≡ words_text (start_text_at self.now) (RoundMeetsFollow one other) }
     {
@@ -172,7 +172,7 @@ impl Texts {
     }
 }
 
-/// A text alone.
+/// One text.
 fn alone(text: &str) -> [Piece<'_>; 8]
     ensures { pieces_bytes result ≡ text.now }
 {
@@ -188,7 +188,7 @@ fn alone(text: &str) -> [Piece<'_>; 8]
     ]
 }
 
-/// A text and its end.
+/// A text, and its end.
 fn ended<'t>(text: &'t str, end: &'t str) -> [Piece<'t>; 8]
     ensures { pieces_bytes result ≡ text.now ++ end.now }
 {

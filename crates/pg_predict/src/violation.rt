@@ -3,8 +3,8 @@
 ghost use Rattle.std.specs.Prelude.{◌≡◌};
 ghost use Rattle.pg_predict.specs.Findings.{code_text, condition_number};
 
-use pg_form::NodeId;
-use pg_judge::ViolationKind;
+use pg_grammar_form::NodeId;
+use pg_predict_conditions::ViolationKind;
 
 /// A condition that is broken at a node.
 #[derive(Debug, Clone, Copy)]
@@ -15,7 +15,7 @@ pub struct Broken {
     pub condition: u8,
 }
 
-/// The number of the condition that is broken, as in C1 to C11 (ours). It takes no memory.
+/// The number of the condition that is broken, as in C1 to C11 (ours). It allocates no memory.
 pub fn condition_number(kind: &ViolationKind<usize>) -> u8
     ensures { result ≡ condition_number kind.now }
 {
@@ -33,7 +33,7 @@ pub fn condition_number(kind: &ViolationKind<usize>) -> u8
     }
 }
 
-/// The code of the condition that is broken: its number behind a C (ours). It takes no memory.
+/// The code of the condition that is broken: C and its number (ours). It allocates no memory.
 #[tactic(auto, using(crate::proofs::Codes::code_1, crate::proofs::Codes::code_2, crate::proofs::Codes::code_3, crate::proofs::Codes::code_4, crate::proofs::Codes::code_5, crate::proofs::Codes::code_6, crate::proofs::Codes::code_7, crate::proofs::Codes::code_8, crate::proofs::Codes::code_9, crate::proofs::Codes::code_11))]
 pub fn code(kind: &ViolationKind<usize>) -> &'static str
     ensures { result.now ≡ code_text (condition_number kind.now) }

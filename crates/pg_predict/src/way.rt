@@ -1,4 +1,4 @@
-//! The way through all that is wrong with a grammar: node by node, and at a node question by question.
+//! The way through all violations of a grammar: node by node, and question by question at each node.
 ghost use Rattle.std.specs.Prelude.{◌≡◌, ◌∷◌, ◌<◌, [], MatchOption, IfSome, length};
 ghost use Rattle.std.specs.Option.{IfNone};
 ghost use Rattle.pg_predict.specs.Rest.{rest_of};
@@ -6,10 +6,10 @@ ghost use Rattle.pg_predict.specs.Texts.{IsSource};
 
 use crate::asking::{Asking, find_next};
 use crate::source::Source;
-use pg_form::NodeId;
-use pg_judge::ViolationKind;
+use pg_grammar_form::NodeId;
+use pg_predict_conditions::ViolationKind;
 
-/// The number of the node that is asked, and the next question at it.
+/// The number of the current node, and the next question there.
 #[derive(Clone, Copy)]
 pub(crate) struct Way {
     pub(crate) node: usize,
@@ -17,7 +17,7 @@ pub(crate) struct Way {
 }
 
 impl Way {
-    /// The whole way.
+    /// The start of the way.
     pub(crate) fn whole() -> Way
         ensures { result ≡ record { node = 0; asking = record { series = 0; question = 0 } } }
     {
@@ -28,7 +28,7 @@ impl Way {
     }
 }
 
-/// What is wrong next, at the node to which the way leads.
+/// The next violation; it is at the node to which the way has moved.
 pub(crate) fn go_on(source: &Source, way: &mut Way) -> Option<ViolationKind<usize>>
     requires { IsSource source.now }
     ensures finds { MatchOption result (rest_of source.now.grammar source.now.judge way.old ≡ []) (λ kind. rest_of source.now.grammar source.now.judge way.old ≡ record { node = way.new.node; kind = kind } ∷ rest_of source.now.grammar source.now.judge way.new) }

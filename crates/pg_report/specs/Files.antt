@@ -1,4 +1,4 @@
--- What is read of a file.
+-- What is read from a file.
 use Rattle.std.specs.Prelude.{ℕ, List, Option}
 use Rattle.std.specs.Io.KnownBytes.{Consumes, IsAtEnd}
 

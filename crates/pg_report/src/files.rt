@@ -1,7 +1,7 @@
 //! The files that a command reads.
 //!
-//! What one answer needs is opened before any of it is read, and a file that can't be opened or read is told at once. Of several grammars
-//! or texts each is opened when its turn comes. The name `-` stands for standard input.
+//! All files that one answer needs are opened before any of them is read, and a file that can't be opened or read is reported at once. If there are several
+//! grammars or texts, each is opened when its turn comes. The name `-` stands for standard input.
 
 ghost use Rattle.std.specs.Prelude.{IfOk, IfSome};
 ghost use Rattle.pg_report.specs.Files.{IsAllOf};
@@ -9,23 +9,23 @@ ghost use Rattle.pg_report.specs.Files.{IsAllOf};
 use crate::handle::Handle;
 use crate::printing::{cannot_read, print_report};
 use crate::reporting::Names;
-use pg_grammar_bench::BenchFault;
+use pg_bench_grammar::BenchFault;
 use pg_tree::{Meter, ReadFault, read_bytes};
 use std::alloc::{AllocError, Global};
 use std::io::{Input, Read};
 use std::rt::Files;
 use std::{fs, io};
 
-/// The most bytes of a grammar file, of a trail or of a certificate that are read.
+/// The most bytes that are read of a grammar file, a trail or a certificate.
 const READ_LIMIT: usize = 67_108_864;
 
-/// The device that is empty when it is read.
+/// The device that reads as empty.
 const NULL_DEVICE: &str = "/dev/null";
 
 /// The name that stands for standard input.
 pub const STANDARD_INPUT: &str = "-";
 
-/// What a name stands for, open.
+/// An open file, or standard input.
 #[derive(Drop)]
 pub enum Source<F, I> {
     File(F),
@@ -41,16 +41,15 @@ impl<F: Read, I: Read> Read for Source<F, I> {
     }
 }
 
-/// A file on the null device, if it can be opened. Three of them are to be opened before all other files, and held to the end.
+/// A file on the null device, if it can be opened. The program opens three of them before all other files, and keeps them open to the end.
 ///
-/// Where the caller closed descriptors from 0 to 2, these take their numbers, and so no file that is named takes one: a closed
-/// standard input reads as empty, and since they are open to be read alone, output on a closed descriptor still fails.
+/// If the caller closed descriptors from 0 to 2, these files take their numbers, so no file that is named does. A closed standard input then reads as empty.
+/// Since the files are open only for reading, output on a closed descriptor still fails.
 pub fn null_file<R: Files>(rt: &R) -> Option<R::File> {
     fs::open(rt, NULL_DEVICE).ok()
 }
 
-/// The bytes of the grammar in a file, and the open text. Both are opened before either is read; none if one can't be, which
-/// is printed.
+/// The bytes of the grammar in a file, and the open text. Both are opened before either is read. `None` if one can't be used, which is reported.
 pub fn inputs<R: AllocGlobal + Files + Input + Eprint>(
     rt: &Handle<R>,
     grammar: &str,
@@ -65,7 +64,7 @@ pub fn inputs<R: AllocGlobal + Files + Input + Eprint>(
     }
 }
 
-/// The same with the bytes of the trail in a third file, which is read after the grammar's.
+/// As `inputs`, with the bytes of the trail in a third file. It is read after the grammar's.
 pub fn inputs_with_trail<R: AllocGlobal + Files + Input + Eprint>(
     rt: &Handle<R>,
     grammar: &str,
@@ -84,8 +83,8 @@ pub fn inputs_with_trail<R: AllocGlobal + Files + Input + Eprint>(
     }
 }
 
-/// The bytes of the grammar in a file and of a certificate of it in another, which is read after the grammar's. Both are opened before
-/// either is read; none if one can't be, which is printed.
+/// The bytes of the grammar in a file and of its certificate in another, which is read after the grammar's. Both are opened before either is read. `None` if
+/// one can't be used, which is reported.
 pub fn grammar_with_certificate<R: AllocGlobal + Files + Input + Eprint>(
     rt: &Handle<R>,
     grammar: &str,
@@ -99,7 +98,7 @@ pub fn grammar_with_certificate<R: AllocGlobal + Files + Input + Eprint>(
     }
 }
 
-/// The bytes of the grammar in a file; none if it can't be opened or read, which is printed.
+/// The bytes of the grammar in a file. `None` if it can't be opened or read, which is reported.
 pub fn grammar_alone<R: AllocGlobal + Files + Input + Eprint>(
     rt: &Handle<R>,
     grammar: &str,
@@ -110,24 +109,30 @@ pub fn grammar_alone<R: AllocGlobal + Files + Input + Eprint>(
     }
 }
 
-/// The file of this name, or standard input, open; none if it can't be, which is printed.
+/// The file with this name, or standard input, open. `None` if it can't be opened, which is reported.
 pub fn opened<R: Files + Input + Eprint>(
     rt: &Handle<R>,
     name: &str,
 ) -> Option<Source<R::File, R::Reader>> {
+    let file = found(rt, name);
+    if file.is_none() {
+        cannot_read(rt.rt, name);
+    }
+    file
+}
+
+/// The file with this name, or standard input, open. `None` if it can't be opened.
+pub fn found<R: Files + Input>(rt: &Handle<R>, name: &str) -> Option<Source<R::File, R::Reader>> {
     if name == STANDARD_INPUT {
         return Some(Source::Input(rt.rt.reader()));
     }
     match fs::open(rt.rt, name) {
         Ok(file) => Some(Source::File(file)),
-        Err(_) => {
-            cannot_read(rt, name);
-            None
-        }
+        Err(_) => None,
     }
 }
 
-/// What two names stand for, open; none if one can't be opened, which is printed.
+/// The files with two names, open. `None` if one can't be opened, which is reported.
 fn opened_both<R: Files + Input + Eprint>(
     rt: &Handle<R>,
     first: &str,
@@ -138,9 +143,9 @@ fn opened_both<R: Files + Input + Eprint>(
     Some((first, second))
 }
 
-/// The bytes of an open text; none if it can't be read, which is printed as a parse would.
+/// The bytes of an open text. `None` if it can't be read, which is reported as by a parse.
 pub fn text_alone<R: AllocGlobal + Eprint, F: Read + Drop>(
-    rt: &R,
+    rt: &Handle<R>,
     file: F,
     names: Names,
 ) -> Result<Option<Vec<u8>>, AllocError> {
@@ -151,9 +156,9 @@ pub fn text_alone<R: AllocGlobal + Eprint, F: Read + Drop>(
     Ok(bytes)
 }
 
-/// The bytes of two open files of these names, one after the other; none if one can't be read, or has more than are read, which is printed.
+/// The bytes of two open files with these names, one after the other. `None` if one can't be read or is too long, which is reported.
 fn both_contents<R: AllocGlobal + Eprint, F: Read + Drop>(
-    rt: &R,
+    rt: &Handle<R>,
     first: F,
     first_name: &str,
     second: F,
@@ -168,9 +173,9 @@ fn both_contents<R: AllocGlobal + Eprint, F: Read + Drop>(
     }
 }
 
-/// The bytes of an open file of this name; none if it can't be read, or has more than are read, which is printed.
+/// The bytes of an open file with this name. `None` if it can't be read or is too long, which is reported.
 fn contents<R: AllocGlobal + Eprint, F: Read + Drop>(
-    rt: &R,
+    rt: &Handle<R>,
     file: F,
     name: &str,
 ) -> Result<Option<Vec<u8>>, AllocError>
@@ -178,12 +183,12 @@ fn contents<R: AllocGlobal + Eprint, F: Read + Drop>(
 {
     let bytes = all_of(rt.alloc(), file)?;
     if bytes.is_none() {
-        cannot_read(rt, name);
+        cannot_read(rt.rt, name);
     }
     Ok(bytes)
 }
 
-/// All bytes of an open file; none if it can't be read, or has more than are read.
+/// All bytes of an open file. `None` if it can't be read or is too long.
 fn all_of<F: Read + Drop>(alloc: Global, file: F) -> Result<Option<Vec<u8>>, AllocError>
     ensures { IfOk result (λ found. IfSome found (λ bytes. IsAllOf (F.remaining file) bytes.items)) }
 {

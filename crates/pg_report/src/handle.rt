@@ -1,4 +1,6 @@
-//! The handle that commands are given: the program's own, and whether it prints.
+//! The handle that commands use: the program's own, and whether it prints.
+//!
+//! A quiet handle drops what is printed through it. Why something can't be used is still reported: that goes to the program's own handle.
 
 ghost use Rattle.std.specs.Prelude.{◌≡◌};
 
@@ -7,19 +9,19 @@ use std::cell::Cell;
 use std::fmt::Display;
 use std::io;
 
-/// A handle by which files are opened, and which prints by it, or, where it is quiet, drops what it is to print.
+/// A handle that opens files and prints. If it is quiet, it drops what is printed.
 #[derive(Drop)]
 pub struct Handle<'a, R> {
     /// What opens files and prints.
     pub rt: &'a R,
-    /// Whether nothing is printed.
+    /// Whether nothing is printed except why something can't be used.
     pub is_quiet: bool,
-    /// Whether standard output took something not.
+    /// Whether a write to standard output has failed.
     has_failed: Cell<bool>,
 }
 
 impl<'a, R> Handle<'a, R> {
-    /// A handle that prints by this one, unless it is to be quiet.
+    /// A handle that prints through `rt`, unless it is quiet.
     pub fn new(rt: &'a R, is_quiet: bool) -> Handle<'a, R> {
         Handle {
             rt,
@@ -28,12 +30,12 @@ impl<'a, R> Handle<'a, R> {
         }
     }
 
-    /// Whether standard output took something not, so that it is of no use to go on.
+    /// Whether a write to standard output has failed.
     pub fn has_failed(&self) -> bool {
         self.has_failed.get()
     }
 
-    /// What a write came to, kept in mind if it failed.
+    /// The result of a write. Remembers it if it failed.
     fn noted<T>(&self, written: io::Result<T>) -> io::Result<T>
         ensures { result ≡ written }
     {

@@ -1,11 +1,12 @@
-//! What goes to standard error, and what is found of a certificate to standard output, with the exit status that goes with it.
+//! Printing to standard error, and the verdict on a certificate to standard output, with the exit status that belongs to it.
 
 ghost use Rattle.std.specs.Prelude.{◌≡◌, ◌⊎◌, IfOk};
 ghost use Rattle.pg_pred.specs.Offer.{offer_of};
 ghost use Rattle.pg_report.specs.Status.{status_of, status_of_verdict, IsLoading};
 
+use crate::handle::Handle;
 use crate::reporting::{Names, status, write_report};
-use pg_grammar_bench::{AcceptedGrammar, BenchFault, accepted_of};
+use pg_bench_grammar::{AcceptedGrammar, BenchFault, accepted_of};
 use pg_pred::Registry;
 use pg_tree::{Meter, WriteFault, write_bytes};
 use std::alloc::AllocError;
@@ -13,12 +14,13 @@ use std::fmt::Display;
 use std::io;
 use std::io::Write;
 
-/// The exit status where words or files can't be used.
+/// The exit status if words or files can't be used.
 pub const UNUSABLE: u8 = 2;
 
-/// Prints the report of a fault, as far as standard error takes it, and gives its status.
+/// Prints the report of a fault, as far as standard error accepts it, and answers its status. A quiet handle doesn't print faults with status 1, but those
+/// with the statuses 2 and 3.
 pub fn print_report<R: AllocGlobal + Eprint>(
-    rt: &R,
+    rt: &Handle<R>,
     fault: BenchFault,
     names: Names,
 ) -> Result<u8, AllocError>
@@ -29,24 +31,28 @@ pub fn print_report<R: AllocGlobal + Eprint>(
     printed
 }
 
-/// The same of a fault that is lent.
+/// As `print_report`, for a borrowed fault.
 pub(crate) fn print_fault<R: AllocGlobal + Eprint>(
-    rt: &R,
+    rt: &Handle<R>,
     fault: &BenchFault,
     names: Names,
 ) -> Result<u8, AllocError>
     ensures { IfOk result (λ status. status ≡ status_of fault.now) }
 {
-    let mut writer = Meter::new(ErrorWriter { rt });
+    let exit_status = status(fault);
+    if rt.is_quiet && exit_status < UNUSABLE {
+        return Ok(exit_status);
+    }
+    let mut writer = Meter::new(ErrorWriter { rt: rt.rt });
     match write_report(rt.alloc(), fault, names, &mut writer) {
-        Ok(()) | Err(WriteFault::Writer) => Ok(status(fault)),
+        Ok(()) | Err(WriteFault::Writer) => Ok(exit_status),
         Err(WriteFault::Memory) => Err(AllocError),
     }
 }
 
-/// The grammar that these bytes spell, loaded; where it isn't accepted, why is printed, as far as standard error takes it, and the status given.
+/// The grammar that these bytes spell, loaded. If it isn't accepted, prints the reason as far as standard error accepts it, and answers the status.
 pub fn loaded<R: AllocGlobal + Eprint>(
-    rt: &R,
+    rt: &Handle<R>,
     bytes: &[u8],
     grammar: &str,
     registry: &Registry,
@@ -59,9 +65,10 @@ pub fn loaded<R: AllocGlobal + Eprint>(
     }
 }
 
-/// Prints what was found of a certificate: `accepted`, or why it shows nothing, on standard output; and every other fault as its report.
+/// Prints the verdict on a certificate to standard output: `accepted`, or why it doesn't show that the grammar is accepted. Prints the report of any other
+/// fault.
 pub fn print_verdict<R: AllocGlobal + Print + Eprint>(
-    rt: &R,
+    rt: &Handle<R>,
     verdict: Result<(), BenchFault>,
     names: Names,
 ) -> Result<u8, AllocError>
@@ -77,9 +84,9 @@ pub fn print_verdict<R: AllocGlobal + Print + Eprint>(
     }
 }
 
-/// Prints why a certificate shows nothing.
+/// Prints why a certificate doesn't show that the grammar is accepted.
 fn print_refuted<R: AllocGlobal + Print + Eprint>(
-    rt: &R,
+    rt: &Handle<R>,
     fault: &BenchFault,
     names: Names,
 ) -> Result<u8, AllocError>
@@ -101,7 +108,7 @@ fn print_refuted<R: AllocGlobal + Print + Eprint>(
 
 /// Prints the report of a fault to standard output.
 fn print_not_verified<R: AllocGlobal + Print + Eprint>(
-    rt: &R,
+    rt: &Handle<R>,
     fault: &BenchFault,
     names: Names,
 ) -> Result<u8, AllocError>
@@ -115,10 +122,10 @@ fn print_not_verified<R: AllocGlobal + Print + Eprint>(
     }
 }
 
-/// Standard error as a writer of text. It takes all that it is given, or fails.
+/// Standard error as a writer of text. It accepts all that it is given, or fails.
 #[derive(Drop)]
 pub struct ErrorWriter<'a, R> {
-    /// What prints.
+    /// The handle that prints.
     pub rt: &'a R,
 }
 
@@ -136,28 +143,28 @@ impl<R: Eprint> Write for ErrorWriter<'_, R> {
     }
 }
 
-/// Says that a file can't be read, and gives the status.
+/// Says that a file can't be read, and answers the status.
 pub(crate) fn cannot_read<R: Eprint>(rt: &R, name: &str) -> u8
     ensures { result ≡ UNUSABLE }
 {
     refuse(rt, format_args!("{name}: cannot read"))
 }
 
-/// Says that a grammar has no such rule or node, and gives the status.
+/// Says that a grammar has no such rule or node, and answers the status.
 pub(crate) fn not_there<R: Eprint>(rt: &R, name: &str, asked: &str) -> u8
     ensures { result ≡ UNUSABLE }
 {
-    refuse(rt, format_args!("{name}: no rule or node {asked}"))
+    refuse(rt, format_args!("{name}: there is no rule or node {asked}"))
 }
 
-/// Says that standard output takes no more, and gives the status.
+/// Says that standard output can't be written, and answers the status.
 pub fn cannot_write<R: Eprint>(rt: &R) -> u8
     ensures { result ≡ UNUSABLE }
 {
     refuse(rt, BenchFault::Writer)
 }
 
-/// Prints a page to standard output, and gives the status.
+/// Prints a page to standard output, and answers the status.
 pub fn print_page<R: AllocGlobal + Print + Eprint>(rt: &R, page: &str) -> Result<u8, AllocError>
     ensures { IfOk result (λ status. (status ≡ UNUSABLE) ⊎ (status ≡ 0)) }
 {
@@ -169,7 +176,7 @@ pub fn print_page<R: AllocGlobal + Print + Eprint>(rt: &R, page: &str) -> Result
     }
 }
 
-/// Says why nothing can be done, and gives the status.
+/// Says why nothing can be done, and answers the status.
 pub fn refuse<R: Eprint, M: Display + Drop>(rt: &R, message: M) -> u8
     ensures { result ≡ UNUSABLE }
 {
@@ -177,12 +184,12 @@ pub fn refuse<R: Eprint, M: Display + Drop>(rt: &R, message: M) -> u8
     UNUSABLE
 }
 
-/// Prints a line to standard error, as far as that takes it.
+/// Prints a line to standard error, as far as it is accepted there.
 pub fn say<R: Eprint, M: Display + Drop>(rt: &R, message: M) {
     let _ = rt.eprintln(message);
 }
 
-/// Prints a text to standard error, as far as that takes it.
+/// Prints a text to standard error, as far as it is accepted there.
 pub(crate) fn put<R: Eprint>(rt: &R, text: &str) {
     let _ = rt.eprint(text);
 }

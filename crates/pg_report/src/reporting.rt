@@ -1,7 +1,7 @@
-//! What the program says of a fault, and the exit status that goes with it.
+//! The report of a fault, and its exit status.
 //!
-//! A fault of a file begins with the file's name as the caller gave it, so that an editor can jump to it. Printing it to
-//! standard error is `printing.rt`'s.
+//! The report of a fault of a file begins with the file's name as the caller gave it, so that an editor can jump there. `printing.rt` prints reports to
+//! standard error.
 
 ghost use Rattle.std.specs.Prelude.{◌≡◌, ◌++◌, true, false, IfOk, OnOk, IsErrOf};
 ghost use Rattle.std.specs.String.{string_bytes};
@@ -10,20 +10,20 @@ ghost use Rattle.pg_tree.specs.Bytes.{AppendsPrefix};
 ghost use Rattle.pg_report.specs.Status.{status_of};
 ghost use Rattle.pg_report.specs.Texts.{front_of, line_of, text_of, report_of, names_of};
 
-use pg_grammar_bench::BenchFault;
+use pg_bench_grammar::BenchFault;
 use pg_message::render;
 use pg_tree::{Meter, WriteFault, write_bytes};
 use std::alloc::{AllocError, Global};
 use std::io::Write;
 
-/// The names of the files of a run, as the caller gave them; those that it has none of are empty.
+/// The names of the files of a run, as the caller gave them; empty for a file that the run doesn't have.
 #[derive(Clone, Copy)]
 pub struct Names<'a> {
     /// The name of the grammar file.
     pub grammar: &'a str,
     /// The name of the text.
     pub text: &'a str,
-    /// The name of the file that a trail is read from.
+    /// The name of the file with the trail.
     pub trail: &'a str,
 }
 
@@ -43,8 +43,8 @@ impl<'a> Names<'a> {
     }
 }
 
-/// Writes the report of a fault in a run over files of these names: a line for each finding of a grammar that is refused, a
-/// parse error as Text.Parsec prints it but for the four differences in docs/DECISIONS.md, and one line for each other fault.
+/// Writes the report of a fault in a run over files with these names: a line for each finding of a refused grammar, a parse error as Text.Parsec prints it
+/// but for the four differences in docs/PARSEC.md, and one line for any other fault. Fails if the writer fails or memory runs out.
 ///
 /// Memory runs out before the first byte, or not at all.
 pub fn write_report<W: Write>(
@@ -90,15 +90,14 @@ fn write_text<W: Write>(
     ensures failed { IsErrOf result WriteFault.Writer → writer.new.failed ≡ true }
     ensures memory { IsErrOf result WriteFault.Memory → writer.new ≡ writer.old }
 {
-    match text(alloc, fault, names) {
+    match said_of(alloc, fault, names) {
         Ok(text) => write_bytes(text.as_bytes(), writer),
         Err(_) => Err(WriteFault::Memory),
     }
 }
 
-/// What is written of a fault that is told at once: a parse error as it is printed in the text of the run, and a line for each
-/// other fault.
-fn text(alloc: Global, fault: &BenchFault, names: Names) -> Result<String, AllocError>
+/// The report of a fault that is made at once: a parse error as it is printed for the text of the run, or the line of any other fault.
+pub fn said_of(alloc: Global, fault: &BenchFault, names: Names) -> Result<String, AllocError>
     ensures { IfOk result (λ text. string_bytes text ≡ text_of fault.now (names_of names.entry)) }
 {
     match fault {
@@ -131,7 +130,7 @@ pub fn status(fault: &BenchFault) -> u8
     }
 }
 
-/// The fault after the name of the file that it is about, if it is about one.
+/// The line of a fault, after the name of the file that it is about, if it is about one.
 fn line(alloc: Global, fault: &BenchFault, names: Names) -> Result<String, AllocError>
     ensures { IfOk result (λ line. string_bytes line ≡ line_of fault.now (names_of names.entry)) }
 {
@@ -140,7 +139,7 @@ fn line(alloc: Global, fault: &BenchFault, names: Names) -> Result<String, Alloc
     Ok(line)
 }
 
-/// The name of the file that a fault is about, and the mark after it; both are empty where it is about none.
+/// The name of the file that a fault is about, and the mark after it; both are empty if it is about none.
 fn front<'a>(fault: &BenchFault, names: Names<'a>) -> (&'a str, &'static str)
     ensures { result.0.now ++ result.1.now ≡ front_of fault.now (names_of names.entry) }
 {

@@ -6,12 +6,12 @@ use Rattle.std.specs.Ordering.{is_eq}
 use Rattle.std.proofs.lemmas.Bool.{cases_Bool, both_ways, eqb-true, eq-eqb, or_cases, or_left, or_right}
 use Rattle.std.proofs.lemmas.Cmp.{tied_itself}
 use Rattle.pg_graph.specs.Graphs.{has}
-use Rattle.pg_own_starts.specs.Listed.{start_order, start_order_total}
+use Rattle.pg_sets_own.specs.Listed.{start_order, start_order_total}
 use Rattle.pg_sets.specs.Origins.{Origins, sets_of, HoldsIt, IsThere}
-use Rattle.pg_own_starts.specs.Own.{IsAmong}
-use Rattle.pg_own_starts.specs.declared.listed.ListedStart.{ListedStart}
+use Rattle.pg_sets_own.specs.Own.{IsAmong}
+use Rattle.pg_sets_own.specs.declared.listed.ListedStart.{ListedStart}
 use Rattle.pg_graph.proofs.Lists.{has_push}
-use Rattle.pg_own_starts.proofs.Ordered.{equal_is, same_start}
+use Rattle.pg_sets_own.proofs.Ordered.{equal_is, same_start}
 
 pub same_if_tied : (one other : ListedStart) → is_eq (start_order one other) ≡ true → one ≡ other
 same_if_tied one other e = same_start one other (equal_is (start_order one other) e)
@@ -19,7 +19,7 @@ same_if_tied one other e = same_start one other (equal_is (start_order one other
 pub tied_if_same : (one other : ListedStart) → one ≡ other → is_eq (start_order one other) ≡ true
 tied_if_same one other same = subst (λ x. is_eq (start_order one x) ≡ true) same (ap is_eq (tied_itself start_order_total one))
 
--- one start has one set more, and the others have those that they had
+-- one start has one more set, and the others have the sets that they had
 pub record IsAdded (before after : Origins) (listed : ListedStart) (v : ℕ) : Type 0 where
   pub here : get start_order after listed ≡ Some (sets_of before listed ++ v ∷ [])
   pub others : (other : ListedStart) → is_eq (start_order listed other) ≡ false → get start_order after other ≡ get start_order before other

@@ -6,13 +6,13 @@ use Rattle.std.specs.Option.{option_map_or}
 use Rattle.std.proofs.lemmas.Bool.{cases_Bool}
 use Rattle.std.proofs.lemmas.List.{length-replicate}
 use Rattle.std.proofs.lemmas.Option.{slice_get_within}
-use Rattle.pg_form.specs.Forms.{Node, parts_of}
-use Rattle.pg_value.specs.Grammar.{Grammar, IsGrammar, rule_body}
-use Rattle.pg_form.specs.declared.form.Form.TheVariants as form
-use Rattle.pg_form.specs.declared.form.Around.{Around}
-use Rattle.pg_form.specs.declared.form.Around.TheVariants as kind
-use Rattle.pg_value.specs.declared.grammar.Rule as declared
-use Rattle.pg_value.proofs.Numbers.{bodies_are_nodes}
+use Rattle.pg_grammar_form.specs.Forms.{Node, parts_of}
+use Rattle.pg_grammar_value.specs.Grammar.{Grammar, IsGrammar, rule_body}
+use Rattle.pg_grammar_form.specs.declared.form.Form.TheVariants as form
+use Rattle.pg_grammar_form.specs.declared.form.Around.{Around}
+use Rattle.pg_grammar_form.specs.declared.form.Around.TheVariants as kind
+use Rattle.pg_grammar_value.specs.declared.grammar.Rule as declared
+use Rattle.pg_grammar_value.proofs.Numbers.{bodies_are_nodes}
 use Rattle.pg_start.specs.declared.kind.StartKind.{StartKind}
 use Rattle.pg_sets.specs.First.{IsFirst, IsFirstOf}
 use Rattle.pg_sets.specs.First as first_of
@@ -22,18 +22,18 @@ use Rattle.pg_sets.specs.Follow as follow
 use Rattle.pg_graph.specs.Graphs.{has, numbers_at, IsReached}
 use Rattle.pg_graph.specs.Graphs as walk
 use Rattle.pg_graph.specs.Marks.{is_marked}
-use Rattle.pg_heads.specs.Nullable.{Nullable, AllNullable}
-use Rattle.pg_heads.specs.Nullable as nullable_of
-use Rattle.pg_own_starts.specs.OwnStarts.{IsKeyTry}
-use Rattle.pg_heads.specs.Reached.{ReachedIn, ReachedPart}
-use Rattle.pg_heads.specs.Reached as reached
+use Rattle.pg_sets_nullable.specs.Nullable.{Nullable, AllNullable}
+use Rattle.pg_sets_nullable.specs.Nullable as nullable_of
+use Rattle.pg_sets_own.specs.OwnStarts.{IsKeyTry}
+use Rattle.pg_sets_nullable.specs.Reached.{ReachedIn, ReachedPart}
+use Rattle.pg_sets_nullable.specs.Reached as reached
 use Rattle.pg_sets.specs.Sources.{IsSource}
 use Rattle.pg_sets.specs.Sources as source
 use Rattle.pg_sets.proofs.FlowSound.{follow_is, parts_below}
-use Rattle.pg_own_starts.specs.OwnStarts.{MarksKeys}
+use Rattle.pg_sets_own.specs.OwnStarts.{MarksKeys}
 use Rattle.pg_sets.proofs.Flowing.{IsIn, here, further, in_left, in_right, flows_length, edge_new, all_in}
-use Rattle.pg_heads.proofs.Heading.{MarksNullable, again_left}
-use Rattle.pg_form.proofs.Each.{all-get}
+use Rattle.pg_sets_nullable.proofs.Heading.{MarksNullable, again_left}
+use Rattle.pg_grammar_form.proofs.Each.{all-get}
 use Rattle.pg_sets.proofs.Placing.{stands_next}
 use Rattle.pg_graph.proofs.Walking.{reached_below}
 
@@ -94,7 +94,7 @@ module _ (g : Grammar) (start : StartKind) (nullable keys : List Bool) (on : Mar
   size : length graph ≡ length g.nodes + length g.nodes
   size = ap length graph_is ∙ (flows_length (replicate (length g.nodes + length g.nodes) []) (all_flows g.rules nullable keys (length g.nodes) 0 g.nodes) ∙ length-replicate {A = List ℕ} (length g.nodes + length g.nodes) [])
 
-  -- along an edge that a node tells
+  -- along an edge that a node gives
   along : (p : ℕ) (n : Node) (u x : ℕ) → slice_get g.nodes p ≡ Some n → IsIn u x (node_flows g.rules nullable keys (length g.nodes) p n)
       → x < length g.nodes + length g.nodes → IsReached graph roots u → IsReached graph roots x
   along p n u x at is below from =
@@ -157,7 +157,7 @@ module _ (g : Grammar) (start : StartKind) (nullable keys : List Bool) (on : Mar
       ++ flows_of_all nullable (o ∷ []) (follow_of (length g.nodes) p) (follow_of (length g.nodes) s) ++ ((follow_of (length g.nodes) p, follow_of (length g.nodes) o) ∷ []))
       (over g nullable on o s (follow_of (length g.nodes) s) (flows_of_some nullable (s ∷ []) (follow_of (length g.nodes) s)) null here)
 
-  -- what is told of the part of a form around one
+  -- the edge from the part of a form around one
   around_first : (around : Around) (p q : ℕ) → slice_get g.nodes p ≡ Some (form.Around around q) → (IsKeyTry g (form.Around around q) → ⊥) →
       IsIn q p (node_flows g.rules nullable keys (length g.nodes) p (form.Around around q))
   around_first kind.Try p q at no_key = try_first p q at no_key
@@ -167,7 +167,7 @@ module _ (g : Grammar) (start : StartKind) (nullable keys : List Bool) (on : Mar
   around_follow kind.Try p q = try_follow p q
   around_follow _ p q = further here
 
-  -- what is told of a part that is reached
+  -- the edge from a part that is reached
   reached_flow : {n : Node} {q : ℕ} (p : ℕ) → slice_get g.nodes p ≡ Some n → (IsKeyTry g n → ⊥) → ReachedPart g n q → IsIn q p (node_flows g.rules nullable keys (length g.nodes) p n)
   reached_flow p at no_key (reached.seq {parts = parts} r) = in_left (flows_after_parts nullable (length g.nodes) p parts) (reached_in g nullable on p r)
   reached_flow p at no_key (reached.choice {parts = parts} k {part = q} e) = alternative_first g nullable on p parts k q e

@@ -3,8 +3,8 @@ use Rattle.std.proofs.Common.{◌≡◌, ℕ, ◌+◌, ◌<◌, Bool, true, List
 use Rattle.std.specs.Prelude.{◌↔◌}
 use Rattle.std.proofs.lemmas.List.{length-replicate}
 use Rattle.std.proofs.lemmas.Option.{slice_get_within}
-use Rattle.pg_value.specs.Grammar.{Grammar, IsGrammar, rule_body}
-use Rattle.pg_bit_set.specs.Numbers.{contains, set_at}
+use Rattle.pg_grammar_value.specs.Grammar.{Grammar, IsGrammar, rule_body}
+use Rattle.pg_graph_bits.specs.Numbers.{contains, set_at}
 use Rattle.pg_start.specs.declared.kind.StartKind.{StartKind}
 use Rattle.pg_sets.specs.First.{IsFirst}
 use Rattle.pg_sets.specs.Flows.{follow_of, with_flows, all_flows}
@@ -16,9 +16,9 @@ use Rattle.pg_sets.specs.Sources.{IsSource}
 use Rattle.pg_sets.specs.Sources as source
 use Rattle.pg_sets.proofs.FlowComplete.{first_met, follow_met}
 use Rattle.pg_sets.proofs.FlowSound.{Holds, follow_is, to_first, to_follow, from_follow, flow_sound}
-use Rattle.pg_own_starts.specs.OwnStarts.{MarksKeys}
+use Rattle.pg_sets_own.specs.OwnStarts.{MarksKeys}
 use Rattle.pg_sets.proofs.Flowing.{flows_length}
-use Rattle.pg_heads.proofs.Heading.{MarksNullable}
+use Rattle.pg_sets_nullable.proofs.Heading.{MarksNullable}
 
 -- a source holds its start
 source_holds : {g : Grammar} {start : StartKind} {v : ℕ} → IsSource g start v → Holds g start v

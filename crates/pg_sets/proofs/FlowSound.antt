@@ -4,12 +4,12 @@ use Rattle.std.specs.List.{AllByRecursion}
 use Rattle.std.specs.Option.{option_map_or}
 use Rattle.std.proofs.lemmas.Bool.{cases_lt, true≢false, lt-ltb, le-ltb}
 use Rattle.std.proofs.lemmas.Option.{slice_get_within}
-use Rattle.pg_form.specs.Forms.{Node, parts_of}
-use Rattle.pg_value.specs.Grammar.{Grammar, IsGrammar, rule_body}
-use Rattle.pg_form.specs.declared.form.Form.TheVariants as form
-use Rattle.pg_form.specs.declared.form.Around.{Around}
-use Rattle.pg_form.specs.declared.form.Around.TheVariants as kind
-use Rattle.pg_value.specs.declared.grammar.Rule as declared
+use Rattle.pg_grammar_form.specs.Forms.{Node, parts_of}
+use Rattle.pg_grammar_value.specs.Grammar.{Grammar, IsGrammar, rule_body}
+use Rattle.pg_grammar_form.specs.declared.form.Form.TheVariants as form
+use Rattle.pg_grammar_form.specs.declared.form.Around.{Around}
+use Rattle.pg_grammar_form.specs.declared.form.Around.TheVariants as kind
+use Rattle.pg_grammar_value.specs.declared.grammar.Rule as declared
 use Rattle.pg_start.specs.declared.kind.StartKind.{StartKind}
 use Rattle.pg_sets.specs.First.{IsFirst, IsFirstOf}
 use Rattle.pg_sets.specs.First as first_of
@@ -17,19 +17,19 @@ use Rattle.pg_sets.specs.Flows.{Flow, follow_of, flows_of_all, flows_of_some, fl
 use Rattle.pg_sets.specs.Follow.{StandsBefore, IsChain, IsFollow}
 use Rattle.pg_sets.specs.Follow as follow
 use Rattle.pg_graph.specs.Marks.{is_marked}
-use Rattle.pg_heads.specs.Nullable.{Nullable, AllNullable}
-use Rattle.pg_heads.specs.Nullable as nullable_of
-use Rattle.pg_own_starts.specs.OwnStarts.{IsKeyTry, MarksKeys}
-use Rattle.pg_heads.specs.Reached.{ReachedIn, ReachedPart}
-use Rattle.pg_heads.specs.Reached as reached
+use Rattle.pg_sets_nullable.specs.Nullable.{Nullable, AllNullable}
+use Rattle.pg_sets_nullable.specs.Nullable as nullable_of
+use Rattle.pg_sets_own.specs.OwnStarts.{IsKeyTry, MarksKeys}
+use Rattle.pg_sets_nullable.specs.Reached.{ReachedIn, ReachedPart}
+use Rattle.pg_sets_nullable.specs.Reached as reached
 use Rattle.pg_graph.specs.Graphs.{has, numbers_at, IsReached}
 use Rattle.pg_graph.specs.Graphs as walk
 use Rattle.pg_sets.proofs.Flowing.{IsIn, here, further, in_cases, edge_cases, all_told}
 use Rattle.pg_graph.proofs.Joining.{none_at}
 use Rattle.pg_sets.proofs.Placing.{follow_comes, stands_next}
-use Rattle.pg_form.proofs.Each.{all-get, all-weaker}
-use Rattle.pg_value.proofs.Numbers.{parts_are_after, bodies_are_nodes}
-use Rattle.pg_heads.proofs.Heading.{MarksNullable, again_shown}
+use Rattle.pg_grammar_form.proofs.Each.{all-get, all-weaker}
+use Rattle.pg_grammar_value.proofs.Numbers.{parts_are_after, bodies_are_nodes}
+use Rattle.pg_sets_nullable.proofs.Heading.{MarksNullable, again_shown}
 
 -- the start is in the set with this number
 pub record Holds (g : Grammar) (start : StartKind) (v : ℕ) : Type 0 where
@@ -225,7 +225,7 @@ module _ (g : Grammar) (start : StartKind) (nullable : List Bool) (on : MarksNul
           (λ f. to_follow g start s (λ few. follow.over_operand p at chain ((on o).0 e) (first_of.here (only_first f)))) i from
       again false e i = elim i [ ]
 
--- ---- what a node tells
+-- ---- the edges of a node
 
 module _ (g : Grammar) (start : StartKind) (nullable keys : List Bool) (on : MarksNullable g nullable) (tries : MarksKeys g keys) (grammar : IsGrammar g) where
   pub parts_below : (p : ℕ) (n : Node) → slice_get g.nodes p ≡ Some n → Below g (parts_of n)
@@ -256,7 +256,7 @@ module _ (g : Grammar) (start : StartKind) (nullable keys : List Bool) (on : Mar
       let below : rule_body named < length g.nodes = all-get (λ rule. rule_body rule < length g.nodes) g.rules r named (bodies_are_nodes g.rules g.nodes grammar.bodies) e in
       only_sound g start nullable on p (rule_body named) u x (λ i. first_of.rule at e i) (λ f. follow.used at e f) below (slice_get_within g.nodes p (form.Rule r) at) is from
 
-  -- each edge that a node tells leads to a set that contains the one that it comes from
+  -- each edge that a node gives leads to a set that contains the edge's source
   pub node_sound : (p : ℕ) (n : Node) → slice_get g.nodes p ≡ Some n → (u x : ℕ) → IsIn u x (node_flows g.rules nullable keys (length g.nodes) p n)
       → Holds g start u → Holds g start x
   node_sound p (form.Leaf leaf) at u x is from = elim is [ ]

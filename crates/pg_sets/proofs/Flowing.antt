@@ -1,7 +1,7 @@
 -- What a graph has when edges were added to it.
 use Rattle.std.proofs.Common.{◌≡◌, ℕ, zero, suc, ◌+◌, ◌<◌, Bool, true, ◌⊎◌, inl, inr, List, [], ◌∷◌, ◌++◌, Some, slice_get, length, refl, sym, subst, ◌∙◌, arith, length-set}
-use Rattle.pg_form.specs.Forms.{Node}
-use Rattle.pg_value.specs.declared.grammar.Rule.{Rule}
+use Rattle.pg_grammar_form.specs.Forms.{Node}
+use Rattle.pg_grammar_value.specs.declared.grammar.Rule.{Rule}
 use Rattle.pg_graph.specs.Graphs.{has, numbers_at, joined}
 use Rattle.pg_sets.specs.Flows.{Flow, with_flows, node_flows, all_flows}
 use Rattle.pg_graph.proofs.Lists.{has_first, only_one}
@@ -62,7 +62,7 @@ edge_new {u} graph (further {flow} {flows} is) below =
 
 -- ---- the edges of all nodes
 
--- a node tells an edge
+-- a node gives an edge
 pub record Tells (rules : List Rule) (nullable keys : List Bool) (count p : ℕ) (nodes : List Node) (u x : ℕ) : Type 0 where
   pub place : ℕ
   pub node : Node

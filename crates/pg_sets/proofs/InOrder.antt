@@ -10,21 +10,21 @@ use Rattle.std.proofs.lemmas.List.{length-map}
 use Rattle.std.proofs.lemmas.Map.Keys.{sorted_head, sorted_tail}
 use Rattle.std.proofs.lemmas.Option.{slice_get_within}
 use Rattle.pg_class.specs.Ranges.{Range}
-use Rattle.pg_value.specs.Grammar.{Grammar}
-use Rattle.pg_form.specs.Forms.{Node}
+use Rattle.pg_grammar_value.specs.Grammar.{Grammar}
+use Rattle.pg_grammar_form.specs.Forms.{Node}
 use Rattle.pg_start.specs.declared.kind.StartKind.{StartKind}
 use Rattle.pg_graph.specs.Graphs.{has, numbers_at}
-use Rattle.pg_own_starts.specs.Listed.{IsListed, IsNumbered, IsFirstReader, start_order, start_order_total}
+use Rattle.pg_sets_own.specs.Listed.{IsListed, IsNumbered, IsFirstReader, start_order, start_order_total}
 use Rattle.pg_sets.specs.Origins.{Origins, sets_of, AreOrigins, AreListed}
-use Rattle.pg_own_starts.specs.OwnStarts.{OwnStart, IsOperatorStart, ReservedAs, SameTexts}
-use Rattle.pg_own_starts.specs.OwnStarts as own
+use Rattle.pg_sets_own.specs.OwnStarts.{OwnStart, IsOperatorStart, ReservedAs, SameTexts}
+use Rattle.pg_sets_own.specs.OwnStarts as own
 use Rattle.pg_sets.specs.Sources.{IsSource}
 use Rattle.pg_sets.specs.Sources as source
-use Rattle.pg_own_starts.specs.declared.listed.ListedStart.{ListedStart}
+use Rattle.pg_sets_own.specs.declared.listed.ListedStart.{ListedStart}
 use Rattle.pg_sets.proofs.Adding.{same_if_tied, tied_if_same}
-use Rattle.pg_form.proofs.Each.{all-get}
-use Rattle.pg_own_starts.proofs.Owned.{reads_like}
-use Rattle.pg_own_starts.proofs.Ordered.{less-equal}
+use Rattle.pg_grammar_form.proofs.Each.{all-get}
+use Rattle.pg_sets_own.proofs.Owned.{reads_like}
+use Rattle.pg_sets_own.proofs.Ordered.{less-equal}
 
 abbrev pub Entries : Type 0
 Entries = List (ListedStart × List ℕ)

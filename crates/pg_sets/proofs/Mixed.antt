@@ -5,28 +5,28 @@ use Rattle.std.specs.BTreeMap.{get}
 use Rattle.std.specs.Ordering.{is_eq}
 use Rattle.std.proofs.lemmas.Bool.{cases_Bool, cases_eq, both_ways, eqb-true, eq-eqb, or_cases, or_left, or_right, true≢false}
 use Rattle.std.proofs.lemmas.Option.{same_Some, slice_get_within, none-some}
-use Rattle.pg_value.specs.Grammar.{Grammar}
-use Rattle.pg_form.specs.Forms.{Node}
-use Rattle.pg_form.specs.declared.form.Form.TheVariants as form
-use Rattle.pg_form.specs.declared.form.Leaf.TheVariants as leaf
+use Rattle.pg_grammar_value.specs.Grammar.{Grammar}
+use Rattle.pg_grammar_form.specs.Forms.{Node}
+use Rattle.pg_grammar_form.specs.declared.form.Form.TheVariants as form
+use Rattle.pg_grammar_form.specs.declared.form.Leaf.TheVariants as leaf
 use Rattle.pg_start.specs.declared.kind.StartKind.{StartKind}
 use Rattle.pg_graph.specs.Graphs.{has, joined, numbers_at}
 use Rattle.pg_graph.proofs.Joining.{each_length, joined_same, joined_other}
 use Rattle.pg_graph.proofs.Lists.{has_append, has_push}
-use Rattle.pg_own_starts.specs.Listed.{IsListed, start_order}
-use Rattle.pg_own_starts.specs.Own.{AreOwn, AreWordStarts, IsPlain}
-use Rattle.pg_own_starts.specs.Own as plain
-use Rattle.pg_own_starts.specs.OwnStarts.{OwnStart}
-use Rattle.pg_own_starts.specs.OwnStarts as own_of
-use Rattle.pg_own_starts.specs.declared.word_starts.WordStarts.{WordStarts}
-use Rattle.pg_own_starts.specs.declared.listed.ListedStart.{ListedStart}
+use Rattle.pg_sets_own.specs.Listed.{IsListed, start_order}
+use Rattle.pg_sets_own.specs.Own.{AreOwn, AreWordStarts, IsPlain}
+use Rattle.pg_sets_own.specs.Own as plain
+use Rattle.pg_sets_own.specs.OwnStarts.{OwnStart}
+use Rattle.pg_sets_own.specs.OwnStarts as own_of
+use Rattle.pg_sets_own.specs.declared.word_starts.WordStarts.{WordStarts}
+use Rattle.pg_sets_own.specs.declared.listed.ListedStart.{ListedStart}
 use Rattle.pg_sets.specs.Origins.{Origins, sets_of, HoldsIt, IsThere, SourceAt, SourceBelow, AreSoManyOrigins, ReadsItem, item_read, AreReaders, ReadBelow, AreItemOrigins, AreMixedOrigins}
 use Rattle.pg_sets.specs.Origins as source_of
 use Rattle.pg_sets.proofs.Adding.{same_if_tied, tied_if_same}
 
 -- ---- several sets more
 
--- one start has these sets more, and the others have those that they had
+-- one start has these sets too, and the others have the sets that they had
 pub record HasMore (before after : Origins) (listed : ListedStart) (more : List ℕ) : Type 0 where
   pub here : get start_order after listed ≡ Some (sets_of before listed ++ more)
   pub others : (other : ListedStart) → is_eq (start_order listed other) ≡ false → get start_order after other ≡ get start_order before other

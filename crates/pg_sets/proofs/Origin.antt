@@ -1,19 +1,19 @@
 -- What each node adds to the sets that hold starts by themselves.
 use Rattle.std.proofs.Common.{◌≡◌, ℕ, ◌⊎◌, inl, inr, List, length, refl, subst}
 use Rattle.std.specs.Prelude.{◌↔◌}
-use Rattle.pg_value.specs.Grammar.{Grammar}
-use Rattle.pg_form.specs.Forms.{Node}
-use Rattle.pg_form.specs.declared.form.Form.TheVariants as form
-use Rattle.pg_form.specs.declared.used.OperatorBuilders.{OperatorBuilders}
+use Rattle.pg_grammar_value.specs.Grammar.{Grammar}
+use Rattle.pg_grammar_form.specs.Forms.{Node}
+use Rattle.pg_grammar_form.specs.declared.form.Form.TheVariants as form
+use Rattle.pg_grammar_form.specs.declared.used.OperatorBuilders.{OperatorBuilders}
 use Rattle.pg_start.specs.declared.kind.StartKind.{StartKind}
 use Rattle.pg_sets.specs.Flows.{follow_of}
-use Rattle.pg_own_starts.specs.Listed.{IsListed}
+use Rattle.pg_sets_own.specs.Listed.{IsListed}
 use Rattle.pg_sets.specs.Origins.{Origins, HoldsIt, SourceAt}
 use Rattle.pg_sets.specs.Origins as source
-use Rattle.pg_own_starts.specs.Own.{IsAmong, OwnListed, AreOwn}
-use Rattle.pg_own_starts.specs.OwnStarts.{OwnStart, IsOperatorStart}
-use Rattle.pg_own_starts.specs.OwnStarts as own
-use Rattle.pg_own_starts.specs.declared.listed.ListedStart.{ListedStart}
+use Rattle.pg_sets_own.specs.Own.{IsAmong, OwnListed, AreOwn}
+use Rattle.pg_sets_own.specs.OwnStarts.{OwnStart, IsOperatorStart}
+use Rattle.pg_sets_own.specs.OwnStarts as own
+use Rattle.pg_sets_own.specs.declared.listed.ListedStart.{ListedStart}
 
 -- what stands there is no expression
 abbrev pub IsPart : Node → Type 0

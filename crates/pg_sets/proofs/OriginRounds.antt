@@ -4,23 +4,23 @@ use Rattle.std.specs.Prelude.{◌↔◌}
 use Rattle.std.specs.BTreeMap.{get}
 use Rattle.std.proofs.lemmas.Bool.{cases_eq, true≢false}
 use Rattle.std.proofs.lemmas.Option.{same_Some, slice_get_within}
-use Rattle.pg_value.specs.Grammar.{Grammar, rule_body}
-use Rattle.pg_form.specs.Forms.{Node}
-use Rattle.pg_form.specs.declared.form.Form.TheVariants as form
-use Rattle.pg_value.specs.declared.grammar.Rule as declared
-use Rattle.pg_own_starts.proofs.Owned.{listed_path}
+use Rattle.pg_grammar_value.specs.Grammar.{Grammar, rule_body}
+use Rattle.pg_grammar_form.specs.Forms.{Node}
+use Rattle.pg_grammar_form.specs.declared.form.Form.TheVariants as form
+use Rattle.pg_grammar_value.specs.declared.grammar.Rule as declared
+use Rattle.pg_sets_own.proofs.Owned.{listed_path}
 use Rattle.pg_start.specs.declared.kind.StartKind.{StartKind}
 use Rattle.pg_start.specs.declared.kind.StartKind.TheVariants.{End}
 use Rattle.pg_sets.specs.Flows.{follow_of}
 use Rattle.pg_graph.specs.Graphs.{has}
-use Rattle.pg_own_starts.specs.Listed.{IsListed, IsNumbered, start_order}
+use Rattle.pg_sets_own.specs.Listed.{IsListed, IsNumbered, start_order}
 use Rattle.pg_sets.specs.Origins.{Origins, HoldsIt, IsThere, SourceAt, SourceBelow, AreSoManyOrigins, AreOrigins}
 use Rattle.pg_sets.specs.Origins as source_of
-use Rattle.pg_own_starts.specs.Own.{IsPlain}
-use Rattle.pg_own_starts.specs.OwnStarts.{OwnStart}
+use Rattle.pg_sets_own.specs.Own.{IsPlain}
+use Rattle.pg_sets_own.specs.OwnStarts.{OwnStart}
 use Rattle.pg_sets.specs.Sources.{IsSource}
 use Rattle.pg_sets.specs.Sources as source
-use Rattle.pg_own_starts.specs.declared.listed.ListedStart.{ListedStart}
+use Rattle.pg_sets_own.specs.declared.listed.ListedStart.{ListedStart}
 
 none_below : {g : Grammar} {s : StartKind} {v : ℕ} → SourceBelow g 0 s v → ⊥
 none_below is = let below = is.below in absurd (omega arith)

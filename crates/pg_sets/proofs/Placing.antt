@@ -3,21 +3,21 @@ use Rattle.std.proofs.Common.{◌≡◌, ℕ, zero, suc, ◌+◌, ◌<◌, ◌�
 use Rattle.std.specs.Option.{option_map}
 use Rattle.std.proofs.lemmas.Bool.{cases_Bool, true≢false}
 use Rattle.std.proofs.lemmas.Option.{same_Some, slice_get-map}
-use Rattle.pg_form.specs.Forms.{Node, parts_of, node_part_count, InPreorder}
-use Rattle.pg_value.specs.Grammar.{Grammar, IsGrammar, rule_body}
-use Rattle.pg_form.specs.Preorder.{roots}
-use Rattle.pg_form.specs.declared.form.Form.TheVariants as form
-use Rattle.pg_value.specs.declared.grammar.Rule as declared
-use Rattle.pg_value.proofs.Numbers.{parts_follow}
-use Rattle.pg_form.proofs.Preorder.{roots_within}
+use Rattle.pg_grammar_form.specs.Forms.{Node, parts_of, node_part_count, InPreorder}
+use Rattle.pg_grammar_value.specs.Grammar.{Grammar, IsGrammar, rule_body}
+use Rattle.pg_grammar_form.specs.Preorder.{roots}
+use Rattle.pg_grammar_form.specs.declared.form.Form.TheVariants as form
+use Rattle.pg_grammar_value.specs.declared.grammar.Rule as declared
+use Rattle.pg_grammar_value.proofs.Numbers.{parts_follow}
+use Rattle.pg_grammar_form.proofs.Preorder.{roots_within}
 use Rattle.pg_start.specs.declared.kind.StartKind.{StartKind}
 use Rattle.pg_sets.specs.First.{IsFirstOf}
 use Rattle.pg_sets.specs.Follow.{StandsBefore, here, further, IsChain, HasOnly, IsFollow}
 use Rattle.pg_sets.specs.Follow as follow
 use Rattle.pg_graph.specs.Graphs.{has, AreOnce}
-use Rattle.pg_heads.specs.Nullable.{AllNullable}
+use Rattle.pg_sets_nullable.specs.Nullable.{AllNullable}
 use Rattle.pg_graph.proofs.Lists.{has_at, has_after, has_cases, has_first, stands}
-use Rattle.pg_form.proofs.Each.{all-get}
+use Rattle.pg_grammar_form.proofs.Each.{all-get}
 
 -- ---- numbers that stand once
 

@@ -2,8 +2,8 @@
 use Rattle.std.proofs.Common.{◌≡◌, ℕ, zero, suc, ◌+◌, ◌<◌, Bool, true, List, [], ◌∷◌, Some, slice_get, length, map, take, drop, replicate, refl, sym, ap, subst, ◌∙◌, arith}
 use Rattle.std.specs.Prelude.{◌↔◌}
 use Rattle.std.proofs.lemmas.List.{length-map, length-replicate}
-use Rattle.pg_value.specs.Grammar.{Grammar, IsGrammar}
-use Rattle.pg_bit_set.specs.Numbers.{contains, set_at}
+use Rattle.pg_grammar_value.specs.Grammar.{Grammar, IsGrammar}
+use Rattle.pg_graph_bits.specs.Numbers.{contains, set_at}
 use Rattle.pg_start.specs.declared.kind.StartKind.{StartKind}
 use Rattle.pg_sets.specs.First.{IsFirst, IsFirstOf}
 use Rattle.pg_sets.specs.First as first_of
@@ -11,28 +11,28 @@ use Rattle.pg_sets.specs.Flows.{follow_of, with_flows, all_flows}
 use Rattle.pg_sets.specs.Follow.{IsFollow}
 use Rattle.pg_sets.specs.Follow as follow_of_node
 use Rattle.pg_graph.specs.Graphs.{has, numbers_at, AreSpread}
-use Rattle.pg_own_starts.specs.Listed.{start_of}
+use Rattle.pg_sets_own.specs.Listed.{start_of}
 use Rattle.pg_sets.specs.Origins.{AreListed}
-use Rattle.pg_own_starts.specs.OwnStarts.{MarksKeys}
+use Rattle.pg_sets_own.specs.OwnStarts.{MarksKeys}
 use Rattle.pg_sets.specs.Sets.{AreStartSets}
 use Rattle.pg_sets.specs.Sources.{IsSource}
 use Rattle.pg_sets.specs.Sources as source
-use Rattle.pg_own_starts.specs.declared.listed.ListedStart.{ListedStart}
+use Rattle.pg_sets_own.specs.declared.listed.ListedStart.{ListedStart}
 use Rattle.pg_sets.proofs.FlowSets.{AreSources, first_sets, follow_sets}
 use Rattle.pg_sets.proofs.FlowSound.{follow_is}
 use Rattle.pg_sets.proofs.Flowing.{flows_length}
-use Rattle.pg_heads.proofs.Heading.{MarksNullable}
+use Rattle.pg_sets_nullable.proofs.Heading.{MarksNullable}
 
 -- ---- lists in two parts
 
--- of the first sets each is what it was
+-- each of the first sets is unchanged
 pub taken_at : (sets : List (List Bool)) (count k : ℕ) → k < count → set_at (take count sets) k ≡ set_at sets k
 taken_at sets zero k below = absurd (omega arith)
 taken_at [] (suc count) k below = refl
 taken_at (l ∷ ls) (suc count) zero below = refl
 taken_at (l ∷ ls) (suc count) (suc k) below = taken_at ls count k (omega arith)
 
--- of the sets behind the first each is what it was
+-- each set after the first ones is unchanged
 pub dropped_at : (sets : List (List Bool)) (count k : ℕ) → set_at (drop count sets) k ≡ set_at sets (count + k)
 dropped_at sets zero k = let same : k ≡ 0 + k = omega arith in ap (set_at sets) same
 dropped_at [] (suc count) k = cc

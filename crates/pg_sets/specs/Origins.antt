@@ -2,20 +2,20 @@
 use Rattle.std.specs.Prelude.{◌≡◌, ◌↔◌, ◌⊎◌, ◌<◌, ℕ, true, List, [], Option, Some, slice_get, length, unwrap_or, is_some}
 use Rattle.std.specs.BTreeMap.{BTreeMap, get}
 use Rattle.std.specs.List.Sorted.{IsStrictlySortedBy}
-use Rattle.pg_value.specs.Grammar.{Grammar}
-use Rattle.pg_form.specs.Contents.{word_in}
-use Rattle.pg_form.specs.Forms.{Node}
-use Rattle.pg_form.specs.declared.form.Form.TheVariants as form
-use Rattle.pg_form.specs.declared.form.Leaf.TheVariants as leaf
-use Rattle.pg_form.specs.declared.used.OperatorBuilders.{OperatorBuilders}
+use Rattle.pg_grammar_value.specs.Grammar.{Grammar}
+use Rattle.pg_grammar_form.specs.Contents.{word_in}
+use Rattle.pg_grammar_form.specs.Forms.{Node}
+use Rattle.pg_grammar_form.specs.declared.form.Form.TheVariants as form
+use Rattle.pg_grammar_form.specs.declared.form.Leaf.TheVariants as leaf
+use Rattle.pg_grammar_form.specs.declared.used.OperatorBuilders.{OperatorBuilders}
 use Rattle.pg_start.specs.declared.kind.StartKind.{StartKind}
 use Rattle.pg_sets.specs.Flows.{follow_of}
 use Rattle.pg_graph.specs.Graphs.{has, numbers_at}
-use Rattle.pg_own_starts.specs.Listed.{IsListed, start_order}
-use Rattle.pg_own_starts.specs.Own.{IsPlain}
-use Rattle.pg_own_starts.specs.OwnStarts.{OwnStart, IsOperatorStart}
+use Rattle.pg_sets_own.specs.Listed.{IsListed, start_order}
+use Rattle.pg_sets_own.specs.Own.{IsPlain}
+use Rattle.pg_sets_own.specs.OwnStarts.{OwnStart, IsOperatorStart}
 use Rattle.pg_sets.specs.Sources.{IsSource}
-use Rattle.pg_own_starts.specs.declared.listed.ListedStart.{ListedStart}
+use Rattle.pg_sets_own.specs.declared.listed.ListedStart.{ListedStart}
 
 -- for each start the numbers of some sets
 abbrev pub Origins : Type 0
@@ -33,14 +33,14 @@ HoldsIt origins listed v = has (sets_of origins listed) v ≡ true
 abbrev pub IsThere : Origins → ListedStart → Type 0
 IsThere origins listed = is_some (get start_order origins listed) ≡ true
 
--- the set with this number holds the start by itself, for what stands at the node p: the node's own first set, and the
--- follow set of the term of an expression, which has the operators
+-- the set with this number holds the start by itself because of the node p: it is the node's own first set, or the
+-- follow set of an expression's term, which holds the operators
 pub data SourceAt (g : Grammar) (p : ℕ) : Node → StartKind → ℕ → Type 0 where
   own : {n : Node} {start : StartKind} → OwnStart g n start → SourceAt g p n start p
   operator : {builders : OperatorBuilders} {term v : ℕ} {start : StartKind} → IsOperatorStart g start → follow_of (length g.nodes) term ≡ v
       → SourceAt g p (form.Expression builders term) start v
 
--- the same, for one of the first nodes
+-- as `SourceAt`, for one of the first `count` nodes
 pub record SourceBelow (g : Grammar) (count : ℕ) (start : StartKind) (v : ℕ) : Type 0 where
   pub place : ℕ
   pub node : Node
@@ -48,7 +48,7 @@ pub record SourceBelow (g : Grammar) (count : ℕ) (start : StartKind) (v : ℕ)
   pub there : slice_get g.nodes place ≡ Some node
   pub source : SourceAt g place node start v
 
--- these are the starts with the sets that hold them by themselves, for so many of the first nodes
+-- the starts with the sets that hold them by themselves, for the first `count` nodes
 pub record AreSoManyOrigins (g : Grammar) (count : ℕ) (origins : Origins) : Type 0 where
   pub held : (listed : ListedStart) (v : ℕ) → HoldsIt origins listed v ↔ (SourceBelow g count listed.start v × IsListed g listed)
   pub listed : (listed : ListedStart) → IsThere origins listed → IsListed g listed
@@ -64,24 +64,24 @@ item_read n = word_in n
 abbrev pub ReadsItem : Grammar → ℕ → ℕ → Type 0
 ReadsItem g w v = slice_get g.nodes v ≡ Some (form.Leaf (leaf.Word w))
 
--- for each word item those of so many first nodes that read its words
+-- for each word item, which of the first `count` nodes read its words
 pub record AreReaders (g : Grammar) (count : ℕ) (readers : List (List ℕ)) : Type 0 where
   pub long : length readers ≡ length g.words
   pub members : (w v : ℕ) → w < length g.words → (has (numbers_at readers w) v ≡ true) ↔ ((v < count) × ReadsItem g w v)
 
--- the node with this number reads words of one of so many first items, which begin so
+-- the node with this number reads words of one of the first `items` items, and the start is theirs
 pub record ReadBelow (g : Grammar) (items : ℕ) (start : StartKind) (v : ℕ) : Type 0 where
   pub item : ℕ
   pub below : item < items
   pub there : ReadsItem g item v
   pub own : OwnStart g (form.Leaf (leaf.Word item)) start
 
--- these are the starts of so many of the first word items, with the nodes that read them
+-- the starts of the first `items` word items, with the nodes that read them
 pub record AreItemOrigins (g : Grammar) (items : ℕ) (origins : Origins) : Type 0 where
   pub held : (listed : ListedStart) (v : ℕ) → HoldsIt origins listed v ↔ (ReadBelow g items listed.start v × IsListed g listed)
   pub listed : (listed : ListedStart) → IsThere origins listed → IsListed g listed
 
--- these are those of all word items, and those of so many of the first nodes
+-- the starts of all word items, and those of the first `count` nodes
 pub record AreMixedOrigins (g : Grammar) (count : ℕ) (origins : Origins) : Type 0 where
   pub held : (listed : ListedStart) (v : ℕ) → HoldsIt origins listed v ↔ ((SourceBelow g count listed.start v ⊎ ReadBelow g (length g.words) listed.start v) × IsListed g listed)
   pub listed : (listed : ListedStart) → IsThere origins listed → IsListed g listed
@@ -89,7 +89,7 @@ pub record AreMixedOrigins (g : Grammar) (count : ℕ) (origins : Origins) : Typ
 
 -- ---- all nodes
 
--- the same, for all nodes and for the end
+-- as `AreSoManyOrigins`, for all nodes and for the end
 pub record AreOrigins (g : Grammar) (origins : Origins) : Type 0 where
   pub held : (listed : ListedStart) (v : ℕ) → HoldsIt origins listed v ↔ (IsSource g listed.start v × IsListed g listed)
   pub listed : (listed : ListedStart) → IsThere origins listed → IsListed g listed

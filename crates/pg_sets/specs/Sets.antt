@@ -1,23 +1,23 @@
 -- The sets of a grammar.
 use Rattle.std.specs.Prelude.{◌≡◌, ◌↔◌, ◌<◌, ℕ, Bool, true, List, Option, Some, slice_get, length}
 use Rattle.std.specs.List.Sorted.{IsStrictlySortedBy}
-use Rattle.pg_value.specs.Grammar.{Grammar}
-use Rattle.pg_form.specs.Forms.{Node}
-use Rattle.pg_bit_set.specs.Numbers.{contains, set_at}
+use Rattle.pg_grammar_value.specs.Grammar.{Grammar}
+use Rattle.pg_grammar_form.specs.Forms.{Node}
+use Rattle.pg_graph_bits.specs.Numbers.{contains, set_at}
 use Rattle.pg_start.specs.declared.kind.StartKind.{StartKind}
 use Rattle.pg_sets.specs.First.{IsFirst}
 use Rattle.pg_sets.specs.Follow.{IsFollow}
-use Rattle.pg_own_starts.specs.Listed.{IsListed, start_order}
+use Rattle.pg_sets_own.specs.Listed.{IsListed, start_order}
 use Rattle.pg_graph.specs.Marks.{is_marked}
-use Rattle.pg_heads.specs.Nullable.{Nullable}
-use Rattle.pg_own_starts.specs.Own.{IsPlain}
-use Rattle.pg_own_starts.specs.OwnStarts.{OwnStart}
-use Rattle.pg_heads.specs.Ranks.{AreRanks}
-use Rattle.pg_heads.specs.Reached.{AreHeads}
-use Rattle.pg_own_starts.specs.declared.listed.ListedStart.{ListedStart}
+use Rattle.pg_sets_nullable.specs.Nullable.{Nullable}
+use Rattle.pg_sets_own.specs.Own.{IsPlain}
+use Rattle.pg_sets_own.specs.OwnStarts.{OwnStart}
+use Rattle.pg_sets_nullable.specs.Ranks.{AreRanks}
+use Rattle.pg_sets_nullable.specs.Reached.{AreHeads}
+use Rattle.pg_sets_own.specs.declared.listed.ListedStart.{ListedStart}
 
--- a mark for each node that is nullable; the starts; for each node the set of the numbers of the starts that are among its
--- first, and of those that can follow it; for each rule its heads, and its rank
+-- a mark for each nullable node; the starts; for each node the numbers of the starts that are among its first, and of the
+-- starts that can follow it; for each rule its heads and its rank
 pub record Sets : Type 0 where
   pub nullable : List Bool
   pub starts : List ListedStart
@@ -34,8 +34,8 @@ pub record HasStart (starts : List ListedStart) (set : List Bool) (start : Start
   pub there : slice_get starts number ≡ Some listed
   pub same : listed.start ≡ start
 
--- these are the first and the follow sets of the grammar: the starts stand in their order, each once and under its name, and
--- sets are of numbers below how many starts there are
+-- the first and the follow sets of the grammar: the starts are in order, each once and under its number, and the
+-- numbers in a set are below the number of starts
 pub record AreStartSets (g : Grammar) (starts : List ListedStart) (firsts follows : List (List Bool)) : Type 0 where
   pub ordered : IsStrictlySortedBy start_order starts
   pub listed : (k : ℕ) (listed : ListedStart) → slice_get starts k ≡ Some listed → IsListed g listed

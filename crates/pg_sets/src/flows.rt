@@ -1,18 +1,26 @@
 //! Which first and follow sets are contained in which, as the edges of a graph.
 //!
-//! A first set has the number of its node, a follow set a number after those of all first sets. Each node tells the edges
-//! to its own first set and to the follow sets of its parts. A part that can be empty lets through what is after it.
+//! A first set has the number of its node; the numbers of follow sets come after those of all first sets. Each node gives the
+//! edges to its own first set and to the follow sets of its parts. Whatever follows a part that can be empty passes through it.
 ghost use Rattle.std.specs.Prelude.{◌≡◌, ◌≤◌, ◌+◌, [], ◌∷◌, ◌++◌, replicate, length, IfOk, OnOk};
-ghost use Rattle.pg_value.specs.Grammar.{IsGrammar};
+ghost use Rattle.pg_grammar_value.specs.Grammar.{IsGrammar};
 ghost use Rattle.pg_sets.specs.Flows.{follow_of, with_flows, flows_of_all, flows_of_some, flows_of_next, flows_after_parts, flows_of_alternatives, flows_of_chain, flows_of_only, flows_of_use, try_flows, around_flows, node_flows, all_flows};
 
-use pg_form::{Around, Form, Leaf, Node, NodeId, RuleId};
+use pg_grammar_form::{Around, Form, Leaf, Node, NodeId, RuleId};
+use pg_grammar_value::{Grammar, Rule};
 use pg_graph::{Numbers, empty_lists, is_marked, join};
-use pg_value::{Grammar, Rule};
 use std::alloc::{AllocError, Global};
 
-/// For each first and each follow set those that contain it, by the marks of the nullable nodes and of the tries that give
-/// keys. The only error is that memory ran out.
+/// Marks on a grammar's nodes, which decide where starts are handed on (ours).
+#[derive(Clone, Copy)]
+pub struct Marks<'m> {
+    /// The nullable nodes.
+    pub nullable: &'m [bool],
+    /// The tries that give a key.
+    pub keys: &'m [bool],
+}
+
+/// For each first and each follow set the sets that contain it, from the marks of the nullable nodes and of the tries that give keys.
 pub(crate) fn flow_graph(
     alloc: Global,
     grammar: &Grammar,
@@ -27,14 +35,15 @@ pub(crate) fn flow_graph(
     let nodes = grammar.nodes();
     let rules = grammar.rules();
     let count = nodes.len();
+    let marks = Marks { nullable, keys };
     let mut graph = empty_lists(alloc, count + count)?;
     for (number, node) in nodes.iter().enumerate() {
-        join_node(&mut graph, rules, nullable, keys, count, number, node)?;
+        join_node(&mut graph, rules, &marks, count, number, node)?;
     }
     Ok(graph)
 }
 
-/// The number of a node's follow set, where there are so many nodes: first sets have those of their nodes (ours).
+/// The number of a node's follow set in a grammar with `count` nodes; a first set has the number of its node (ours).
 pub fn follow_of(count: usize, node: usize) -> usize
     requires { count ≤ 8192 }
     ensures { result ≡ follow_of count node }
@@ -46,37 +55,36 @@ pub fn follow_of(count: usize, node: usize) -> usize
     }
 }
 
-/// Adds the edges that a node tells, which has this number: from a first or a follow set to one that contains it (ours). A use of a
-/// rule that isn't among these tells none. The only error is that memory ran out.
+/// Adds the edges that the node with this number gives, each from a first or a follow set to one that contains it (ours). A use of a rule that isn't
+/// among these gives none.
 pub fn join_node(
     graph: &mut [Numbers],
     rules: &[Rule],
-    nullable: &[bool],
-    keys: &[bool],
+    marks: &Marks<'_>,
     count: usize,
     number: usize,
     node: &Node,
 ) -> Result<(), AllocError>
     requires { count ≤ 8192 }
-    ensures { OnOk result (graph.new ≡ with_flows graph.old (node_flows rules.now nullable.now keys.now count number node.now)) }
+    ensures { OnOk result (graph.new ≡ with_flows graph.old (node_flows rules.now marks.now.nullable.now marks.now.keys.now count number node.now)) }
 {
     match node {
-        Form::Seq(parts) => join_seq(graph, nullable, count, number, parts.as_slice()),
+        Form::Seq(parts) => join_seq(graph, marks.nullable, count, number, parts.as_slice()),
         Form::Choice(parts) => join_alternatives(graph, count, number, parts.as_slice()),
         Form::Many(part) => join_many(graph, count, number, part.index()),
         Form::Chain(_, _, operand, separator) => {
-            join_chain(graph, nullable, count, number, *operand, *separator)
+            join_chain(graph, marks.nullable, count, number, *operand, *separator)
         }
         Form::Rule(rule) => join_use(graph, rules, count, number, *rule),
         Form::Expression(_, part) => join_only(graph, count, number, part.index()),
         Form::Around(around, part) => {
-            join_around(graph, keys, count, number, around, part.index())
+            join_around(graph, marks.keys, count, number, around, part.index())
         }
         Form::Leaf(_) => Ok(()),
     }
 }
 
-/// Adds the edges of a form around a part: a try that gives a key is no set of its part's.
+/// Adds the edges of a form around a part. The first set of a try that gives a key gets nothing from its part.
 fn join_around(
     graph: &mut [Numbers],
     keys: &[bool],
@@ -95,7 +103,7 @@ fn join_around(
     }
 }
 
-/// Adds the edges to a set from the first of these nodes, one after another, and from another set after them all.
+/// Adds edges to a set from the first sets of these nodes in sequence, and from another set if all of them can be empty.
 fn join_all(
     graph: &mut [Numbers],
     nullable: &[bool],
@@ -114,7 +122,7 @@ fn join_all(
     join(graph, after, to)
 }
 
-/// The same without another set after them.
+/// As `join_all`, but without another set at the end.
 fn join_some(
     graph: &mut [Numbers],
     nullable: &[bool],
@@ -132,8 +140,8 @@ fn join_some(
     Ok(())
 }
 
-/// Adds the edges to a set from what stands next, and from what follows that if it can be empty; from another set where
-/// nothing stands next. A part is a part of one sequence at one place, so what follows it comes from there alone.
+/// Adds edges to a set from the next node, and from what follows it if it can be empty; from another set if there is no next
+/// node. A part belongs to one sequence at one place, so nothing else adds to what follows it.
 fn join_next(
     graph: &mut [Numbers],
     nullable: &[bool],
@@ -206,7 +214,7 @@ fn join_alternatives(
     Ok(())
 }
 
-/// Adds the edges of a repetition: what begins a round follows the round before.
+/// Adds the edges of a repetition: the start of a round follows the round before.
 fn join_many(
     graph: &mut [Numbers],
     count: usize,
@@ -245,7 +253,7 @@ fn join_chain(
     Ok(())
 }
 
-/// Adds the edges of a try, whose first set is a key's or its part's.
+/// Adds the edges of a try. Its first set is its key, or else its part's first set.
 fn join_try(
     graph: &mut [Numbers],
     keys: &[bool],

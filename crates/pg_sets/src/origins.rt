@@ -1,32 +1,32 @@
-//! Which sets hold each start by themselves, and not by another set.
+//! Which sets hold each start by themselves, and not through another set.
 //!
-//! First sets have the numbers of their nodes, follow sets numbers after those (`flows.rt`). A start that several nodes
-//! give is kept once, and the map has the starts in their order.
+//! First sets have the numbers of their nodes, and follow sets the numbers after those (`flows.rt`). A start that several nodes
+//! give is kept once, and the map keeps the starts in order.
 ghost use Rattle.std.specs.Prelude.{◌≡◌, false, ◌↔◌, ◌⊎◌, ◌≤◌, ℕ, length, IfOk, OnOk, MatchOption};
 ghost use Rattle.std.specs.BTreeMap.{get, keys, values, IsOrdered};
 ghost use Rattle.std.specs.Ordering.{is_eq};
-ghost use Rattle.pg_form.specs.declared.used.OperatorBuilders.{OperatorBuilders};
+ghost use Rattle.pg_grammar_form.specs.declared.used.OperatorBuilders.{OperatorBuilders};
 ghost use Rattle.pg_start.specs.declared.kind.StartKind.{StartKind};
-ghost use Rattle.pg_own_starts.specs.Listed.{IsListed, start_order};
+ghost use Rattle.pg_sets_own.specs.Listed.{IsListed, start_order};
 ghost use Rattle.pg_sets.specs.Origins.{sets_of, HoldsIt, IsThere, SourceAt, AreOrigins, AreSoManyOrigins, AreListed, AreReaders, AreItemOrigins};
-ghost use Rattle.pg_own_starts.specs.Own.{IsAmong, IsPlain, AreWordStarts};
-ghost use Rattle.pg_own_starts.specs.OwnStarts.{OwnStart};
-ghost use Rattle.pg_own_starts.specs.Words.{AreClassesOf};
-ghost use Rattle.pg_own_starts.specs.declared.listed.ListedStart.{ListedStart};
+ghost use Rattle.pg_sets_own.specs.Own.{IsAmong, IsPlain, AreWordStarts};
+ghost use Rattle.pg_sets_own.specs.OwnStarts.{OwnStart};
+ghost use Rattle.pg_sets_own.specs.Words.{AreClassesOf};
+ghost use Rattle.pg_sets_own.specs.declared.listed.ListedStart.{ListedStart};
 
 use crate::flows::follow_of;
 use crate::readers::{add_readers, item_read, readers_of_words};
-use pg_character_sets::classes_of_items;
 use pg_class::Class;
-use pg_form::{Form, Node};
+use pg_grammar_classes::classes_of_items;
+use pg_grammar_form::{Form, Node};
+use pg_grammar_value::Grammar;
 use pg_graph::{Numbers, numbers_at};
-use pg_own_starts::{ListedStart, WordStarts, own_starts, starts_of_words};
+use pg_sets_own::{ListedStart, WordStarts, own_starts, starts_of_words};
 use pg_start::Start;
-use pg_value::Grammar;
 use std::alloc::{AllocError, Global};
 use std::collections::BTreeMap;
 
-/// Adds a set that holds a start by itself. The only error is that memory ran out.
+/// Adds a set that holds a start by itself.
 fn add_origin(
     alloc: Global,
     origins: &mut BTreeMap<ListedStart, Numbers>,
@@ -43,7 +43,7 @@ fn add_origin(
     Ok(())
 }
 
-/// Takes the sets of a start out; there may be none.
+/// Removes the sets of a start from the map and returns them; there may be none.
 pub(crate) fn taken_sets(
     alloc: Global,
     origins: &mut BTreeMap<ListedStart, Numbers>,
@@ -59,7 +59,7 @@ pub(crate) fn taken_sets(
     }
 }
 
-/// Adds a set that holds these starts by itself (ours). The only error is that memory ran out.
+/// Adds a set to each of the starts that it holds by itself (ours).
 pub fn add_own(
     alloc: Global,
     origins: &mut BTreeMap<ListedStart, Numbers>,
@@ -76,36 +76,44 @@ pub fn add_own(
     Ok(())
 }
 
-/// Adds the sets that hold a start by themselves for what stands at a node: its own first set, and the follow set of the
-/// term of an expression. The only error is that memory ran out.
+/// What the starts that a node gives by itself depend on.
+#[derive(Clone, Copy)]
+struct Basis<'g> {
+    grammar: &'g Grammar,
+    /// What its class items contain.
+    classes: &'g [Class],
+    /// The starts of its word items.
+    words: &'g WordStarts,
+}
+
+/// Adds the sets that hold a start because of one node: its own first set, and the follow set of an expression's term.
 fn add_node(
     alloc: Global,
-    grammar: &Grammar,
-    classes: &[Class],
-    words: &WordStarts,
+    basis: &Basis<'_>,
     origins: &mut BTreeMap<ListedStart, Numbers>,
     number: usize,
     node: &Node,
 ) -> Result<(), AllocError>
-    requires classes { AreClassesOf grammar.now classes.now }
-    requires words { AreWordStarts grammar.now words.now }
+    requires classes { AreClassesOf basis.now.grammar.now basis.now.classes.now }
+    requires words { AreWordStarts basis.now.grammar.now basis.now.words.now }
     ensures held { OnOk result ((other : ListedStart) (v : ℕ) →
-        HoldsIt origins.new other v ↔ (HoldsIt origins.old other v ⊎ (SourceAt grammar.now number node.now other.start v × IsListed grammar.now other))) }
-    ensures there { OnOk result ((other : ListedStart) → IsThere origins.new other → IsThere origins.old other ⊎ IsListed grammar.now other) }
-    ensures plain { OnOk result (IsPlain grammar.now node.now → (start : StartKind) × OwnStart grammar.now node.now start) }
+        HoldsIt origins.new other v ↔ (HoldsIt origins.old other v ⊎
+        (SourceAt basis.now.grammar.now number node.now other.start v × IsListed basis.now.grammar.now other))) }
+    ensures there { OnOk result ((other : ListedStart) → IsThere origins.new other → IsThere origins.old other ⊎ IsListed basis.now.grammar.now other) }
+    ensures plain { OnOk result (IsPlain basis.now.grammar.now node.now → (start : StartKind) × OwnStart basis.now.grammar.now node.now start) }
 {
-    let own = own_starts(alloc, grammar, classes, words, node)?;
+    let own = own_starts(alloc, basis.grammar, basis.classes, basis.words, node)?;
     add_own(alloc, origins, own, number)?;
     if let Form::Expression(_, term) = node {
-        let operators = own_starts(alloc, grammar, classes, words, node)?;
-        let set = follow_of(grammar.nodes().len(), term.index());
+        let operators = own_starts(alloc, basis.grammar, basis.classes, basis.words, node)?;
+        let set = follow_of(basis.grammar.nodes().len(), term.index());
         add_own(alloc, origins, operators, set)?;
     }
     Ok(())
 }
 
-/// For each start that a node gives by itself the sets that hold it by themselves: the node's own first set, and the follow set of the
-/// term of an expression (ours). The only error is that memory ran out.
+/// For each start that a node gives by itself, the sets that hold it by themselves: the node's own first set, and the follow set of an expression's term
+/// (ours).
 pub fn origins_of_nodes(
     alloc: Global,
     grammar: &Grammar,
@@ -118,15 +126,20 @@ pub fn origins_of_nodes(
 {
     let readers = readers_of_words(alloc, grammar)?;
     let mut origins = origins_of_items(alloc, grammar, words, readers.as_slice())?;
+    let basis = Basis {
+        grammar,
+        classes,
+        words,
+    };
     for (number, node) in grammar.nodes().iter().enumerate() {
         if item_read(node).is_none() {
-            add_node(alloc, grammar, classes, words, &mut origins, number, node)?;
+            add_node(alloc, &basis, &mut origins, number, node)?;
         }
     }
     Ok(origins)
 }
 
-/// For each start of words the nodes that read them, by the readers of each word item. The only error is that memory ran out.
+/// For each word start the nodes that read the words, from the readers of each word item.
 fn origins_of_items(
     alloc: Global,
     grammar: &Grammar,
@@ -145,7 +158,7 @@ fn origins_of_items(
     Ok(origins)
 }
 
-/// Adds the end, which follows the start rule. The only error is that memory ran out.
+/// Adds the end to the follow set of the start rule.
 fn add_end(
     alloc: Global,
     grammar: &Grammar,
@@ -163,16 +176,16 @@ fn add_end(
     Ok(())
 }
 
-/// Starts in their order, each with the sets that hold it by themselves.
+/// Starts in order, each with the sets that hold it by themselves.
 #[derive(Drop)]
 pub struct Listing {
     /// The starts.
     pub starts: Vec<ListedStart>,
-    /// For each of them the numbers of the sets.
+    /// For each start the numbers of its sets.
     pub origins: Vec<Numbers>,
 }
 
-/// The starts of the grammar. The only error is that memory ran out.
+/// The starts of the grammar.
 pub(crate) fn listed_starts(alloc: Global, grammar: &Grammar) -> Result<Listing, AllocError>
     ensures { IfOk result (λ listing. AreListed grammar.now listing.starts.items listing.origins.items) }
 {
@@ -183,7 +196,7 @@ pub(crate) fn listed_starts(alloc: Global, grammar: &Grammar) -> Result<Listing,
     listed(alloc, origins)
 }
 
-/// The starts of a map in their order, each with its sets (ours). The only error is that memory ran out.
+/// The starts of a map in order, each with its sets (ours).
 pub fn listed(alloc: Global, origins: BTreeMap<ListedStart, Numbers>) -> Result<Listing, AllocError>
     ensures entries { IfOk result (λ listing. (listing.starts.items ≡ keys origins) × (listing.origins.items ≡ values origins)) }
     ensures ordered { IsOrdered start_order origins }

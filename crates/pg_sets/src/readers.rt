@@ -1,19 +1,19 @@
-//! The nodes that read words, item by item: their one start is put into a map once, however many nodes read it, since starts
+//! The nodes that read words, item by item. Their one start enters a map once, however many nodes read it, since starts
 //! with many reserved texts take long to compare.
 ghost use Rattle.std.specs.Prelude.{◌≡◌, ◌↔◌, ◌⊎◌, ◌++◌, ℕ, true, length, IfOk, OnOk};
 ghost use Rattle.pg_graph.specs.Graphs.{has};
-ghost use Rattle.pg_own_starts.specs.declared.listed.ListedStart.{ListedStart};
+ghost use Rattle.pg_sets_own.specs.declared.listed.ListedStart.{ListedStart};
 ghost use Rattle.pg_sets.specs.Origins.{HoldsIt, IsThere, item_read, AreReaders};
 
 use crate::origins::taken_sets;
-use pg_form::Node;
+use pg_grammar_form::Node;
+use pg_grammar_value::Grammar;
 use pg_graph::{Numbers, empty_lists, join};
-use pg_own_starts::ListedStart;
-use pg_value::Grammar;
+use pg_sets_own::ListedStart;
 use std::alloc::{AllocError, Global};
 use std::collections::BTreeMap;
 
-/// For each word item the nodes that read its words. The only error is that memory ran out.
+/// For each word item the nodes that read its words.
 pub(crate) fn readers_of_words(alloc: Global, grammar: &Grammar) -> Result<Vec<Numbers>, AllocError>
     ensures { IfOk result (λ readers. AreReaders grammar.now (length grammar.now.nodes) readers.items) }
 {
@@ -26,7 +26,7 @@ pub(crate) fn readers_of_words(alloc: Global, grammar: &Grammar) -> Result<Vec<N
     Ok(readers)
 }
 
-/// The number of the word item whose words the node reads.
+/// The number of the word item whose words the node reads, if it reads any.
 pub(crate) fn item_read(node: &Node) -> Option<usize>
     ensures { result ≡ item_read node.now }
 {
@@ -36,7 +36,7 @@ pub(crate) fn item_read(node: &Node) -> Option<usize>
     }
 }
 
-/// Adds sets that hold a start by themselves; without any the map stays as it is. The only error is that memory ran out.
+/// Adds the sets that hold a start by themselves; with no sets the map stays as it is.
 pub(crate) fn add_readers(
     alloc: Global,
     origins: &mut BTreeMap<ListedStart, Numbers>,
@@ -56,7 +56,7 @@ pub(crate) fn add_readers(
     Ok(())
 }
 
-/// Adds numbers at the end. The only error is that memory ran out.
+/// Adds numbers at the end.
 fn push_all(numbers: &mut Numbers, more: &[usize]) -> Result<(), AllocError>
     ensures { OnOk result (numbers.new ≡ numbers.old ++ more.now) }
 {

@@ -1,24 +1,24 @@
 //! The sets of a grammar, and the calls that read them.
 //!
-//! Callers see them as lists by the numbers of nodes and rules; `compute` says whose they are. Nothing writes them
-//! once they are made, and no call but `compute` takes memory.
+//! Contracts see them as lists, by the numbers of nodes and rules; `compute` says which grammar they belong to. Nothing changes
+//! them once they are made, and only `compute` and `of` allocate memory.
 ghost use Rattle.std.specs.Prelude.{◌≡◌, [], IfOk};
-ghost use Rattle.pg_bit_set.specs.Numbers.{set_at};
+ghost use Rattle.pg_graph_bits.specs.Numbers.{set_at};
 ghost use Rattle.pg_graph.specs.Graphs.{numbers_at};
 ghost use Rattle.pg_graph.specs.Marks.{is_marked};
-ghost use Rattle.pg_heads.specs.Ranks.{rank_at};
+ghost use Rattle.pg_sets_nullable.specs.Ranks.{rank_at};
 
 use crate::start_sets::start_sets;
-use pg_bit_set::BitSet;
-use pg_form::{NodeId, RuleId};
+use pg_grammar_form::{NodeId, RuleId};
+use pg_grammar_value::Grammar;
 use pg_graph::is_marked;
-use pg_heads::{Rules, heads_of_rules, nullable_nodes, rank_at, ranks_of_rules, rules_at};
-use pg_own_starts::ListedStart;
-use pg_value::Grammar;
+use pg_graph_bits::BitSet;
+use pg_sets_nullable::{Rules, heads_of_rules, nullable_nodes, rank_at, ranks_of_rules, rules_at};
+use pg_sets_own::ListedStart;
 use std::alloc::{AllocError, Global};
 use std::marker::Model;
 
-/// What a check judges a grammar by: the least sets of its nodes and rules.
+/// The least sets of a grammar's nodes and rules, which the checks of a grammar use.
 #[derive(Debug, Drop)]
 pub struct Sets {
     nullable: Vec<bool>,
@@ -27,7 +27,7 @@ pub struct Sets {
     follows: Vec<BitSet>,
     heads: Vec<Rules>,
     ranks: Vec<Option<u32>>,
-    /// The set of a node that isn't there.
+    /// The set of a node that doesn't exist.
     none: BitSet,
 }
 
@@ -45,7 +45,7 @@ impl Model for Sets {
 impl Sets {
     ghost use Rattle.pg_sets.specs.Sets.{AreSets};
 
-    /// The sets of the grammar, by the definitions alone (ours). The only error is that memory ran out.
+    /// The sets of the grammar, by the definitions alone (ours).
     pub fn compute(alloc: Global, grammar: &Grammar) -> Result<Sets, AllocError>
         ensures { IfOk result (λ sets. AreSets grammar.now sets) }
     {
@@ -65,8 +65,7 @@ impl Sets {
         })
     }
 
-    /// The sets with these marks, starts, first and follow sets, and with no head and no rank: whose they are is the caller's to say
-    /// (ours). The only error is that memory ran out.
+    /// The sets with these marks, starts, first and follow sets, and with no heads and no ranks. Which grammar they belong to is for the caller to know (ours).
     pub fn of(
         alloc: Global,
         nullable: Vec<bool>,
@@ -97,7 +96,7 @@ impl Sets {
     }
 
     /// The starts of the grammar, each once: classes by their ranges, keys by text and then by what they exclude, words in
-    /// the order of their items, then the operators and the end. First and follow sets have the numbers of starts in this list.
+    /// the order of their items, then the operators and the end. First and follow sets hold indices into this list.
     pub fn starts(&self) -> &[ListedStart]
         ensures { result.now ≡ self.now.starts }
     {
@@ -118,7 +117,7 @@ impl Sets {
         set_at(&self.follows, node.index(), &self.none)
     }
 
-    /// The rules whose use is reached in the rule's body before anything is consumed, from the lowest number up.
+    /// The rules that the rule's body uses before anything is consumed, from the lowest number up.
     pub fn heads(&self, rule: RuleId) -> &[RuleId]
         ensures { result.now ≡ numbers_at self.now.heads rule }
     {
@@ -134,7 +133,7 @@ impl Sets {
     }
 }
 
-/// One of the sets; a set that isn't there is the one with no number.
+/// One of the sets; `none` if there is no set with this number.
 fn set_at<'a>(sets: &'a [BitSet], set: usize, none: &'a BitSet) -> &'a BitSet
     requires { none.now ≡ [] }
     ensures { result.now ≡ set_at sets.now set }

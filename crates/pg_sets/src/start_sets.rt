@@ -1,19 +1,19 @@
-//! First and follow sets: the starts that come along the edges of the sets (`flows.rt`), from where they come from
-//! (`origins.rt`).
+//! First and follow sets: the starts that reach each set along the edges (`flows.rt`), from the sets that hold them by
+//! themselves (`origins.rt`).
 ghost use Rattle.std.specs.Prelude.{◌≡◌, ◌↔◌, ℕ, true, IfOk};
 ghost use Rattle.pg_graph.specs.Marks.{is_marked};
-ghost use Rattle.pg_heads.specs.Nullable.{Nullable};
+ghost use Rattle.pg_sets_nullable.specs.Nullable.{Nullable};
 ghost use Rattle.pg_sets.specs.Sets.{AreStartSets};
 
 use crate::flows::flow_graph;
 use crate::origins::listed_starts;
-use pg_bit_set::BitSet;
+use pg_grammar_value::Grammar;
 use pg_graph::spread;
-use pg_own_starts::{ListedStart, key_tries};
-use pg_value::Grammar;
+use pg_graph_bits::BitSet;
+use pg_sets_own::{ListedStart, key_tries};
 use std::alloc::{AllocError, Global};
 
-/// The starts of a grammar, and for each node the numbers of those that are in its sets.
+/// The starts of a grammar, and for each node the numbers of the starts in its sets.
 #[derive(Drop)]
 pub(crate) struct StartSets {
     /// The starts in their order.
@@ -24,8 +24,7 @@ pub(crate) struct StartSets {
     pub(crate) follows: Vec<BitSet>,
 }
 
-/// The first and the follow sets of the grammar, by the marks of its nullable nodes. The only error is that memory ran
-/// out.
+/// The first and the follow sets of the grammar, from the marks of its nullable nodes.
 pub(crate) fn start_sets(
     alloc: Global,
     grammar: &Grammar,

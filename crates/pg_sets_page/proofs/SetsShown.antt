@@ -1,6 +1,6 @@
 -- The page by the texts that were made is the page of the grammar's sets.
 use Rattle.std.proofs.Common.{◌≡◌, ◌∙◌, ℕ, List, ap}
-use Rattle.pg_value.specs.Grammar.{Grammar}
+use Rattle.pg_grammar_value.specs.Grammar.{Grammar}
 use Rattle.pg_sets.specs.Sets.{Sets, AreSets}
 use Rattle.pg_sets_page.specs.SetsPage.{IsSetsPage, names_of, start_texts, page_text}
 

@@ -3,24 +3,24 @@ use Rattle.std.specs.Prelude.{◌≡◌, ℕ, ◌+◌, ◌-◌, Bool, if◌then�
 use Rattle.std.specs.Fmt.{decimal}
 use Rattle.std.specs.List.{filter, flat_map, join_by, range_with_len}
 use Rattle.std.specs.Option.{option_map_or}
-use Rattle.pg_value.specs.Grammar.{Grammar, rule_body}
-use Rattle.pg_form.specs.Forms.{Node}
-use Rattle.pg_form.specs.declared.form.Form.TheVariants as form
-use Rattle.pg_form.specs.declared.form.Leaf.{Leaf}
-use Rattle.pg_form.specs.declared.form.Leaf.TheVariants as leaf
-use Rattle.pg_form.specs.declared.form.Around.{Around}
-use Rattle.pg_form.specs.declared.form.Around.TheVariants as around
-use Rattle.pg_form.specs.declared.side.Side.{Side}
-use Rattle.pg_form.specs.declared.side.Side.TheVariants as side
-use Rattle.pg_bit_set.specs.Numbers.{contains, set_at}
+use Rattle.pg_grammar_value.specs.Grammar.{Grammar, rule_body}
+use Rattle.pg_grammar_form.specs.Forms.{Node}
+use Rattle.pg_grammar_form.specs.declared.form.Form.TheVariants as form
+use Rattle.pg_grammar_form.specs.declared.form.Leaf.{Leaf}
+use Rattle.pg_grammar_form.specs.declared.form.Leaf.TheVariants as leaf
+use Rattle.pg_grammar_form.specs.declared.form.Around.{Around}
+use Rattle.pg_grammar_form.specs.declared.form.Around.TheVariants as around
+use Rattle.pg_grammar_form.specs.declared.side.Side.{Side}
+use Rattle.pg_grammar_form.specs.declared.side.Side.TheVariants as side
+use Rattle.pg_graph_bits.specs.Numbers.{contains, set_at}
 use Rattle.pg_predict.specs.Findings.{name_text, body_of}
 use Rattle.pg_graph.specs.Graphs.{numbers_at}
 use Rattle.pg_graph.specs.Marks.{is_marked}
-use Rattle.pg_own_starts.specs.PrintedStarts.{start_text}
-use Rattle.pg_heads.specs.Ranks.{rank_at}
+use Rattle.pg_sets_own.specs.PrintedStarts.{start_text}
+use Rattle.pg_sets_nullable.specs.Ranks.{rank_at}
 use Rattle.pg_sets.specs.Sets.{Sets, AreSets}
 
--- ---- what is named by numbers
+-- ---- names and texts by number
 
 -- the names of the rules
 abbrev pub names_of : Grammar → List (List ℕ)
@@ -30,15 +30,15 @@ names_of g = map name_text g.rules
 abbrev pub start_texts : Grammar → Sets → List (List ℕ)
 start_texts g sets = map (start_text g) sets.starts
 
--- one of some texts; none for a number that isn't there
+-- the text with this number; empty if there is none
 abbrev pub text_at : List (List ℕ) → ℕ → List ℕ
 text_at texts k = slice_index_or texts k []
 
--- the texts with these numbers, in brackets and with semicolons between
+-- the texts with these numbers, in brackets and separated by semicolons
 abbrev pub list_text : List (List ℕ) → List ℕ → List ℕ
 list_text texts numbers = codes "[" ++ (join_by (text_at texts) (codes "; ") numbers ++ codes "]")
 
--- the texts whose numbers are in a set, from the lowest number up
+-- the texts of the members of a set, from the lowest number up
 abbrev pub set_text : List (List ℕ) → List Bool → List ℕ
 set_text texts set = list_text texts (filter (contains set) (range_with_len 0 (length texts)))
 
@@ -53,12 +53,12 @@ leaf_word (leaf.NotFollowedBy class) = codes "notFollowedBy"
 leaf_word leaf.EndOfText = codes "eof"
 leaf_word (leaf.Declare class) = codes "declare"
 
--- the word of a chain that is folded from this side
+-- the word of a chain that folds from this side
 abbrev pub chain_word : Side → List ℕ
 chain_word side.Left = codes "chainl1"
 chain_word side.Right = codes "chainr1"
 
--- the word of what stands around a part
+-- the word of a form around a part
 abbrev pub around_word : Around → List ℕ
 around_word around.Try = codes "try"
 around_word around.Text = codes "text"
@@ -85,7 +85,7 @@ word_of g p = option_map_or form_word (slice_get g.nodes p) []
 abbrev pub nullable_text : Bool → List ℕ
 nullable_text nullable = if nullable then codes "nullable" else codes "not nullable"
 
--- the number of a node in a rule whose body is the node b, from 1, and the word of its form
+-- the number of a node in the rule whose body is b, counted from 1, and the word of its form
 abbrev pub place_text : Grammar → ℕ → ℕ → List ℕ
 place_text g b p = codes "  " ++ (decimal (p - b + 1) ++ (codes " " ++ (word_of g p ++ codes ": ")))
 
@@ -96,6 +96,7 @@ sets_text starts sets p =
     ++ (codes ", first " ++ (set_text starts (set_at sets.firsts p)
     ++ (codes ", follow " ++ (set_text starts (set_at sets.follows p) ++ codes "\n"))))
 
+-- a node's number in its rule, its form, whether it is nullable, its first and its follow set
 abbrev pub node_line : Grammar → List (List ℕ) → Sets → ℕ → ℕ → List ℕ
 node_line g starts sets b p = place_text g b p ++ sets_text starts sets p
 
@@ -113,15 +114,15 @@ rule_line names sets r =
 
 -- ---- the page
 
--- the node after the last of a rule: the body of the next rule, or after all nodes
+-- the end of a rule's nodes: the body of the next rule, or the number of nodes
 abbrev pub end_of : Grammar → ℕ → ℕ
 end_of g r = option_map_or rule_body (slice_get g.rules (r + 1)) (length g.nodes)
 
--- the lines of the nodes from b up to e, which is left out
+-- the lines of the nodes from b up to e, without e
 abbrev pub node_lines : Grammar → List (List ℕ) → Sets → ℕ → ℕ → List ℕ
 node_lines g starts sets b e = flat_map (node_line g starts sets b) (range_with_len b (e - b))
 
--- a rule's line and those of its nodes
+-- a rule's line and the lines of its nodes
 abbrev pub rule_text : Grammar → List (List ℕ) → List (List ℕ) → Sets → ℕ → List ℕ
 rule_text g names starts sets r = rule_line names sets r ++ node_lines g starts sets (body_of g.rules r) (end_of g r)
 

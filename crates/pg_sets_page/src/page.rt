@@ -1,22 +1,33 @@
 //! The page of a grammar's sets.
 //!
-//! What sets name by numbers, rules and starts, is made into texts once; then the page is pushed together, rule by rule and
-//! node by node. Each function that pushes says by which text the page is longer. The only error is that memory ran out.
+//! The names of rules and the texts of starts, to which sets refer by number, are made once. Then the page is built rule by rule and
+//! node by node. The contract of each function that pushes gives the text that it adds. The only error is that memory ran out.
 
 ghost use Rattle.std.specs.Prelude.{◌≡◌, ◌++◌, ◌+◌, ◌^◌, ◌<◌, ◌≤◌, codes, length, map, string_bytes, IfOk, OnOk};
 ghost use Rattle.std.specs.List.{filter, join_by, range_with_len};
-ghost use Rattle.pg_bit_set.specs.Numbers.{contains};
+ghost use Rattle.pg_graph_bits.specs.Numbers.{contains};
 ghost use Rattle.pg_predict.specs.Findings.{name_text};
-ghost use Rattle.pg_own_starts.specs.PrintedStarts.{start_text};
+ghost use Rattle.pg_sets_own.specs.PrintedStarts.{start_text};
 ghost use Rattle.pg_sets_page.specs.SetsPage.{IsSetsPage, text_at, list_text, set_text, leaf_word, chain_word, around_word, form_word, word_of, nullable_text, place_text, sets_text, node_line, rank_text, rule_line, end_of, node_lines, rule_text, page_text};
 
-use pg_bit_set::BitSet;
-use pg_form::{Around, Form, Leaf, Node, NodeId, RuleId, Side, WordId};
-use pg_own_starts::{ListedStart, printed_start};
+use pg_grammar_form::{Around, Form, Leaf, Node, NodeId, RuleId, Side, WordId};
+use pg_grammar_value::{Grammar, Rule};
+use pg_graph_bits::BitSet;
 use pg_predict::body_of;
 use pg_sets::Sets;
-use pg_value::{Grammar, Rule};
+use pg_sets_own::{ListedStart, printed_start};
 use std::alloc::{AllocError, Global};
+
+/// What a page is made from.
+#[derive(Clone, Copy)]
+struct Content<'c> {
+    grammar: &'c Grammar,
+    /// The names of its rules.
+    names: &'c [String],
+    /// The texts of the starts, to which the sets refer by number.
+    starts: &'c [String],
+    sets: &'c Sets,
+}
 
 /// The page of the sets of a grammar.
 pub fn sets_page(alloc: Global, grammar: &Grammar) -> Result<Vec<u8>, AllocError>
@@ -25,7 +36,13 @@ pub fn sets_page(alloc: Global, grammar: &Grammar) -> Result<Vec<u8>, AllocError
     let sets = Sets::compute(alloc, grammar)?;
     let names = names_of(alloc, grammar.rules())?;
     let starts = start_texts(alloc, grammar, sets.starts())?;
-    page_of(alloc, grammar, &names, &starts, &sets)
+    let content = Content {
+        grammar,
+        names: &names,
+        starts: &starts,
+        sets: &sets,
+    };
+    page_of(alloc, &content)
 }
 
 /// The names of rules.
@@ -54,27 +71,22 @@ fn start_texts(
     Ok(texts)
 }
 
-/// The page, by the texts of rules and starts.
-fn page_of(
-    alloc: Global,
-    grammar: &Grammar,
-    names: &[String],
-    starts: &[String],
-    sets: &Sets,
-) -> Result<Vec<u8>, AllocError>
-    ensures { IfOk result (λ page. page.items ≡ page_text grammar.now (map string_bytes names.now) (map string_bytes starts.now) sets.now) }
+/// The page of this content.
+fn page_of(alloc: Global, content: &Content<'_>) -> Result<Vec<u8>, AllocError>
+    ensures { IfOk result (λ page. page.items ≡ page_text content.now.grammar.now (map string_bytes content.now.names.now) (map string_bytes content.now.starts.now) content.now.sets.now) }
 {
+    let grammar = content.grammar;
     let mut page = Vec::new(alloc);
     for rule in 0..grammar.rules().len() {
-        push_rule_line(alloc, &mut page, names, sets, RuleId::new(rule))?;
+        push_rule_line(alloc, &mut page, content, RuleId::new(rule))?;
         let body = body_of(grammar.rules(), rule);
         let end = end_of(grammar, rule);
-        push_node_lines(alloc, &mut page, grammar, starts, sets, body, end)?;
+        push_node_lines(alloc, &mut page, content, body, end)?;
     }
     Ok(page)
 }
 
-/// The node after the last of a rule.
+/// The end of a rule's nodes: the number after its last.
 fn end_of(grammar: &Grammar, rule: usize) -> usize
     requires { rule < length grammar.now.rules }
     ensures { result ≡ end_of grammar.now rule }
@@ -89,18 +101,17 @@ fn end_of(grammar: &Grammar, rule: usize) -> usize
 fn push_rule_line(
     alloc: Global,
     page: &mut Vec<u8>,
-    names: &[String],
-    sets: &Sets,
+    content: &Content<'_>,
     rule: RuleId,
 ) -> Result<(), AllocError>
-    ensures { OnOk result (page.new.items ≡ page.old.items ++ rule_line (map string_bytes names.now) sets.now rule) }
+    ensures { OnOk result (page.new.items ≡ page.old.items ++ rule_line (map string_bytes content.now.names.now) content.now.sets.now rule) }
 {
-    let heads = numbers_of(alloc, sets.heads(rule))?;
-    page.extend_from_slice(text_at(names, rule.index()).as_bytes())?;
+    let heads = numbers_of(alloc, content.sets.heads(rule))?;
+    page.extend_from_slice(text_at(content.names, rule.index()).as_bytes())?;
     page.extend_from_slice(b": heads ")?;
-    push_list(page, names, &heads)?;
+    push_list(page, content.names, &heads)?;
     page.extend_from_slice(b", rank ")?;
-    push_rank(alloc, page, sets.rank(rule))?;
+    push_rank(alloc, page, content.sets.rank(rule))?;
     page.extend_from_slice(b"\n")
 }
 
@@ -115,7 +126,7 @@ fn numbers_of(alloc: Global, rules: &[RuleId]) -> Result<Vec<usize>, AllocError>
     Ok(numbers)
 }
 
-/// Pushes a rank, or that there is none.
+/// Pushes a rank, or the word for none.
 fn push_rank(alloc: Global, page: &mut Vec<u8>, rank: Option<u32>) -> Result<(), AllocError>
     ensures { OnOk result (page.new.items ≡ page.old.items ++ rank_text rank) }
 {
@@ -128,26 +139,24 @@ fn push_rank(alloc: Global, page: &mut Vec<u8>, rank: Option<u32>) -> Result<(),
     }
 }
 
-/// Pushes the lines of the nodes from the body on, up to the end, which is left out.
+/// Pushes the lines of the nodes from the body up to the end, without the end.
 fn push_node_lines(
     alloc: Global,
     page: &mut Vec<u8>,
-    grammar: &Grammar,
-    starts: &[String],
-    sets: &Sets,
+    content: &Content<'_>,
     body: usize,
     end: usize,
 ) -> Result<(), AllocError>
-    ensures { OnOk result (page.new.items ≡ page.old.items ++ node_lines grammar.now (map string_bytes starts.now) sets.now body end) }
+    ensures { OnOk result (page.new.items ≡ page.old.items ++ node_lines content.now.grammar.now (map string_bytes content.now.starts.now) content.now.sets.now body end) }
 {
     for node in body..end {
-        push_place(alloc, page, grammar, body, node)?;
-        push_sets(alloc, page, starts, sets, NodeId::new(node))?;
+        push_place(alloc, page, content.grammar, body, node)?;
+        push_sets(alloc, page, content.starts, content.sets, NodeId::new(node))?;
     }
     Ok(())
 }
 
-/// Pushes a node's number after the body, from 1, and the word of its form.
+/// Pushes a node's number in its rule, counted from 1, and the word of its form.
 fn push_place(
     alloc: Global,
     page: &mut Vec<u8>,
@@ -165,7 +174,7 @@ fn push_place(
     page.extend_from_slice(text.as_bytes())
 }
 
-/// The word of the form at a node; none where there is no node.
+/// The word of the form at a node; empty if there is no such node.
 fn word_of(grammar: &Grammar, node: usize) -> &'static str
     ensures { result.now ≡ word_of grammar.now node }
 {
@@ -175,7 +184,7 @@ fn word_of(grammar: &Grammar, node: usize) -> &'static str
     }
 }
 
-/// The word that a grammar file has for the form; a use of a rule, which has none there, is called `rule`.
+/// The word for the form in a grammar file; `rule` for a use of a rule, which has no word there.
 pub fn form_word(node: &Node) -> &'static str
     ensures { result.now ≡ form_word node.now }
 {
@@ -250,7 +259,7 @@ fn nullable_text(nullable: bool) -> &'static str
     if nullable { "nullable" } else { "not nullable" }
 }
 
-/// Pushes the texts whose numbers are in a set.
+/// Pushes the texts of the members of a set.
 fn push_set(
     alloc: Global,
     page: &mut Vec<u8>,
@@ -263,7 +272,7 @@ fn push_set(
     push_list(page, texts, &numbers)
 }
 
-/// The numbers in a set below a limit.
+/// The members of a set below a limit.
 fn members(alloc: Global, set: &BitSet, limit: usize) -> Result<Vec<usize>, AllocError>
     ensures { IfOk result (λ numbers. numbers.items ≡ filter (contains set.now) (range_with_len 0 limit)) }
 {
@@ -276,7 +285,7 @@ fn members(alloc: Global, set: &BitSet, limit: usize) -> Result<Vec<usize>, Allo
     Ok(numbers)
 }
 
-/// Pushes the texts with these numbers, in brackets and with semicolons between.
+/// Pushes the texts with these numbers, in brackets and separated by semicolons.
 fn push_list(page: &mut Vec<u8>, texts: &[String], numbers: &[usize]) -> Result<(), AllocError>
     ensures { OnOk result (page.new.items ≡ page.old.items ++ list_text (map string_bytes texts.now) numbers.now) }
 {
@@ -285,7 +294,7 @@ fn push_list(page: &mut Vec<u8>, texts: &[String], numbers: &[usize]) -> Result<
     page.extend_from_slice(b"]")
 }
 
-/// Pushes the texts with these numbers, with semicolons between.
+/// Pushes the texts with these numbers, separated by semicolons.
 fn push_joined(page: &mut Vec<u8>, texts: &[String], numbers: &[usize]) -> Result<(), AllocError>
     ensures { OnOk result (page.new.items ≡ page.old.items ++ join_by (text_at (map string_bytes texts.now)) (codes "; ") numbers.now) }
 {
@@ -299,7 +308,7 @@ fn push_joined(page: &mut Vec<u8>, texts: &[String], numbers: &[usize]) -> Resul
     Ok(())
 }
 
-/// The text with this number; none where there is none.
+/// The text with this number; empty if there is none.
 fn text_at(texts: &[String], number: usize) -> &str
     ensures { result.now ≡ text_at (map string_bytes texts.now) number }
 {

@@ -11,17 +11,17 @@ use Rattle.pg_start.specs.declared.kind.StartKind.TheVariants.{Class, Key, Word,
 pub data KeysApart (key : List ℕ) (excluded : List Range) (other : List ℕ) (other_excluded : List Range) : Type 0 where
   -- neither begins with the other
   differ : ¬ (IsPrefix key other) → ¬ (IsPrefix other key) → KeysApart key excluded other other_excluded
-  -- the one is longer than the other, and goes on with a character that the other excludes
+  -- the other is longer, and goes on with a character that the first excludes; or the other way round
   other_goes_on : IsPrefix key other → HasAt other (length key) excluded → KeysApart key excluded other other_excluded
   key_goes_on : IsPrefix other key → HasAt key (length other) other_excluded → KeysApart key excluded other other_excluded
 
--- a key and words are apart
+-- a key and a word are apart
 pub data KeyWordApart (key : List ℕ) (excluded heads rest : List Range) (reserved : List (List ℕ)) : Type 0 where
-  -- the key doesn't begin with a head
+  -- the key doesn't begin with a head of the word
   begins_outside : begins_in heads key ≡ false → KeyWordApart key excluded heads rest reserved
-  -- the word that the key begins with is reserved, and isn't the whole key
+  -- the word at the beginning of the key is reserved, and the key goes on after it
   goes_on : is_among reserved (word_prefix rest key) ≡ true → word_prefix rest key ≢ key → KeyWordApart key excluded heads rest reserved
-  -- the word that the key begins with is reserved, and the key excludes whatever a word may go on with
+  -- the word at the beginning of the key is reserved, and the key excludes all that could continue it
   ends : is_among reserved (word_prefix rest key) ≡ true → IsWithin rest excluded → KeyWordApart key excluded heads rest reserved
 
 -- two starts are apart

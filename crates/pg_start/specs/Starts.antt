@@ -6,7 +6,7 @@ use Rattle.pg_start.specs.Prefixes.{IsPrefix, run}
 use Rattle.pg_start.specs.declared.kind.StartKind.{StartKind}
 use Rattle.pg_start.specs.declared.kind.StartKind.TheVariants.{Class, Key, Word, End}
 
--- a start may be of this kind: a key isn't empty
+-- a kind that a start may have: a key isn't empty
 abbrev pub IsStart : StartKind → Type 0
 IsStart (Class class) = Unit {0}
 IsStart (Key key excluded) = 0 < length key
@@ -19,13 +19,13 @@ pub record HasAt (text : List ℕ) (place : ℕ) (class : List Range) : Type 0 w
   pub there : slice_get text place ≡ Some character
   pub member : has class character ≡ true
 
--- the key, which isn't empty, stands at the place, and no excluded character follows it
+-- the key isn't empty and stands at the place, and no excluded character follows it
 pub record IsKeyAt (text : List ℕ) (place : ℕ) (key : List ℕ) (excluded : List Range) : Type 0 where
   pub spelled : 0 < length key
   pub there : IsPrefix key (drop place text)
   pub ends : (c : ℕ) → slice_get text (place + length key) ≡ Some c → has excluded c ≡ false
 
--- a word stands at the place: a character of the heads and the run of the rest after it, which aren't reserved
+-- a word stands at the place: a head and the run of the rest after it, which together aren't reserved
 pub record IsWordAt (text : List ℕ) (place : ℕ) (heads rest : List Range) (reserved : List (List ℕ)) : Type 0 where
   pub head : ℕ
   pub there : slice_get text place ≡ Some head

@@ -1,6 +1,6 @@
 //! Whether a start matches at a place of a text.
 //!
-//! Only the characters from the place on count, so each kind looks at what the rest of the text begins with.
+//! Only the characters from the place on count, so each kind looks at the beginning of the rest of the text.
 ghost use Rattle.std.specs.Prelude.{◌≡◌, ◌↔◌, ◌≤◌, drop, false, length, IsTrue};
 ghost use Rattle.pg_start.specs.Prefixes.{begins_in, IsPrefix};
 ghost use Rattle.pg_start.specs.Starts.{MatchesAt};

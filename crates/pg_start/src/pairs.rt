@@ -1,6 +1,6 @@
-//! Whether two starts are apart, a case a row.
+//! Whether two starts are apart, one row for each pair of kinds.
 //!
-//! It is told by the starts alone, from the classes and the characters of keys; a parser that looks ahead relies on it.
+//! The starts alone decide, by their classes and the characters of keys. A parser that looks ahead relies on it.
 ghost use Rattle.std.specs.Prelude.{◌↔◌, IsTrue};
 ghost use Rattle.pg_start.specs.Apart.{Apart, KeysApart, KeyWordApart};
 
@@ -12,8 +12,8 @@ use pg_text::Texts;
 
 /// Whether two starts are apart. It takes no memory.
 ///
-/// The order of the two doesn't matter (`apart_is_symmetric`), and two that are apart match together at no place of any
-/// text (`starts_apart_never_meet`). Two that aren't need not meet anywhere.
+/// The order of the two doesn't matter (`apart_is_symmetric`). Two that are apart never match at the same place of a
+/// text (`starts_apart_never_meet`). Two that aren't apart need not meet anywhere.
 pub fn apart(one: &Start, other: &Start) -> bool
     ensures { IsTrue result ↔ Apart one.now other.now }
 {
@@ -86,8 +86,8 @@ fn keys_are_apart(key: &[char], excluded: &Class, other: &[char], other_excluded
     }
 }
 
-/// Whether no word is read where the key stands: the key begins with no head, or the word that is read is reserved, as it
-/// ends inside the key, or with the key where no character may follow that a word goes on with.
+/// Whether no word is read where the key stands. Either the key begins with no head; or the word that is read is reserved, since it ends inside the key, or
+/// ends with the key and the key excludes all that could continue it.
 fn key_and_word_are_apart(
     key: &[char],
     excluded: &Class,

@@ -1,6 +1,6 @@
-//! What a text begins with: a character of a class, a run, a word.
+//! The beginning of a text: a character of a class, a run, a word.
 //!
-//! Keys are looked at as texts are, so both `matching.rt` and `pairs.rt` ask here. Nothing takes memory.
+//! Keys are examined as texts are, so both `matching.rt` and `pairs.rt` call these. None takes memory.
 ghost use Rattle.std.specs.Prelude.{◌≡◌, ◌↔◌, length, IsTrue};
 ghost use Rattle.pg_start.specs.Prefixes.{begins_in, IsPrefix, run, word_prefix};
 
@@ -16,14 +16,14 @@ pub fn begins_in(text: &[char], class: &Class) -> bool
     }
 }
 
-/// Whether the text begins with another, which may be all of it.
+/// Whether the text begins with another, perhaps the whole of it.
 pub fn begins_with(text: &[char], prefix: &[char]) -> bool
     ensures { IsTrue result ↔ IsPrefix prefix.now text.now }
 {
     text.starts_with(prefix)
 }
 
-/// The first character of the text with all characters of the class that follow it.
+/// The first character of the text and all characters of the class that follow it.
 pub fn word_prefix<'a>(text: &'a [char], rest: &Class) -> &'a [char]
     ensures { result.now ≡ word_prefix rest.now text.now }
 {
@@ -33,7 +33,7 @@ pub fn word_prefix<'a>(text: &'a [char], rest: &Class) -> &'a [char]
     }
 }
 
-/// How many characters of the class the text begins with.
+/// The length of the run of the class at the beginning of the text.
 fn run_length(text: &[char], class: &Class) -> usize
     ensures { result ≡ length (run class.now text.now) }
 {

@@ -1,7 +1,7 @@
 //! The type of a start, and its constructors.
 //!
-//! Callers see a start as its kind with the parts. That a key isn't empty is the invariant: nothing is met where nothing
-//! stands, so without it a key wouldn't be apart from the end of the text.
+//! Callers see a start as its kind with the parts. The invariant is that a key isn't empty. An empty key would match anywhere, so it wouldn't be apart from
+//! the end of the text.
 ghost use Rattle.std.specs.Prelude.{◌≡◌, ◌<◌, length, IfOk};
 ghost use Rattle.pg_start.specs.Starts.{IsStart};
 
@@ -29,7 +29,7 @@ impl Model for Start {
 }
 
 impl Start {
-    /// A character of this class. The only error is that memory ran out.
+    /// The start of a character of this class.
     pub fn class(class: &Class) -> Result<Start, AllocError>
         ensures { IfOk result (λ start. start ≡ StartKind.Class class.now) }
     {
@@ -39,7 +39,7 @@ impl Start {
         })
     }
 
-    /// This text, with no excluded character after it. The only error is that memory ran out.
+    /// The start of this key, with no excluded character after it.
     pub fn key(alloc: Global, key: &[char], excluded: &Class) -> Result<Start, AllocError>
         requires { 0 < length key.now }
         ensures { IfOk result (λ start. start ≡ StartKind.Key key.now excluded.now) }
@@ -51,8 +51,8 @@ impl Start {
         })
     }
 
-    /// A word of one of the heads and all of the rest that follow, unless that is one of the reserved texts. It shares these and
-    /// takes no memory; the only error, told as want of memory, is that they are shared as often as can be counted.
+    /// The start of a word: one of the heads and all of the rest that follow, unless that is one of the reserved texts. It shares these and takes no memory.
+    /// The only error, reported as out of memory, is that they are shared as often as can be counted.
     pub fn word(heads: &Class, rest: &Class, reserved: &Texts) -> Result<Start, AllocError>
         ensures { IfOk result (λ start. start ≡ StartKind.Word heads.now rest.now reserved.now) }
     {
@@ -64,7 +64,7 @@ impl Start {
         })
     }
 
-    /// The end of the text. It takes no memory.
+    /// The start of the end of the text. It takes no memory.
     pub fn end() -> Start
         ensures { result ≡ StartKind.End }
     {

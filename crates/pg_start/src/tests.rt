@@ -1,4 +1,4 @@
-//! What no clause says: that calls succeed. What is wanted of keys and words is told by hand.
+//! What no contract says: that calls succeed. The expected answers for keys and words are written by hand.
 ghost use Rattle.std.specs.Prelude.{◌<◌, length};
 
 use super::*;
@@ -30,6 +30,9 @@ fn tells_keys_apart(rt: HostRuntime) -> Result<(), Fail> {
     assert!(rt; !apart(&open, &lets));
     assert!(rt; apart(&whole, &lets));
     assert!(rt; !apart(&Start::end(), &Start::end()));
+    let less = key(rt.alloc(), &['<'], &[('=', '=')])?;
+    let less_or_equal = key(rt.alloc(), &['<', '='], &[])?;
+    assert!(rt; apart(&less, &less_or_equal));
     apart_is_symmetric();
     Ok(())
 }

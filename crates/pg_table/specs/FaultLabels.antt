@@ -1,7 +1,7 @@
--- The labels of the reasons for which an operator isn't admitted.
+-- The labels of the reasons why an operator isn't admitted.
 use Rattle.std.specs.Prelude.{ℕ, List, codes}
-use Rattle.pg_table.specs.declared.fault.AdmitFault.{AdmitFault}
-use Rattle.pg_table.specs.declared.fault.AdmitFault.TheVariants.{SymbolTooLong, SymbolReserved, PrefixThere, SymbolThere, TableFull}
+use Rattle.pg_table.specs.declared.admit_fault.AdmitFault.{AdmitFault}
+use Rattle.pg_table.specs.declared.admit_fault.AdmitFault.TheVariants.{SymbolTooLong, SymbolReserved, PrefixThere, SymbolThere, TableFull}
 
 abbrev pub fault_label : AdmitFault → List ℕ
 fault_label SymbolTooLong = codes "A1"

@@ -2,29 +2,29 @@
 use Rattle.std.specs.Prelude.{◌≡◌, ◌≤◌, ℕ, suc, Bool, true, false, not, ◌&&◌, nat_lt, nat_le, if◌then◌else◌, List, [], ◌∷◌, ◌++◌, length, take, Option, Some, None}
 use Rattle.std.specs.List.{list_any, AllByRecursion}
 use Rattle.std.specs.Str.{bytes_eq}
-use Rattle.pg_value.specs.Grammar.{Grammar}
-use Rattle.pg_form.specs.Operators.{Operator, IsOperator}
-use Rattle.pg_form.specs.declared.decl.Role.{Role}
-use Rattle.pg_form.specs.declared.decl.Role.TheVariants.{InfixLeft, InfixRight, InfixNone, Prefix, Postfix}
-use Rattle.pg_form.specs.declared.operators_item.OperatorsItem.{OperatorsItem}
-use Rattle.pg_table.specs.declared.fault.AdmitFault.{AdmitFault}
-use Rattle.pg_table.specs.declared.fault.AdmitFault.TheVariants.{SymbolTooLong, SymbolReserved, PrefixThere, SymbolThere, TableFull}
-use Rattle.pg_table.specs.declared.fault.InitialFault.{InitialFault}
-use Rattle.pg_table.specs.declared.fault.InitialFault.TheVariants.{NotAdmitted, Memory}
+use Rattle.pg_grammar_value.specs.Grammar.{Grammar}
+use Rattle.pg_grammar_form.specs.Operators.{Operator, IsOperator}
+use Rattle.pg_grammar_form.specs.declared.decl.Role.{Role}
+use Rattle.pg_grammar_form.specs.declared.decl.Role.TheVariants.{InfixLeft, InfixRight, InfixNone, Prefix, Postfix}
+use Rattle.pg_grammar_form.specs.declared.operators_item.OperatorsItem.{OperatorsItem}
+use Rattle.pg_table.specs.declared.admit_fault.AdmitFault.{AdmitFault}
+use Rattle.pg_table.specs.declared.admit_fault.AdmitFault.TheVariants.{SymbolTooLong, SymbolReserved, PrefixThere, SymbolThere, TableFull}
+use Rattle.pg_table.specs.declared.admit_fault.InitialFault.{InitialFault}
+use Rattle.pg_table.specs.declared.admit_fault.InitialFault.TheVariants.{NotAdmitted, Memory}
 
--- operators, the symbols that none of them may have, and how many there may be
+-- operators, the reserved symbols, which no operator may have, and the limit on operators
 pub record Table : Type 0 where
   pub operators : List Operator
   pub reserved : List (List ℕ)
   pub most : ℕ
 
--- a table as it may be: each operator can be declared, and there are no more than there may be, which is 64 at most
+-- a proper table: each operator can be declared, and their number is within the limit, which is at most 64
 pub record IsTable (table : Table) : Type 0 where
   pub operators : AllByRecursion IsOperator table.operators
   pub few : length table.operators ≤ table.most
   pub most : table.most ≤ 64
 
--- whether an operator of this role stands before its operand
+-- whether a role is prefix
 abbrev pub is_prefix : Role → Bool
 is_prefix InfixLeft = false
 is_prefix InfixRight = false
@@ -36,11 +36,11 @@ is_prefix Postfix = false
 abbrev pub has_prefix : List Operator → List ℕ → Bool
 has_prefix operators symbol = list_any (λ o. is_prefix o.role && bytes_eq o.symbol symbol) operators
 
--- whether an infix or postfix operator has it
+-- whether an infix or postfix operator has the symbol
 abbrev pub has_other : List Operator → List ℕ → Bool
 has_other operators symbol = list_any (λ o. not (is_prefix o.role) && bytes_eq o.symbol symbol) operators
 
--- why a table doesn't admit an operator, if it doesn't: the first of these reasons
+-- why a table doesn't admit an operator, if it doesn't; the first reason that applies
 abbrev pub admit_fault : Table → Operator → Option AdmitFault
 admit_fault table d =
     if nat_lt 16 (length d.symbol) then Some SymbolTooLong else
@@ -53,37 +53,37 @@ admit_fault table d =
 abbrev pub Admits : Table → Operator → Type 0
 Admits table d = admit_fault table d ≡ None
 
--- the table with its first operators alone
+-- the table with only its first operators
 abbrev pub first_operators : ℕ → Table → Table
 first_operators count table = record { operators = take count table.operators; reserved = table.reserved; most = table.most }
 
--- the table with an operator more, at the end
+-- the table with one operator more, at the end
 abbrev pub with_operator : Table → Operator → Table
 with_operator table d = record { operators = table.operators ++ d ∷ []; reserved = table.reserved; most = table.most }
 
 -- ---- tables of a grammar
 
--- a table without operators, in which these symbols are reserved and which may hold so many
+-- a table without operators, with these reserved symbols and this limit
 abbrev pub without_operators : List (List ℕ) → ℕ → Table
 without_operators reserved most = record { operators = []; reserved = reserved; most = most }
 
--- that of an operators item: without one it may hold none
+-- the table without operators for an operators item; if there is none, its limit is 0
 abbrev pub empty_table : Option OperatorsItem → Table
 empty_table None = without_operators [] 0
 empty_table (Some item) = without_operators item.reserved item.max
 
--- what becomes of a table when operators are added in order, of which the first has the number k: the table with all of
--- them, or the first that isn't admitted, and why
+-- the result of adding operators to a table in order; the first has the number k. It is the table with all of them, or the first that isn't admitted,
+-- and why
 pub data Added : Type 0 where
   whole : Table → Added
   refused : ℕ → AdmitFault → Added
 
--- what becomes of it, where the operator with the number k isn't admitted for this reason, or else as the others say
+-- the result if the operator with the number k is refused for this reason, and otherwise that of the others
 abbrev pub added_unless : Option AdmitFault → ℕ → Added → Added
 added_unless None k others = others
 added_unless (Some fault) k others = refused k fault
 
--- what becomes of it, where these are added
+-- the result of adding these operators
 abbrev pub added_from : ℕ → Table → List Operator → Added
 added_from k table [] = whole table
 added_from k table (d ∷ ds) = added_unless (admit_fault table d) k (added_from (suc k) (with_operator table d) ds)
@@ -97,8 +97,7 @@ abbrev pub IsRefusal : Added → InitialFault → Type 0
 IsRefusal added (NotAdmitted k fault) = added ≡ refused k fault
 IsRefusal added Memory = Unit {0}
 
--- the table comes from the grammar: it is the initial one, with further operators that can be declared and were admitted one
--- after another
+-- the table comes from the grammar: it is the initial one, with further operators that can be declared and were admitted one after another
 pub record ComesFrom (g : Grammar) (table : Table) : Type 0 where
   pub first : Table
   pub initial : initial g ≡ whole first

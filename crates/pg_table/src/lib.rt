@@ -3,12 +3,12 @@
 //! `specs/Tables.antt` says what a table admits, and `specs/Fitting.antt` which operator trees fit one.
 #![tactic(auto)]
 
-mod fault;
+mod admit_fault;
 mod limits;
 mod table;
 #[cfg(test)]
 mod tests;
 
-pub use fault::{AdmitFault, ExtendFault, InitialFault};
+pub use admit_fault::{AdmitFault, ExtendFault, InitialFault};
 pub use limits::{PRECEDENCES, SYMBOL_LIMIT};
 pub use table::Table;

@@ -1,6 +1,6 @@
-//! The limit on an operator's symbol, and the precedences; how many operators a table may hold is said by its grammar.
+//! The limit on an operator's symbol, and the precedences. A grammar says how many operators a table may hold.
 
-/// A symbol's characters.
+/// The most characters of a symbol.
 pub const SYMBOL_LIMIT: usize = 16;
 
 /// The precedences, the tightest first.

@@ -1,24 +1,23 @@
-//! The operator table: the operators in force at a place of a text, in the order in which they came.
+//! The operator table: the operators in force at a place of a text, in the order in which they were added.
 //!
-//! That there are no more operators than there may be, at most 64, and that each has a precedence from 0 to 9 and a symbol
-//! of at least one character are invariants of the type: whoever numbers rows or reads operators relies on them. An
-//! operator comes into a table only by [`Table::admit`]'s leave, so no symbol in the table of a grammar is reserved, and
-//! none stands for two operators in one position.
+//! The number of operators is within its limit, which is at most 64, and each has a precedence from 0 to 9 and a symbol that isn't empty. These are
+//! invariants of the type: code that numbers rows or reads operators relies on them. An operator is added only if [`Table::admit`] allows it. So no symbol in
+//! a grammar's table is reserved, and none stands for two operators in one position.
 
 ghost use Rattle.std.specs.Prelude.{◌≡◌, ◌≤◌, ◌↔◌, ◌&&◌, not, IfOk, IfErr, IsErrOf, OnOk, OnErr, Some, length};
 ghost use Rattle.std.specs.List.{list_any};
 ghost use Rattle.std.specs.Str.{bytes_eq};
 ghost use Rattle.pg_table.specs.Tables.{is_prefix};
 
-use crate::fault::{AdmitFault, ExtendFault, InitialFault};
+use crate::admit_fault::{AdmitFault, ExtendFault, InitialFault};
 use crate::limits::{PRECEDENCES, SYMBOL_LIMIT};
-use pg_form::{Decl, Role};
+use pg_grammar_form::{Decl, Role};
+use pg_grammar_value::Grammar;
 use pg_text::Texts;
-use pg_value::Grammar;
 use std::alloc::{AllocError, Global};
 use std::marker::Model;
 
-/// A table, seen as its operators, the reserved symbols, and how many operators there may be.
+/// A table, seen as its operators, the reserved symbols, and the limit on operators.
 #[derive(Drop)]
 pub struct Table {
     operators: Vec<Decl>,
@@ -42,7 +41,7 @@ impl Table {
 
     /// The initial table of a grammar: its initial declarations in file order, each admitted by those before it.
     ///
-    /// Else the index of the first that isn't admitted, and why.
+    /// Otherwise the index of the first that isn't admitted, and why.
     #[tactic(auto, using(crate::proofs::Added::own_table))]
     pub fn of(alloc: Global, grammar: &Grammar) -> Result<Table, InitialFault>
         ensures ok { IfOk result (λ table. initial grammar.now ≡ whole table) }
@@ -52,10 +51,10 @@ impl Table {
         Table::empty(alloc, grammar)?.extended(alloc, grammar.initials())
     }
 
-    /// The table with these declarations in their order, each admitted by those before it, where these symbols are reserved
-    /// and there may be so many operators, 64 at most. So a reader can judge what a file declares without a grammar.
+    /// The table with these declarations in order, each admitted by those before it, with these reserved symbols and this limit, at most 64. So a reader of
+    /// files can check its declarations without a grammar.
     ///
-    /// Else the index of the first that isn't admitted, and why.
+    /// Otherwise the index of the first that isn't admitted, and why.
     pub fn of_declarations(
         alloc: Global,
         reserved: Texts,
@@ -74,7 +73,7 @@ impl Table {
         table.extended(alloc, decls)
     }
 
-    /// Whether an operator may be added, and if not, why not: the first of A1 to A5 that holds. It takes no memory.
+    /// Whether an operator may be added; if not, the first of A1 to A5 that applies. It takes no memory.
     pub fn admit(&self, decl: &Decl) -> Result<(), AdmitFault>
         ensures ok { OnOk result (Admits self.now decl.now) }
         ensures err { IfErr result (λ fault. admit_fault self.now decl.now ≡ Some fault) }
@@ -99,8 +98,7 @@ impl Table {
         Ok(())
     }
 
-    /// The operators, in the order in which they came: the initial ones in file order, then the declared ones. It takes no
-    /// memory.
+    /// The operators, in the order in which they were added: the initial ones in file order, then the declared ones. It takes no memory.
     pub fn operators(&self) -> &[Decl]
         ensures all { result.now ≡ self.now.operators }
         ensures table { IsTable self.now }
@@ -108,7 +106,7 @@ impl Table {
         self.operators.as_slice()
     }
 
-    /// How many rows the table has: the precedences that hold an operator. It takes no memory.
+    /// The number of rows: the precedences that have an operator. It takes no memory.
     pub fn rows(&self) -> usize
         ensures { result ≡ length (rows self.now.operators) }
     {
@@ -118,9 +116,9 @@ impl Table {
             .count()
     }
 
-    /// Adds an operator at the end, which the caller owes to be admitted.
+    /// Adds an operator at the end. The caller owes that it is admitted.
     ///
-    /// The only error is that memory ran out, and then the table is what it was.
+    /// The only error is running out of memory, and then the table is unchanged.
     pub fn extend(&mut self, decl: Decl) -> Result<(), AllocError>
         requires { Admits self.old decl }
         ensures ok { OnOk result (self.new ≡ with_operator self.old decl) }
@@ -130,8 +128,8 @@ impl Table {
         Ok(())
     }
 
-    /// Drops the operators after the first `count`; where there are no more than these, nothing changes. It takes no memory,
-    /// so that a parser that failed can take back what it declared.
+    /// Drops the operators after the first `count`. If there are no more than that, nothing changes. It takes no memory, so a parser that failed can take
+    /// back what it declared.
     #[tactic(auto, using(crate::proofs::Cut::still_table))]
     pub fn cut(&mut self, count: usize)
         ensures { self.new ≡ first_operators count self.old }
@@ -139,9 +137,9 @@ impl Table {
         self.operators.truncate(count);
     }
 
-    /// An equal table with the operator at its end, in memory of its own, where the operator is admitted.
+    /// A copy of the table with the operator added at its end, if the operator is admitted.
     ///
-    /// Where it isn't, the first of A1 to A5 that holds, as [`Table::admit`] answers it, and no memory is asked for.
+    /// If it isn't, the first of A1 to A5 that applies, as in [`Table::admit`], and no memory is asked for.
     pub fn extended_copy(&self, alloc: Global, decl: &Decl) -> Result<Table, ExtendFault>
         ensures ok { IfOk result (λ table. table ≡ with_operator self.now decl.now) }
         ensures admitted { OnOk result (Admits self.now decl.now) }
@@ -153,7 +151,7 @@ impl Table {
         Ok(copy)
     }
 
-    /// An equal table in memory of its own. The only error is that memory ran out.
+    /// A copy of the table in memory of its own.
     pub fn copy(&self, alloc: Global) -> Result<Table, AllocError>
         ensures { IfOk result (λ table. table ≡ self.now) }
     {
@@ -164,7 +162,7 @@ impl Table {
         })
     }
 
-    /// The table with these declarations after its own, each admitted by those before it, or the first that isn't.
+    /// The table with these declarations added, each admitted by those before it, or the first that isn't admitted.
     fn extended(self, alloc: Global, decls: &[Decl]) -> Result<Table, InitialFault>
         ensures ok { IfOk result (λ table. added_from 0 self decls.now ≡ whole table) }
         ensures err { IfErr result (IsRefusal (added_from 0 self decls.now)) }
@@ -179,7 +177,7 @@ impl Table {
         Ok(table)
     }
 
-    /// A grammar's table without operators, which may hold none where there is no operators item.
+    /// A grammar's table without operators. Its limit is 0 if there is no operators item.
     fn empty(alloc: Global, grammar: &Grammar) -> Result<Table, AllocError>
         ensures { IfOk result (λ table. table ≡ empty_table grammar.now.operators) }
     {
@@ -230,7 +228,7 @@ impl Table {
     }
 }
 
-/// Whether an operator of this role stands before its operand.
+/// Whether the role is prefix.
 fn is_prefix(role: Role) -> bool
     ensures { result ≡ is_prefix role }
 {
@@ -240,7 +238,7 @@ fn is_prefix(role: Role) -> bool
     }
 }
 
-/// Equal declarations.
+/// Copies of the declarations.
 fn copied(alloc: Global, decls: &[Decl]) -> Result<Vec<Decl>, AllocError>
     ensures { IfOk result (λ copies. copies.items ≡ decls.now) }
 {

@@ -1,15 +1,15 @@
-//! What no clause says: which of several faults is answered, worked out by hand, the faults as they are printed, and that
-//! each call succeeds with ample memory.
+//! What no contract says: which of several faults is reported, worked out by hand, the printed text of the faults, and that each call succeeds with ample
+//! memory.
 
 ghost use Rattle.std.specs.Prelude.{◌<◌, length, IfOk};
 
 use super::*;
-use pg_form::{Decl, Role};
+use pg_grammar_form::{Decl, Role};
 use pg_text::{Characters, Texts};
 use std::alloc::{AllocError, Global};
 use std::test::Fail;
 
-/// A symbol: so many times `x`, and then a character.
+/// A symbol: this many times `x`, and then a character.
 type Symbol = (usize, char);
 
 /// The characters of a symbol.
@@ -29,8 +29,7 @@ fn declared(alloc: Global, role: Role, symbol: Symbol) -> Result<Decl, AllocErro
     Ok(Decl::new(role, 6, spelled(alloc, symbol)?))
 }
 
-/// The table with these declarations, if each is admitted. It may hold so many operators; `=`, and `=` after 16 times `x`, are
-/// reserved.
+/// The table with these declarations, if each is admitted. It may hold `most` operators; `=`, and `=` after 16 times `x`, are reserved.
 fn initial_table(
     alloc: Global,
     most: usize,
@@ -51,7 +50,7 @@ fn table_of(alloc: Global, most: usize, initials: &[(Role, Symbol)]) -> Result<T
     Ok(initial_table(alloc, most, initials)??)
 }
 
-/// Why there is no such table, with the index of the declaration.
+/// Why there is no table with these declarations, with the index of the declaration.
 fn refusal(alloc: Global, most: usize, initials: &[(Role, Symbol)]) -> Result<String, Fail> {
     match initial_table(alloc, most, initials)? {
         Ok(_) => Ok(String::from_str(alloc, "none")?),
@@ -63,7 +62,7 @@ fn refusal(alloc: Global, most: usize, initials: &[(Role, Symbol)]) -> Result<St
     }
 }
 
-/// What a table answers for one operator: that it is admitted, or the fault as it is printed.
+/// The table's answer for one operator: that it is admitted, or the printed fault.
 fn admission(alloc: Global, table: &Table, role: Role, symbol: Symbol) -> Result<String, Fail> {
     let decl = declared(alloc, role, symbol)?;
     match table.admit(&decl) {
@@ -72,7 +71,7 @@ fn admission(alloc: Global, table: &Table, role: Role, symbol: Symbol) -> Result
     }
 }
 
-/// What it answers for each of these.
+/// The table's answer for each of these.
 fn admissions(alloc: Global, table: &Table, operators: &[(Role, Symbol)]) -> Result<String, Fail> {
     let mut text = String::new(alloc);
     for (role, symbol) in operators {
@@ -94,7 +93,7 @@ fn symbols(alloc: Global, table: &Table) -> Result<String, Fail> {
     Ok(text)
 }
 
-/// The symbols of the table with an operator more, or why there is no such table.
+/// The symbols of the table with one operator more, or why there is no such table.
 fn extension(alloc: Global, table: &Table, decl: &Decl) -> Result<String, Fail> {
     match table.extended_copy(alloc, decl) {
         Ok(extended) => symbols(alloc, &extended),

@@ -1,4 +1,4 @@
--- Texts in which a text is found.
+-- Lists of texts, and lookups in them.
 use Rattle.std.specs.Prelude.{◌≡◌, ℕ, Bool, List, [], ◌∷◌, ◌++◌}
 use Rattle.std.specs.List.{list_any}
 use Rattle.std.specs.Str.{bytes_eq}
@@ -8,10 +8,10 @@ use Rattle.std.specs.Global.{Vec}
 abbrev pub is_among : List (List ℕ) → List ℕ → Bool
 is_among texts text = list_any (λ t. bytes_eq t text) texts
 
--- the keys spell just these texts
+-- the keys are exactly these texts, in any order
 abbrev pub Spell : List (Vec ℕ) → List (List ℕ) → Type 0
 Spell keys texts = (text : List ℕ) → list_any (λ k. bytes_eq text k.items) keys ≡ is_among texts text
 
--- with one key more the keys spell one text more, whichever texts they spelled
+-- if the old keys are exactly some texts, the new keys are those and this text
 abbrev pub SpellsOneMore : List ℕ → List (Vec ℕ) → List (Vec ℕ) → Type 0
 SpellsOneMore text old new = (texts : List (List ℕ)) → Spell old texts → Spell new (texts ++ text ∷ [])

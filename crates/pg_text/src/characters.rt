@@ -1,13 +1,13 @@
 //! An owned list of characters, with no limit on its length.
 //!
-//! Callers see it as the list of its characters. The names and literals that a grammar file spells are
-//! kept in it, so that they compare, print and index by characters and not by bytes.
+//! Callers see it as the list of its characters. It holds the names and literals of a grammar file, so that they are
+//! compared, printed and indexed by characters and not by bytes.
 ghost use Rattle.std.specs.Prelude.{◌≡◌, ◌==◌, length};
 
 use std::fmt;
 use std::marker::Model;
 
-/// An owned list of characters, as a name or a literal of a grammar file.
+/// An owned list of characters, such as a name or a literal of a grammar file.
 #[derive(Debug, Drop)]
 pub struct Characters {
     characters: Vec<char>,
@@ -22,28 +22,28 @@ impl Model for Characters {
 }
 
 impl Characters {
-    /// These characters, kept in the memory that they came in.
+    /// The list of these characters. It takes no memory.
     pub fn new(characters: Vec<char>) -> Characters
         ensures { result ≡ characters.items }
     {
         Characters { characters }
     }
 
-    /// The characters, to be read in place.
+    /// The characters, borrowed.
     pub fn as_slice(&self) -> &[char]
         ensures { result.now ≡ self.now }
     {
         self.characters.as_slice()
     }
 
-    /// How many characters there are; the bytes that they print as may be more.
+    /// The number of characters. Their bytes may be more.
     pub fn len(&self) -> usize
         ensures { result ≡ length self.now }
     {
         self.characters.len()
     }
 
-    /// Whether there is no character at all, as in the literal "".
+    /// Whether there is no character, as in the literal "".
     pub fn is_empty(&self) -> bool
         ensures { result ≡ (length self.now == 0) }
     {

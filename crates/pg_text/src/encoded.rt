@@ -5,7 +5,7 @@ ghost use Rattle.std.specs.Str.{chars, all_scalars, encode_utf8_all};
 
 use std::alloc::{AllocError, Global};
 
-/// The characters of a text. The only error is that memory ran out.
+/// The characters of a text.
 pub fn characters_of(alloc: Global, text: &str) -> Result<Vec<char>, AllocError>
     ensures value { IfOk result (λ characters. characters.items ≡ chars text.now) }
     ensures scalars { IfOk result (λ characters. all_scalars characters.items ≡ true) }
@@ -13,7 +13,7 @@ pub fn characters_of(alloc: Global, text: &str) -> Result<Vec<char>, AllocError>
     text.chars().collect(alloc)
 }
 
-/// The text with these characters. The only error is that memory ran out.
+/// The text with these characters.
 pub fn utf8(alloc: Global, characters: &[char]) -> Result<String, AllocError>
     ensures { IfOk result (λ text. string_bytes text ≡ encode_utf8_all characters.now) }
 {

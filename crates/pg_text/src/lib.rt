@@ -1,8 +1,8 @@
 //! Texts of characters, and the positions of places in them.
 //!
-//! A text is at most `LIMIT` characters, decoded from UTF-8 once and then only read. `Characters` is an owned list of
-//! characters of any length, for the names and literals of a grammar file, and `Texts` are some of these, in which a
-//! text is found. Places count characters from 0; lines and columns count from 1.
+//! A text has at most `LIMIT` characters; it is decoded from UTF-8 once and then only read. `Characters` is an owned
+//! list of characters of any length, for the names and literals of a grammar file. `Texts` is a list of these with fast
+//! lookup. Places count characters from 0; lines and columns count from 1.
 #![tactic(auto)]
 
 mod characters;

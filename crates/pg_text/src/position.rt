@@ -1,8 +1,8 @@
 //! Lines and columns, as an editor of the text shows them.
 //!
-//! The rule is Text.Parsec.Pos's: a line feed begins the next line, a tab goes on to the next column
-//! that is one more than a multiple of 8, and every other character takes one column. Places become
-//! positions only where a message is made, so the text is gone through from its start each time.
+//! The rule is that of Text.Parsec.Pos: a line feed begins the next line, a tab goes on to the next column that is one
+//! more than a multiple of 8, and every other character takes one column. Places become positions only for a message,
+//! so each time the text is read from its start.
 ghost use Rattle.std.specs.Prelude.{◌≡◌, ◌+◌, ◌^◌, ◌<◌, ◌≤◌, length};
 ghost use Rattle.pg_text.specs.Position.{advance, position_of};
 
@@ -13,8 +13,8 @@ pub struct Pos {
     pub column: u32,
 }
 
-/// The position of a place: where the next character would stand once those before it are written.
-/// A place after the last character is allowed, and is where an early end of input is reported.
+/// The position of a place: where the next character would stand after those before it. A place after the last
+/// character is allowed; an early end of input is reported there.
 pub fn position_in(characters: &[char], place: usize) -> Pos
     requires within { place ≤ length characters.now }
     requires fits { place < 2 ^ 28 }
@@ -27,7 +27,7 @@ pub fn position_in(characters: &[char], place: usize) -> Pos
     position
 }
 
-/// The position after a character that stands at this one. A line or column that can't be counted any more stays.
+/// The position after a character that stands at this one. A line or column that can't be counted further stays.
 pub fn advanced(position: Pos, c: char) -> Pos
     ensures value { position.line < 2 ^ 31 → position.column < 2 ^ 31 → result ≡ advance position c }
     ensures line { result.line ≤ position.line + 1 }

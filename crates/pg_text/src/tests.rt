@@ -1,4 +1,4 @@
-//! What no clause says: that calls succeed, and the printed texts.
+//! What no contract says: that calls succeed, and the printed texts.
 use super::*;
 use std::alloc::Global;
 use std::test::Fail;
@@ -76,7 +76,7 @@ fn turns_texts_into_characters_and_back(rt: HostRuntime) -> Result<(), Fail> {
     Ok(())
 }
 
-/// So many texts of one character, which follow one another.
+/// `count` texts of one character, with successive characters.
 fn some_texts(alloc: Global, count: u8) -> Result<Vec<Characters>, Fail> {
     let mut texts = Vec::new(alloc);
     for number in 0..count {

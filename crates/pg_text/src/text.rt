@@ -1,8 +1,8 @@
 //! Texts to be parsed.
 //!
-//! A text is decoded from UTF-8 once; callers see it as the list of its characters. It has at most
-//! `LIMIT` of them, each a Unicode scalar value, and nothing writes it. Whatever reads a text names its
-//! characters by their places, and relies on the limit where it counts with them.
+//! A text is decoded from UTF-8 once; callers see it as the list of its characters. It has at most `LIMIT` of them,
+//! each a Unicode scalar value, and nothing changes it. Code that reads a text names its characters by their places,
+//! and relies on the limit when it calculates with places.
 ghost use Rattle.std.specs.Prelude.{◌≡◌, ◌==◌, ◌<◌, ◌≤◌, ◌↔◌, length, slice_get, IfOk, IsErrOf, true};
 ghost use Rattle.std.specs.Str.{chars, IsUtf8, all_scalars};
 
@@ -12,19 +12,19 @@ use std::alloc::Global;
 use std::marker::Model;
 use thiserror::Error;
 
-/// The most characters that a text has.
+/// The most characters that a text may have.
 pub const LIMIT: usize = 1_048_576;
 
-/// Why bytes are no text.
+/// Why bytes aren't a text.
 #[derive(Debug, Drop, Error)]
 pub enum TextFault {
-    /// The bytes are not UTF-8, whatever their number.
+    /// The bytes aren't UTF-8, however many there are.
     #[error("P1 not UTF-8")]
     NotUtf8,
-    /// They are UTF-8, of more than `LIMIT` characters.
+    /// The bytes are UTF-8, but have more than `LIMIT` characters.
     #[error("P2 text too long")]
     TooLong,
-    /// They are a text, but there was no memory for it.
+    /// The bytes are a text, but there was no memory for it.
     #[error("out of memory")]
     Memory,
 }
@@ -50,8 +50,8 @@ impl Model for Text {
 impl Text {
     ghost use Rattle.pg_text.specs.Position.{position_of};
 
-    /// The text that the bytes spell. That they are UTF-8 is judged first, and both that and the
-    /// limit before any memory is asked for; a byte order mark is a character as any other.
+    /// The text that the bytes spell. It checks first that they are UTF-8, then the limit, and only then asks for
+    /// memory. A byte order mark is a character like any other.
     pub fn from_bytes(alloc: Global, bytes: &[u8]) -> Result<Text, TextFault>
         ensures ok { IfOk result (λ t. IsUtf8 bytes.now × (t ≡ chars bytes.now)) }
         ensures scalars { IfOk result (λ t. all_scalars t ≡ true) }
@@ -69,7 +69,7 @@ impl Text {
         Ok(Text { characters })
     }
 
-    /// How many characters it has.
+    /// The number of its characters.
     pub fn len(&self) -> usize
         ensures count { result ≡ length self.now }
         ensures limit { length self.now ≤ LIMIT }
@@ -84,14 +84,14 @@ impl Text {
         self.characters.is_empty()
     }
 
-    /// The character at a place, or `None` after the last one.
+    /// The character at a place, or `None` at the end.
     pub fn char_at(&self, place: usize) -> Option<char>
         ensures { result ≡ slice_get self.now place }
     {
         self.characters.get(place).copied()
     }
 
-    /// All its characters, to be read in place.
+    /// All its characters, borrowed.
     pub fn characters(&self) -> &[char]
         ensures same { result.now ≡ self.now }
         ensures limit { length self.now ≤ LIMIT }

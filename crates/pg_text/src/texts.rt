@@ -1,7 +1,7 @@
-//! A list of texts, such as the words that a language reserves, in which a text is found.
+//! A list of texts with fast lookup, such as the words that a language reserves.
 //!
-//! Contracts see it as a list of lists of characters. Many texts are found by hashing, so that a word is looked up among
-//! thousands of reserved ones as fast as among ten. An empty text may be among them.
+//! Contracts see it as a list of lists of characters. Longer lists are hashed, so a lookup among thousands of reserved words takes no longer than among ten.
+//! An empty text may be among them.
 ghost use Rattle.std.specs.Prelude.{◌≡◌, IfOk, OnOk};
 ghost use Rattle.pg_text.specs.Texts.{is_among, Spell, SpellsOneMore};
 
@@ -11,10 +11,10 @@ use std::alloc::{AllocError, Global};
 use std::marker::Model;
 use std::rc::Rc;
 
-/// So many texts are compared one by one, which takes less time than hashing.
+/// Up to this many texts are compared one by one, which takes less time than hashing.
 const FEW: usize = 16;
 
-/// Some texts, in order, seen as the list of their characters. They may be shared.
+/// Texts in order, seen as the list of their characters. Copies share their memory.
 #[derive(Debug, Drop)]
 pub struct Texts {
     kept: Rc<Kept>,
@@ -24,7 +24,7 @@ pub struct Texts {
 #[derive(Debug, Drop)]
 struct Kept {
     texts: Vec<Characters>,
-    /// What they spell, if they are more than a few.
+    /// The set of the texts, if there are more than a few.
     spelled: IndexSet<Vec<char>>,
 }
 
@@ -48,7 +48,7 @@ impl Model for Kept {
 }
 
 impl Texts {
-    /// These texts, in the memory that they came in. The only error is that memory ran out.
+    /// The list of these texts, taken over.
     pub fn new(alloc: Global, texts: Vec<Characters>) -> Result<Texts, AllocError>
         ensures { IfOk result (λ made. made ≡ texts.items) }
     {
@@ -57,7 +57,7 @@ impl Texts {
         Ok(Texts { kept })
     }
 
-    /// These texts, in memory of their own. The only error is that memory ran out.
+    /// A list of copies of these texts.
     pub fn of(alloc: Global, texts: &[Characters]) -> Result<Texts, AllocError>
         ensures { IfOk result (λ made. made ≡ texts.now) }
     {
@@ -69,8 +69,8 @@ impl Texts {
         Texts::new(alloc, copies)
     }
 
-    /// Equal texts, which share the memory of these and take none. The only error, told as want of memory, is that they are
-    /// shared as often as can be counted.
+    /// An equal list, which shares the memory of this one and takes none. The only error, reported as out of memory, is that it is shared as often as can be
+    /// counted.
     pub fn share(&self) -> Result<Texts, AllocError>
         ensures { IfOk result (λ texts. texts ≡ self.now) }
     {
@@ -112,7 +112,7 @@ impl Kept {
     }
 }
 
-/// The texts, with what they spell if they are more than a few. The only error is that memory ran out.
+/// The texts, with a set of them if there are more than a few.
 fn keep(alloc: Global, texts: Vec<Characters>) -> Result<Kept, AllocError>
     ensures { IfOk result (λ kept. kept ≡ texts.items) }
 {
@@ -124,14 +124,14 @@ fn keep(alloc: Global, texts: Vec<Characters>) -> Result<Kept, AllocError>
     Ok(Kept { texts, spelled })
 }
 
-/// Whether the text is one of these, which are compared one by one.
+/// Whether the text is one of these. It compares them one by one.
 fn is_among(texts: &[Characters], text: &[char]) -> bool
     ensures { result ≡ is_among texts.now text.now }
 {
     texts.iter().any(|other| other.as_slice() == text)
 }
 
-/// What the texts spell. The only error is that memory ran out.
+/// The set of the texts.
 fn spelled(alloc: Global, texts: &[Characters]) -> Result<IndexSet<Vec<char>>, AllocError>
     ensures { IfOk result (λ set. Spell set.keys texts.now) }
 {
@@ -142,7 +142,7 @@ fn spelled(alloc: Global, texts: &[Characters]) -> Result<IndexSet<Vec<char>>, A
     Ok(set)
 }
 
-/// One text more is spelled.
+/// Adds a text to the set.
 fn add(set: &mut IndexSet<Vec<char>>, text: Vec<char>) -> Result<(), AllocError>
     ensures { OnOk result (SpellsOneMore text.items set.old.keys set.new.keys) }
 {

@@ -11,7 +11,7 @@ use Rattle.pg_tree.proofs.Stored.{entries_of-append, texts_of-append, labels_of-
 -- the last entry of a tree, and those before it
 abbrev pub top : Kept → Entry
 top (kept_leaf text) = Leaf (length text)
-top (kept_node away label kids) = Node away (length label) (length (kepts_entries kids) + 1) (length (kepts_texts kids)) (length (kepts_labels kids ++ label))
+top (kept_node away label kids) = Node away (length label) (length (kepts_texts kids)) (length (kepts_entries kids) + 1) (length (kepts_labels kids ++ label))
 
 abbrev pub below_top : Kept → List Entry
 below_top (kept_leaf text) = []
@@ -180,7 +180,7 @@ stored-drop es fs xs ys ls ms n ts count end h ends e f g = record {
 
 -- a node in place of the trees after the first ones, which become its kids
 pub stored-wrap : (es fs : List Entry) (xs ls ms label : List ℕ) (n : ℕ) (ts : List Kept) (count : ℕ) (end : Extent) → IsStored es xs ls n ts → IsEndOf ts count end
-    → ms ≡ ls ++ label → fs ≡ es ++ Node false (length label) (length es + 1 - end.entries) (length xs - end.texts) (length ls - end.labels + length label) ∷ []
+    → ms ≡ ls ++ label → fs ≡ es ++ Node false (length label) (length xs - end.texts) (length es + 1 - end.entries) (length ls - end.labels + length label) ∷ []
     → IsStored fs xs ms (count + 1) (take count ts ++ kept_node false label (kepts_of (drop count ts)) ∷ [])
 stored-wrap es fs xs ls ms label n ts count end h ends e f =
     let t = kept_node false label (kepts_of (drop count ts)) in
@@ -202,9 +202,9 @@ stored-wrap es fs xs ls ms label n ts count end h ends e f =
     ) in
     record {
       entries_are =
-          f ∙ ap (λ m. es ++ Node false (length label) m (length xs - end.texts) (length ls - end.labels + length label) ∷ []) size
-          ∙ ap (λ m. es ++ Node false (length label) (length rest + 1) m (length ls - end.labels + length label) ∷ []) long
-          ∙ ap (λ m. es ++ Node false (length label) (length rest + 1) (length (texts_of (drop count ts))) m ∷ []) wide
+          f ∙ ap (λ m. es ++ Node false (length label) (length xs - end.texts) m (length ls - end.labels + length label) ∷ []) size
+          ∙ ap (λ m. es ++ Node false (length label) m (length rest + 1) (length ls - end.labels + length label) ∷ []) long
+          ∙ ap (λ m. es ++ Node false (length label) (length (texts_of (drop count ts))) (length rest + 1) m ∷ []) wide
           ∙ ap (λ own. own ++ top t ∷ []) entries ∙ append_assoc kept rest (top t ∷ [])
           ∙ ap (λ own. kept ++ own) (sym (append-nil (kept_entries t))) ∙ sym (entries_of-append (take count ts) (t ∷ []));
       texts_are = texts ∙ ap (λ own. texts_of (take count ts) ++ own) (sym (append-nil (texts_of (drop count ts)))) ∙ sym (texts_of-append (take count ts) (t ∷ []));

@@ -7,3 +7,4 @@ pub mod Marking
 pub mod Characters
 pub mod Beginnings
 pub mod Written
+pub mod Opening

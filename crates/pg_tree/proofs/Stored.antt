@@ -26,7 +26,7 @@ kept_entries-positive (kept_leaf text) = omega arith
 kept_entries-positive (kept_node away label kids) = omega (
   arith,
   length-append (kepts_entries kids)
-      (Node away (length label) (length (kepts_entries kids) + 1) (length (kepts_texts kids)) (length (kepts_labels kids ++ label)) ∷ []),
+      (Node away (length label) (length (kepts_texts kids)) (length (kepts_entries kids) + 1) (length (kepts_labels kids ++ label)) ∷ []),
 )
 
 -- kids after kids, and kids put on a stack, from the first to the last
@@ -83,7 +83,7 @@ mutual
       ∙ ap (λ rest. shown_on (kept_leaf text ∷ stack) es rest ls) (drop_at text xs (length text) refl)
   shown_on-tree (kept_node away label kids) stack es xs ls =
       let size = length (kepts_entries kids) + 1 in
-      let n = Node away (length label) size (length (kepts_texts kids)) (length (kepts_labels kids ++ label)) in
+      let n = Node away (length label) (length (kepts_texts kids)) size (length (kepts_labels kids ++ label)) in
       let all = on_stack kids stack in
       ap (λ own. shown_on stack own (kepts_texts kids ++ xs) ((kepts_labels kids ++ label) ++ ls)) (append_assoc (kepts_entries kids) (n ∷ []) es)
       ∙ ap (λ own. shown_on stack (kepts_entries kids ++ n ∷ es) (kepts_texts kids ++ xs) own) (append_assoc (kepts_labels kids) label ls)

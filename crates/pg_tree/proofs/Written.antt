@@ -19,13 +19,13 @@ separator-leaf : (later : Bool) (n m : ℕ) → separator later n (Leaf m) ≡ c
 separator-leaf true n m = refl
 separator-leaf false n m = refl
 
-separator-none : (later a : Bool) (l e t s : ℕ) → separator later 0 (Node a l e t s) ≡ []
-separator-none true a l e t s = refl
-separator-none false a l e t s = refl
+separator-none : (later a : Bool) (l t e s : ℕ) → separator later 0 (Node a l t e s) ≡ []
+separator-none true a l t e s = refl
+separator-none false a l t e s = refl
 
-separator-some : (later a : Bool) (n l e t s : ℕ) → separator later (suc n) (Node a l e t s) ≡ comma_if later
-separator-some true a n l e t s = refl
-separator-some false a n l e t s = refl
+separator-some : (later a : Bool) (n l t e s : ℕ) → separator later (suc n) (Node a l t e s) ≡ comma_if later
+separator-some true a n l t e s = refl
+separator-some false a n l t e s = refl
 
 -- what is written before the first texts of so many nodes
 abbrev opened : Bool → ℕ → List ℕ
@@ -103,25 +103,25 @@ abbrev behind : Bool → List ℕ → List ℕ
 behind true label = []
 behind false label = codes "],\"node\":" ++ (quoted label ++ codes "}")
 
-own-behind : (away : Bool) (label xs ls : List ℕ) (e t s : ℕ) → own_json (Node away (length label) e t s) xs (label ++ ls) ≡ behind away label
-own-behind true label xs ls e t s = refl
-own-behind false label xs ls e t s = ap (λ own. codes "],\"node\":" ++ (quoted own ++ codes "}")) (take_at label ls (length label) refl)
+own-behind : (away : Bool) (label xs ls : List ℕ) (t e s : ℕ) → own_json (Node away (length label) t e s) xs (label ++ ls) ≡ behind away label
+own-behind true label xs ls t e s = refl
+own-behind false label xs ls t e s = ap (λ own. codes "],\"node\":" ++ (quoted own ++ codes "}")) (take_at label ls (length label) refl)
 
 -- the entry of a node, at which so many nodes begin
-json-top : (away : Bool) (label : List ℕ) (e t s : ℕ) (later : Bool) (more : ℕ) (es : List Entry) (counts xs ls : List ℕ)
-    → entries_json later (Node away (length label) e t s ∷ es) (more ∷ counts) xs (label ++ ls)
-    ≡ opened later more ++ (behind away label ++ entries_json (ended (still later more) (Node away (length label) e t s)) es counts xs ls)
-json-top away label e t s later zero es counts xs ls =
-    ap (λ comma. comma ++ (own_json (Node away (length label) e t s) xs (label ++ ls) ++ entries_json (ended later (Node away (length label) e t s)) es counts xs (drop (length label) (label ++ ls))))
-    (separator-none later away (length label) e t s)
-    ∙ ap (λ own. own ++ entries_json (ended later (Node away (length label) e t s)) es counts xs (drop (length label) (label ++ ls))) (own-behind away label xs ls e t s)
-    ∙ ap (λ rest. behind away label ++ entries_json (ended later (Node away (length label) e t s)) es counts xs rest) (drop_at label ls (length label) refl)
-json-top away label e t s later (suc n) es counts xs ls =
-    ap (λ comma. comma ++ (braces (suc n) ++ (own_json (Node away (length label) e t s) xs (label ++ ls) ++ entries_json (ended false (Node away (length label) e t s)) es counts xs (drop (length label) (label ++ ls)))))
-    (separator-some later away n (length label) e t s)
-    ∙ ap (λ own. comma_if later ++ (braces (suc n) ++ (own ++ entries_json (ended false (Node away (length label) e t s)) es counts xs (drop (length label) (label ++ ls))))) (own-behind away label xs ls e t s)
-    ∙ ap (λ rest. comma_if later ++ (braces (suc n) ++ (behind away label ++ entries_json (ended false (Node away (length label) e t s)) es counts xs rest))) (drop_at label ls (length label) refl)
-    ∙ sym (append_assoc (comma_if later) (braces (suc n)) (behind away label ++ entries_json (ended false (Node away (length label) e t s)) es counts xs ls))
+json-top : (away : Bool) (label : List ℕ) (t e s : ℕ) (later : Bool) (more : ℕ) (es : List Entry) (counts xs ls : List ℕ)
+    → entries_json later (Node away (length label) t e s ∷ es) (more ∷ counts) xs (label ++ ls)
+    ≡ opened later more ++ (behind away label ++ entries_json (ended (still later more) (Node away (length label) t e s)) es counts xs ls)
+json-top away label t e s later zero es counts xs ls =
+    ap (λ comma. comma ++ (own_json (Node away (length label) t e s) xs (label ++ ls) ++ entries_json (ended later (Node away (length label) t e s)) es counts xs (drop (length label) (label ++ ls))))
+    (separator-none later away (length label) t e s)
+    ∙ ap (λ own. own ++ entries_json (ended later (Node away (length label) t e s)) es counts xs (drop (length label) (label ++ ls))) (own-behind away label xs ls t e s)
+    ∙ ap (λ rest. behind away label ++ entries_json (ended later (Node away (length label) t e s)) es counts xs rest) (drop_at label ls (length label) refl)
+json-top away label t e s later (suc n) es counts xs ls =
+    ap (λ comma. comma ++ (braces (suc n) ++ (own_json (Node away (length label) t e s) xs (label ++ ls) ++ entries_json (ended false (Node away (length label) t e s)) es counts xs (drop (length label) (label ++ ls)))))
+    (separator-some later away n (length label) t e s)
+    ∙ ap (λ own. comma_if later ++ (braces (suc n) ++ (own ++ entries_json (ended false (Node away (length label) t e s)) es counts xs (drop (length label) (label ++ ls))))) (own-behind away label xs ls t e s)
+    ∙ ap (λ rest. comma_if later ++ (braces (suc n) ++ (behind away label ++ entries_json (ended false (Node away (length label) t e s)) es counts xs rest))) (drop_at label ls (length label) refl)
+    ∙ sym (append_assoc (comma_if later) (braces (suc n)) (behind away label ++ entries_json (ended false (Node away (length label) t e s)) es counts xs ls))
 
 -- the entries of a tree are written as what it shows
 mutual
@@ -149,7 +149,7 @@ mutual
   json-node : (kids : Kepts) (away : Bool) (label : List ℕ) (later : Bool) (more : ℕ) (es : List Entry) (counts xs ls : List ℕ)
       → entries_json later (kept_entries (kept_node away label kids) ++ es) (node_openings more kids ++ counts) (kepts_texts kids ++ xs) ((kepts_labels kids ++ label) ++ ls)
       ≡ written later more (trees_of kids) (λ b. behind away label ++ entries_json (ended b (top (kept_node away label kids))) es counts xs ls)
-  json-node no_kepts away label later more es counts xs ls = json-top away label 1 0 (length label) later more es counts xs ls
+  json-node no_kepts away label later more es counts xs ls = json-top away label 0 1 (length label) later more es counts xs ls
   json-node (kept t ts) away label later more es counts xs ls =
       let n = top (kept_node away label (kept t ts)) in
       let es' = kepts_entries ts ++ n ∷ es in
@@ -169,7 +169,7 @@ mutual
       ∙ ap (λ own. opened later more ++ (row first one ++ own))
       (json-kids ts (after first one) (n ∷ es) (0 ∷ counts) xs (label ++ ls)
       ∙ ap (λ own. row (after first one) (trees_of ts) ++ own)
-      (json-top away label (length (kept_entries t ++ kepts_entries ts) + 1) (length (kept_texts t ++ kepts_texts ts)) (length ((kept_labels t ++ kepts_labels ts) ++ label))
+      (json-top away label (length (kept_texts t ++ kepts_texts ts)) (length (kept_entries t ++ kepts_entries ts) + 1) (length ((kept_labels t ++ kepts_labels ts) ++ label))
       (after (after first one) (trees_of ts)) 0 es counts xs ls))
       ∙ ap (λ own. opened later more ++ own) (sym (append_assoc (row first one) (row (after first one) (trees_of ts)) (next (after (after first one) (trees_of ts)))))
       ∙ ap (λ own. opened later more ++ (own ++ next (after (after first one) (trees_of ts)))) (sym (row-with_kids first one (trees_of ts)))

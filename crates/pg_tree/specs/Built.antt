@@ -1,4 +1,4 @@
--- The tree that a shape makes of kids.
+-- The tree that a shape makes of a list of kids.
 use Rattle.std.specs.Prelude.{ℕ, if◌then◌else◌, List, ◌++◌, []}
 use Rattle.std.specs.Str.{bytes_eq}
 use Rattle.pg_tree.specs.Trees.{Tree, Trees, leaf, node, no_trees, tree, kids_of}
@@ -15,19 +15,19 @@ abbrev mutual
   kids_text no_trees = []
   kids_text (tree t ts) = tree_text t ++ kids_text ts
 
--- kids after other kids
+-- the kids of two lists, one after the other
 abbrev pub with_kids : Trees → Trees → Trees
 with_kids no_trees more = more
 with_kids (tree t ts) more = tree t (with_kids ts more)
 
--- kids, with the kids of each node of this label in place of the node; nodes among those stay
+-- kids where each node with this label is replaced by its own kids; those aren't flattened again
 abbrev pub flattened : List ℕ → Trees → Trees
 flattened label no_trees = no_trees
 flattened label (tree (leaf text) ts) = tree (leaf text) (flattened label ts)
 flattened label (tree (node other kids) ts) =
     if bytes_eq other label then with_kids kids (flattened label ts) else tree (node other kids) (flattened label ts)
 
--- the tree of a shape: a node of the kids with the shape's label or the symbol, a leaf of all texts, or a node of flattened kids
+-- the tree of a shape: a node with the shape's label or the symbol, a leaf of all texts joined, or a node of flattened kids
 abbrev pub built : Shape → List ℕ → List Tree → Tree
 built (Node label) symbol kids = node label (kids_of kids)
 built Symbol symbol kids = node symbol (kids_of kids)

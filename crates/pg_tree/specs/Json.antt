@@ -8,7 +8,7 @@ use Rattle.pg_tree.specs.Trees.{Tree, Trees, leaf, node, no_trees, tree, kids_of
 abbrev pub quoted : List ℕ → List ℕ
 quoted text = compact_text (string text)
 
--- a tree, trees with commas between them, and the trees after the first with a comma before each
+-- the text of a tree, of trees with commas between them, and of trees with a comma before each
 abbrev mutual
   pub json_tree : Tree → List ℕ
   json_tree (leaf text) = quoted text
@@ -23,6 +23,6 @@ abbrev mutual
   json_rest no_trees = []
   json_rest (tree t ts) = codes "," ++ (json_tree t ++ json_rest ts)
 
--- the array of the trees of a forest
+-- the text of a forest: an array of its trees
 abbrev pub json : List Tree → List ℕ
 json ts = codes "[" ++ (json_kids (kids_of ts) ++ codes "]")

@@ -7,3 +7,4 @@ pub mod Json
 pub mod Built
 pub mod Meter
 pub mod Bytes
+pub mod Entries

@@ -12,12 +12,12 @@ mutual
     no_trees : Trees
     tree : Tree → Trees → Trees
 
--- the trees of a list, as the kids of a node
+-- a list as the kids of a node
 abbrev pub kids_of : List Tree → Trees
 kids_of [] = no_trees
 kids_of (t ∷ ts) = tree t (kids_of ts)
 
--- the first tree of a list, and an empty leaf where there is none
+-- the first tree of a list, or an empty leaf if there is none
 abbrev pub lone_tree : List Tree → Tree
 lone_tree [] = leaf []
 lone_tree (t ∷ ts) = t

@@ -1,5 +1,4 @@
--- The text in JSON of entries, from the first to the last. An entry stands behind its kids, but a node's text begins
--- before theirs.
+-- The text in JSON of entries, from the first to the last. A node's entry comes after those of its kids, but its text begins before theirs.
 use Rattle.std.specs.Prelude.{◌+◌, ◌-◌, ◌&&◌, ◌≤◌, ℕ, zero, suc, Bool, true, false, List, [], ◌∷◌, ◌++◌, length, take, drop, get_or, set, codes, if◌then◌else◌}
 use Rattle.pg_tree.specs.Kept.{Kept, Kepts, kept_leaf, kept_node, no_kepts, kept}
 use Rattle.pg_tree.specs.declared.entry.Entry.{Entry}
@@ -7,7 +6,7 @@ use Rattle.pg_tree.specs.declared.entry.Entry.TheVariants.{Leaf, Node}
 use Rattle.pg_tree.specs.Stored.{extent_of, own_text, own_label}
 use Rattle.pg_tree.specs.Json.{quoted}
 
--- how many nodes that are shown begin at each entry of a tree, if so many begin at its first entry beside its own
+-- how many shown nodes begin at each entry of a tree, given how many nodes around the tree begin at its first entry
 abbrev mutual
   pub openings_with : ℕ → Kept → List ℕ
   openings_with more (kept_leaf text) = more ∷ []
@@ -22,26 +21,26 @@ abbrev mutual
   kids_openings no_kepts = []
   kids_openings (kept t ts) = openings_with 0 t ++ kids_openings ts
 
--- numbers with so much more at this index
+-- the numbers with the one at an index raised by `more`
 abbrev pub raised : ℕ → List ℕ → ℕ → List ℕ
 raised more counts i = set counts i (get_or counts i 0 + more)
 
--- how many nodes that are shown begin with the tree of an entry, by itself
+-- how many shown nodes an entry makes begin: 1 for a shown node, otherwise 0
 abbrev pub opening : Entry → ℕ
 opening (Leaf n) = 0
-opening (Node true label entries texts labels) = 0
-opening (Node false label entries texts labels) = 1
+opening (Node true label texts entries labels) = 0
+opening (Node false label texts entries labels) = 1
 
--- the openings so far, with the next entry: a node begins where its tree does
+-- the openings with those of the next entry: its node begins at the first entry of its tree
 abbrev pub with_opening : List ℕ → Entry → List ℕ
 with_opening counts e = raised (opening e) (counts ++ 0 ∷ []) (length counts + 1 - (extent_of e).entries)
 
--- the openings of entries, behind those of the entries before them
+-- the openings of entries, after those of the entries before them
 abbrev pub openings_on : List ℕ → List Entry → List ℕ
 openings_on counts [] = counts
 openings_on counts (e ∷ es) = openings_on (with_opening counts e) es
 
--- the tree of an entry behind so many others has it, and no more than all these
+-- an entry with n others before it: its tree has this entry, and reaches no further back than the first
 abbrev pub IsWithin : ℕ → Entry → Type 0
 IsWithin n e = (1 ≤ (extent_of e).entries) × ((extent_of e).entries ≤ n + 1)
 
@@ -49,40 +48,40 @@ abbrev pub AreWithin : ℕ → List Entry → Type 0
 AreWithin n [] = Unit {0}
 AreWithin n (e ∷ es) = IsWithin n e × AreWithin (n + 1) es
 
--- the text before the first kid of so many nodes
+-- the opening text of n nodes
 abbrev pub braces : ℕ → List ℕ
 braces zero = []
 braces (suc n) = braces n ++ codes "{\"kids\":["
 
--- whether there are some
+-- whether a count isn't 0
 abbrev pub has_some : ℕ → Bool
 has_some zero = false
 has_some (suc n) = true
 
--- whether a tree that is shown begins with an entry, at which so many nodes begin
+-- whether a shown tree begins at an entry where this many nodes begin
 abbrev pub begins : ℕ → Entry → Bool
 begins nodes (Leaf n) = true
-begins nodes (Node away label entries texts labels) = has_some nodes
+begins nodes (Node away label texts entries labels) = has_some nodes
 
--- the comma before such a tree, where another ends before it
+-- the comma before a tree that begins here, if another ended before it
 abbrev pub separator : Bool → ℕ → Entry → List ℕ
 separator later n e = if later && begins n e then codes "," else []
 
--- whether a tree ends before what comes next: after the first texts of so many nodes, and after the text of an entry
+-- whether a tree ended before what comes next: after the opening texts of n nodes, and after the text of an entry
 abbrev pub still : Bool → ℕ → Bool
 still later zero = later
 still later (suc n) = false
 
 abbrev pub ended : Bool → Entry → Bool
 ended later (Leaf n) = true
-ended later (Node true label entries texts labels) = later
-ended later (Node false label entries texts labels) = true
+ended later (Node true label texts entries labels) = later
+ended later (Node false label texts entries labels) = true
 
--- the text of a leaf, and that of a node behind its kids
+-- the text of a leaf, or the closing text of a node
 abbrev pub own_json : Entry → (texts labels : List ℕ) → List ℕ
 own_json (Leaf n) texts labels = quoted (take n texts)
-own_json (Node true label e t s) texts labels = []
-own_json (Node false label e t s) texts labels = codes "],\"node\":" ++ (quoted (take label labels) ++ codes "}")
+own_json (Node true label t e s) texts labels = []
+own_json (Node false label t e s) texts labels = codes "],\"node\":" ++ (quoted (take label labels) ++ codes "}")
 
 -- the text of entries with their openings, texts and labels
 abbrev pub entries_json : Bool → List Entry → (counts texts labels : List ℕ) → List ℕ

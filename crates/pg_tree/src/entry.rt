@@ -1,8 +1,8 @@
 //! The leaves and nodes of trees as entries of one list.
 //!
-//! A list of trees is stored in postorder, so that a node stands behind its kids and nothing has to recurse. The texts of the
-//! leaves stand in one list of bytes, and the labels of the nodes in another, each in the order of the entries. So the texts of
-//! trees that stand beside each other are one piece. specs/Stored.antt says which trees entries, texts and labels stand for.
+//! A list of trees is stored in postorder, so a node stands after its kids and nothing has to recurse. The texts of the leaves stand in one list of bytes and
+//! the labels of the nodes in another, both in the order of the entries. So the texts of adjacent trees are one slice. specs/Stored.antt says which trees
+//! entries, texts and labels stand for.
 
 ghost use Rattle.std.specs.Prelude.{◌≡◌, ◌≤◌, false, IfOk};
 ghost use Rattle.pg_tree.specs.Stored.{extent_of, own_text, own_label, entry_away};
@@ -11,7 +11,8 @@ ghost use Rattle.pg_tree.specs.declared.entry.Entry.TheVariants.{Leaf, Node};
 
 use std::alloc::AllocError;
 
-/// A leaf or a node. Most of its numbers have 32 bits, so that a run's trees take half the memory.
+/// A leaf or a node. A number has as few bits as its greatest value within the limits needs, so an entry takes 24 bytes: texts of a tree are parts of one
+/// text, and a label is one literal. Entries and labels of a tree may pass 32 bits.
 #[derive(Clone, Copy)]
 pub(crate) enum Entry {
     /// A leaf, with the length of its text in bytes.
@@ -21,17 +22,17 @@ pub(crate) enum Entry {
         /// Whether flattening took it away, so that its kids stand in its place.
         away: bool,
         /// The length of the label in bytes.
-        label: u32,
-        /// How many entries its tree has, this one among them.
-        entries: u32,
-        /// How many bytes the texts of its tree have.
+        label: u16,
+        /// How many bytes the texts in its tree have.
         texts: u32,
-        /// How many bytes the labels of its tree have, this one among them: each may be long, so that 32 bits don't hold them.
+        /// How many entries its tree has, this one among them.
+        entries: usize,
+        /// How many bytes the labels in its tree have, with this one.
         labels: usize,
     },
 }
 
-/// So many entries, and bytes of texts and labels: how large a tree is, or where it ends.
+/// A number of entries and of bytes of texts and labels: how large a tree is, or where it ends.
 #[derive(Clone, Copy)]
 pub(crate) struct Extent {
     pub(crate) entries: usize,
@@ -40,33 +41,33 @@ pub(crate) struct Extent {
 }
 
 impl Entry {
-    /// A leaf with so many bytes. The only error is that they are too many to be counted.
+    /// A leaf with a text of this many bytes. The only error is that the number doesn't fit in 32 bits, which no part of a text within the limit reaches.
     pub(crate) fn leaf(bytes: usize) -> Result<Entry, AllocError>
         ensures { IfOk result (λ entry. entry ≡ Leaf bytes) }
     {
         Ok(Entry::Leaf(counted(bytes)?))
     }
 
-    /// A node with a label of so many bytes, with so many entries and bytes of texts and labels. The only error is that some are
-    /// too many to be counted.
+    /// A node with a label of this many bytes, for a tree with this many bytes of texts, entries and bytes of labels. The only error is that the label doesn't
+    /// fit in 16 bits or the texts don't in 32, which no grammar and no text within the limits reaches.
     pub(crate) fn node(
         label: usize,
-        entries: usize,
         texts: usize,
+        entries: usize,
         labels: usize,
     ) -> Result<Entry, AllocError>
-        ensures { IfOk result (λ entry. entry ≡ Node false label entries texts labels) }
+        ensures { IfOk result (λ entry. entry ≡ Node false label texts entries labels) }
     {
         Ok(Entry::Node {
             away: false,
-            label: counted(label)?,
-            entries: counted(entries)?,
+            label: counted_short(label)?,
             texts: counted(texts)?,
+            entries,
             labels,
         })
     }
 
-    /// How large the tree is whose last entry this is.
+    /// The size of the tree whose last entry this is.
     pub(crate) fn extent(self) -> Extent
         ensures { result ≡ extent_of self }
     {
@@ -82,14 +83,14 @@ impl Entry {
                 labels,
                 ..
             } => Extent {
-                entries: entries as usize,
+                entries,
                 texts: texts as usize,
                 labels,
             },
         }
     }
 
-    /// The same node, taken away; a leaf stays.
+    /// This node marked as taken away; a leaf stays.
     pub(crate) fn put_away(self) -> Entry
         ensures { result ≡ entry_away self }
     {
@@ -111,7 +112,7 @@ impl Entry {
         }
     }
 
-    /// How long its own text is.
+    /// The length of its own text in bytes.
     pub(crate) fn own_text(self) -> usize
         ensures { result ≡ own_text self }
     {
@@ -121,7 +122,7 @@ impl Entry {
         }
     }
 
-    /// How long its own label is.
+    /// The length of its own label in bytes.
     pub(crate) fn own_label(self) -> usize
         ensures { result ≡ own_label self }
     {
@@ -131,7 +132,7 @@ impl Entry {
         }
     }
 
-    /// How many nodes that are shown begin with its tree, by itself.
+    /// How many shown nodes this entry makes begin at the start of its tree: 1 or 0.
     pub(crate) fn opening(self) -> usize
         ensures value { result ≡ opening self }
         ensures small { result ≤ 1 }
@@ -143,7 +144,7 @@ impl Entry {
         }
     }
 
-    /// Whether a tree that is shown begins with it, where so many nodes begin.
+    /// Whether a shown tree begins at it, if this many nodes begin there.
     pub(crate) fn begins(self, nodes: usize) -> bool
         ensures { result ≡ begins nodes self }
     {
@@ -153,8 +154,7 @@ impl Entry {
         }
     }
 
-    /// Whether a tree ends before what comes after its text, before which so many nodes begin; `later` says whether one ends
-    /// before those.
+    /// Whether a tree ended before what follows this entry's text. This many nodes begin before that text, and `later` says whether a tree ended before them.
     pub(crate) fn ended(self, later: bool, nodes: usize) -> bool
         ensures { result ≡ ended (still later nodes) self }
     {
@@ -166,7 +166,7 @@ impl Entry {
     }
 }
 
-/// Whether there are some.
+/// Whether the count isn't 0.
 fn has_some(nodes: usize) -> bool
     ensures { result ≡ has_some nodes }
 {
@@ -176,7 +176,7 @@ fn has_some(nodes: usize) -> bool
     }
 }
 
-/// Whether a tree ends before what comes after the first texts of so many nodes.
+/// Whether a tree ended before what follows the opening texts of this many nodes.
 fn still(later: bool, nodes: usize) -> bool
     ensures { result ≡ still later nodes }
 {
@@ -186,7 +186,17 @@ fn still(later: bool, nodes: usize) -> bool
     }
 }
 
-/// The number in 32 bits. The only error is that it doesn't fit: what has so many bytes or entries has no place in memory.
+/// The number in 16 bits. The only error is that it doesn't fit; that many bytes count as out of memory.
+fn counted_short(number: usize) -> Result<u16, AllocError>
+    ensures { IfOk result (λ count. count ≡ number) }
+{
+    match u16::try_from(number) {
+        Ok(count) => Ok(count),
+        Err(_) => Err(AllocError),
+    }
+}
+
+/// The number in 32 bits. The only error is that it doesn't fit; that many bytes count as out of memory.
 fn counted(number: usize) -> Result<u32, AllocError>
     ensures { IfOk result (λ count. count ≡ number) }
 {

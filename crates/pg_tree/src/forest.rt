@@ -1,21 +1,21 @@
 //! A list of trees, as a parser's results in order.
 //!
-//! Contracts see a forest as the list of its trees. It is stored as `store.rt` says, so that no call recurses over a tree, and
-//! trees are made of the last ones where they lie. A call that puts trees at the end and runs out of memory leaves the forest as
-//! it was, which the parsers that collect results rely on.
+//! Contracts see a forest as the list of its trees. It is stored as `store.rt` says, so no call recurses over a tree, and the last trees become one tree
+//! without being moved. A call that appends trees and runs out of memory leaves the forest as it was. The parsers that collect results rely on that.
 
 ghost use Rattle.std.specs.Prelude.{◌≡◌, ◌≤◌, [], ◌∷◌, ◌++◌, take, drop, length, encode_utf8_all, IfOk, OnErr, OnOk};
 ghost use Rattle.pg_tree.specs.Trees.{leaf, node, kids_of};
 ghost use Rattle.pg_tree.specs.Built.{built, flattened, kids_text};
+ghost use Rattle.pg_tree.specs.Kept.{kepts_of, trees_of};
 
+use crate::entries::Entries;
 use crate::shape::Shape;
 use crate::store::Store;
 use crate::tree::Tree;
 use std::alloc::{AllocError, Global};
 use std::marker::Model;
 
-/// A list of trees, in the order in which they were put in (ours: what the parsers of a sequence
-/// gave).
+/// A list of trees, in the order in which they were added (ours: what the parsers of a sequence gave).
 #[derive(Drop)]
 pub struct Forest {
     pub(crate) store: Store,
@@ -39,7 +39,7 @@ impl Model for Forest {
 }
 
 impl Forest {
-    /// The forest with no tree, which takes no memory.
+    /// An empty forest. It takes no memory.
     pub fn new(alloc: Global) -> Forest
         ensures { result ≡ [] }
     {
@@ -55,7 +55,14 @@ impl Forest {
         self.store.roots
     }
 
-    /// Puts a tree at the end. The only error is that memory ran out; the tree is then gone.
+    /// Its entries, from the last to the first (ours). It takes no memory.
+    pub fn entries(&self) -> Entries<'_>
+        ensures { trees_of (kepts_of result) ≡ kids_of self.now }
+    {
+        Entries::of(&self.store)
+    }
+
+    /// Appends a tree. The only error is running out of memory; the tree is then gone.
     pub fn push(&mut self, tree: Tree) -> Result<(), AllocError>
         ensures ok { OnOk result (self.new ≡ self.old ++ tree ∷ []) }
         ensures err { OnErr result (self.new ≡ self.old) }
@@ -64,7 +71,7 @@ impl Forest {
         self.append(forest)
     }
 
-    /// Puts a leaf with the UTF-8 text of these characters at the end. The only error is that memory ran out.
+    /// Appends a leaf with the UTF-8 text of these characters.
     pub fn push_leaf(&mut self, characters: &[char]) -> Result<(), AllocError>
         ensures ok { OnOk result (self.new ≡ self.old ++ leaf (encode_utf8_all characters.now) ∷ []) }
         ensures err { OnErr result (self.new ≡ self.old) }
@@ -73,8 +80,8 @@ impl Forest {
         Ok(())
     }
 
-    /// Puts the trees of another forest at the end, in their order. The only error is that memory
-    /// ran out; those trees are then gone.
+    /// Appends the trees of another forest, in their order. The only error is running out of memory; those trees are
+    /// then gone.
     pub fn append(&mut self, other: Forest) -> Result<(), AllocError>
         ensures ok { OnOk result (self.new ≡ self.old ++ other) }
         ensures err { OnErr result (self.new ≡ self.old) }
@@ -84,9 +91,9 @@ impl Forest {
         Ok(())
     }
 
-    /// Makes the trees after the first `count`, which the caller owes to be there, into one, as the shape says with the symbol:
-    /// in a time that grows with how many they are, and with the label, but not with what lies below them. The only error is that
-    /// memory ran out, or that there is more than can be counted.
+    /// Makes the trees after the first `count` into one tree, as the shape says, with the symbol. The caller owes that there are `count` trees. The time
+    /// grows with the number of trees made into one and with the label, but not with what lies below them. The only error is running out of memory, or more
+    /// than can be counted.
     pub fn build(&mut self, shape: &Shape, symbol: &str, count: usize) -> Result<(), AllocError>
         requires { count ≤ length self.old }
         ensures { OnOk result (self.new ≡ take count self.old ++ built shape.now symbol.now (drop count self.old) ∷ []) }
@@ -99,8 +106,7 @@ impl Forest {
         }
     }
 
-    /// Makes the trees after the first `count` the kids of one node with a copy of this label. The only error is that memory ran
-    /// out.
+    /// Makes the trees after the first `count` the kids of one node with a copy of this label.
     pub(crate) fn wrap(&mut self, label: &str, count: usize) -> Result<(), AllocError>
         requires { count ≤ length self.old }
         ensures { OnOk result (self.new ≡ take count self.old ++ node label.now (kids_of (drop count self.old)) ∷ []) }
@@ -109,7 +115,7 @@ impl Forest {
         Ok(())
     }
 
-    /// Makes the trees after the first `count` one leaf with the texts of all leaves among them and below them.
+    /// Makes the trees after the first `count` into one leaf with the texts of all their leaves.
     fn join(&mut self, count: usize) -> Result<(), AllocError>
         requires { count ≤ length self.old }
         ensures { OnOk result (self.new ≡ take count self.old ++ leaf (kids_text (kids_of (drop count self.old))) ∷ []) }
@@ -118,8 +124,7 @@ impl Forest {
         Ok(())
     }
 
-    /// Makes the trees after the first `count` the kids of one node with a copy of this label, with the kids of each node of this
-    /// label in place of the node.
+    /// Makes the trees after the first `count` the kids of one node with a copy of this label. A kid with the same label is replaced by its own kids.
     fn flatten(&mut self, label: &str, count: usize) -> Result<(), AllocError>
         requires { count ≤ length self.old }
         ensures { OnOk result (self.new ≡ take count self.old ++ node label.now (flattened label.now (kids_of (drop count self.old))) ∷ []) }
@@ -132,8 +137,8 @@ impl Forest {
         Ok(())
     }
 
-    /// Drops the trees after the first `count`, which the caller owes to be there. It takes no memory, so that a parser
-    /// that failed can take back what it read.
+    /// Drops the trees after the first `count`. The caller owes that there are `count` trees. It takes no memory, so a
+    /// parser that failed can take back what it read.
     pub fn cut(&mut self, count: usize)
         requires { count ≤ length self.old }
         ensures { self.new ≡ take count self.old }
@@ -141,8 +146,8 @@ impl Forest {
         self.store.cut(count);
     }
 
-    /// Moves the trees after the first `count`, which the caller owes to be there, into a forest of their own. The only
-    /// error is that memory ran out; all trees then stay.
+    /// Moves the trees after the first `count` into a forest of their own. The caller owes that there are `count`
+    /// trees. The only error is running out of memory; all trees then stay.
     pub fn split_off(&mut self, alloc: Global, count: usize) -> Result<Forest, AllocError>
         requires { count ≤ length self.old }
         ensures ok { OnOk result (self.new ≡ take count self.old) }
@@ -163,9 +168,8 @@ impl Forest {
         Ok(Forest { store })
     }
 
-    /// Asks for the memory of so many times what the trees after the first `count` take, which the caller owes to be there, with a
-    /// node above them, so that want of it shows before they are made again. The trees stay. The only error is that memory ran out, or that so much
-    /// can't be counted.
+    /// Asks for `times` times the memory of the trees after the first `count` with a node above them, so that a want of memory shows before they are made
+    /// again. The caller owes that there are `count` trees. The trees stay. The only error is running out of memory, or more than can be counted.
     pub fn reserve(&mut self, count: usize, times: usize) -> Result<(), AllocError>
         requires { count ≤ length self.old }
         ensures { self.new ≡ self.old }

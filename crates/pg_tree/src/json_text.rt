@@ -1,9 +1,9 @@
 //! The text in JSON of a forest.
 //!
-//! The text is compact: a forest is an array, a leaf a string, and a node an object with the
-//! members `kids` and `node`, in this order. What a run prints of its results is this text. A node stands behind its
-//! kids, but its text begins before theirs: so a first pass counts the nodes that begin at each entry, and a second
-//! pass writes. Neither needs a stack. Of a node that flattening took away nothing is written.
+//! The text is compact: a forest is an array, a leaf a string, and a node an object with the members `kids` and `node`,
+//! in this order. A run prints its results as this text. A node stands after its kids, but its text begins before
+//! theirs. So a first pass counts the nodes that begin at each entry, and a second pass writes. Neither needs a stack.
+//! Nothing is written for a node that flattening took away.
 
 ghost use Rattle.std.specs.Prelude.{◌≡◌, ◌++◌, take, drop, codes, IfOk, OnOk};
 ghost use Rattle.pg_tree.specs.Json.{quoted, json, json_kids};
@@ -48,7 +48,7 @@ fn stored_text(alloc: Global, store: &Store) -> Result<Vec<u8>, AllocError>
     Ok(text)
 }
 
-/// The comma between two trees, where one ends before a tree that begins with this entry, at which so many nodes begin.
+/// Appends the comma before this entry, if a tree ended before it and another begins at it. This many nodes begin at the entry.
 fn push_separator(
     later: bool,
     count: usize,
@@ -63,7 +63,7 @@ fn push_separator(
     Ok(())
 }
 
-/// The text before the first kid of so many nodes.
+/// Appends the opening text of this many nodes.
 fn push_braces(count: usize, text: &mut Vec<u8>) -> Result<(), AllocError>
     ensures { OnOk result (text.new.items ≡ text.old.items ++ braces count) }
 {
@@ -73,7 +73,7 @@ fn push_braces(count: usize, text: &mut Vec<u8>) -> Result<(), AllocError>
     Ok(())
 }
 
-/// The text of a leaf, or of a node behind its kids; its own is the first of these texts or labels.
+/// Appends the text of a leaf, or the closing text of a node. Its own text or label is the first of those given.
 fn push_own(entry: Entry, texts: &[u8], labels: &[u8], text: &mut Vec<u8>) -> Result<(), AllocError>
     ensures { OnOk result (text.new.items ≡ text.old.items ++ own_json entry texts.now labels.now) }
 {
@@ -88,7 +88,7 @@ fn push_own(entry: Entry, texts: &[u8], labels: &[u8], text: &mut Vec<u8>) -> Re
     }
 }
 
-/// The text of a node behind its kids.
+/// Appends the closing text of a node.
 fn push_node(label: &[u8], text: &mut Vec<u8>) -> Result<(), AllocError>
     ensures { OnOk result (text.new.items ≡ text.old.items ++ (codes "],\"node\":" ++ (quoted label.now ++ codes "}"))) }
 {
@@ -97,14 +97,14 @@ fn push_node(label: &[u8], text: &mut Vec<u8>) -> Result<(), AllocError>
     text.extend_from_slice(b"}")
 }
 
-/// The first bytes.
+/// The first `count` bytes.
 fn first(bytes: &[u8], count: usize) -> &[u8]
     ensures { result.now ≡ take count bytes.now }
 {
     &bytes[..count.min(bytes.len())]
 }
 
-/// The bytes after the first.
+/// The bytes after the first `count`.
 fn rest(bytes: &[u8], count: usize) -> &[u8]
     ensures { result.now ≡ drop count bytes.now }
 {

@@ -1,7 +1,7 @@
 //! A short text that definitions compare: the label of a node, or the name of a predicate or a builder.
 //!
-//! Contracts see it as the bytes of UTF-8, as in trees. It is a type of its own so that definitions can speak of what
-//! holds labels and names, as shapes and grammars do, and compare them.
+//! Contracts see it as its bytes in UTF-8, as in trees. It is a type of its own so that definitions can compare what
+//! contains labels and names, as shapes and grammars do.
 
 ghost use Rattle.std.specs.Prelude.{◌≡◌, ◌↔◌, string_bytes, IfOk, IsTrue};
 
@@ -37,7 +37,7 @@ impl Label {
         self.text.as_str()
     }
 
-    /// An equal label in memory of its own. The only error is that memory ran out.
+    /// An equal label in memory of its own.
     pub fn copy(&self, alloc: Global) -> Result<Label, AllocError>
         ensures { IfOk result (λ label. label ≡ self.now) }
     {

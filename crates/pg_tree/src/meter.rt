@@ -1,10 +1,9 @@
 //! Readers and writers that remember how their calls went.
 //!
-//! A meter passes each call on to what it wraps, unchanged, and notes the outcome. Its flag is
-//! never taken back, and its two counters never fall; they stop at `u64::MAX`. Contracts of callers
-//! rely on the flag to say which fault came from the outside, and on the counters to promise how
-//! often a reader is asked and that a reader gave more than a limit, also where the reader's type
-//! doesn't say which bytes it has.
+//! A meter passes each call on to what it wraps, unchanged, and notes the outcome. Its flag is never cleared, and its
+//! two counters never fall; they stop at `u64::MAX`. Contracts of callers rely on the flag to say which fault came from
+//! the outside. They rely on the counters to promise how often a reader is called and that it gave more than a limit,
+//! even if the reader's type doesn't say which bytes it has.
 
 ghost use Rattle.std.specs.Prelude.{◌≡◌, ◌||◌, false};
 ghost use Rattle.std.specs.Io.{ReadsAtMost, WritesAtMost};
@@ -17,11 +16,11 @@ use std::marker::Model;
 
 /// A reader or a writer, with a flag for a failed call and with two counters (ours).
 ///
-/// A call fails if it answers an error; a write of at least one byte also fails if it takes no
-/// byte. The counters are of calls of `read` or `write` and of the bytes that these gave or took.
+/// A call fails if it answers an error; a write of at least one byte also fails if it takes no byte. The counters are
+/// of calls of `read` or `write` and of the bytes that these moved.
 ///
-/// Call `read`, `write` and `flush` alone: the traits' provided methods go through these, but
-/// promise nothing of what a meter notes.
+/// Call only `read`, `write` and `flush`: the traits' provided methods go through these, but promise nothing about what
+/// a meter notes.
 #[derive(Drop)]
 pub struct Meter<T> {
     inner: T,
@@ -61,7 +60,7 @@ impl<T> Meter<T> {
         self.failed
     }
 
-    /// What was wrapped, as the calls have left it.
+    /// What it wraps, as the calls have left it.
     pub fn into_inner(self) -> T
         ensures { result ≡ self.inner }
     {
@@ -105,7 +104,7 @@ impl<T: Read> Read for Meter<T> {
 impl<T: Write> Write for Meter<T> {
     ghost contents = { λ m. T.contents m.inner };
 
-    /// Passes the call on. An error, or no byte taken of some, sets the flag.
+    /// Passes the call on. An error sets the flag, and so does a write that takes no byte of a text that has some.
     fn write(&mut self, buf: &[u8]) -> io::Result<usize>
         ensures bound { WritesAtMost result buf.now }
         ensures appends { WriteAppends (T.contents self.old.inner) (T.contents self.new.inner) result buf.now }
@@ -121,7 +120,7 @@ impl<T: Write> Write for Meter<T> {
         outcome
     }
 
-    /// Passes the call on, which neither counts nor sets the flag.
+    /// Passes the call on. It isn't counted and doesn't set the flag.
     fn flush(&mut self) -> io::Result<()>
         ensures keeps { Keeps (T.contents self.old.inner) (T.contents self.new.inner) }
         ensures failed { self.new.failed ≡ self.old.failed }

@@ -1,4 +1,4 @@
-//! How many nodes that are shown begin at each entry.
+//! How many shown nodes begin at each entry.
 //!
 //! A node begins at the first entry of its tree, which its size gives. Only `json_text.rt` calls this.
 
@@ -8,7 +8,7 @@ ghost use Rattle.pg_tree.specs.Written.{IsWithin, AreWithin, with_opening, openi
 use crate::entry::Entry;
 use std::alloc::{AllocError, Global};
 
-/// How many nodes that are shown begin at each of these entries, which the caller owes to be those of trees.
+/// How many shown nodes begin at each of these entries. The caller owes that they are the entries of trees.
 pub(crate) fn openings(alloc: Global, entries: &[Entry]) -> Result<Vec<usize>, AllocError>
     requires { AreWithin 0 entries.now }
     ensures { IfOk result (λ openings. openings.items ≡ openings_on [] entries.now) }

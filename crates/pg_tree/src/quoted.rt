@@ -1,6 +1,6 @@
-//! Texts in double quotes, as JSON has them.
+//! Texts in double quotes, as in JSON.
 //!
-//! The escapes are those that `serde_json` writes. Only `json_text.rt` calls this.
+//! The escapes are those that `serde_json` writes. The code that writes JSON calls this, and so does the code that shows trees.
 
 ghost use Rattle.std.specs.Prelude.{◌≡◌, ◌++◌, ◌<◌, OnOk};
 ghost use Rattle.std.specs.Char.{digit_char};
@@ -9,8 +9,8 @@ ghost use Rattle.pg_tree.specs.Json.{quoted};
 
 use std::alloc::AllocError;
 
-/// A text in double quotes.
-pub(crate) fn push_quoted(content: &[u8], text: &mut Vec<u8>) -> Result<(), AllocError>
+/// Appends a UTF-8 text in double quotes to some bytes (ours).
+pub fn push_quoted(content: &[u8], text: &mut Vec<u8>) -> Result<(), AllocError>
     ensures { OnOk result (text.new.items ≡ text.old.items ++ quoted content.now) }
 {
     text.push(b'"')?;
@@ -21,7 +21,7 @@ pub(crate) fn push_quoted(content: &[u8], text: &mut Vec<u8>) -> Result<(), Allo
     Ok(())
 }
 
-/// A byte of a text in double quotes.
+/// Appends one byte of a quoted text, escaped if need be.
 #[tactic(auto, unfolding(json::specs::Print::escape_byte))]
 fn push_escaped(byte: u8, text: &mut Vec<u8>) -> Result<(), AllocError>
     ensures { OnOk result (text.new.items ≡ text.old.items ++ escape_byte byte) }
@@ -37,7 +37,7 @@ fn push_escaped(byte: u8, text: &mut Vec<u8>) -> Result<(), AllocError>
     Ok(())
 }
 
-/// What stands behind the backslash in the short escape of a byte, or 0 where it has none.
+/// What follows the backslash in the short escape of a byte, or 0 if it has none.
 fn escape_letter(byte: u8) -> u8
     ensures { result ≡ escape_letter byte }
 {

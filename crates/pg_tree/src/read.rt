@@ -1,8 +1,7 @@
 //! Reading all the bytes of a metered reader, up to a limit.
 //!
-//! A reader is asked until it is at its end, fails, or has given more than the limit, and never
-//! more often than the limit and one more. What is kept in memory is never longer than the limit.
-//! Each file that a run takes in goes through here.
+//! A reader is called until it is at its end, fails, or has given more than the limit, and never more often than the
+//! limit plus one. What is kept in memory is never longer than the limit. Each file that a run reads goes through here.
 
 ghost use Rattle.std.specs.Prelude.{◌≡◌, ◌≤◌, ◌<◌, ◌^◌, ◌+◌, true, false, length, IfOk, OnOk, IsErrOf};
 ghost use Rattle.std.specs.Io.KnownBytes.{Consumes, IsAtEnd};
@@ -28,10 +27,10 @@ pub enum ReadFault {
     Memory,
 }
 
-/// How many bytes a reader is asked for in one call.
+/// How many bytes one call asks the reader for.
 const CHUNK: usize = 4096;
 
-/// Reads to the end. The limit is in bytes, and a reader that gives just as many is read whole.
+/// Reads to the end. The limit is in bytes, and a reader that gives exactly that many is read whole.
 ///
 /// After an error the bytes that were read are gone, and the reader stands after them.
 pub fn read_bytes<R: Read>(
@@ -51,7 +50,7 @@ pub fn read_bytes<R: Read>(
         reader.new.bytes ≡ saturating_sum reader.old.bytes (length read.items)) }
     ensures stays { OnOk result (reader.new.failed ≡ false) }
 
-    // The reader failed in this outcome alone.
+    // Only here has the reader failed.
     ensures failed { IsErrOf result ReadFault.Reader → reader.new.failed ≡ true }
     ensures long_stays { IsErrOf result ReadFault.TooLong → reader.new.failed ≡ false }
     ensures memory_stays { IsErrOf result ReadFault.Memory → reader.new.failed ≡ false }
@@ -62,7 +61,7 @@ pub fn read_bytes<R: Read>(
     ensures long_bytes { IsErrOf result ReadFault.TooLong →
         saturating_sum reader.old.bytes (limit + 1) ≤ reader.new.bytes }
 
-    // How often the reader is asked, in each outcome.
+    // How often the reader is called, in each outcome.
     ensures asked { reader.new.calls ≤ saturating_sum reader.old.calls (limit + 1) }
 {
     let mut read = Vec::new(alloc);

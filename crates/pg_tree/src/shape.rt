@@ -1,7 +1,7 @@
-//! How a builder makes a tree of what its parser gave.
+//! How a builder makes a tree of the results of its parser.
 //!
-//! A shape is part of a grammar, beside the builder's name: what a grammar derives is told by it. The functions that
-//! builders store are held to `built`, and so is the function of this name.
+//! A shape is part of a grammar, beside the builder's name, so that it determines what the grammar derives. The
+//! functions that builders store have to agree with `built`, and so does the function of this name.
 
 ghost use Rattle.std.specs.Prelude.{◌≡◌, ◌↔◌, IfOk, IsTrue};
 ghost use Rattle.pg_tree.specs.Built.{built};
@@ -11,21 +11,21 @@ use crate::label::Label;
 use crate::tree::Tree;
 use std::alloc::{AllocError, Global};
 
-/// How a tree is made of kids and a symbol (ours).
+/// How kids and a symbol become a tree (ours).
 #[derive(Debug, Drop)]
 pub enum Shape {
     /// A node with this label and the kids.
     Node(Label),
     /// A node with the kids, labelled by the symbol.
     Symbol,
-    /// A leaf with the texts of all leaves among the kids and below them, joined in order.
+    /// A leaf with the texts of all leaves of the kids, joined in order.
     Join,
-    /// A node with this label and the kids, where each kid that is a node with the same label is replaced by its kids.
+    /// A node with this label and the kids, where each kid with the same label is replaced by its own kids.
     Flat(Label),
 }
 
 impl Shape {
-    /// An equal shape in memory of its own. The only error is that memory ran out.
+    /// An equal shape in memory of its own.
     pub fn copy(&self, alloc: Global) -> Result<Shape, AllocError>
         ensures { IfOk result (λ shape. shape ≡ self.now) }
     {
@@ -51,8 +51,7 @@ impl Shape {
     }
 }
 
-/// The tree that a shape makes of a symbol and kids. The only error is that memory ran out; the kids
-/// are then gone.
+/// The tree that a shape makes of a symbol and kids. The only error is running out of memory; the kids are then gone.
 pub fn built(alloc: Global, shape: &Shape, symbol: &str, kids: Forest) -> Result<Tree, AllocError>
     ensures { IfOk result (λ tree. tree ≡ built shape.now symbol.now kids) }
 {

@@ -1,8 +1,8 @@
-//! Where the trees of a forest lie.
+//! How the trees of a forest are stored.
 //!
-//! Nothing moves where trees are made of others: a node is put behind its kids, those that flattening takes away are marked
-//! where they lie, and a leaf that joins texts takes over the bytes of all of them. So each call costs what it adds or drops, and
-//! the trees that it takes. Only `forest.rt`, `tree.rt` and what writes JSON call this.
+//! Nothing moves when trees are made into one: a node's entry is put after its kids, flattening marks nodes where they are, and a leaf that joins texts takes
+//! over the bytes of all of them. So the cost of a call grows with what it adds or drops and with the number of trees it makes into one. Only `forest.rt`,
+//! `tree.rt` and the code that writes JSON call this.
 
 ghost use Rattle.std.specs.Prelude.{◌≡◌, ◌≤◌, ◌<◌, ◌+◌, ◌-◌, [], ◌∷◌, ◌++◌, take, drop, set, get_or, length, encode_utf8_all, false, IfOk, OnErr, OnOk};
 ghost use Rattle.std.specs.Str.{bytes_eq};
@@ -13,7 +13,7 @@ ghost use Rattle.pg_tree.specs.declared.entry.Entry.TheVariants.{Leaf, Node};
 use crate::entry::{Entry, Extent};
 use std::alloc::{AllocError, Global};
 
-/// Trees: their entries, texts and labels, and how many they are.
+/// Trees: their entries, texts and labels, and how many trees there are.
 #[derive(Drop)]
 pub(crate) struct Store {
     pub(crate) entries: Vec<Entry>,
@@ -49,7 +49,7 @@ impl Store {
         })
     }
 
-    /// Puts a leaf with the UTF-8 text of these characters at the end.
+    /// Appends a leaf with the UTF-8 text of these characters.
     pub(crate) fn push_leaf(&mut self, characters: &[char]) -> Result<(), AllocError>
         requires { Keeps self.old (kept_in self.old) }
         ensures ok { OnOk result (Keeps self.new (kept_in self.old ++ kept_leaf (encode_utf8_all characters.now) ∷ [])) }
@@ -68,7 +68,7 @@ impl Store {
         Ok(())
     }
 
-    /// Puts the trees of another store at the end; where there is none before them, by taking it over.
+    /// Appends the trees of another store. If this one is empty, it takes the other over.
     pub(crate) fn append(&mut self, other: Store) -> Result<(), AllocError>
         requires kept { Keeps self.old (kept_in self.old) }
         requires other { Keeps other (kept_in other) }
@@ -82,7 +82,7 @@ impl Store {
         self.extend(&other)
     }
 
-    /// Puts copies of the trees of another store at the end.
+    /// Appends copies of the trees of another store.
     fn extend(&mut self, other: &Store) -> Result<(), AllocError>
         requires kept { Keeps self.old (kept_in self.old) }
         requires other { Keeps other.now (kept_in other.now) }
@@ -112,8 +112,8 @@ impl Store {
         Ok(())
     }
 
-    /// Makes the trees after the first `count` the kids of one node with a copy of this label. They stay where they lie; going
-    /// over them finds where they begin.
+    /// Makes the trees after the first `count` the kids of one node with a copy of this label. They stay where they are; a pass over them finds where they
+    /// begin.
     pub(crate) fn wrap(&mut self, label: &str, count: usize) -> Result<(), AllocError>
         requires kept { Keeps self.old (kept_in self.old) }
         requires within { count ≤ length (kept_in self.old) }
@@ -132,8 +132,8 @@ impl Store {
         Ok(())
     }
 
-    /// Makes the trees after the first `count` one leaf with the texts of all leaves among them and below them, which stay where
-    /// they lie. Without memory those trees are gone.
+    /// Makes the trees after the first `count` into one leaf with the texts of all their leaves, which stay where they are. If memory runs out, those trees
+    /// are gone.
     pub(crate) fn join(&mut self, count: usize) -> Result<(), AllocError>
         requires kept { Keeps self.old (kept_in self.old) }
         requires within { count ≤ length (kept_in self.old) }
@@ -153,7 +153,7 @@ impl Store {
         Ok(())
     }
 
-    /// Takes away each node with this label among the trees after the first `count`, where it lies: its kids stand in its place.
+    /// Marks each node with this label among the trees after the first `count` as taken away, so that its kids stand in its place.
     pub(crate) fn mark(&mut self, label: &str, count: usize)
         requires kept { Keeps self.old (kept_in self.old) }
         requires within { count ≤ length (kept_in self.old) }
@@ -169,7 +169,7 @@ impl Store {
         }
     }
 
-    /// Takes the tree with this index away, which ends there, if it is a node with this label.
+    /// Marks the tree with this index as taken away, if it is a node with this label. The tree ends at `end`.
     fn mark_one(&mut self, index: usize, end: Extent, label: &str)
         requires kept { Keeps self.old (kept_in self.old) }
         requires ends { IsEndOf (kept_in self.old) (index + 1) end }
@@ -210,8 +210,7 @@ impl Store {
         })
     }
 
-    /// Asks for the memory of so many times what the trees after the first `count` take, and of a node above them, in one piece of
-    /// each list.
+    /// Asks for `times` times the memory of the trees after the first `count` with a node above them, as one piece for each list.
     pub(crate) fn reserve(&mut self, count: usize, times: usize) -> Result<(), AllocError>
         requires kept { Keeps self.old (kept_in self.old) }
         requires within { count ≤ length (kept_in self.old) }
@@ -227,7 +226,7 @@ impl Store {
         Ok(())
     }
 
-    /// How large the trees after the first `count` are.
+    /// The size of the trees after the first `count`.
     fn size_after(&self, count: usize) -> Extent
         requires kept { Keeps self.now (kept_in self.now) }
         requires within { count ≤ length (kept_in self.now) }
@@ -240,19 +239,19 @@ impl Store {
         }
     }
 
-    /// The entry of a node with a label of so many bytes, whose kids begin there.
+    /// The entry of a node with a label of this many bytes, whose kids begin at `begin`.
     fn head(&self, label: usize, begin: Extent) -> Result<Entry, AllocError>
         requires entries { begin.entries ≤ length self.now.entries.items }
         requires texts { begin.texts ≤ length self.now.texts.items }
         requires labels { begin.labels ≤ length self.now.labels.items }
-        ensures { IfOk result (λ entry. entry ≡ Node false label (length self.now.entries.items + 1 - begin.entries)
-            (length self.now.texts.items - begin.texts) (length self.now.labels.items - begin.labels + label)) }
+        ensures { IfOk result (λ entry. entry ≡ Node false label (length self.now.texts.items - begin.texts)
+            (length self.now.entries.items + 1 - begin.entries) (length self.now.labels.items - begin.labels + label)) }
     {
         let entries = self.entries.len() + 1 - begin.entries;
         let texts = self.texts.len() - begin.texts;
         let labels = self.labels.len() - begin.labels;
         match labels.checked_add(label) {
-            Some(labels) => Entry::node(label, entries, texts, labels),
+            Some(labels) => Entry::node(label, texts, entries, labels),
             None => Err(AllocError),
         }
     }
@@ -275,7 +274,7 @@ impl Store {
         requires within { count ≤ length (kept_in self.now) }
         ensures { IsEndOf (kept_in self.now) count result }
     {
-        // So all trees that stand there can be taken, or become kids, without being gone over.
+        // So making all trees into one, or dropping them, needs no pass over them.
         if count == 0 {
             return Extent {
                 entries: 0,
@@ -292,7 +291,7 @@ impl Store {
         end
     }
 
-    /// Where the tree with this index begins, which ends there.
+    /// Where the tree with this index begins. It ends at `end`.
     fn begin_of(&self, index: usize, end: Extent) -> Extent
         requires kept { Keeps self.now (kept_in self.now) }
         requires ends { IsEndOf (kept_in self.now) (index + 1) end }
@@ -306,7 +305,7 @@ impl Store {
         }
     }
 
-    /// Whether the tree with this index, which ends there, is a node with this label.
+    /// Whether the tree with this index is a node with this label. The tree ends at `end`.
     fn is_labelled(&self, index: usize, end: Extent, label: &str) -> bool
         requires kept { Keeps self.now (kept_in self.now) }
         requires ends { IsEndOf (kept_in self.now) (index + 1) end }
@@ -322,7 +321,7 @@ impl Store {
     }
 }
 
-/// Whether the bytes between the places are these.
+/// Whether the bytes from one index to another are these.
 fn are_bytes(all: &[u8], from: usize, to: usize, bytes: &[u8]) -> bool
     requires order { from ≤ to }
     requires within { to ≤ length all.now }
@@ -331,7 +330,7 @@ fn are_bytes(all: &[u8], from: usize, to: usize, bytes: &[u8]) -> bool
     &all[from..to] == bytes
 }
 
-/// Puts a leaf with so many bytes behind entries. The only error is that memory ran out, or that they are too many.
+/// Appends the entry of a leaf with this many bytes. The only error is running out of memory, or too many bytes to count.
 fn push_leaf_entry(entries: &mut Vec<Entry>, bytes: usize) -> Result<(), AllocError>
     ensures ok { OnOk result (entries.new.items ≡ entries.old.items ++ Leaf bytes ∷ []) }
     ensures err { OnErr result (entries.new.items ≡ entries.old.items) }
@@ -341,7 +340,7 @@ fn push_leaf_entry(entries: &mut Vec<Entry>, bytes: usize) -> Result<(), AllocEr
     Ok(())
 }
 
-/// A copy of the items from there on.
+/// A copy of the items from index `from` on.
 fn copy_from<T: Copy>(alloc: Global, items: &[T], from: usize) -> Result<Vec<T>, AllocError>
     requires { from ≤ length items.now }
     ensures { IfOk result (λ copy. copy.items ≡ drop from items.now) }
@@ -349,12 +348,12 @@ fn copy_from<T: Copy>(alloc: Global, items: &[T], from: usize) -> Result<Vec<T>,
     Vec::from_slice(alloc, &items[from..])
 }
 
-/// The product. The only error is that it doesn't fit: so much has no place in memory.
+/// The product. The only error is that it doesn't fit; that much counts as out of memory.
 fn product(size: usize, times: usize) -> Result<usize, AllocError> {
     size.checked_mul(times).ok_or(AllocError)
 }
 
-/// Puts the UTF-8 text of these characters behind some bytes.
+/// Appends the UTF-8 text of these characters to some bytes.
 fn push_characters(bytes: &mut Vec<u8>, characters: &[char]) -> Result<(), AllocError>
     ensures ok { OnOk result (bytes.new.items ≡ bytes.old.items ++ encode_utf8_all characters.now) }
     ensures grows { take (length bytes.old.items) bytes.new.items ≡ bytes.old.items }

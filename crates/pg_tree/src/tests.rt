@@ -1,8 +1,7 @@
-//! What no clause says: the escapes of a text in JSON, that each call succeeds with ample memory,
-//! the tree of each shape, the printed faults, and readers and writers that fail in the middle.
+//! What no contract says: the escapes of a text in JSON, that each call succeeds with ample memory, the tree of each
+//! shape, the printed faults, and readers and writers that fail in the middle.
 //!
-//! The expected JSON is what Python's json module writes of the same values, with sorted keys and
-//! no spaces.
+//! The expected JSON is what Python's json module writes for the same values, with sorted keys and no spaces.
 
 use super::json_text::json_text;
 use super::*;
@@ -11,7 +10,7 @@ use std::io;
 use std::io::{ErrorKind, Read, Write};
 use std::test::Fail;
 
-/// Takes one byte a call, and answers an error once it holds so many.
+/// Takes one byte a call, and answers an error once it holds `most` bytes.
 #[derive(Drop)]
 struct SlowWriter {
     held: Vec<u8>,
@@ -51,7 +50,7 @@ impl Write for FullWriter {
     }
 }
 
-/// Gives one byte a call, and answers an error at the call of this number, counted from 1.
+/// Gives one byte a call, and answers an error at the call with this number, counted from 1.
 #[derive(Drop)]
 struct SlowReader<'a> {
     left: &'a [u8],
@@ -126,7 +125,7 @@ fn label(alloc: Global, text: &str) -> Result<Label, AllocError> {
     Ok(Label::new(String::from_str(alloc, text)?))
 }
 
-/// The text in JSON of what a shape makes of these kids and of the symbol `list`.
+/// The text in JSON of the tree that a shape makes of these kids and the symbol `list`.
 fn built_json(alloc: Global, shape: &Shape, kids: Forest) -> Result<Vec<u8>, AllocError> {
     let mut forest = Forest::new(alloc);
     forest.push(built(alloc, shape, "list", kids)?)?;

@@ -1,8 +1,8 @@
 //! One tree, as a parser builds it.
 //!
-//! A tree is opaque: it is built by `leaf` and `node`, and contracts see it as `leaf text` or `node
-//! label kids` of specs/Trees.antt, with texts as the bytes of UTF-8. No clause names how it is
-//! stored. The parsers' results and the printed forests rely on it.
+//! A tree is opaque: `leaf` and `node` build it, and contracts see it as `leaf text` or `node label kids` of
+//! specs/Trees.antt, with texts as their bytes in UTF-8. No clause says how it is stored. The parsers' results and the
+//! printed forests rely on it.
 
 ghost use Rattle.std.specs.Prelude.{◌≡◌, [], ◌∷◌, IfOk};
 ghost use Rattle.pg_tree.specs.Trees.{leaf, node, kids_of};
@@ -12,8 +12,7 @@ use crate::store::Store;
 use std::alloc::{AllocError, Global};
 use std::marker::Model;
 
-/// A leaf with a text, or a node with a label and its kids in order (ours: the shape of what a
-/// parser's run gives).
+/// A leaf with a text, or a node with a label and its kids in order (ours: the shape of the results of a parser's run).
 #[derive(Drop)]
 pub struct Tree {
     /// The tree alone.
@@ -35,7 +34,7 @@ impl Model for Tree {
 }
 
 impl Tree {
-    /// A leaf with a copy of this text. The only error is that memory ran out.
+    /// A leaf with a copy of this text.
     pub fn leaf(alloc: Global, text: &str) -> Result<Tree, AllocError>
         ensures { IfOk result (λ t. t ≡ leaf text.now) }
     {
@@ -43,8 +42,8 @@ impl Tree {
         Ok(Tree { forest })
     }
 
-    /// A node with a copy of this label and with these kids, which may be none. The only error is
-    /// that memory ran out; the kids are then gone.
+    /// A node with a copy of this label and these kids, which may be none. The only error is running out of memory; the
+    /// kids are then gone.
     pub fn node(alloc: Global, label: &str, kids: Forest) -> Result<Tree, AllocError>
         ensures { IfOk result (λ t. t ≡ node label.now (kids_of kids)) }
     {

@@ -1,8 +1,7 @@
 //! Writing bytes, and forests as JSON, to a metered writer.
 //!
-//! Either everything is written, or the writer failed and has a prefix of it. A text is made whole
-//! before its first byte is written, so running out of memory leaves the writer as it was. What a
-//! run prints of its results goes through here.
+//! Either everything is written, or the writer failed and has a prefix of it. A text is complete before its first byte
+//! is written, so running out of memory leaves the writer as it was. A run prints its results through here.
 
 ghost use Rattle.std.specs.Prelude.{◌≡◌, true, false, length, OnOk, OnErr, IsErrOf};
 ghost use Rattle.std.specs.Io.KnownBytes.{Appends};
@@ -20,7 +19,7 @@ use thiserror::Error;
 /// Why bytes were not written.
 #[derive(Debug, Drop, Error)]
 pub enum WriteFault {
-    /// The writer answered an error, or took no byte of some.
+    /// The writer answered an error, or took no byte of a text that has some.
     #[error("W1 cannot write")]
     Writer,
     /// The text did not fit into memory.
@@ -28,12 +27,11 @@ pub enum WriteFault {
     Memory,
 }
 
-/// Writes all the bytes, in as many calls as the writer wants. It is not flushed, and an empty text
-/// makes no call.
+/// Writes all the bytes, in as many calls as the writer needs. It doesn't flush, and an empty text makes no call.
 pub fn write_bytes<W: Write>(bytes: &[u8], writer: &mut Meter<W>) -> Result<(), WriteFault>
     requires { writer.old.failed ≡ false }
 
-    // All the bytes were taken, and no more.
+    // The writer took all the bytes, and no more.
     ensures ok { OnOk result
         (Appends (W.contents writer.old.inner) (W.contents writer.new.inner) bytes.now) }
     ensures bytes { OnOk result (writer.new.bytes ≡ saturating_sum writer.old.bytes (length bytes.now)) }
@@ -63,7 +61,7 @@ pub fn write_json<W: Write>(
 ) -> Result<(), WriteFault>
     requires { writer.old.failed ≡ false }
 
-    // The text was taken, and no more.
+    // The writer took the text, and no more.
     ensures ok { OnOk result
         (Appends (W.contents writer.old.inner) (W.contents writer.new.inner) (json forest.now)) }
     ensures bytes { OnOk result

@@ -6,31 +6,40 @@ ghost use Rattle.pg.specs.Status.{IsCheckStatus};
 
 use crate::NO_MEMORY;
 use crate::commands::NO;
+use crate::commands::cost::check_with_cost;
+use crate::commands::listing::check_as_json;
 use pg_bench::check_bytes;
-use pg_json_bench::json_bytes;
-use pg_placed_bench::{InFront, placed_bytes};
+use pg_bench_places::{InFront, placed_bytes};
+use pg_command_line::{Accepted, Findings};
 use pg_pred::Registry;
-use pg_report::{Handle, Names, UNUSABLE, grammar_alone, print_json_fault, print_report};
-use pg_request::Findings;
+use pg_report::{Handle, Names, UNUSABLE, grammar_alone, print_report};
 use pg_tree::Meter;
 use std::alloc::AllocError;
 use std::io::Input;
 use std::rt::Files;
 use std::{cmp, io};
 
-/// Says of each grammar whether it is accepted, or what is wrong with it; where there are several, with the file's name in front of each line.
-/// The status is the greatest of all. After want of memory no more are checked.
+/// What a check prints besides its findings.
+#[derive(Clone, Copy)]
+pub(crate) struct Checking {
+    pub(crate) accepted: Accepted,
+    pub(crate) findings: Findings,
+    /// Whether to print notes.
+    pub(crate) notes: bool,
+}
+
+/// Says of each grammar whether it is accepted, or prints its findings. If there are several grammars, each line begins with its file's name. The status is
+/// the greatest of all. Where memory runs out, no more grammars are checked.
 pub(crate) fn check_files<R: AllocGlobal + Files + Input + Print + Eprint>(
     rt: &Handle<R>,
     grammars: &[&str],
     registry: &Registry,
-    certificate: bool,
-    findings: Findings,
+    checking: Checking,
 ) -> Result<u8, AllocError> {
     let names = grammars.len() > 1;
     let mut greatest = 0;
     for grammar in grammars {
-        let status = check_file(rt, grammar, registry, certificate, findings, names)?;
+        let status = check_file(rt, grammar, registry, checking, names)?;
         greatest = cmp::max(greatest, status);
         if rt.has_failed() || status == NO_MEMORY {
             break;
@@ -39,73 +48,53 @@ pub(crate) fn check_files<R: AllocGlobal + Files + Input + Print + Eprint>(
     Ok(greatest)
 }
 
-/// Says whether the grammar in a file is accepted, or what is wrong with it, on lines with the file's name in front if `names`.
+/// Says whether the grammar in a file is accepted, or prints its findings. If `names`, each line begins with the file's name.
 fn check_file<R: AllocGlobal + Files + Input + Print + Eprint>(
     rt: &Handle<R>,
     grammar: &str,
     registry: &Registry,
-    certificate: bool,
-    findings: Findings,
+    checking: Checking,
     names: bool,
 ) -> Result<u8, AllocError> {
     match grammar_alone(rt, grammar)? {
-        Some(bytes) => check_read(
-            rt,
-            bytes.as_slice(),
-            grammar,
-            registry,
-            certificate,
-            findings,
-            names,
-        ),
+        Some(bytes) => check_read(rt, bytes.as_slice(), grammar, registry, checking, names),
         None => Ok(UNUSABLE),
     }
 }
 
-/// The same of the bytes of a file of this name.
+/// As `check_file`, for the bytes of a file with this name.
 fn check_read<R: AllocGlobal + Print + Eprint>(
-    rt: &R,
+    rt: &Handle<R>,
     bytes: &[u8],
     grammar: &str,
     registry: &Registry,
-    certificate: bool,
-    findings: Findings,
+    checking: Checking,
     names: bool,
 ) -> Result<u8, AllocError>
     ensures { IfOk result (IsCheckStatus (offer_of registry.now) bytes.now) }
 {
-    let in_front = match findings {
-        Findings::Json => return check_as_json(rt, bytes, grammar, registry),
-        Findings::Places if names => InFront::PlaceOrName,
-        Findings::Places => InFront::Place,
-        Findings::Lines if names => InFront::Name,
-        Findings::Lines => return check_grammar(rt, bytes, grammar, registry, certificate),
+    let in_front = match checking.findings {
+        Findings::Json => return check_as_json(rt, bytes, grammar, registry, checking.notes),
+        Findings::Places if names => Some(InFront::PlaceOrName),
+        Findings::Places => Some(InFront::Place),
+        Findings::Lines if names => Some(InFront::Name),
+        Findings::Lines => None,
     };
-    check_placed(rt, bytes, grammar, registry, certificate, in_front)
-}
-
-/// Writes findings, or the fault of the file, as JSON.
-#[tactic(auto, using(crate::proofs::Statuses::listed_none_status, crate::proofs::Statuses::listed_some_status, crate::proofs::Statuses::check_fault_status))]
-fn check_as_json<R: AllocGlobal + Print + Eprint>(
-    rt: &R,
-    bytes: &[u8],
-    grammar: &str,
-    registry: &Registry,
-) -> Result<u8, AllocError>
-    ensures { IfOk result (IsCheckStatus (offer_of registry.now) bytes.now) }
-{
-    let mut writer = Meter::new(io::writer(rt));
-    match json_bytes(rt.alloc(), grammar, bytes, registry, &mut writer) {
-        Ok(true) => Ok(0),
-        Ok(false) => Ok(NO),
-        Err(fault) => print_json_fault(rt, fault, grammar),
+    let certificate = match checking.accepted {
+        Accepted::WordAndCost => return check_with_cost(rt, bytes, grammar, registry, in_front),
+        Accepted::Certificate => true,
+        Accepted::Word => false,
+    };
+    match in_front {
+        Some(in_front) => check_placed(rt, bytes, grammar, registry, certificate, in_front),
+        None => check_grammar(rt, bytes, grammar, registry, certificate),
     }
 }
 
-/// Each line with its place or the file's name in front.
+/// Prints each line after its place or the file's name.
 #[tactic(auto, using(crate::proofs::Statuses::placed_yes_status, crate::proofs::Statuses::placed_no_status, crate::proofs::Statuses::check_fault_status))]
 fn check_placed<R: AllocGlobal + Print + Eprint>(
-    rt: &R,
+    rt: &Handle<R>,
     bytes: &[u8],
     grammar: &str,
     registry: &Registry,
@@ -130,10 +119,10 @@ fn check_placed<R: AllocGlobal + Print + Eprint>(
     }
 }
 
-/// Each line as it is.
+/// Prints each line without a prefix.
 #[tactic(auto, using(crate::proofs::Statuses::accepted_status, crate::proofs::Statuses::refused_status, crate::proofs::Statuses::check_fault_status))]
 fn check_grammar<R: AllocGlobal + Print + Eprint>(
-    rt: &R,
+    rt: &Handle<R>,
     bytes: &[u8],
     grammar: &str,
     registry: &Registry,

@@ -1,15 +1,15 @@
-//! What is wrong with a grammar, told for people.
+//! The explanation of what is wrong with a grammar, for people.
 
 ghost use Rattle.std.specs.Prelude.{◌≡◌, IfOk};
 ghost use Rattle.pg_pred.specs.Offer.{offer_of};
-ghost use Rattle.pg_value.specs.Fits.{Fits};
+ghost use Rattle.pg_grammar_value.specs.Fits.{Fits};
 ghost use Rattle.pg_table.specs.Tables.{initial, whole};
-ghost use Rattle.pg_grammar_bench.specs.Loading.{judged_grammar};
+ghost use Rattle.pg_bench_grammar.specs.Loading.{judged_grammar};
 ghost use Rattle.pg.specs.Status.{IsCheckStatus, IsJudgedStatus};
 
 use crate::commands::NO;
-use pg_explain_bench::{Explained, explain_loaded};
-use pg_grammar_bench::{LoadedFile, load};
+use pg_bench_explain::{Explained, explain_loaded};
+use pg_bench_grammar::{LoadedFile, load};
 use pg_pred::Registry;
 use pg_report::{
     Handle, Names, UNUSABLE, grammar_alone, print_explained_fault, print_report, tell_nearest,
@@ -20,7 +20,7 @@ use std::io;
 use std::io::Input;
 use std::rt::Files;
 
-/// Prints what is wrong with the grammar in a file, told for people.
+/// Prints for people what is wrong with the grammar in a file.
 pub(crate) fn explain_file<R: AllocGlobal + Files + Input + Print + Eprint>(
     rt: &Handle<R>,
     grammar: &str,
@@ -33,10 +33,10 @@ pub(crate) fn explain_file<R: AllocGlobal + Files + Input + Print + Eprint>(
     }
 }
 
-/// The same of the bytes of the file.
+/// As `explain_file`, for the bytes of the file.
 #[tactic(auto, using(crate::proofs::Statuses::judged_status, crate::proofs::Statuses::file_fault_status))]
 fn explain_read<R: AllocGlobal + Print + Eprint>(
-    rt: &R,
+    rt: &Handle<R>,
     bytes: &[u8],
     grammar: &str,
     registry: &Registry,
@@ -50,14 +50,14 @@ fn explain_read<R: AllocGlobal + Print + Eprint>(
             drop(loaded);
             status
         }
-        Err(fault) => print_explained_fault(rt, fault, bytes, grammar),
+        Err(fault) => print_explained_fault(rt, fault, bytes, grammar, registry),
     }
 }
 
-/// Prints what is wrong with the grammar of a file that is loaded.
+/// Prints what is wrong with the grammar of a loaded file.
 #[tactic(auto, using(crate::proofs::Statuses::faultless_grammar, crate::proofs::Statuses::faulty_grammar, crate::proofs::Statuses::unusable_grammar, crate::proofs::Statuses::write_fault_status))]
 fn explain_grammar<R: AllocGlobal + Print + Eprint>(
-    rt: &R,
+    rt: &Handle<R>,
     loaded: &LoadedFile,
     registry: &Registry,
     asked: &str,

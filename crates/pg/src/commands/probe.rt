@@ -2,29 +2,30 @@
 
 ghost use Rattle.std.specs.Prelude.{◌≡◌, ◌⊎◌, Some, IfOk};
 ghost use Rattle.pg_pred.specs.Offer.{offer_of};
-ghost use Rattle.pg_value.specs.Fits.{Fits};
+ghost use Rattle.pg_grammar_value.specs.Fits.{Fits};
 ghost use Rattle.pg_table.specs.Tables.{initial, whole};
 ghost use Rattle.pg.specs.Status.{IsProbeStatus, IsRunStatus, IsTracedStatus};
 
 use crate::commands::NO;
 use pg_bench::{probe_bytes, text_of};
-use pg_form::RuleId;
-use pg_grammar_bench::placed_of;
+use pg_bench_grammar::placed_of;
+use pg_file_making::PlacedGrammar;
+use pg_grammar_form::RuleId;
 use pg_language::Reading;
-use pg_making::PlacedGrammar;
+use pg_machine_trace::{Tracer, rule_named};
 use pg_pred::Registry;
 use pg_report::{
-    ErrorWriter, Handle, Names, UNUSABLE, inputs, print_report, tell_nearest, text_alone,
+    ErrorWriter, Handle, Names, UNUSABLE, inputs, print_report, print_text_fault, tell_nearest,
+    text_alone,
 };
 use pg_text::Text;
-use pg_trace::{Tracer, rule_named};
 use pg_tree::Meter;
 use std::alloc::AllocError;
 use std::io;
 use std::io::{Input, Read};
 use std::rt::Files;
 
-/// What a probe is to do: in so many steps at most, in this reading, telling the run of one rule, or of all where this is empty, if it tells it.
+/// What a probe does: the most steps it takes, its reading, whether it traces the run, and the one rule that it traces, or all if this is empty.
 #[derive(Clone, Copy)]
 pub(crate) struct Probing<'a> {
     pub max_steps: u64,
@@ -47,24 +48,16 @@ pub(crate) fn probe_files<R: AllocGlobal + Files + Input + Print + Eprint>(
             if probing.trace {
                 trace_file(rt, bytes.as_slice(), file, names, registry, probing)
             } else {
-                probe_text(
-                    rt,
-                    bytes.as_slice(),
-                    file,
-                    names,
-                    registry,
-                    probing.max_steps,
-                    probing.reading,
-                )
+                probe_text(rt, bytes.as_slice(), file, names, registry, probing)
             }
         }
         None => Ok(UNUSABLE),
     }
 }
 
-/// The same with the run told before what it answers.
+/// As `probe_text`, with a trace of the run before the answer.
 fn trace_file<F: Read + Drop, R: AllocGlobal + Print + Eprint>(
-    rt: &R,
+    rt: &Handle<R>,
     bytes: &[u8],
     file: F,
     names: Names,
@@ -77,10 +70,10 @@ fn trace_file<F: Read + Drop, R: AllocGlobal + Print + Eprint>(
     }
 }
 
-/// The same on the text of these bytes, by a grammar that is read once. Where grammar or text can't be used, nothing is told but why.
+/// As `trace_file`, for the text with these bytes. The grammar is read once. If the grammar or the text can't be used, only the reason is printed.
 #[tactic(auto, using(crate::proofs::Statuses::run_status))]
 fn trace_text<R: AllocGlobal + Print + Eprint>(
-    rt: &R,
+    rt: &Handle<R>,
     bytes: &[u8],
     text: &[u8],
     names: Names,
@@ -99,9 +92,9 @@ fn trace_text<R: AllocGlobal + Print + Eprint>(
     }
 }
 
-/// The same by the grammar that the bytes spell. Where it has no such rule, that is told before anything is said of the text.
+/// As `trace_text`, for the grammar that the bytes spell. If that has no such rule, this is reported before anything is said about the text.
 fn trace_run<R: AllocGlobal + Print + Eprint>(
-    rt: &R,
+    rt: &Handle<R>,
     placed: &PlacedGrammar,
     text: &[u8],
     names: Names,
@@ -118,34 +111,42 @@ fn trace_run<R: AllocGlobal + Print + Eprint>(
     }
     match text_of(rt.alloc(), text) {
         Ok(text) => {
-            let status = trace_probe(rt, placed, &text, names, registry, probing, only);
+            let traced = Traced { text: &text, only };
+            let status = trace_probe(rt, placed, traced, names, registry, probing);
             drop(text);
             status
         }
-        Err(fault) => print_report(rt, fault, names),
+        Err(fault) => print_text_fault(rt, fault, text, names),
     }
 }
 
-/// The same on this text, of one rule or of all. The run that is told is the one that answers. Where standard error takes no more, the answer comes
-/// all the same, with the status of what can't be written.
+/// A text that is run with a trace, and the one rule that is traced, or all.
+#[derive(Clone, Copy)]
+struct Traced<'t> {
+    text: &'t Text,
+    only: Option<RuleId>,
+}
+
+/// As `trace_run`, for this text and one rule or all. The run that is traced is the one that is answered. If standard error can't be written, the answer is
+/// printed all the same, with the status for output that can't be written.
 fn trace_probe<R: AllocGlobal + Print + Eprint>(
-    rt: &R,
+    rt: &Handle<R>,
     placed: &PlacedGrammar,
-    text: &Text,
+    traced: Traced,
     names: Names,
     registry: &Registry,
     probing: Probing,
-    only: Option<RuleId>,
 ) -> Result<u8, AllocError>
     requires fits { Fits (offer_of registry.now) placed.now.grammar }
     requires table { initial placed.now.grammar ≡ whole placed.now.table }
-    ensures { IfOk result (IsTracedStatus placed.now.grammar text.now names.entry.text.now probing.entry.max_steps probing.entry.reading) }
+    ensures { IfOk result (IsTracedStatus placed.now.grammar traced.entry.text.now names.entry.text.now probing.entry.max_steps probing.entry.reading) }
 {
     let asked = pg_bench::Probing {
         name: names.text,
         max_steps: probing.max_steps,
         reading: probing.reading,
     };
+    let Traced { text, only } = traced;
     let mut errors = ErrorWriter { rt };
     let mut tracer = Tracer::new(rt.alloc(), &placed.grammar, text, only, &mut errors)?;
     let mut writer = Meter::new(io::writer(rt));
@@ -167,24 +168,24 @@ fn trace_probe<R: AllocGlobal + Print + Eprint>(
     }
 }
 
-/// The status of an answer with this one, where the run could be told, and else that of what can't be written.
+/// The status of an answer: this one if the trace was written, else the one for output that can't be written.
 fn told(status: u8, is_told: bool) -> u8
     ensures { (result ≡ status) ⊎ (result ≡ UNUSABLE) }
 {
     if is_told { status } else { UNUSABLE }
 }
 
+/// Runs the start rule of the grammar with these bytes on the text that a file gives, and prints its answer.
 #[tactic(auto, using(crate::proofs::Statuses::ok_status, crate::proofs::Statuses::other_status, crate::proofs::Statuses::shown_fault_status))]
 fn probe_text<F: Read + Drop, R: AllocGlobal + Print + Eprint>(
-    rt: &R,
+    rt: &Handle<R>,
     bytes: &[u8],
     file: F,
     names: Names,
     registry: &Registry,
-    max_steps: u64,
-    reading: Reading,
+    probing: Probing,
 ) -> Result<u8, AllocError>
-    ensures { IfOk result (IsProbeStatus (offer_of registry.now) bytes.now (F.remaining file) names.entry.text.now max_steps reading) }
+    ensures { IfOk result (IsProbeStatus (offer_of registry.now) bytes.now (F.remaining file) names.entry.text.now probing.entry.max_steps probing.entry.reading) }
 {
     let mut reader = Meter::new(file);
     let mut writer = Meter::new(io::writer(rt));
@@ -195,8 +196,8 @@ fn probe_text<F: Read + Drop, R: AllocGlobal + Print + Eprint>(
         names.text,
         &mut reader,
         &mut writer,
-        max_steps,
-        reading,
+        probing.max_steps,
+        probing.reading,
     ) {
         Ok(true) => Ok(0),
         Ok(false) => Ok(NO),

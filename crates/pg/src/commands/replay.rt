@@ -1,4 +1,4 @@
-//! Trails, gone along over a text.
+//! Replaying trails over a text.
 
 ghost use Rattle.std.specs.Prelude.{IfOk};
 ghost use Rattle.pg_pred.specs.Offer.{offer_of};
@@ -14,7 +14,7 @@ use std::io;
 use std::io::{Input, Read};
 use std::rt::Files;
 
-/// Goes along the trail in a file over the text in another, by the grammar in a third.
+/// Replays the trail in a file over the text in another, by the grammar in a third.
 pub(crate) fn replay_files<R: AllocGlobal + Files + Input + Print + Eprint>(
     rt: &Handle<R>,
     grammar: &str,
@@ -42,9 +42,10 @@ pub(crate) fn replay_files<R: AllocGlobal + Files + Input + Print + Eprint>(
     }
 }
 
+/// As `replay_files`, over the text that an open file gives.
 #[tactic(auto, using(crate::proofs::Statuses::led_status, crate::proofs::Statuses::stopped_status, crate::proofs::Statuses::shown_fault_status))]
 fn replay_text<F: Read + Drop, R: AllocGlobal + Print + Eprint>(
-    rt: &R,
+    rt: &Handle<R>,
     bytes: &[u8],
     file: F,
     items: &[u8],

@@ -1,4 +1,4 @@
-//! What is shown of a grammar: its canonical form, its sets, and whether a certificate shows that it is accepted.
+//! What is printed of a grammar: its canonical form, its sets, and whether a certificate shows that it is accepted.
 
 ghost use Rattle.std.specs.Prelude.{IfOk};
 ghost use Rattle.pg_pred.specs.Offer.{offer_of};
@@ -31,7 +31,7 @@ pub(crate) fn verify_files<R: AllocGlobal + Files + Input + Print + Eprint>(
 }
 
 fn verify_grammar<R: AllocGlobal + Print + Eprint>(
-    rt: &R,
+    rt: &Handle<R>,
     bytes: &[u8],
     certificate: &[u8],
     grammar: &str,
@@ -57,7 +57,7 @@ pub(crate) fn print_file<R: AllocGlobal + Files + Input + Print + Eprint>(
 
 #[tactic(auto, using(crate::proofs::Statuses::printed_status, crate::proofs::Statuses::print_fault_status))]
 fn print_grammar<R: AllocGlobal + Print + Eprint>(
-    rt: &R,
+    rt: &Handle<R>,
     bytes: &[u8],
     grammar: &str,
     registry: &Registry,
@@ -85,7 +85,7 @@ pub(crate) fn show_file<R: AllocGlobal + Files + Input + Print + Eprint>(
 
 #[tactic(auto, using(crate::proofs::Statuses::shown_status, crate::proofs::Statuses::print_fault_status))]
 fn show_grammar<R: AllocGlobal + Print + Eprint>(
-    rt: &R,
+    rt: &Handle<R>,
     bytes: &[u8],
     grammar: &str,
     registry: &Registry,

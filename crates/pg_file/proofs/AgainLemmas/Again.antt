@@ -1,15 +1,15 @@
 -- The grammar that a file spells is printed as a file that spells it.
 use Rattle.std.proofs.Common.{ℕ, List, refl, sym, subst}
 use Rattle.pg_pred.specs.Offer.{Offer}
-use Rattle.pg_value.specs.Grammar.{Grammar}
-use Rattle.pg_print.specs.declared.layout.Edge.TheVariants.{Tight}
-use Rattle.pg_items.specs.Syntax.{file_written}
-use Rattle.pg_tokens.specs.Lexical.{Spelled}
-use Rattle.pg_print.specs.Canonical.{items_of}
-use Rattle.pg_print.specs.Printed.{characters_printed, printed, PrintKeepsLimits}
-use Rattle.pg_making.specs.Spells.{SpelledIn, Spells, SpellsWithinLimits}
-use Rattle.pg_print.proofs.PrinterLemmas.Texts.{printed_laid}
-use Rattle.pg_tokens.proofs.Encoded.{chars_encoded}
+use Rattle.pg_grammar_value.specs.Grammar.{Grammar}
+use Rattle.pg_file_print.specs.declared.layout.Edge.TheVariants.{Tight}
+use Rattle.pg_file_items.specs.Syntax.{file_written}
+use Rattle.pg_file_tokens.specs.Lexical.{Spelled}
+use Rattle.pg_file_print.specs.Canonical.{items_of}
+use Rattle.pg_file_print.specs.Printed.{characters_printed, printed, PrintKeepsLimits}
+use Rattle.pg_file_making.specs.Spells.{SpelledIn, Spells, SpellsWithinLimits}
+use Rattle.pg_file_print.proofs.PrinterLemmas.Texts.{printed_laid}
+use Rattle.pg_file_tokens.proofs.Encoded.{chars_encoded}
 use Rattle.pg_file.proofs.AgainLemmas.Printable.{MayBePrinted}
 use Rattle.pg_file.proofs.AgainLemmas.Low.{printed_utf8}
 use Rattle.pg_file.proofs.AgainLemmas.Spelled.{laid_spells}

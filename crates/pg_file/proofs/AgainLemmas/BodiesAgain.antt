@@ -5,23 +5,23 @@ use Rattle.std.proofs.lemmas.List.{append-nil, length-map, length-take-le, map-a
 use Rattle.std.specs.List.{list_any, AllByRecursion}
 use Rattle.std.specs.Str.{chars, encode_utf8_all}
 use Rattle.pg_pred.specs.Offer.{Offer}
-use Rattle.pg_form.specs.Names as names
-use Rattle.pg_form.specs.Preorder.{SpellForms}
-use Rattle.pg_form.specs.Forms.{BaseForm, part_count, lacks_alternative}
-use Rattle.pg_form.specs.declared.class.ClassPart.{ClassPart}
-use Rattle.pg_form.specs.declared.form.Form.TheVariants as form
-use Rattle.pg_form.specs.declared.form.Leaf.{Leaf}
-use Rattle.pg_form.specs.declared.form.Leaf.TheVariants as leaf
-use Rattle.pg_form.specs.declared.form.Around.{Around}
-use Rattle.pg_form.specs.declared.form.Around.TheVariants as around
-use Rattle.pg_form.specs.declared.used.BuilderUse.{BuilderUse}
-use Rattle.pg_items.specs.Tree.{Value}
-use Rattle.pg_meaning.specs.Names.{builder_named}
-use Rattle.pg_items.specs.Joined.{joined}
-use Rattle.pg_meaning.specs.Meaning.{Body, meant, all_meant}
-use Rattle.pg_print.specs.Canonical.{values_from, choice_from, build_from, value_at, leaf_value, around_value, value_of_form, values_of}
+use Rattle.pg_grammar_form.specs.Names as names
+use Rattle.pg_grammar_form.specs.Preorder.{SpellForms}
+use Rattle.pg_grammar_form.specs.Forms.{BaseForm, part_count, lacks_alternative}
+use Rattle.pg_grammar_form.specs.declared.class.ClassPart.{ClassPart}
+use Rattle.pg_grammar_form.specs.declared.form.Form.TheVariants as form
+use Rattle.pg_grammar_form.specs.declared.form.Leaf.{Leaf}
+use Rattle.pg_grammar_form.specs.declared.form.Leaf.TheVariants as leaf
+use Rattle.pg_grammar_form.specs.declared.form.Around.{Around}
+use Rattle.pg_grammar_form.specs.declared.form.Around.TheVariants as around
+use Rattle.pg_grammar_form.specs.declared.used.BuilderUse.{BuilderUse}
+use Rattle.pg_file_items.specs.Tree.{Value}
+use Rattle.pg_file_meaning.specs.Names.{builder_named}
+use Rattle.pg_file_items.specs.Joined.{joined}
+use Rattle.pg_file_meaning.specs.Meaning.{Body, meant, all_meant}
+use Rattle.pg_file_print.specs.Canonical.{values_from, choice_from, build_from, value_at, leaf_value, around_value, value_of_form, values_of}
 use Rattle.pg_file.proofs.AgainLemmas.PrintedNames.{IsNamedForm, IsNamedBuilder}
-use Rattle.pg_print.proofs.PrinterLemmas.Bodies.{values_counted}
+use Rattle.pg_file_print.proofs.PrinterLemmas.Bodies.{values_counted}
 use Rattle.pg_file.proofs.AgainLemmas.ClassesAgain.{class_again, joined_both}
 
 all_again : (offer : Offer) (above : List names.Name) (vs : List Value) → all_meant offer above (values_from vs) ≡ map (meant offer above) vs

@@ -3,17 +3,17 @@ use Rattle.std.proofs.Common.{◌≡◌, ◌≤◌, ℕ, zero, suc, ◌+◌, Lis
 use Rattle.std.proofs.lemmas.List.{append-nil, length-map, length-take-le, map-append, take-append-drop}
 use Rattle.std.specs.List.{AllByRecursion}
 use Rattle.pg_pred.specs.Offer.{Offer}
-use Rattle.pg_form.specs.Names as names
-use Rattle.pg_form.specs.Preorder.{SpellForms}
-use Rattle.pg_form.specs.Classes.{member_count, IsProperUnion, IsExpression}
-use Rattle.pg_form.specs.declared.class.ClassPart.{ClassPart}
-use Rattle.pg_form.specs.declared.class.ClassPart.TheVariants as part
-use Rattle.pg_items.specs.Tree.{Atom, Set, Range, Name, Not, Group}
-use Rattle.pg_items.specs.Joined.{joined}
-use Rattle.pg_meaning.specs.Meaning.{atom_meant, class_meant, atoms_meant}
-use Rattle.pg_print.specs.Canonical.{atoms_from, union_of, first_atom, atom_of, atoms_of, whole_class, class_from}
+use Rattle.pg_grammar_form.specs.Names as names
+use Rattle.pg_grammar_form.specs.Preorder.{SpellForms}
+use Rattle.pg_grammar_form.specs.Classes.{member_count, IsProperUnion, IsExpression}
+use Rattle.pg_grammar_form.specs.declared.class.ClassPart.{ClassPart}
+use Rattle.pg_grammar_form.specs.declared.class.ClassPart.TheVariants as part
+use Rattle.pg_file_items.specs.Tree.{Atom, Set, Range, Name, Not, Group}
+use Rattle.pg_file_items.specs.Joined.{joined}
+use Rattle.pg_file_meaning.specs.Meaning.{atom_meant, class_meant, atoms_meant}
+use Rattle.pg_file_print.specs.Canonical.{atoms_from, union_of, first_atom, atom_of, atoms_of, whole_class, class_from}
 use Rattle.pg_file.proofs.AgainLemmas.PrintedNames.{IsNamed}
-use Rattle.pg_print.proofs.PrinterLemmas.Classes.{atoms_counted}
+use Rattle.pg_file_print.proofs.PrinterLemmas.Classes.{atoms_counted}
 
 -- ---- one part
 

@@ -6,9 +6,9 @@ use Rattle.std.proofs.lemmas.Slice.Eq.{bytes_eq-Decides}
 use Rattle.std.specs.List.{position_or_len, AllByRecursion}
 use Rattle.std.specs.Str.{bytes_eq}
 use Rattle.pg_pred.specs.Offer.{Offer}
-use Rattle.pg_form.specs.Names.{Name, has_name, place_of_name, number_of, name_at}
-use Rattle.pg_form.proofs.Lookup.{number_is_found, place_is_number, place_is_none}
-use Rattle.pg_meaning.specs.Names.{item_or_predicate, class_named, is_predicate_name, is_class_name}
+use Rattle.pg_grammar_form.specs.Names.{Name, has_name, place_of_name, number_of, name_at}
+use Rattle.pg_grammar_form.proofs.Lookup.{number_is_found, place_is_number, place_is_none}
+use Rattle.pg_file_meaning.specs.Names.{item_or_predicate, class_named, is_predicate_name, is_class_name}
 
 -- ---- places
 

@@ -5,24 +5,24 @@ use Rattle.std.proofs.lemmas.Fmt.{decimal_is_IsNumeral}
 use Rattle.std.specs.List.{AllByRecursion}
 use Rattle.std.specs.Fmt.{decimal}
 use Rattle.pg_pred.specs.Offer.{Offer}
-use Rattle.pg_form.specs.Names as names
-use Rattle.pg_form.specs.Names.{name_at}
-use Rattle.pg_form.specs.ClassItems.{item_name}
-use Rattle.pg_form.specs.Operators.{Operator, IsOperator}
+use Rattle.pg_grammar_form.specs.Names as names
+use Rattle.pg_grammar_form.specs.Names.{name_at}
+use Rattle.pg_grammar_form.specs.ClassItems.{item_name}
+use Rattle.pg_grammar_form.specs.Operators.{Operator, IsOperator}
 use Rattle.pg_grammar.specs.Made.{Made, nothing_made, with_class, with_rule, Says}
-use Rattle.pg_value.specs.Grammar.{Grammar, rule_name, rule_names, forms_of}
-use Rattle.pg_form.specs.declared.class.ClassPart.{ClassPart}
-use Rattle.pg_form.specs.declared.class_item.ClassItem.{ClassItem}
-use Rattle.pg_form.specs.declared.operators_item.OperatorsItem.{OperatorsItem}
-use Rattle.pg_form.specs.declared.word_item.WordItem.{WordItem}
-use Rattle.pg_items.specs.Tree.{Value, Item, Start}
-use Rattle.pg_items.specs.Proper.{value_of}
-use Rattle.pg_items.specs.Joined.{joined}
-use Rattle.pg_meaning.specs.Meaning.{Body, class_meant, meant}
-use Rattle.pg_making.specs.Spells.{made_classes, with_item, with_items}
-use Rattle.pg_print.specs.Canonical.{class_names, class_from, values_of, class_item, word_item, operators_items, table_item, rule_items, items_of}
+use Rattle.pg_grammar_value.specs.Grammar.{Grammar, rule_name, rule_names, forms_of}
+use Rattle.pg_grammar_form.specs.declared.class.ClassPart.{ClassPart}
+use Rattle.pg_grammar_form.specs.declared.class_item.ClassItem.{ClassItem}
+use Rattle.pg_grammar_form.specs.declared.operators_item.OperatorsItem.{OperatorsItem}
+use Rattle.pg_grammar_form.specs.declared.word_item.WordItem.{WordItem}
+use Rattle.pg_file_items.specs.Tree.{Value, Item, Start}
+use Rattle.pg_file_items.specs.Proper.{value_of}
+use Rattle.pg_file_items.specs.Joined.{joined}
+use Rattle.pg_file_meaning.specs.Meaning.{Body, class_meant, meant}
+use Rattle.pg_file_making.specs.Spells.{made_classes, with_item, with_items}
+use Rattle.pg_file_print.specs.Canonical.{class_names, class_from, values_of, class_item, word_item, operators_items, table_item, rule_items, items_of}
 use Rattle.pg_file.proofs.AgainLemmas.PrintedNames.{AreNamedClasses, AreNamedWords, AreNamedOperators, IsNamedGrammar}
-use Rattle.pg_print.proofs.PrinterLemmas.Grammars.{grammar_bodies}
+use Rattle.pg_file_print.proofs.PrinterLemmas.Grammars.{grammar_bodies}
 use Rattle.pg_file.proofs.AgainLemmas.ClassesAgain.{class_again}
 use Rattle.pg_file.proofs.AgainLemmas.BodiesAgain.{bodies_again}
 

@@ -5,18 +5,18 @@ use Rattle.std.proofs.lemmas.Bool.Decides.{nat_tests}
 use Rattle.std.specs.Char.{is_ascii_digit, is_ascii_alphabetic}
 use Rattle.std.specs.Fmt.{digits}
 use Rattle.std.specs.Str.{all_scalars, IsUtf8}
-use Rattle.pg_value.specs.Grammar.{Grammar}
-use Rattle.pg_tokens.specs.declared.token.Mark.{Mark}
-use Rattle.pg_tokens.specs.declared.token.Mark.TheVariants.{Open, Close, Comma, Semicolon, Equals, Bar, Dots}
-use Rattle.pg_print.specs.declared.layout.Edge.{Edge}
-use Rattle.pg_print.specs.declared.layout.Edge.TheVariants.{Tight, Word, Loose}
-use Rattle.pg_tokens.specs.Tokens.{Token, name, number, literal, mark, wrong, bad}
-use Rattle.pg_tokens.specs.Lexical.{passes, starts, goes_in_name, is_hex, is_scalar}
-use Rattle.pg_items.specs.Syntax.{file_written}
-use Rattle.pg_print.specs.Canonical.{items_of}
-use Rattle.pg_print.specs.Printed.{escaped, all_escaped, characters_printed, printed}
-use Rattle.pg_print.proofs.PrinterLemmas.Texts.{printed_laid}
-use Rattle.pg_print.specs.Layout.{printed_mark, token_text, edge_after, space, mark_space, space_before, laid_out}
+use Rattle.pg_grammar_value.specs.Grammar.{Grammar}
+use Rattle.pg_file_tokens.specs.declared.token.Mark.{Mark}
+use Rattle.pg_file_tokens.specs.declared.token.Mark.TheVariants.{Open, Close, Comma, Semicolon, Equals, Bar, Dots}
+use Rattle.pg_file_print.specs.declared.layout.Edge.{Edge}
+use Rattle.pg_file_print.specs.declared.layout.Edge.TheVariants.{Tight, Word, Loose}
+use Rattle.pg_file_tokens.specs.Tokens.{Token, name, number, literal, mark, wrong, bad}
+use Rattle.pg_file_tokens.specs.Lexical.{passes, starts, goes_in_name, is_hex, is_scalar}
+use Rattle.pg_file_items.specs.Syntax.{file_written}
+use Rattle.pg_file_print.specs.Canonical.{items_of}
+use Rattle.pg_file_print.specs.Printed.{escaped, all_escaped, characters_printed, printed}
+use Rattle.pg_file_print.proofs.PrinterLemmas.Texts.{printed_laid}
+use Rattle.pg_file_print.specs.Layout.{printed_mark, token_text, edge_after, space, mark_space, space_before, laid_out}
 use Rattle.pg_file.proofs.AgainLemmas.Printable.{IsPrintable, ArePrintable}
 use Rattle.pg_file.proofs.AgainLemmas.Spelled.{hex_digits}
 

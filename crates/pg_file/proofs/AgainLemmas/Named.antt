@@ -2,16 +2,16 @@
 use Rattle.std.proofs.Common.{ℕ, List, [], ◌∷◌, ◌++◌, map, Option, Some, None, subst}
 use Rattle.std.specs.List.{AllByRecursion}
 use Rattle.pg_pred.specs.Offer.{Offer}
-use Rattle.pg_form.specs.Names as names
-use Rattle.pg_form.specs.Preorder.{SpellForms}
-use Rattle.pg_form.specs.Forms.{part_count}
-use Rattle.pg_value.specs.Grammar.{Grammar, IsGrammar, forms_of}
-use Rattle.pg_form.specs.declared.class_item.ClassItem.{ClassItem}
-use Rattle.pg_form.specs.declared.operators_item.OperatorsItem.{OperatorsItem}
-use Rattle.pg_form.specs.declared.word_item.WordItem.{WordItem}
-use Rattle.pg_print.specs.Canonical.{class_names}
+use Rattle.pg_grammar_form.specs.Names as names
+use Rattle.pg_grammar_form.specs.Preorder.{SpellForms}
+use Rattle.pg_grammar_form.specs.Forms.{part_count}
+use Rattle.pg_grammar_value.specs.Grammar.{Grammar, IsGrammar, forms_of}
+use Rattle.pg_grammar_form.specs.declared.class_item.ClassItem.{ClassItem}
+use Rattle.pg_grammar_form.specs.declared.operators_item.OperatorsItem.{OperatorsItem}
+use Rattle.pg_grammar_form.specs.declared.word_item.WordItem.{WordItem}
+use Rattle.pg_file_print.specs.Canonical.{class_names}
 use Rattle.pg_file.proofs.AgainLemmas.PrintedNames.{AreNamedClasses, AreNamedWords, AreNamedOperators, IsNamedGrammar}
-use Rattle.pg_print.proofs.PrinterLemmas.Grammars.{grammar_bodies}
+use Rattle.pg_file_print.proofs.PrinterLemmas.Grammars.{grammar_bodies}
 use Rattle.pg_file.proofs.AgainLemmas.WritableClasses.{class_is_named}
 use Rattle.pg_file.proofs.AgainLemmas.WritableBodies.{forms_named}
 use Rattle.pg_file.proofs.AgainLemmas.WritableItems.{AreWritableClassItems, IsWritableWordItem, AreWritableOperators, IsWritableGrammar}

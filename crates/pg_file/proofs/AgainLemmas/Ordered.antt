@@ -4,21 +4,21 @@ use Rattle.std.proofs.lemmas.List.{map-append}
 use Rattle.std.specs.List.{AllByRecursion}
 use Rattle.std.specs.Str.{bytes_eq}
 use Rattle.pg_pred.specs.Offer.{Offer}
-use Rattle.pg_form.specs.Names as names
-use Rattle.pg_form.specs.Names.{has_name, name_at, AreDistinct}
-use Rattle.pg_form.specs.ClassItems.{item_name}
-use Rattle.pg_form.specs.WordItems.{word_name}
-use Rattle.pg_form.specs.Operators.{Operator}
-use Rattle.pg_value.specs.Grammar.{Grammar, rule_names, forms_of}
+use Rattle.pg_grammar_form.specs.Names as names
+use Rattle.pg_grammar_form.specs.Names.{has_name, name_at, AreDistinct}
+use Rattle.pg_grammar_form.specs.ClassItems.{item_name}
+use Rattle.pg_grammar_form.specs.WordItems.{word_name}
+use Rattle.pg_grammar_form.specs.Operators.{Operator}
+use Rattle.pg_grammar_value.specs.Grammar.{Grammar, rule_names, forms_of}
 use Rattle.pg_grammar.specs.Made.{Made, nothing_made, made_words}
-use Rattle.pg_form.specs.declared.class_item.ClassItem.{ClassItem}
-use Rattle.pg_form.specs.declared.operators_item.OperatorsItem.{OperatorsItem}
-use Rattle.pg_form.specs.declared.word_item.WordItem.{WordItem}
-use Rattle.pg_items.specs.Tree.{Value, Item, Start, Rule_item}
-use Rattle.pg_items.specs.Heads.{class_parts, heads}
-use Rattle.pg_meaning.specs.Names.{ClassIsKnown, FormIsKnown}
-use Rattle.pg_making.specs.Spells.{made_classes, with_item, with_items, AreInOrder}
-use Rattle.pg_print.specs.Canonical.{class_names, class_from, values_of, class_item, word_item, operators_items, table_item, rule_items, items_of}
+use Rattle.pg_grammar_form.specs.declared.class_item.ClassItem.{ClassItem}
+use Rattle.pg_grammar_form.specs.declared.operators_item.OperatorsItem.{OperatorsItem}
+use Rattle.pg_grammar_form.specs.declared.word_item.WordItem.{WordItem}
+use Rattle.pg_file_items.specs.Tree.{Value, Item, Start, Rule_item}
+use Rattle.pg_file_items.specs.Heads.{class_parts, heads}
+use Rattle.pg_file_meaning.specs.Names.{ClassIsKnown, FormIsKnown}
+use Rattle.pg_file_making.specs.Spells.{made_classes, with_item, with_items, AreInOrder}
+use Rattle.pg_file_print.specs.Canonical.{class_names, class_from, values_of, class_item, word_item, operators_items, table_item, rule_items, items_of}
 use Rattle.pg_file.proofs.AgainLemmas.PrintedNames.{IsNamedGrammar}
 use Rattle.pg_file.proofs.AgainLemmas.ItemsAgain.{classes_made, words_made, operators_made, table_made}
 use Rattle.pg_file.proofs.AgainLemmas.WritableClasses.{IsWritableExpression, printed_class_writable}

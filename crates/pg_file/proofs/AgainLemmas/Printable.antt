@@ -2,14 +2,14 @@
 use Rattle.std.specs.Prelude.{◌≡◌, true, List, [], ◌∷◌}
 use Rattle.std.specs.List.{AllByRecursion}
 use Rattle.pg_pred.specs.Offer.{Offer}
-use Rattle.pg_value.specs.Grammar.{Grammar}
+use Rattle.pg_grammar_value.specs.Grammar.{Grammar}
 use Rattle.pg_grammar.specs.Made.{nothing_made}
-use Rattle.pg_tokens.specs.Tokens.{Token, name, number, literal, mark, wrong, bad}
-use Rattle.pg_tokens.specs.Lexical.{passes, is_name, is_number, is_scalar}
-use Rattle.pg_items.specs.Syntax.{file_written}
-use Rattle.pg_print.specs.Canonical.{items_of}
-use Rattle.pg_items.specs.Proper.{IsProperItem}
-use Rattle.pg_making.specs.Spells.{AreInOrder, HasInitialTable}
+use Rattle.pg_file_tokens.specs.Tokens.{Token, name, number, literal, mark, wrong, bad}
+use Rattle.pg_file_tokens.specs.Lexical.{passes, is_name, is_number, is_scalar}
+use Rattle.pg_file_items.specs.Syntax.{file_written}
+use Rattle.pg_file_print.specs.Canonical.{items_of}
+use Rattle.pg_file_items.specs.Proper.{IsProperItem}
+use Rattle.pg_file_making.specs.Spells.{AreInOrder, HasInitialTable}
 use Rattle.pg_file.proofs.AgainLemmas.PrintedNames.{IsNamedGrammar}
 
 abbrev pub IsPrintable : Token → Type 0

@@ -3,23 +3,23 @@ use Rattle.std.specs.Prelude.{◌≡◌, ◌≤◌, ℕ, false, List, [], ◌∷
 use Rattle.std.specs.List.{list_any, AllByRecursion}
 use Rattle.std.specs.Str.{chars, encode_utf8_all}
 use Rattle.pg_pred.specs.Offer.{Offer}
-use Rattle.pg_form.specs.Names as names
-use Rattle.pg_form.specs.Names.{name_at}
-use Rattle.pg_form.specs.Preorder.{SpellForms}
-use Rattle.pg_form.specs.Forms.{BaseForm, part_count, lacks_alternative}
-use Rattle.pg_form.specs.Classes.{IsExpression}
-use Rattle.pg_value.specs.Grammar.{Grammar, IsGrammar, forms_of}
-use Rattle.pg_form.specs.declared.class_item.ClassItem.{ClassItem}
-use Rattle.pg_form.specs.declared.word_item.WordItem.{WordItem}
-use Rattle.pg_form.specs.declared.operators_item.OperatorsItem.{OperatorsItem}
-use Rattle.pg_form.specs.declared.class.ClassPart.{ClassPart}
-use Rattle.pg_form.specs.declared.class.ClassPart.TheVariants as part
-use Rattle.pg_form.specs.declared.form.Form.TheVariants as form
-use Rattle.pg_form.specs.declared.form.Leaf.TheVariants as leaf
-use Rattle.pg_form.specs.declared.form.Around.TheVariants as around
-use Rattle.pg_form.specs.declared.used.BuilderUse.{BuilderUse}
-use Rattle.pg_print.specs.Canonical.{class_names}
-use Rattle.pg_meaning.specs.Names.{class_named, builder_named}
+use Rattle.pg_grammar_form.specs.Names as names
+use Rattle.pg_grammar_form.specs.Names.{name_at}
+use Rattle.pg_grammar_form.specs.Preorder.{SpellForms}
+use Rattle.pg_grammar_form.specs.Forms.{BaseForm, part_count, lacks_alternative}
+use Rattle.pg_grammar_form.specs.Classes.{IsExpression}
+use Rattle.pg_grammar_value.specs.Grammar.{Grammar, IsGrammar, forms_of}
+use Rattle.pg_grammar_form.specs.declared.class_item.ClassItem.{ClassItem}
+use Rattle.pg_grammar_form.specs.declared.word_item.WordItem.{WordItem}
+use Rattle.pg_grammar_form.specs.declared.operators_item.OperatorsItem.{OperatorsItem}
+use Rattle.pg_grammar_form.specs.declared.class.ClassPart.{ClassPart}
+use Rattle.pg_grammar_form.specs.declared.class.ClassPart.TheVariants as part
+use Rattle.pg_grammar_form.specs.declared.form.Form.TheVariants as form
+use Rattle.pg_grammar_form.specs.declared.form.Leaf.TheVariants as leaf
+use Rattle.pg_grammar_form.specs.declared.form.Around.TheVariants as around
+use Rattle.pg_grammar_form.specs.declared.used.BuilderUse.{BuilderUse}
+use Rattle.pg_file_print.specs.Canonical.{class_names}
+use Rattle.pg_file_meaning.specs.Names.{class_named, builder_named}
 
 -- the name that a part is printed with stands for the part, above which class items of these names stand
 abbrev pub IsNamed : Offer → (items above : List names.Name) → ClassPart → Type 0

@@ -1,6 +1,6 @@
 -- The items that are printed of a grammar whose parts a file may have are proper, and so are their tokens.
 use Rattle.std.proofs.Common.{◌≡◌, ◌<◌, ◌≤◌, ℕ, ◌-◌, true, false, Bool, nat_lt, List, [], ◌∷◌, ◌++◌, length, map, Option, Some, None, refl, sym, subst, arith}
-use Rattle.pg_items.proofs.ItemLemmas.Whole.{all_append}
+use Rattle.pg_file_items.proofs.ItemLemmas.Whole.{all_append}
 use Rattle.std.proofs.lemmas.Bool.Decides.{nat_tests}
 use Rattle.std.proofs.lemmas.Fmt.{decimal_is_IsNumeral}
 use Rattle.std.specs.List.{AllByRecursion}
@@ -8,22 +8,22 @@ use Rattle.std.specs.Char.{is_ascii_digit, digit_value}
 use Rattle.std.specs.Str.Parse.{AllDigits}
 use Rattle.std.specs.Fmt.{decimal}
 use Rattle.pg_pred.specs.Offer.{Offer}
-use Rattle.pg_form.specs.Names as names
-use Rattle.pg_form.specs.Names.{name_at}
-use Rattle.pg_form.specs.Operators.{Operator}
-use Rattle.pg_value.specs.Grammar.{Grammar, rule_names, forms_of}
-use Rattle.pg_form.specs.declared.class_item.ClassItem.{ClassItem}
-use Rattle.pg_form.specs.declared.decl.Role.{Role}
-use Rattle.pg_form.specs.declared.decl.Role.TheVariants as role
-use Rattle.pg_form.specs.declared.operators_item.OperatorsItem.{OperatorsItem}
-use Rattle.pg_form.specs.declared.word_item.WordItem.{WordItem}
-use Rattle.pg_tokens.specs.declared.token.Mark.TheVariants.{Semicolon}
-use Rattle.pg_tokens.specs.Tokens.{Token, name, mark}
-use Rattle.pg_tokens.specs.Lexical.{passes, is_name, is_number}
-use Rattle.pg_items.specs.Tree.{Value, Item, Start}
-use Rattle.pg_items.specs.Syntax.{role_word, class_written, literals_written, reserved_written, most_written, item_written, file_written}
-use Rattle.pg_items.specs.Proper.{IsFilled, is_decimal, IsNumber, IsProperItem}
-use Rattle.pg_print.specs.Canonical.{class_names, class_from, values_of, class_item, word_item, operators_items, table_item, rule_items, items_of}
+use Rattle.pg_grammar_form.specs.Names as names
+use Rattle.pg_grammar_form.specs.Names.{name_at}
+use Rattle.pg_grammar_form.specs.Operators.{Operator}
+use Rattle.pg_grammar_value.specs.Grammar.{Grammar, rule_names, forms_of}
+use Rattle.pg_grammar_form.specs.declared.class_item.ClassItem.{ClassItem}
+use Rattle.pg_grammar_form.specs.declared.decl.Role.{Role}
+use Rattle.pg_grammar_form.specs.declared.decl.Role.TheVariants as role
+use Rattle.pg_grammar_form.specs.declared.operators_item.OperatorsItem.{OperatorsItem}
+use Rattle.pg_grammar_form.specs.declared.word_item.WordItem.{WordItem}
+use Rattle.pg_file_tokens.specs.declared.token.Mark.TheVariants.{Semicolon}
+use Rattle.pg_file_tokens.specs.Tokens.{Token, name, mark}
+use Rattle.pg_file_tokens.specs.Lexical.{passes, is_name, is_number}
+use Rattle.pg_file_items.specs.Tree.{Value, Item, Start}
+use Rattle.pg_file_items.specs.Syntax.{role_word, class_written, literals_written, reserved_written, most_written, item_written, file_written}
+use Rattle.pg_file_items.specs.Proper.{IsFilled, is_decimal, IsNumber, IsProperItem}
+use Rattle.pg_file_print.specs.Canonical.{class_names, class_from, values_of, class_item, word_item, operators_items, table_item, rule_items, items_of}
 use Rattle.pg_file.proofs.AgainLemmas.Printable.{ArePrintable}
 use Rattle.pg_file.proofs.AgainLemmas.WritableClasses.{printed_class_writable}
 use Rattle.pg_file.proofs.AgainLemmas.WritableBodies.{IsWritableName}

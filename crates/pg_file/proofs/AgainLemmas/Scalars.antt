@@ -5,10 +5,10 @@ use Rattle.std.proofs.lemmas.Bool.Decides.{nat_tests}
 use Rattle.std.specs.Str.{chars, all_scalars, IsUtf8}
 use Rattle.std.specs.Str.Parse.{digits_value}
 use lib.Utf8.{scalar, scalar_cases}
-use Rattle.pg_tokens.specs.Tokens.{Token}
-use Rattle.pg_tokens.specs.Lexical.{passes, is_scalar, is_hex, is_code, mark_text, short_escape, Escape, short, unicode, Literal, closed, plain, escaped, Spelled, ends, blank, comment, a_mark, a_name, a_number, a_literal}
+use Rattle.pg_file_tokens.specs.Tokens.{Token}
+use Rattle.pg_file_tokens.specs.Lexical.{passes, is_scalar, is_hex, is_code, mark_text, short_escape, Escape, short, unicode, Literal, closed, plain, escaped, Spelled, ends, blank, comment, a_mark, a_name, a_number, a_literal}
 use Rattle.pg_file.proofs.AgainLemmas.Printable.{ArePrintable}
-use Rattle.pg_tokens.proofs.Encoded.{chars_encoded}
+use Rattle.pg_file_tokens.proofs.Encoded.{chars_encoded}
 
 abbrev AreScalars : List ℕ → Type 0
 AreScalars s = passes is_scalar s ≡ true

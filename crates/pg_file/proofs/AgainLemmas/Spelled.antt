@@ -7,15 +7,15 @@ use Rattle.std.proofs.lemmas.Fmt.{digits_is_IsNumeral}
 use Rattle.std.specs.Char.{is_ascii_digit, digit_value}
 use Rattle.std.specs.Str.Parse.{digits_value, AllDigits}
 use Rattle.std.specs.Fmt.{digits, digits_onto, digit_glyph}
-use Rattle.pg_tokens.specs.declared.token.Mark.{Mark}
-use Rattle.pg_tokens.specs.declared.token.Mark.TheVariants.{Open, Close, Comma, Semicolon, Equals, Bar, Dots}
-use Rattle.pg_print.specs.declared.layout.Edge.{Edge}
-use Rattle.pg_print.specs.declared.layout.Edge.TheVariants.{Tight, Word, Loose}
-use Rattle.pg_tokens.specs.Tokens.{Token, name, number, literal, mark, wrong, bad}
-use Rattle.pg_tokens.specs.Lexical.{passes, stops, goes_in_name, is_hex, is_scalar, is_code, is_plain, short_escape, short, unicode, Literal, closed, plain, escaped, Spelled, ends, blank, a_mark, a_name, a_number, a_literal}
-use Rattle.pg_print.specs.Printed as printed
-use Rattle.pg_print.specs.Printed.{all_escaped, quoted}
-use Rattle.pg_print.specs.Layout.{comes_before_class, printed_mark, edge_after, space, mark_space, laid_out}
+use Rattle.pg_file_tokens.specs.declared.token.Mark.{Mark}
+use Rattle.pg_file_tokens.specs.declared.token.Mark.TheVariants.{Open, Close, Comma, Semicolon, Equals, Bar, Dots}
+use Rattle.pg_file_print.specs.declared.layout.Edge.{Edge}
+use Rattle.pg_file_print.specs.declared.layout.Edge.TheVariants.{Tight, Word, Loose}
+use Rattle.pg_file_tokens.specs.Tokens.{Token, name, number, literal, mark, wrong, bad}
+use Rattle.pg_file_tokens.specs.Lexical.{passes, stops, goes_in_name, is_hex, is_scalar, is_code, is_plain, short_escape, short, unicode, Literal, closed, plain, escaped, Spelled, ends, blank, a_mark, a_name, a_number, a_literal}
+use Rattle.pg_file_print.specs.Printed as printed
+use Rattle.pg_file_print.specs.Printed.{all_escaped, quoted}
+use Rattle.pg_file_print.specs.Layout.{comes_before_class, printed_mark, edge_after, space, mark_space, laid_out}
 use Rattle.pg_file.proofs.AgainLemmas.Printable.{ArePrintable}
 
 -- ---- hexadecimal digits

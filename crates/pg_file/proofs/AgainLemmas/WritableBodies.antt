@@ -1,34 +1,34 @@
 -- Bodies that a file may have: what the file's values mean is such, and what the names in it stand for.
 use Rattle.std.proofs.Common.{◌≡◌, ℕ, true, List, [], ◌∷◌, ◌++◌, refl, sym, ap, subst, arith}
-use Rattle.pg_items.proofs.ItemLemmas.Whole.{all_append}
+use Rattle.pg_file_items.proofs.ItemLemmas.Whole.{all_append}
 use Rattle.std.specs.List.{AllByRecursion}
 use Rattle.std.specs.Str.{chars, encode_utf8_all}
 use Rattle.pg_pred.specs.Offer.{Offer}
-use Rattle.pg_form.specs.Names as names
-use Rattle.pg_form.specs.declared.class.ClassPart.{ClassPart}
-use Rattle.pg_form.specs.Forms.{BaseForm}
-use Rattle.pg_form.specs.declared.form.Form.TheVariants as form
-use Rattle.pg_form.specs.declared.form.Leaf.TheVariants as leaf
-use Rattle.pg_form.specs.declared.form.Around.{Around}
-use Rattle.pg_form.specs.declared.form.Around.TheVariants as around
-use Rattle.pg_form.specs.declared.used.BuilderUse.{BuilderUse}
-use Rattle.pg_items.specs.declared.words.ClassForm.{ClassForm}
-use Rattle.pg_items.specs.declared.words.ClassForm.TheVariants as class_form
-use Rattle.pg_form.specs.declared.side.Side.{Side}
-use Rattle.pg_tokens.specs.declared.token.Mark.TheVariants.{Comma, Close}
-use Rattle.pg_tokens.specs.Tokens.{Token, mark, literal}
-use Rattle.pg_tokens.specs.Lexical.{passes, is_name, is_scalar}
-use Rattle.pg_items.specs.Tree.{Value, Of_class, String, Seq, Of_some, Of_one, Of_two, Between, Chain, Expression, Build, Build_symbol, Label, End_of_text, Word, Rule, Values, No_value, And}
-use Rattle.pg_items.specs.Syntax.{written, written_list, written_more}
-use Rattle.pg_items.specs.Proper.{IsFreeName, IsBuilderName, IsLiteral, IsFilled, IsProper, AreProper}
-use Rattle.pg_items.specs.Heads.{heads, all_heads}
-use Rattle.pg_meaning.specs.Names.{builder_named, BuilderIsKnown, FormIsKnown}
-use Rattle.pg_items.specs.Joined.{joined}
-use Rattle.pg_meaning.specs.Meaning.{Body, class_of, chain_of, meant, all_meant}
+use Rattle.pg_grammar_form.specs.Names as names
+use Rattle.pg_grammar_form.specs.declared.class.ClassPart.{ClassPart}
+use Rattle.pg_grammar_form.specs.Forms.{BaseForm}
+use Rattle.pg_grammar_form.specs.declared.form.Form.TheVariants as form
+use Rattle.pg_grammar_form.specs.declared.form.Leaf.TheVariants as leaf
+use Rattle.pg_grammar_form.specs.declared.form.Around.{Around}
+use Rattle.pg_grammar_form.specs.declared.form.Around.TheVariants as around
+use Rattle.pg_grammar_form.specs.declared.used.BuilderUse.{BuilderUse}
+use Rattle.pg_file_items.specs.declared.words.ClassForm.{ClassForm}
+use Rattle.pg_file_items.specs.declared.words.ClassForm.TheVariants as class_form
+use Rattle.pg_grammar_form.specs.declared.side.Side.{Side}
+use Rattle.pg_file_tokens.specs.declared.token.Mark.TheVariants.{Comma, Close}
+use Rattle.pg_file_tokens.specs.Tokens.{Token, mark, literal}
+use Rattle.pg_file_tokens.specs.Lexical.{passes, is_name, is_scalar}
+use Rattle.pg_file_items.specs.Tree.{Value, Of_class, String, Seq, Of_some, Of_one, Of_two, Between, Chain, Expression, Build, Build_symbol, Label, End_of_text, Word, Rule, Values, No_value, And}
+use Rattle.pg_file_items.specs.Syntax.{written, written_list, written_more}
+use Rattle.pg_file_items.specs.Proper.{IsFreeName, IsBuilderName, IsLiteral, IsFilled, IsProper, AreProper}
+use Rattle.pg_file_items.specs.Heads.{heads, all_heads}
+use Rattle.pg_file_meaning.specs.Names.{builder_named, BuilderIsKnown, FormIsKnown}
+use Rattle.pg_file_items.specs.Joined.{joined}
+use Rattle.pg_file_meaning.specs.Meaning.{Body, class_of, chain_of, meant, all_meant}
 use Rattle.pg_file.proofs.AgainLemmas.Printable.{ArePrintable}
 use Rattle.pg_file.proofs.AgainLemmas.PrintedNames.{IsNamedBuilder, IsNamedForm}
-use Rattle.pg_tokens.proofs.Encoded.{chars_encoded}
-use Rattle.pg_meaning.proofs.MeaningLemmas.Composing.{IsBare, Composes, composes_some, composes_one, composes_two, composes_between}
+use Rattle.pg_file_tokens.proofs.Encoded.{chars_encoded}
+use Rattle.pg_file_meaning.proofs.MeaningLemmas.Composing.{IsBare, Composes, composes_some, composes_one, composes_two, composes_between}
 use Rattle.pg_file.proofs.AgainLemmas.Found.{AreFoundAgain}
 use Rattle.pg_file.proofs.AgainLemmas.WritableClasses.{each_first, each_second, IsWritableExpression, class_writable, class_is_named}
 

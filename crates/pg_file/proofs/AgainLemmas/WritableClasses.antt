@@ -1,30 +1,30 @@
 -- Class expressions that a file may have: what the file's tree means is such, and is printed as such a tree again.
 use Rattle.std.proofs.Common.{◌≡◌, ◌≤◌, ℕ, true, List, [], ◌∷◌, ◌++◌, take, Option, Some, None, refl, sym, subst, arith}
-use Rattle.pg_items.proofs.ItemLemmas.Whole.{all_append}
+use Rattle.pg_file_items.proofs.ItemLemmas.Whole.{all_append}
 use Rattle.std.specs.List.{AllByRecursion}
 use Rattle.std.specs.Str.{chars}
 use Rattle.pg_pred.specs.Offer.{Offer}
-use Rattle.pg_form.specs.Names as names
-use Rattle.pg_form.specs.Names.{name_at, place_of_name}
-use Rattle.pg_form.specs.Classes.{member_count, IsExpression}
-use Rattle.pg_form.proofs.Each.{all-take, all-drop}
-use Rattle.pg_form.specs.declared.class.ClassPart.{ClassPart}
-use Rattle.pg_form.specs.declared.class.ClassPart.TheVariants as part
-use Rattle.pg_tokens.specs.declared.token.Mark.TheVariants.{Close}
-use Rattle.pg_tokens.specs.Tokens.{Token, mark}
-use Rattle.pg_tokens.specs.Lexical.{passes, is_name, is_scalar}
-use Rattle.pg_items.specs.Tree.{Atom, Set, Range, Name, Not, Group, Class, Of, Atoms, No_atom, Or}
-use Rattle.pg_items.specs.Syntax.{atom_written, class_written, atoms_written}
-use Rattle.pg_items.specs.Proper.{IsFreeName, IsLiteral, IsProperAtom, IsProperClass, AreProperAtoms}
-use Rattle.pg_items.specs.Heads.{atom_parts, class_parts, atoms_parts}
-use Rattle.pg_meaning.specs.Names.{class_named, item_or_predicate, predicate_named, is_class_name, PartIsKnown, ClassIsKnown}
-use Rattle.pg_items.specs.Joined.{joined}
-use Rattle.pg_meaning.specs.Meaning.{atom_meant, class_meant, atoms_meant}
-use Rattle.pg_print.specs.Canonical.{atoms_from, union_of, first_atom, atom_of, atoms_of, class_from}
+use Rattle.pg_grammar_form.specs.Names as names
+use Rattle.pg_grammar_form.specs.Names.{name_at, place_of_name}
+use Rattle.pg_grammar_form.specs.Classes.{member_count, IsExpression}
+use Rattle.pg_grammar_form.proofs.Each.{all-take, all-drop}
+use Rattle.pg_grammar_form.specs.declared.class.ClassPart.{ClassPart}
+use Rattle.pg_grammar_form.specs.declared.class.ClassPart.TheVariants as part
+use Rattle.pg_file_tokens.specs.declared.token.Mark.TheVariants.{Close}
+use Rattle.pg_file_tokens.specs.Tokens.{Token, mark}
+use Rattle.pg_file_tokens.specs.Lexical.{passes, is_name, is_scalar}
+use Rattle.pg_file_items.specs.Tree.{Atom, Set, Range, Name, Not, Group, Class, Of, Atoms, No_atom, Or}
+use Rattle.pg_file_items.specs.Syntax.{atom_written, class_written, atoms_written}
+use Rattle.pg_file_items.specs.Proper.{IsFreeName, IsLiteral, IsProperAtom, IsProperClass, AreProperAtoms}
+use Rattle.pg_file_items.specs.Heads.{atom_parts, class_parts, atoms_parts}
+use Rattle.pg_file_meaning.specs.Names.{class_named, item_or_predicate, predicate_named, is_class_name, PartIsKnown, ClassIsKnown}
+use Rattle.pg_file_items.specs.Joined.{joined}
+use Rattle.pg_file_meaning.specs.Meaning.{atom_meant, class_meant, atoms_meant}
+use Rattle.pg_file_print.specs.Canonical.{atoms_from, union_of, first_atom, atom_of, atoms_of, class_from}
 use Rattle.pg_file.proofs.AgainLemmas.Printable.{ArePrintable}
 use Rattle.pg_file.proofs.AgainLemmas.PrintedNames.{IsNamed, IsNamedClass}
-use Rattle.pg_tokens.proofs.Encoded.{chars_encoded}
-use Rattle.pg_meaning.proofs.MeaningLemmas.ProperClasses.{expression_of_class}
+use Rattle.pg_file_tokens.proofs.Encoded.{chars_encoded}
+use Rattle.pg_file_meaning.proofs.MeaningLemmas.ProperClasses.{expression_of_class}
 use Rattle.pg_file.proofs.AgainLemmas.Found.{AreFoundAgain}
 
 -- ---- facts of the elements of lists

@@ -1,30 +1,30 @@
 -- Grammars whose parts a file may have, as are those that a file spells.
 use Rattle.std.proofs.Common.{◌≡◌, ◌≤◌, ℕ, true, false, List, [], ◌∷◌, ◌++◌, map, Option, Some, None, sym, ap, subst, ◌∙◌, append_assoc, arith}
-use Rattle.pg_items.proofs.ItemLemmas.Whole.{all_append}
+use Rattle.pg_file_items.proofs.ItemLemmas.Whole.{all_append}
 use Rattle.std.proofs.lemmas.List.{append-nil, map-append}
 use Rattle.std.specs.List.{AllByRecursion}
 use Rattle.std.specs.Str.{chars}
 use Rattle.pg_pred.specs.Offer.{Offer}
-use Rattle.pg_form.specs.Names as names
-use Rattle.pg_form.specs.Names.{name_at, has_name}
-use Rattle.pg_form.specs.ClassItems.{item_name}
-use Rattle.pg_form.specs.Operators.{Operator}
+use Rattle.pg_grammar_form.specs.Names as names
+use Rattle.pg_grammar_form.specs.Names.{name_at, has_name}
+use Rattle.pg_grammar_form.specs.ClassItems.{item_name}
+use Rattle.pg_grammar_form.specs.Operators.{Operator}
 use Rattle.pg_grammar.specs.Made.{Made, nothing_made}
-use Rattle.pg_value.specs.Grammar.{Grammar, rule_names, forms_of}
-use Rattle.pg_form.specs.declared.class_item.ClassItem.{ClassItem}
-use Rattle.pg_form.specs.declared.operators_item.OperatorsItem.{OperatorsItem}
-use Rattle.pg_form.specs.declared.word_item.WordItem.{WordItem}
-use Rattle.pg_tokens.specs.declared.token.Mark.TheVariants.{Semicolon}
-use Rattle.pg_tokens.specs.Tokens.{Token, name, mark}
-use Rattle.pg_tokens.specs.Lexical.{passes, is_scalar}
-use Rattle.pg_items.specs.Tree.{Item, Class_item, Word_item, Operators, Table, Start, Rule_item}
-use Rattle.pg_items.specs.Syntax.{class_written, literals_written, reserved_written, most_written, item_written, file_written}
-use Rattle.pg_items.specs.Proper.{IsFilled, IsMost, IsProperItem}
-use Rattle.pg_items.specs.Heads.{most_of}
-use Rattle.pg_meaning.specs.Names.{is_predicate_name}
-use Rattle.pg_meaning.specs.Meaning.{meant}
-use Rattle.pg_making.specs.Spells.{made_classes, max_meant, with_item, with_items, IsKnown, IsNew, AreInOrder, Spells}
-use Rattle.pg_print.specs.Canonical.{class_names}
+use Rattle.pg_grammar_value.specs.Grammar.{Grammar, rule_names, forms_of}
+use Rattle.pg_grammar_form.specs.declared.class_item.ClassItem.{ClassItem}
+use Rattle.pg_grammar_form.specs.declared.operators_item.OperatorsItem.{OperatorsItem}
+use Rattle.pg_grammar_form.specs.declared.word_item.WordItem.{WordItem}
+use Rattle.pg_file_tokens.specs.declared.token.Mark.TheVariants.{Semicolon}
+use Rattle.pg_file_tokens.specs.Tokens.{Token, name, mark}
+use Rattle.pg_file_tokens.specs.Lexical.{passes, is_scalar}
+use Rattle.pg_file_items.specs.Tree.{Item, Class_item, Word_item, Operators, Table, Start, Rule_item}
+use Rattle.pg_file_items.specs.Syntax.{class_written, literals_written, reserved_written, most_written, item_written, file_written}
+use Rattle.pg_file_items.specs.Proper.{IsFilled, IsMost, IsProperItem}
+use Rattle.pg_file_items.specs.Heads.{most_of}
+use Rattle.pg_file_meaning.specs.Names.{is_predicate_name}
+use Rattle.pg_file_meaning.specs.Meaning.{meant}
+use Rattle.pg_file_making.specs.Spells.{made_classes, max_meant, with_item, with_items, IsKnown, IsNew, AreInOrder, Spells}
+use Rattle.pg_file_print.specs.Canonical.{class_names}
 use Rattle.pg_file.proofs.AgainLemmas.Printable.{ArePrintable}
 use Rattle.pg_file.proofs.AgainLemmas.Found.{AreNoPredicates, AreFoundAgain, found_here, found_among_more}
 use Rattle.pg_file.proofs.AgainLemmas.Scalars.{spelled_printable, utf8_scalars}

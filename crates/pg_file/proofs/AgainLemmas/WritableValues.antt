@@ -1,36 +1,36 @@
 -- The values that are printed of a body that a file may have are such as a file may have.
 use Rattle.std.proofs.Common.{◌≡◌, ℕ, zero, suc, true, List, [], ◌∷◌, take, refl}
-use Rattle.pg_items.proofs.ItemLemmas.Whole.{all_append}
+use Rattle.pg_file_items.proofs.ItemLemmas.Whole.{all_append}
 use Rattle.std.specs.List.{AllByRecursion}
 use Rattle.std.specs.Str.{chars}
 use Rattle.pg_pred.specs.Offer.{Offer}
-use Rattle.pg_form.specs.Names as names
-use Rattle.pg_form.specs.Forms.{BaseForm, part_count}
-use Rattle.pg_form.proofs.Each.{all-take, all-drop}
-use Rattle.pg_form.specs.declared.class.ClassPart.{ClassPart}
-use Rattle.pg_form.specs.declared.form.Form.TheVariants as form
-use Rattle.pg_form.specs.declared.form.Leaf.{Leaf}
-use Rattle.pg_form.specs.declared.form.Leaf.TheVariants as leaf
-use Rattle.pg_form.specs.declared.form.Around.{Around}
-use Rattle.pg_form.specs.declared.form.Around.TheVariants as around
-use Rattle.pg_form.specs.declared.used.BuilderUse.{BuilderUse}
-use Rattle.pg_items.specs.declared.words.ClassForm.{ClassForm}
-use Rattle.pg_items.specs.declared.words.ClassForm.TheVariants as class_form
-use Rattle.pg_items.specs.declared.words.SomeForm.{SomeForm}
-use Rattle.pg_items.specs.declared.words.SomeForm.TheVariants as some_form
-use Rattle.pg_items.specs.declared.words.OneForm.{OneForm}
-use Rattle.pg_items.specs.declared.words.OneForm.TheVariants as one_form
-use Rattle.pg_form.specs.declared.side.Side.{Side}
-use Rattle.pg_form.specs.declared.side.Side.TheVariants as side
-use Rattle.pg_tokens.specs.declared.token.Mark.TheVariants.{Comma, Close}
-use Rattle.pg_tokens.specs.Tokens.{Token, mark, literal}
-use Rattle.pg_tokens.specs.Lexical.{passes, is_name, is_scalar}
-use Rattle.pg_items.specs.Tree.{Value, Of_class, Seq, Of_some, Of_one, Chain, Values, No_value}
-use Rattle.pg_items.specs.Syntax.{class_word, some_word, one_word, chain_word, written, written_list, written_more}
-use Rattle.pg_items.specs.Proper.{IsLiteral, IsProper, AreProper}
-use Rattle.pg_items.specs.Heads.{heads, all_heads}
-use Rattle.pg_meaning.specs.Names.{FormIsKnown}
-use Rattle.pg_print.specs.Canonical.{class_from, values_from, value_at, choice_from, build_from, leaf_value, around_value, value_of_form, values_of}
+use Rattle.pg_grammar_form.specs.Names as names
+use Rattle.pg_grammar_form.specs.Forms.{BaseForm, part_count}
+use Rattle.pg_grammar_form.proofs.Each.{all-take, all-drop}
+use Rattle.pg_grammar_form.specs.declared.class.ClassPart.{ClassPart}
+use Rattle.pg_grammar_form.specs.declared.form.Form.TheVariants as form
+use Rattle.pg_grammar_form.specs.declared.form.Leaf.{Leaf}
+use Rattle.pg_grammar_form.specs.declared.form.Leaf.TheVariants as leaf
+use Rattle.pg_grammar_form.specs.declared.form.Around.{Around}
+use Rattle.pg_grammar_form.specs.declared.form.Around.TheVariants as around
+use Rattle.pg_grammar_form.specs.declared.used.BuilderUse.{BuilderUse}
+use Rattle.pg_file_items.specs.declared.words.ClassForm.{ClassForm}
+use Rattle.pg_file_items.specs.declared.words.ClassForm.TheVariants as class_form
+use Rattle.pg_file_items.specs.declared.words.SomeForm.{SomeForm}
+use Rattle.pg_file_items.specs.declared.words.SomeForm.TheVariants as some_form
+use Rattle.pg_file_items.specs.declared.words.OneForm.{OneForm}
+use Rattle.pg_file_items.specs.declared.words.OneForm.TheVariants as one_form
+use Rattle.pg_grammar_form.specs.declared.side.Side.{Side}
+use Rattle.pg_grammar_form.specs.declared.side.Side.TheVariants as side
+use Rattle.pg_file_tokens.specs.declared.token.Mark.TheVariants.{Comma, Close}
+use Rattle.pg_file_tokens.specs.Tokens.{Token, mark, literal}
+use Rattle.pg_file_tokens.specs.Lexical.{passes, is_name, is_scalar}
+use Rattle.pg_file_items.specs.Tree.{Value, Of_class, Seq, Of_some, Of_one, Chain, Values, No_value}
+use Rattle.pg_file_items.specs.Syntax.{class_word, some_word, one_word, chain_word, written, written_list, written_more}
+use Rattle.pg_file_items.specs.Proper.{IsLiteral, IsProper, AreProper}
+use Rattle.pg_file_items.specs.Heads.{heads, all_heads}
+use Rattle.pg_file_meaning.specs.Names.{FormIsKnown}
+use Rattle.pg_file_print.specs.Canonical.{class_from, values_from, value_at, choice_from, build_from, leaf_value, around_value, value_of_form, values_of}
 use Rattle.pg_file.proofs.AgainLemmas.Printable.{ArePrintable}
 use Rattle.pg_file.proofs.AgainLemmas.WritableClasses.{IsWritableExpression, printed_class_writable, IsWritableClass}
 use Rattle.pg_file.proofs.AgainLemmas.WritableBodies.{IsWritableBuilder, IsWritableForm, IsWritableBody}

@@ -2,19 +2,19 @@
 use Rattle.std.proofs.Common.{◌≡◌, ◌≤◌, ℕ, ◌+◌, Bool, true, false, cond, leb, leb-false, List, [], ◌∷◌, length, map, refl, ap, arith, length-append}
 use Rattle.std.proofs.lemmas.List.{length-map}
 use Rattle.pg_pred.specs.Offer.{Offer}
-use Rattle.pg_value.specs.Grammar.{Grammar, rule_name, rule_names, word_names}
-use Rattle.pg_form.specs.Forms.{form_of}
-use Rattle.pg_form.specs.declared.class_item.ClassItem.{ClassItem}
-use Rattle.pg_form.specs.declared.word_item.WordItem.{WordItem}
+use Rattle.pg_grammar_value.specs.Grammar.{Grammar, rule_name, rule_names, word_names}
+use Rattle.pg_grammar_form.specs.Forms.{form_of}
+use Rattle.pg_grammar_form.specs.declared.class_item.ClassItem.{ClassItem}
+use Rattle.pg_grammar_form.specs.declared.word_item.WordItem.{WordItem}
 use Rattle.pg_grammar.specs.Made.{Made, nothing_made, Says}
-use Rattle.pg_items.specs.Tree.{Item, Class_item, Word_item, Operators, Table, Start, Rule_item}
-use Rattle.pg_items.specs.Heads.{heads, entry_of_item}
-use Rattle.pg_items.specs.Entries.{Entry}
-use Rattle.pg_items.specs.Sizes.{counted, body_size}
-use Rattle.pg_meaning.specs.Meaning.{class_meant, meant}
-use Rattle.pg_parser.specs.Limits.{class_count, word_count, rule_count, node_count, KeepWithin, full_allowance}
-use Rattle.pg_making.specs.Spells.{made_classes, with_item, with_items}
-use Rattle.pg_meaning.proofs.MeaningLemmas.Meant.{heads_sized}
+use Rattle.pg_file_items.specs.Tree.{Item, Class_item, Word_item, Operators, Table, Start, Rule_item}
+use Rattle.pg_file_items.specs.Heads.{heads, entry_of_item}
+use Rattle.pg_file_items.specs.Entries.{Entry}
+use Rattle.pg_file_items.specs.Sizes.{counted, body_size}
+use Rattle.pg_file_meaning.specs.Meaning.{class_meant, meant}
+use Rattle.pg_file_parser.specs.Limits.{class_count, word_count, rule_count, node_count, KeepWithin, full_allowance}
+use Rattle.pg_file_making.specs.Spells.{made_classes, with_item, with_items}
+use Rattle.pg_file_meaning.proofs.MeaningLemmas.Meant.{heads_sized}
 
 -- what was handed in and these entries are counted in what is made of them
 record Counts (made : Made) (entries : List Entry) (all : Made) : Type 0 where

@@ -1,43 +1,43 @@
 -- A registry that offers what the names of a file stand for fits the grammar.
 use Rattle.std.proofs.Common.{◌≡◌, ℕ, zero, suc, Bool, true, false, ◌||◌, List, [], ◌∷◌, map, take, Option, Some, None, unwrap_or, refl, subst}
-use Rattle.pg_form.proofs.Each.{all-take, all-drop}
-use Rattle.pg_items.proofs.ItemLemmas.Whole.{all_append}
+use Rattle.pg_grammar_form.proofs.Each.{all-take, all-drop}
+use Rattle.pg_file_items.proofs.ItemLemmas.Whole.{all_append}
 use Rattle.std.specs.List.{AllByRecursion}
 use Rattle.std.specs.Option.{is_some}
 use Rattle.std.specs.Str.{encode_utf8_all}
 use Rattle.pg_pred.specs.Offer.{Offer, predicate_class, builder_shape}
-use Rattle.pg_form.specs.Contents.{class_parts, builders_in}
-use Rattle.pg_value.specs.Fits.{PartFits, ClassFits, BuilderFits, BuildersFit, NodeFits, ItemsFit, WordFits, WordsFit, OperatorsFit, NodesFit, Fits}
-use Rattle.pg_form.specs.Forms.{BaseForm, Node, form_of}
-use Rattle.pg_value.specs.Grammar.{Grammar, rule_names, word_names}
-use Rattle.pg_form.specs.ClassItems.{item_class}
+use Rattle.pg_grammar_form.specs.Contents.{class_parts, builders_in}
+use Rattle.pg_grammar_value.specs.Fits.{PartFits, ClassFits, BuilderFits, BuildersFit, NodeFits, ItemsFit, WordFits, WordsFit, OperatorsFit, NodesFit, Fits}
+use Rattle.pg_grammar_form.specs.Forms.{BaseForm, Node, form_of}
+use Rattle.pg_grammar_value.specs.Grammar.{Grammar, rule_names, word_names}
+use Rattle.pg_grammar_form.specs.ClassItems.{item_class}
 use Rattle.pg_grammar.specs.Made.{Made, nothing_made}
-use Rattle.pg_form.specs.Names as names
-use Rattle.pg_form.specs.Names.{place_of_name, has_name}
-use Rattle.pg_form.specs.declared.form.Form.TheVariants as form
-use Rattle.pg_form.specs.declared.form.Around.{Around}
-use Rattle.pg_form.specs.declared.form.Around.TheVariants as around
-use Rattle.pg_form.specs.declared.form.Leaf.TheVariants as leaf
-use Rattle.pg_items.specs.declared.written.WrittenPart.{WrittenPart}
-use Rattle.pg_items.specs.declared.written.WrittenPart.TheVariants as part
-use Rattle.pg_items.specs.declared.written.WrittenForm.{WrittenForm}
-use Rattle.pg_items.specs.declared.written.WrittenForm.TheVariants as written
-use Rattle.pg_items.specs.declared.words.ClassForm.{ClassForm}
-use Rattle.pg_items.specs.declared.words.ClassForm.TheVariants.{Satisfy}
-use Rattle.pg_items.specs.declared.words.SomeForm.{SomeForm}
-use Rattle.pg_items.specs.declared.words.SomeForm.TheVariants.{Choice, Try, Local}
-use Rattle.pg_form.specs.declared.side.Side.{Side}
-use Rattle.pg_meaning.specs.Names.{builder_named, item_or_predicate, PartIsKnown, ClassIsKnown, BuilderIsKnown, FormIsKnown}
-use Rattle.pg_items.specs.Joined.{joined}
-use Rattle.pg_meaning.specs.Meaning.{Body, some_of, class_of, chain_of}
-use Rattle.pg_meaning.specs.Bodies.{part_meant, parts_meant, body_at, body_of_form, bodies, body_meant}
-use Rattle.pg_items.specs.Sizes.{part_count}
-use Rattle.pg_items.specs.Entries as entry
-use Rattle.pg_items.specs.Entries.{Entry}
-use Rattle.pg_making.specs.Spells.{made_classes}
-use Rattle.pg_making.specs.Making.{with_entry, with_entries, EntriesAreInOrder, IsGrammarOfEntries}
-use Rattle.pg_meaning.proofs.MeaningLemmas.Composing.{IsBare, Composes, composes_some, composes_one, composes_two, composes_between}
-use Rattle.pg_meaning.proofs.MeaningLemmas.Lookup.{none_is_absent}
+use Rattle.pg_grammar_form.specs.Names as names
+use Rattle.pg_grammar_form.specs.Names.{place_of_name, has_name}
+use Rattle.pg_grammar_form.specs.declared.form.Form.TheVariants as form
+use Rattle.pg_grammar_form.specs.declared.form.Around.{Around}
+use Rattle.pg_grammar_form.specs.declared.form.Around.TheVariants as around
+use Rattle.pg_grammar_form.specs.declared.form.Leaf.TheVariants as leaf
+use Rattle.pg_file_items.specs.declared.written.WrittenPart.{WrittenPart}
+use Rattle.pg_file_items.specs.declared.written.WrittenPart.TheVariants as part
+use Rattle.pg_file_items.specs.declared.written.WrittenForm.{WrittenForm}
+use Rattle.pg_file_items.specs.declared.written.WrittenForm.TheVariants as written
+use Rattle.pg_file_items.specs.declared.words.ClassForm.{ClassForm}
+use Rattle.pg_file_items.specs.declared.words.ClassForm.TheVariants.{Satisfy}
+use Rattle.pg_file_items.specs.declared.words.SomeForm.{SomeForm}
+use Rattle.pg_file_items.specs.declared.words.SomeForm.TheVariants.{Choice, Try, Local}
+use Rattle.pg_grammar_form.specs.declared.side.Side.{Side}
+use Rattle.pg_file_meaning.specs.Names.{builder_named, item_or_predicate, PartIsKnown, ClassIsKnown, BuilderIsKnown, FormIsKnown}
+use Rattle.pg_file_items.specs.Joined.{joined}
+use Rattle.pg_file_meaning.specs.Meaning.{Body, some_of, class_of, chain_of}
+use Rattle.pg_file_meaning.specs.Bodies.{part_meant, parts_meant, body_at, body_of_form, bodies, body_meant}
+use Rattle.pg_file_items.specs.Sizes.{part_count}
+use Rattle.pg_file_items.specs.Entries as entry
+use Rattle.pg_file_items.specs.Entries.{Entry}
+use Rattle.pg_file_making.specs.Spells.{made_classes}
+use Rattle.pg_file_making.specs.Making.{with_entry, with_entries, EntriesAreInOrder, IsGrammarOfEntries}
+use Rattle.pg_file_meaning.proofs.MeaningLemmas.Composing.{IsBare, Composes, composes_some, composes_one, composes_two, composes_between}
+use Rattle.pg_file_meaning.proofs.MeaningLemmas.Lookup.{none_is_absent}
 
 -- ---- what is offered
 

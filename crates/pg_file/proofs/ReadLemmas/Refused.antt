@@ -2,18 +2,18 @@
 use Rattle.std.proofs.Common.{◌≡◌, ℕ, true, List, take, Option, Some, None, refl, sym, ap, subst, ◌∙◌}
 use Rattle.std.specs.List.{Contains, list_any}
 use Rattle.std.specs.Str.{chars, IsUtf8, IsValidUpTo}
-use Rattle.pg_tokens.specs.declared.token.Lexeme.{Lexeme}
-use Rattle.pg_tokens.specs.Tokens.{Token, bad}
-use Rattle.pg_tokens.specs.Lexing.{placed_of, up_to}
-use Rattle.pg_tokens.specs.View.{placed_tokens_of, is_bad_at}
-use Rattle.pg_tokens.proofs.LexerLemmas.Exact.{bad_is_listed, bad_spells_none, up_to_among}
+use Rattle.pg_file_tokens.specs.declared.token.Lexeme.{Lexeme}
+use Rattle.pg_file_tokens.specs.Tokens.{Token, bad}
+use Rattle.pg_file_tokens.specs.Lexing.{placed_of, up_to}
+use Rattle.pg_file_tokens.specs.View.{placed_tokens_of, is_bad_at}
+use Rattle.pg_file_tokens.proofs.LexerLemmas.Exact.{bad_is_listed, bad_spells_none, up_to_among}
 use Rattle.pg_file.specs.declared.error.ReadError.{ReadError}
 use Rattle.pg_file.specs.declared.error.ReadError.TheVariants as unread
-use Rattle.pg_file.specs.declared.fault.FaultKind.{FaultKind}
-use Rattle.pg_file.specs.declared.fault.FaultKind.TheVariants.{NotUtf8, BadToken, UnexpectedToken, UnknownName, NameTwice, NoStart, BadLiteral, LimitPassed, NotAdmitted}
-use Rattle.pg_file.specs.declared.fault.FileFault.{FileFault}
-use Rattle.pg_file.specs.declared.fault.FileError.{FileError}
-use Rattle.pg_file.specs.declared.fault.FileError.TheVariants.{Fault, Memory}
+use Rattle.pg_file.specs.declared.file_fault.FaultKind.{FaultKind}
+use Rattle.pg_file.specs.declared.file_fault.FaultKind.TheVariants.{NotUtf8, BadToken, UnexpectedToken, UnknownName, NameTwice, NoStart, BadLiteral, LimitPassed, NotAdmitted}
+use Rattle.pg_file.specs.declared.file_fault.FileFault.{FileFault}
+use Rattle.pg_file.specs.declared.file_fault.FileError.{FileError}
+use Rattle.pg_file.specs.declared.file_fault.FileError.TheVariants.{Fault, Memory}
 use Rattle.pg_file.specs.Answers.{IsFault}
 use Rattle.pg_file.specs.Refusals.{end_position, shown_position, IsBadAt, IsAtBadToken, IsFaultAt, IsRefusalOf, IsNotUtf8After, IsPlace, IsKindAt, IsErrorAt, shown_error}
 

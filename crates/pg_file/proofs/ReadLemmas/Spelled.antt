@@ -2,15 +2,15 @@
 use Rattle.std.proofs.Common.{◌≡◌, ◌≤◌, ℕ, List, length, map, refl, sym, ap, subst, ◌∙◌}
 use Rattle.std.specs.Str.{chars, IsUtf8}
 use Rattle.pg_pred.specs.Offer.{Offer}
-use Rattle.pg_value.specs.Grammar.{Grammar}
-use Rattle.pg_tokens.specs.Tokens.{Token, AreGood}
-use Rattle.pg_tokens.specs.Lexical.{SpelledIfGood, OnlySpelled}
-use Rattle.pg_items.specs.Heads.{entry_of_item}
-use Rattle.pg_items.specs.Entries.{Entry}
-use Rattle.pg_parser.specs.Items.{AreItems, OnlyItems}
-use Rattle.pg_making.specs.Spells.{SpelledWithinDepth, SpellsWithinLimits}
-use Rattle.pg_making.specs.Making.{IsGrammarOfEntries}
-use Rattle.pg_making.proofs.MakingLemmas.Entries.{grammar_of_entries, grammar_of_items}
+use Rattle.pg_grammar_value.specs.Grammar.{Grammar}
+use Rattle.pg_file_tokens.specs.Tokens.{Token, AreGood}
+use Rattle.pg_file_tokens.specs.Lexical.{SpelledIfGood, OnlySpelled}
+use Rattle.pg_file_items.specs.Heads.{entry_of_item}
+use Rattle.pg_file_items.specs.Entries.{Entry}
+use Rattle.pg_file_parser.specs.Items.{AreItems, OnlyItems}
+use Rattle.pg_file_making.specs.Spells.{SpelledWithinDepth, SpellsWithinLimits}
+use Rattle.pg_file_making.specs.Making.{IsGrammarOfEntries}
+use Rattle.pg_file_making.proofs.MakingLemmas.Entries.{grammar_of_entries, grammar_of_items}
 use Rattle.pg_file.proofs.ReadLemmas.Good.{file_good}
 use Rattle.pg_file.proofs.ReadLemmas.Few.{keep_within}
 

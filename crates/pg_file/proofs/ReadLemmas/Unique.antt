@@ -4,22 +4,22 @@ use Rattle.std.proofs.Common.{◌≡◌, ◌≤◌, ℕ, max, List, [], ◌∷�
 use Rattle.std.proofs.Math.Nat.{le-max_left, le-max_right}
 use Rattle.std.specs.List.{AllByRecursion}
 use Rattle.pg_pred.specs.Offer.{Offer}
-use Rattle.pg_value.specs.Grammar.{Grammar}
+use Rattle.pg_grammar_value.specs.Grammar.{Grammar}
 use Rattle.pg_grammar.proofs.Unique.{same_grammar}
-use Rattle.pg_tokens.specs.declared.token.Mark.TheVariants.{Semicolon}
-use Rattle.pg_tokens.specs.Tokens.{Token, mark}
-use Rattle.pg_items.specs.Tree.{Item}
-use Rattle.pg_items.specs.Syntax.{item_written, file_written}
-use Rattle.pg_items.specs.Proper.{IsProperItem}
-use Rattle.pg_items.specs.Depth.{item_depth}
-use Rattle.pg_items.specs.Heads.{entry_of_item}
-use Rattle.pg_items.specs.Entries.{Entry}
-use Rattle.pg_making.specs.Spells.{SpelledIn}
-use Rattle.pg_making.specs.Making.{IsGrammarOfEntries}
-use Rattle.pg_tokens.proofs.LexerLemmas.Complete.{lex_complete}
-use Rattle.pg_making.proofs.MakingLemmas.Entries.{grammar_of_entries}
-use Rattle.pg_parser.proofs.ParserLemmas.Steps.{some_is}
-use Rattle.pg_parser.proofs.ParserLemmas.ItemsFound.{item_within, item_found}
+use Rattle.pg_file_tokens.specs.declared.token.Mark.TheVariants.{Semicolon}
+use Rattle.pg_file_tokens.specs.Tokens.{Token, mark}
+use Rattle.pg_file_items.specs.Tree.{Item}
+use Rattle.pg_file_items.specs.Syntax.{item_written, file_written}
+use Rattle.pg_file_items.specs.Proper.{IsProperItem}
+use Rattle.pg_file_items.specs.Depth.{item_depth}
+use Rattle.pg_file_items.specs.Heads.{entry_of_item}
+use Rattle.pg_file_items.specs.Entries.{Entry}
+use Rattle.pg_file_making.specs.Spells.{SpelledIn}
+use Rattle.pg_file_making.specs.Making.{IsGrammarOfEntries}
+use Rattle.pg_file_tokens.proofs.LexerLemmas.Complete.{lex_complete}
+use Rattle.pg_file_making.proofs.MakingLemmas.Entries.{grammar_of_entries}
+use Rattle.pg_file_parser.proofs.ParserLemmas.Steps.{some_is}
+use Rattle.pg_file_parser.proofs.ParserLemmas.ItemsFound.{item_within, item_found}
 
 -- ---- items
 

@@ -1,11 +1,11 @@
-//! A judge beside the proof: a tape does what a plain list of messages does, whatever is pushed, cut, merged and relabelled in whatever
-//! order, and what rows say takes the room of one message.
+//! Tests beside the proof. A tape agrees with a plain list of messages under any order of pushes, cuts, merges and relabels, and repetitions by rows take the
+//! room of one message.
 use super::*;
 use crate::texts::told;
 use pg_message::render;
 use std::test::Fail;
 
-/// Numbers that look as if they were thrown.
+/// Pseudo-random numbers.
 #[derive(Drop)]
 struct Dice {
     state: u64,
@@ -24,7 +24,7 @@ impl Dice {
     }
 }
 
-/// A number for each of the messages that are pushed here.
+/// A number for each message that the tests push.
 fn number_of(message: &Message<'_>) -> usize {
     match message {
         Message::Stopped(None) => 1,
@@ -56,7 +56,7 @@ fn thrown<'a>(dice: &mut Dice) -> Message<'a> {
     }
 }
 
-/// The numbers of all that a tape says.
+/// The numbers of all messages on a tape.
 fn numbers(alloc: Global, tape: &MessageTape<'_>) -> Result<Vec<usize>, AllocError> {
     let mut said = Vec::new(alloc);
     for entry in tape.entries.as_slice() {
@@ -82,7 +82,7 @@ fn numbers_of(alloc: Global, list: &[Message<'_>]) -> Result<Vec<usize>, AllocEr
     Ok(said)
 }
 
-/// A list without those from the one place on up to the other.
+/// A list without the messages from one index up to another.
 fn closed<'a>(
     alloc: Global,
     list: &[Message<'a>],
@@ -144,7 +144,7 @@ fn renamed<'a>(
     Ok(left)
 }
 
-/// The first of two numbers, or the last ones near to the end more often.
+/// An index to cut at: any up to `all`, or more often one near the end.
 fn cut_at(dice: &mut Dice, all: usize) -> usize {
     if dice.throw(3) == 0 {
         return dice.throw(all + 1);

@@ -1,4 +1,4 @@
-//! What is reported of faults.
+//! Tests of the reports of faults.
 
 use super::*;
 use pg_file::{FaultKind, FileFault};
@@ -6,7 +6,7 @@ use pg_message::{MessageKind, ParseError};
 use pg_text::Pos;
 use std::test::Fail;
 
-/// What is written of a fault in a run over files of these names.
+/// The report of a fault in a run over files with these names.
 fn written(alloc: Global, fault: &BenchFault, grammar: &str, text: &str) -> Result<Vec<u8>, Fail> {
     let mut writer = Meter::new(Vec::<u8>::new(alloc));
     let names = Names {

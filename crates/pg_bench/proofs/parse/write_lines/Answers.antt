@@ -1,5 +1,5 @@
 use Rattle.std.proofs.Common.{Err, ap}
-use Rattle.pg_pieces.proofs.Puts.{prefix_longer, prefix_after}
+use Rattle.pg_text_pieces.proofs.Puts.{prefix_longer, prefix_after}
 use Rattle.pg_bench.proofs.parse.write_lines.Goals as goal
 
 pub returns-in-Err-Writer-clause-prefix : goal.returns-in-Err-Writer-clause-prefix

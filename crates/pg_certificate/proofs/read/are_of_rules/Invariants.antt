@@ -1,5 +1,5 @@
 use Rattle.std.proofs.Common.{◌≡◌, map, take}
-use Rattle.pg_value.specs.Grammar.{rule_name}
+use Rattle.pg_grammar_value.specs.Grammar.{rule_name}
 use Rattle.pg_certificate.specs.Certificates.{claim_rule}
 use Rattle.pg_certificate.proofs.read.are_of_rules.Given as goal
 

@@ -1,6 +1,6 @@
 use Rattle.std.proofs.Common.{◌∙◌, map, true≢false, ap, sym}
 use Rattle.serde_json.specs.View.{view}
-use Rattle.pg_value.specs.Grammar.{rule_name}
+use Rattle.pg_grammar_value.specs.Grammar.{rule_name}
 use Rattle.pg_certificate.specs.Certificates.{claim_rule}
 use Rattle.pg_certificate.proofs.Claims.{rules_given, not_rules}
 use Rattle.pg_certificate.proofs.read.read_rules.Goals as goal

@@ -1,7 +1,7 @@
 use Rattle.std.proofs.Common.{◌∙◌, map, slice_get, subst, ap, sym}
 use Rattle.serde_json.specs.View.{view}
-use Rattle.pg_form.specs.Names.{AreDistinct}
-use Rattle.pg_form.specs.WordItems.{word_name}
+use Rattle.pg_grammar_form.specs.Names.{AreDistinct}
+use Rattle.pg_grammar_form.specs.WordItems.{word_name}
 use Rattle.pg_certificate.proofs.Words.{word_found}
 use Rattle.pg_certificate.proofs.read_start.read_word.Goals as goal
 

@@ -1,8 +1,8 @@
 -- A bad token among those that were read up to the limit is the file's.
 use Rattle.std.proofs.Common.{◌≡◌, ℕ, true, List, Some, subst}
 use Rattle.std.specs.List.{list_any}
-use Rattle.pg_tokens.specs.declared.token.Lexeme.{Lexeme}
-use Rattle.pg_tokens.specs.View.{is_bad_at}
+use Rattle.pg_file_tokens.specs.declared.token.Lexeme.{Lexeme}
+use Rattle.pg_file_tokens.specs.View.{is_bad_at}
 use Rattle.pg_file.specs.Refusals.{IsBadAt}
 use Rattle.pg_file.proofs.ReadLemmas.Refused.{found_bad, kind_leads}
 use Rattle.pg_file.proofs.file.fault_before.Goals as goal

@@ -2,9 +2,9 @@ use Rattle.std.proofs.Common.{List, sym, subst}
 use Rattle.std.proofs.lemmas.Result.{err_from_is_err_and}
 use Rattle.pg_pred.specs.Offer.{offer_of}
 use Rattle.pg_grammar.proofs.Unique.{same_grammar}
-use Rattle.pg_items.specs.Entries.{entries_of}
-use Rattle.pg_items.specs.declared.item.Item.{Item}
-use Rattle.pg_making.specs.Making.{IsGrammarOfEntries}
+use Rattle.pg_file_items.specs.Entries.{entries_of}
+use Rattle.pg_file_items.specs.declared.item.Item.{Item}
+use Rattle.pg_file_making.specs.Making.{IsGrammarOfEntries}
 use Rattle.pg_file.specs.Answers.{IsFault}
 use Rattle.pg_file.specs.Refusals.{IsBadAt, IsErrorAt}
 use Rattle.pg_file.proofs.ReadLemmas.Spelled.{is_spelled, spelled_grammar}

@@ -1,7 +1,7 @@
 use Rattle.std.proofs.Common.{ℕ, List, sym, subst}
 use Rattle.std.proofs.lemmas.Result.{IfOk-weaker}
 use Rattle.std.specs.Global.{Vec}
-use Rattle.pg_making.specs.Spells.{Spells, SpellsWithinLimits}
+use Rattle.pg_file_making.specs.Spells.{Spells, SpellsWithinLimits}
 use Rattle.pg_file.proofs.AgainLemmas.Again.{may_be_printed, spells_again, within_limits_again}
 use Rattle.pg_file.proofs.printing.print.Goals as goal
 

@@ -1,12 +1,12 @@
 use Rattle.std.proofs.Common.{◌≡◌, true, List, length, ap, sym, subst, ◌∙◌}
 use Rattle.std.specs.List.{list_any}
-use Rattle.pg_items.specs.Entries.{entries_of}
-use Rattle.pg_tokens.specs.declared.token.Lexeme.{Lexeme}
-use Rattle.pg_tokens.specs.Lexical.{OnlySpelled}
-use Rattle.pg_tokens.specs.Lexing.{placed_of, up_to}
-use Rattle.pg_tokens.specs.View.{tokens_of, placed_tokens_of, is_bad_at}
-use Rattle.pg_tokens.proofs.LexerLemmas.Exact.{up_to_all}
-use Rattle.pg_parser.specs.Items.{AreItems, OnlyItems}
+use Rattle.pg_file_items.specs.Entries.{entries_of}
+use Rattle.pg_file_tokens.specs.declared.token.Lexeme.{Lexeme}
+use Rattle.pg_file_tokens.specs.Lexical.{OnlySpelled}
+use Rattle.pg_file_tokens.specs.Lexing.{placed_of, up_to}
+use Rattle.pg_file_tokens.specs.View.{tokens_of, placed_tokens_of, is_bad_at}
+use Rattle.pg_file_tokens.proofs.LexerLemmas.Exact.{up_to_all}
+use Rattle.pg_file_parser.specs.Items.{AreItems, OnlyItems}
 use Rattle.pg_file.specs.Refusals.{IsBadAt}
 use Rattle.pg_file.proofs.ReadLemmas.Refused.{found_bad, error_leads}
 use Rattle.pg_file.proofs.ReadLemmas.Spelled.{spelled_items}

@@ -1,5 +1,5 @@
 use Rattle.std.proofs.Common.{◌≡◌, ◌++◌, ◌+◌, ◌≤◌, length, map, vec_capacity}
-use Rattle.pg_form.specs.WordItems.{word_name}
+use Rattle.pg_grammar_form.specs.WordItems.{word_name}
 use Rattle.pg_grammar.specs.Numbering.{nodes_with}
 use Rattle.pg_grammar.proofs.nodes.nodes_of.Given as goal
 

@@ -1,7 +1,7 @@
 use Rattle.std.proofs.Common.{◌∙◌, unwrap_or, ap, sym}
 use Rattle.std.specs.Str.{bytes_eq}
-use Rattle.pg_form.specs.WordItems.{word_name}
-use Rattle.pg_form.proofs.Lookup.{position-map}
+use Rattle.pg_grammar_form.specs.WordItems.{word_name}
+use Rattle.pg_grammar_form.proofs.Lookup.{position-map}
 use Rattle.pg_grammar.proofs.nodes.number_of_word.Goals as goal
 
 pub returns : goal.returns

@@ -1,5 +1,5 @@
 use Rattle.std.proofs.Common.{◌≡◌, ◌++◌, ◌+◌, ◌≤◌, length, map, vec_capacity}
-use Rattle.pg_value.specs.Grammar.{rule_name, rule_body}
+use Rattle.pg_grammar_value.specs.Grammar.{rule_name, rule_body}
 use Rattle.pg_grammar.proofs.nodes.rules_of.Given as goal
 
 abbrev pub invariant-loop-name : goal.invariant-loop-name

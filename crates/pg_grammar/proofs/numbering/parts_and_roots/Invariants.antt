@@ -1,6 +1,6 @@
 use Rattle.std.proofs.Common.{◌≡◌, ◌≤◌, length, take, drop, map}
-use Rattle.pg_form.specs.Preorder.{roots, parts_from}
-use Rattle.pg_form.specs.Forms.{part_count}
+use Rattle.pg_grammar_form.specs.Preorder.{roots, parts_from}
+use Rattle.pg_grammar_form.specs.Forms.{part_count}
 use Rattle.pg_grammar.proofs.numbering.parts_and_roots.Given as goal
 
 abbrev pub invariant-loop-form : goal.invariant-loop-form

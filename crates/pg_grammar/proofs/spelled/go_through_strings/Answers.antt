@@ -1,4 +1,4 @@
-use Rattle.pg_value.specs.Grammar.{is_misspelled}
+use Rattle.pg_grammar_value.specs.Grammar.{is_misspelled}
 use Rattle.pg_grammar.proofs.Going.{none-next}
 use Rattle.pg_grammar.proofs.spelled.go_through_strings.Goals as goal
 

@@ -1,5 +1,5 @@
 use Rattle.std.proofs.Common.{◌≡◌, ◌<◌, ℕ, length, drop}
-use Rattle.pg_bit_set.specs.Numbers.{set_at}
+use Rattle.pg_graph_bits.specs.Numbers.{set_at}
 use Rattle.pg_graph.specs.Spread.{with_number_each}
 use Rattle.pg_graph.proofs.handing.insert_each.Given as goal
 

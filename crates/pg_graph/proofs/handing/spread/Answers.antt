@@ -3,7 +3,7 @@ use Rattle.std.proofs.lemmas.List.{take_at, get_or_read}
 use Rattle.pg_graph.specs.Graphs.{numbers_at}
 use Rattle.pg_graph.specs.Marks.{is_marked}
 use Rattle.pg_graph.specs.Spread.{with_number_each, IsHandedOn, vertex_at}
-use Rattle.pg_bit_set.proofs.Inside.{contains_below}
+use Rattle.pg_graph_bits.proofs.Inside.{contains_below}
 use Rattle.pg_graph.proofs.Spreading.{AreRooted, rooted_more, spreading_starts, spreading_on, spreading_ends}
 use Rattle.pg_graph.proofs.handing.spread.Goals as goal
 

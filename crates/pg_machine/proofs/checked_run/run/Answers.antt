@@ -1,9 +1,10 @@
 use Rattle.std.proofs.Common.{◌-◌, ◌^◌, inl, inr, subst}
 use Rattle.std.proofs.lemmas.Result.{IfOk-weaker}
-use Rattle.pg_value.specs.Grammar.{Grammar}
+use Rattle.pg_grammar_value.specs.Grammar.{Grammar}
 use Rattle.pg_language.specs.Answers.{given}
 use Rattle.pg_language.specs.declared.reading.Reading.TheVariants.{Library}
 use Rattle.pg_derive.proofs.AcceptedTexts.{loses_none, accepted_rounds, accepted_links}
+use Rattle.pg_derive_backtracking.proofs.Texts.{accepted_reads_nothing_twice}
 use Rattle.pg_machine.specs.Outcomes.{IsOutcome}
 use Rattle.pg_machine.proofs.Enough.{comes_to_answer}
 use Rattle.pg_machine.proofs.FewSteps.{few_steps}
@@ -60,6 +61,9 @@ returns-clause-rounds g c = accepted_rounds (given Library c.args.checked.now.gr
 pub returns-clause-links : goal.returns-clause-links
 returns-clause-links g c = accepted_links (given Library c.args.checked.now.grammar c.args.text.now) c.args.checked.now.sets c.accepted-grammar.ensures.accepts
 
+pub returns-clause-once : goal.returns-clause-once
+returns-clause-once g c = accepted_reads_nothing_twice (given Library c.args.checked.now.grammar c.args.text.now) c.args.checked.now.sets c.accepted-grammar.ensures.accepts
+
 pub returns-in_err-answer-clause-choices : goal.returns-in_err-answer-clause-choices
 returns-in_err-answer-clause-choices g c = loses_none (given Library c.args.checked.now.grammar c.args.text.now) c.args.checked.now.sets c.accepted-grammar.ensures.accepts
 
@@ -68,3 +72,6 @@ returns-in_err-answer-clause-rounds g c = accepted_rounds (given Library c.args.
 
 pub returns-in_err-answer-clause-links : goal.returns-in_err-answer-clause-links
 returns-in_err-answer-clause-links g c = accepted_links (given Library c.args.checked.now.grammar c.args.text.now) c.args.checked.now.sets c.accepted-grammar.ensures.accepts
+
+pub returns-in_err-answer-clause-once : goal.returns-in_err-answer-clause-once
+returns-in_err-answer-clause-once g c = accepted_reads_nothing_twice (given Library c.args.checked.now.grammar c.args.text.now) c.args.checked.now.sets c.accepted-grammar.ensures.accepts

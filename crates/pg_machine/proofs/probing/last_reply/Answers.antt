@@ -1,8 +1,8 @@
 use Rattle.std.proofs.Common.{◌≡◌, ap, sym, subst, ◌∙◌, true, false, length}
 use Rattle.std.specs.Prelude.{◌==◌, None}
 use Rattle.pg_machine.specs.Outcomes.{outcome_on}
-use Rattle.pg_turns.specs.View.{tape_of}
-use Rattle.pg_turns.specs.declared.frame.Mode.{Mode}
+use Rattle.pg_machine_turns.specs.View.{tape_of}
+use Rattle.pg_machine_turns.specs.declared.frame.Mode.{Mode}
 use Rattle.pg_machine.proofs.Unanswered.{none_on, last_on}
 use Rattle.pg_machine.proofs.probing.last_reply.Goals as goal
 

@@ -1,6 +1,6 @@
 use Rattle.std.proofs.Common.{◌-◌, ◌^◌, arith}
 use Rattle.pg_language.specs.Answers.{given}
-use Rattle.pg_turns.specs.View.{tape_of}
+use Rattle.pg_machine_turns.specs.View.{tape_of}
 use Rattle.pg_machine.proofs.OneTurn.{one_turn}
 use Rattle.pg_machine.proofs.watched.one_turn.Goals as goal
 

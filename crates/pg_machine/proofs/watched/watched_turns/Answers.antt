@@ -1,9 +1,9 @@
 use Rattle.std.proofs.Common.{◌≡◌, sym, ◌∙◌, inl, inr, false}
 use Rattle.pg_pred.specs.Offer.{offer_of}
 use Rattle.pg_language.specs.Answers.{given}
-use Rattle.pg_turns.specs.Tape.{tape_is_last}
-use Rattle.pg_turns.specs.View.{tape_of}
-use Rattle.pg_turns.proofs.TapeRuns.{going_begins, going_turn, going_ready}
+use Rattle.pg_machine_turns.specs.Tape.{tape_is_last}
+use Rattle.pg_machine_turns.specs.View.{tape_of}
+use Rattle.pg_machine_turns.proofs.TapeRuns.{going_begins, going_turn, going_ready}
 use Rattle.pg_machine.proofs.watched.watched_turns.Goals as goal
 use Rattle.pg_machine.proofs.watched.watched_turns.Goals.{then-loop-steps-test+else-not-is_over, else-loop-steps-test}
 

@@ -1,8 +1,8 @@
 use Rattle.std.proofs.Common.{◌-◌}
 use Rattle.pg_pred.specs.Offer.{offer_of}
 use Rattle.pg_language.specs.Answers.{given}
-use Rattle.pg_turns.specs.View.{tape_of}
-use Rattle.pg_turns.proofs.TapeRuns.{Going}
+use Rattle.pg_machine_turns.specs.View.{tape_of}
+use Rattle.pg_machine_turns.proofs.TapeRuns.{Going}
 use Rattle.pg_machine.proofs.watched.watched_turns.Given as goal
 
 abbrev pub invariant-loop-steps : goal.invariant-loop-steps

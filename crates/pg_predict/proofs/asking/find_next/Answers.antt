@@ -1,5 +1,5 @@
 use Rattle.std.proofs.Common.{◌≡◌, ◌<◌, ◌≤◌, ◌+◌, ◌∙◌, ℕ, subst, arith}
-use Rattle.pg_judge.specs.Questions.{form_series_count}
+use Rattle.pg_predict_conditions.specs.Questions.{form_series_count}
 use Rattle.pg_predict.proofs.Rest.{at_last, at_none, at_some}
 use Rattle.pg_predict.proofs.asking.find_next.Goals as goal
 

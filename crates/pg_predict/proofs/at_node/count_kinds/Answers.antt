@@ -1,12 +1,12 @@
 use Rattle.std.proofs.Common.{◌≡◌, ◌+◌, ◌-◌, ◌^◌, ℕ, min, List, length, sym, ap, ◌∙◌, arith}
 use Rattle.std.specs.Prelude.{nat_eq}
 use Rattle.std.specs.List.{filter}
-use Rattle.pg_judge.specs.Conditions.{least_facts}
-use Rattle.pg_judge.specs.Judged.{noted_at, noted_grammar}
-use Rattle.pg_judge.specs.Violations.{Violation, counted}
+use Rattle.pg_predict_conditions.specs.Conditions.{least_facts}
+use Rattle.pg_predict_conditions.specs.Judged.{noted_at, noted_grammar}
+use Rattle.pg_predict_conditions.specs.Violations.{Violation, counted}
 use Rattle.pg_predict.specs.Rest.{rest_at}
 use Rattle.pg_predict.proofs.AtNode.{noted_there}
-use Rattle.pg_predict.proofs.Kept.{counted_none, counted_more, counted_all, counted_kinds}
+use Rattle.pg_predict.proofs.Counts.{counted_none, counted_more, counted_all, counted_kinds}
 use Rattle.pg_predict.proofs.Rest.{at_begin}
 use Rattle.pg_predict.proofs.at_node.count_kinds.Goals as goal
 

@@ -1,6 +1,6 @@
 use Rattle.std.proofs.Common.{◌≡◌, ◌+◌, ◌-◌, ◌^◌, ◌≤◌, min, length}
-use Rattle.pg_judge.specs.Judged.{noted_at}
-use Rattle.pg_judge.specs.Violations.{counted}
+use Rattle.pg_predict_conditions.specs.Judged.{noted_at}
+use Rattle.pg_predict_conditions.specs.Violations.{counted}
 use Rattle.pg_predict.specs.Rest.{rest_at}
 use Rattle.pg_predict.proofs.at_node.count_kinds.Given as goal
 

@@ -1,6 +1,6 @@
 use Rattle.std.proofs.Common.{◌≡◌, List, ap, ◌∙◌, arith}
 use Rattle.std.proofs.lemmas.Result.{IfOk-weaker}
-use Rattle.pg_value.specs.declared.grammar.Rule.{Rule}
+use Rattle.pg_grammar_value.specs.declared.grammar.Rule.{Rule}
 use Rattle.pg_predict.specs.Broken.{condition_text}
 use Rattle.pg_predict.specs.Findings.{name_of}
 use Rattle.pg_predict.specs.Texts.{place_at}

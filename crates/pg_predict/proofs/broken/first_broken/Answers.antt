@@ -1,4 +1,4 @@
-use Rattle.pg_judge.specs.Conditions.{claimed_facts}
+use Rattle.pg_predict_conditions.specs.Conditions.{claimed_facts}
 use Rattle.pg_predict.proofs.FirstBroken.{first_is}
 use Rattle.pg_predict.proofs.broken.first_broken.Goals as goal
 

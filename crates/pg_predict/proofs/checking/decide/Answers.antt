@@ -1,11 +1,11 @@
 use Rattle.std.proofs.Common.{ℕ, ◌≤◌, not, ap, sym, subst, ◌∙◌}
 use Rattle.pg_sets.specs.Sets.{Sets, AreSets}
-use Rattle.pg_costs.specs.StepCost.{IsStepCost}
-use Rattle.pg_judge.specs.Conditions.{least_facts, cost_limit}
+use Rattle.pg_predict_costs.specs.StepCost.{IsStepCost}
+use Rattle.pg_predict_conditions.specs.Conditions.{least_facts, cost_limit}
 use Rattle.pg_predict.specs.Refusals.{RefusedGrammar, IsRefused}
 use Rattle.pg_predict.specs.declared.source.Source.{Source}
 use Rattle.pg_predict.proofs.FirstBroken.{none_noted, some_noted}
-use Rattle.pg_judge.proofs.StepCosts.{accepted_cost}
+use Rattle.pg_predict_conditions.proofs.StepCosts.{accepted_cost}
 use Rattle.pg_predict.proofs.Violations.{faultless, refusal_is}
 use Rattle.pg_predict.proofs.checking.decide.Goals as goal
 

@@ -1,5 +1,5 @@
 use Rattle.std.proofs.Common.{◌≡◌, ◌<◌, ℕ, length, sym, ap, subst, ◌∙◌, arith}
-use Rattle.pg_judge.specs.Judged.{all_below, noted_at}
+use Rattle.pg_predict_conditions.specs.Judged.{all_below, noted_at}
 use Rattle.pg_predict.specs.Broken.{first_number}
 use Rattle.pg_predict.proofs.Below.{none_next}
 use Rattle.pg_predict.proofs.finds.first_noted.Goals as goal

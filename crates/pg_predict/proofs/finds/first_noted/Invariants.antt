@@ -1,5 +1,5 @@
 use Rattle.std.proofs.Common.{◌≡◌, []}
-use Rattle.pg_judge.specs.Judged.{all_below, noted_at}
+use Rattle.pg_predict_conditions.specs.Judged.{all_below, noted_at}
 use Rattle.pg_predict.proofs.finds.first_noted.Given as goal
 
 abbrev pub invariant-loop-number : goal.invariant-loop-number

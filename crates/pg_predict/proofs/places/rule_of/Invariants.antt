@@ -1,5 +1,5 @@
 use Rattle.std.proofs.Common.{◌≡◌, ◌≤◌, nat_le, count_by, take}
-use Rattle.pg_value.specs.Grammar.{rule_body}
+use Rattle.pg_grammar_value.specs.Grammar.{rule_body}
 use Rattle.pg_predict.proofs.places.rule_of.Given as goal
 
 abbrev pub invariant-loop-rule : goal.invariant-loop-rule

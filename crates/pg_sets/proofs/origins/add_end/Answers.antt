@@ -1,10 +1,10 @@
 use Rattle.std.proofs.Common.{◌≡◌, ◌<◌, ◌⊎◌, Some, slice_get, get_or, length, refl, ap, subst, ◌∙◌}
 use Rattle.std.specs.Prelude.{◌↔◌}
 use Rattle.std.proofs.lemmas.Option.{slice_get_read}
-use Rattle.pg_value.specs.Grammar.{rule_body}
+use Rattle.pg_grammar_value.specs.Grammar.{rule_body}
 use Rattle.pg_sets.specs.Flows.{follow_of}
 use Rattle.pg_sets.specs.Origins.{HoldsIt, IsThere}
-use Rattle.pg_own_starts.specs.declared.listed.ListedStart.{ListedStart}
+use Rattle.pg_sets_own.specs.declared.listed.ListedStart.{ListedStart}
 use Rattle.pg_sets.proofs.OriginRounds.{with_end}
 use Rattle.pg_sets.proofs.origins.add_end.Goals as goal
 

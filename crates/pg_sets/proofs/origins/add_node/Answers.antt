@@ -1,16 +1,16 @@
 use Rattle.std.proofs.Common.{◌≡◌, ◌⊎◌, inl, inr, length, sym, ap, subst, ◌∙◌}
 use Rattle.std.specs.Prelude.{◌↔◌}
-use Rattle.pg_form.specs.declared.form.Form.TheVariants as form
+use Rattle.pg_grammar_form.specs.declared.form.Form.TheVariants as form
 use Rattle.pg_sets.specs.Flows.{follow_of}
 use Rattle.pg_sets.specs.Origins.{HoldsIt, SourceAt}
-use Rattle.pg_own_starts.specs.Listed.{IsListed}
-use Rattle.pg_own_starts.specs.Own.{IsAmong, AreOwn}
+use Rattle.pg_sets_own.specs.Listed.{IsListed}
+use Rattle.pg_sets_own.specs.Own.{IsAmong, AreOwn}
 use Rattle.pg_sets.proofs.Origin.{IsPart, part_held, expression_held}
 use Rattle.pg_sets.proofs.origins.add_node.Goals as goal
 
 pub returns-in_ok-add_own-2-clause-held : goal.returns-in_ok-add_own-2-clause-held
 returns-in_ok-add_own-2-clause-held c =
-    let g = c.args.grammar.now in
+    let g = c.args.basis.now.grammar.now in
     let before = c.args.origins.now in
     let between = c.add_own.new.origins in
     let after = c.add_own-in-Expression.new.origins in
@@ -26,7 +26,7 @@ returns-in_ok-add_own-2-clause-held c =
 
 pub returns-in_default : goal.returns-in_default
 returns-in_default c =
-    let g = c.args.grammar.now in
+    let g = c.args.basis.now.grammar.now in
     let n = c.args.node.now in
     let are = c.in_ok-own.ensures in
     let part : IsPart n = c.in_default.not-Expression in

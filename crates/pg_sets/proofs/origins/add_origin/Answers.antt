@@ -1,9 +1,9 @@
 use Rattle.std.proofs.Common.{◌≡◌, ◌∷◌, ◌++◌, [], ℕ, false, cond, Some, ap, ◌∙◌, refl}
 use Rattle.std.specs.BTreeMap.{get}
 use Rattle.std.specs.Ordering.{is_eq}
-use Rattle.pg_own_starts.specs.Listed.{start_order}
+use Rattle.pg_sets_own.specs.Listed.{start_order}
 use Rattle.pg_sets.specs.Origins.{Origins, sets_of}
-use Rattle.pg_own_starts.specs.declared.listed.ListedStart.{ListedStart}
+use Rattle.pg_sets_own.specs.declared.listed.ListedStart.{ListedStart}
 use Rattle.pg_sets.proofs.Adding.{IsAdded, held_more, there_more, tied_if_same}
 use Rattle.pg_sets.proofs.origins.add_origin.Goals as goal
 

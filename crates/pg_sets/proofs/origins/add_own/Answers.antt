@@ -4,8 +4,8 @@ use Rattle.std.proofs.lemmas.List.{map-id}
 use Rattle.std.proofs.lemmas.Iterator.Adapters.{YieldsList-from_vec}
 use Rattle.std.proofs.lemmas.Iterator.Consumers.{YieldsList-end}
 use Rattle.pg_sets.specs.Origins.{Origins, HoldsIt, IsThere}
-use Rattle.pg_own_starts.specs.Own.{IsAmong}
-use Rattle.pg_own_starts.specs.declared.listed.ListedStart.{ListedStart}
+use Rattle.pg_sets_own.specs.Own.{IsAmong}
+use Rattle.pg_sets_own.specs.declared.listed.ListedStart.{ListedStart}
 use Rattle.pg_sets.proofs.Adding.{among_push}
 use Rattle.pg_sets.proofs.origins.add_own.Goals as goal
 

@@ -1,8 +1,8 @@
 use Rattle.std.proofs.Common.{◌≡◌, ℕ, ◌⊎◌}
 use Rattle.std.specs.Prelude.{◌↔◌}
 use Rattle.pg_sets.specs.Origins.{HoldsIt, IsThere}
-use Rattle.pg_own_starts.specs.Own.{IsAmong}
-use Rattle.pg_own_starts.specs.declared.listed.ListedStart.{ListedStart}
+use Rattle.pg_sets_own.specs.Own.{IsAmong}
+use Rattle.pg_sets_own.specs.declared.listed.ListedStart.{ListedStart}
 use Rattle.pg_sets.proofs.origins.add_own.Given as goal
 
 abbrev pub invariant-loop-listed : goal.invariant-loop-listed

@@ -2,8 +2,8 @@ use Rattle.std.proofs.Common.{◌≡◌, ◌++◌, ℕ, List, true, false, cond,
 use Rattle.std.specs.Prelude.{◌↔◌, ◌⊎◌}
 use Rattle.std.specs.BTreeMap.{get}
 use Rattle.std.specs.Ordering.{is_eq}
-use Rattle.pg_own_starts.specs.Listed.{start_order}
-use Rattle.pg_own_starts.specs.declared.listed.ListedStart.{ListedStart}
+use Rattle.pg_sets_own.specs.Listed.{start_order}
+use Rattle.pg_sets_own.specs.declared.listed.ListedStart.{ListedStart}
 use Rattle.pg_graph.specs.Graphs.{has}
 use Rattle.pg_sets.specs.Origins.{Origins, HoldsIt, sets_of}
 use Rattle.pg_sets.proofs.Adding.{tied_if_same}

@@ -1,6 +1,6 @@
 use Rattle.std.proofs.Common.{rules, ◌≡◌, length, take, drop, sym, ap, subst, ◌∙◌, arith}
 use Rattle.pg_graph.specs.Graphs.{AreSpread}
-use Rattle.pg_own_starts.specs.OwnStarts.{MarksKeys}
+use Rattle.pg_sets_own.specs.OwnStarts.{MarksKeys}
 use Rattle.pg_sets.specs.Sets.{AreStartSets}
 use Rattle.pg_sets.proofs.StartSets.{graph_size, are_start_sets}
 use Rattle.pg_sets.proofs.start_sets.start_sets.Goals as goal

@@ -1,5 +1,5 @@
 use Rattle.std.proofs.Common.{◌∙◌, ℕ, List, Vec, Global, ap, sym, arith}
-use Rattle.pg_bit_set.specs.Numbers.{contains}
+use Rattle.pg_graph_bits.specs.Numbers.{contains}
 use Rattle.pg_sets_page.proofs.Ranges.{range_kept, range_passed}
 use Rattle.pg_sets_page.proofs.page.members.Goals.{then-contains+in_ok-push, else-contains}
 use Rattle.pg_sets_page.proofs.page.members.Goals as goal

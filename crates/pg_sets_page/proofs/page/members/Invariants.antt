@@ -1,6 +1,6 @@
 use Rattle.std.proofs.Common.{◌≡◌, ◌++◌, ◌-◌, ◌≤◌}
 use Rattle.std.specs.List.{filter, range_with_len}
-use Rattle.pg_bit_set.specs.Numbers.{contains}
+use Rattle.pg_graph_bits.specs.Numbers.{contains}
 use Rattle.pg_sets_page.proofs.page.members.Given as goal
 
 abbrev pub invariant-loop-number : goal.invariant-loop-number

@@ -1,5 +1,5 @@
 use Rattle.std.proofs.Common.{◌∙◌, ◌<◌, ◌++◌, ℕ, List, ap, ap₂, length, map, string_bytes, subst, arith, append_assoc}
-use Rattle.pg_value.specs.declared.grammar.Rule.{Rule}
+use Rattle.pg_grammar_value.specs.declared.grammar.Rule.{Rule}
 use Rattle.pg_predict.specs.Findings.{body_of}
 use Rattle.pg_sets_page.specs.SetsPage.{end_of, node_lines, rule_line, rule_text}
 use Rattle.pg_sets_page.proofs.Ranges.{range_pushed}
@@ -7,10 +7,10 @@ use Rattle.pg_sets_page.proofs.page.page_of.Goals as goal
 
 pub loop-rule-preserved : goal.loop-rule-preserved
 loop-rule-preserved c =
-    let g = c.args.grammar.now in
-    let names = map string_bytes c.args.names.now in
-    let starts = map string_bytes c.args.starts.now in
-    let sets = c.args.sets.now in
+    let g = c.args.content.now.grammar.now in
+    let names = map string_bytes c.args.content.now.names.now in
+    let starts = map string_bytes c.args.content.now.starts.now in
+    let sets = c.args.content.now.sets.now in
     let rule = c.loop-rule.rule in
     let page = c.loop-rule.page.items in
     let low : rule < length g.rules = subst (λ (rules : List Rule). rule < length rules) c.rules-rule-end.ensures.all c.loop-rule-test.true in

@@ -5,6 +5,6 @@ use Rattle.pg_sets_page.proofs.page.page_of.Given as goal
 
 abbrev pub invariant-loop-rule : goal.invariant-loop-rule
 invariant-loop-rule l =
-    (l.rule ≤ length l.grammar.rules) ×
-    (l.page.items ++ flat_map (rule_text l.grammar (map string_bytes l.names) (map string_bytes l.starts) l.sets) (range_with_len l.rule (length l.grammar.rules - l.rule))
-    ≡ page_text l.grammar (map string_bytes l.names) (map string_bytes l.starts) l.sets)
+    (l.rule ≤ length l.content.grammar.now.rules) ×
+    (l.page.items ++ flat_map (rule_text l.content.grammar.now (map string_bytes l.content.names.now) (map string_bytes l.content.starts.now) l.content.sets.now) (range_with_len l.rule (length l.content.grammar.now.rules - l.rule))
+    ≡ page_text l.content.grammar.now (map string_bytes l.content.names.now) (map string_bytes l.content.starts.now) l.content.sets.now)

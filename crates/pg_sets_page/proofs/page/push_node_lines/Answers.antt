@@ -5,9 +5,9 @@ use Rattle.pg_sets_page.proofs.page.push_node_lines.Goals as goal
 
 pub loop-node-preserved : goal.loop-node-preserved
 loop-node-preserved c =
-    let g = c.args.grammar.now in
-    let starts = map string_bytes c.args.starts.now in
-    let sets = c.args.sets.now in
+    let g = c.args.content.now.grammar.now in
+    let starts = map string_bytes c.args.content.now.starts.now in
+    let sets = c.args.content.now.sets.now in
     let node = c.loop-node.node in
     let page = c.loop-node.page.items in
     let placed = c.in_ok-push_place.ensures in

@@ -2,7 +2,7 @@ use Rattle.std.proofs.Common.{◌∙◌, map, ap, string_bytes}
 use Rattle.std.proofs.lemmas.Result.{IfOk-weaker}
 use Rattle.pg_sets_page.proofs.SetsShown.{page_shown}
 use Rattle.pg_predict.specs.Findings.{name_text}
-use Rattle.pg_own_starts.specs.PrintedStarts.{start_text}
+use Rattle.pg_sets_own.specs.PrintedStarts.{start_text}
 use Rattle.pg_sets_page.proofs.page.sets_page.Goals as goal
 
 pub returns : goal.returns

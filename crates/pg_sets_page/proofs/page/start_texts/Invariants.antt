@@ -1,5 +1,5 @@
 use Rattle.std.proofs.Common.{◌≡◌, map, take, string_bytes}
-use Rattle.pg_own_starts.specs.PrintedStarts.{start_text}
+use Rattle.pg_sets_own.specs.PrintedStarts.{start_text}
 use Rattle.pg_sets_page.proofs.page.start_texts.Given as goal
 
 abbrev pub invariant-loop-start : goal.invariant-loop-start

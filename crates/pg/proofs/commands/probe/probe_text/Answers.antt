@@ -7,12 +7,12 @@ use Rattle.pg.proofs.commands.probe.probe_text.Goals as goal
 
 pub returns-in-Ok-true : goal.returns-in-Ok-true
 returns-in-Ok-true g c =
-    subst (λ file. IsProbeStatus (offer_of c.args.registry.now) c.args.bytes.now (g.F.Read.remaining file) c.args.names.text.now c.args.max_steps c.args.reading 0) c.new-reader.ensures.inner
+    subst (λ file. IsProbeStatus (offer_of c.args.registry.now) c.args.bytes.now (g.F.Read.remaining file) c.args.names.text.now c.args.probing.max_steps c.args.probing.reading 0) c.new-reader.ensures.inner
     (ok_status _ _ _ _ _ _ _ _ _ (rw c.in-Ok-true.field-0-test at c.in-Ok-true.ensures.ok))
 
 pub returns-in-Ok-false : goal.returns-in-Ok-false
 returns-in-Ok-false g c =
-    subst (λ file. IsProbeStatus (offer_of c.args.registry.now) c.args.bytes.now (g.F.Read.remaining file) c.args.names.text.now c.args.max_steps c.args.reading 1) c.new-reader.ensures.inner
+    subst (λ file. IsProbeStatus (offer_of c.args.registry.now) c.args.bytes.now (g.F.Read.remaining file) c.args.names.text.now c.args.probing.max_steps c.args.probing.reading 1) c.new-reader.ensures.inner
     (other_status _ _ _ _ _ _ _ _ _ (rw c.in-Ok-false.field-0-test at c.in-Ok-false.ensures.ok))
 
 pub returns : goal.returns

@@ -10,4 +10,4 @@ returns-in-Ok g c =
     IfOk-weaker c.trace_probe-status.result _ _ (λ status is. traced_status _ _ _ _ _ _ status c.in-Ok.ensures.ok is) c.trace_probe-status.ensures
 
 pub returns-in-Err : goal.returns-in-Err
-returns-in-Err g c = IfOk-weaker c.print_report.result _ _ (λ status is. text_unread_status _ _ _ _ _ c.in-Err.fault status c.in-Err.ensures.err is) c.print_report.ensures
+returns-in-Err g c = IfOk-weaker c.print_text_fault.result _ _ (λ status is. text_unread_status _ _ _ _ _ c.in-Err.fault status c.in-Err.ensures.err is) c.print_text_fault.ensures

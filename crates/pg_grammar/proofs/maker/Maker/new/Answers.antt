@@ -1,6 +1,6 @@
 use Rattle.std.proofs.Common.{[], refl, arith}
-use Rattle.pg_form.specs.ClassItems.{AreClasses}
-use Rattle.pg_form.specs.WordItems.{AreWords}
+use Rattle.pg_grammar_form.specs.ClassItems.{AreClasses}
+use Rattle.pg_grammar_form.specs.WordItems.{AreWords}
 use Rattle.pg_grammar.proofs.maker.Maker.new.Goals as goal
 
 pub invariant_of-result : goal.invariant_of-result

@@ -1,6 +1,6 @@
 use Rattle.std.proofs.Common.{◌≡◌, ◌++◌, ◌∷◌, [], None, false, rules, subst, sym}
 use Rattle.std.specs.List.{list_any}
-use Rattle.pg_value.specs.Grammar.{is_misspelled}
+use Rattle.pg_grammar_value.specs.Grammar.{is_misspelled}
 use Rattle.pg_grammar.specs.Made.{rule_fault}
 use Rattle.pg_grammar.proofs.Making.{made_with_rule}
 use Rattle.pg_grammar.proofs.maker.Maker.rule.Goals as goal

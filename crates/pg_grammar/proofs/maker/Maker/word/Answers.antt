@@ -1,6 +1,6 @@
 use Rattle.std.proofs.Common.{◌≡◌, ◌++◌, ◌∷◌, [], None, rules, subst, sym}
 use Rattle.pg_grammar.specs.Made.{word_fault}
-use Rattle.pg_form.specs.declared.word_item.WordItem.{WordItem}
+use Rattle.pg_grammar_form.specs.declared.word_item.WordItem.{WordItem}
 use Rattle.pg_grammar.proofs.Making.{made_with_word}
 use Rattle.pg_grammar.proofs.maker.Maker.word.Goals as goal
 

@@ -1,8 +1,8 @@
 use Rattle.std.proofs.Common.{◌≡◌, [], ◌∷◌, ◌++◌, List, ℕ, ap, ◌∙◌}
-use Rattle.pg_pieces.specs.Writing.{pieces_bytes}
+use Rattle.pg_text_pieces.specs.Writing.{pieces_bytes}
 use Rattle.pg_predict.specs.Findings.{line_of}
 use Rattle.pg_predict.specs.Found.{Found}
-use Rattle.pg_pieces.proofs.Puts.{on_err, three_put, three_first, three_second, three_third}
+use Rattle.pg_text_pieces.proofs.Puts.{on_err, three_put, three_first, three_second, three_third}
 use Rattle.pg_predict.proofs.Told.{line_parts, line_pieces}
 use Rattle.pg_predict.proofs.finding.Finding.put.Goals as goal
 

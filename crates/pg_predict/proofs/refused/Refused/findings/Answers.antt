@@ -1,5 +1,5 @@
 use Rattle.std.proofs.Common.{ap, ◌∙◌}
-use Rattle.pg_judge.specs.Judged.{noted_grammar}
+use Rattle.pg_predict_conditions.specs.Judged.{noted_grammar}
 use Rattle.pg_predict.specs.Found.{violations_of, findings_of}
 use Rattle.pg_predict.specs.Refusals.{RefusedGrammar}
 use Rattle.pg_predict.proofs.Told.{violations_found, findings_found}

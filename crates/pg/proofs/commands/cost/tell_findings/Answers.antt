@@ -1,0 +1,6 @@
+use Rattle.std.proofs.lemmas.Result.{IfOk-weaker}
+use Rattle.pg.proofs.Statuses.{write_fault_status}
+use Rattle.pg.proofs.commands.cost.tell_findings.Goals as goal
+
+pub returns-in-Err : goal.returns-in-Err
+returns-in-Err g c = IfOk-weaker c.print_report.result _ _ (λ status is. write_fault_status _ c.in-Err.fault status c.in-Err.ensures.err is) c.print_report.ensures

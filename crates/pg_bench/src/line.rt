@@ -1,0 +1,129 @@
+//! A line of JSON for each text: its trees, or why it has none. A text always gets its line, so lines and texts stay in step.
+
+ghost use Rattle.std.specs.Prelude.{◌≡◌, ◌≤◌, ◌+◌, ◌*◌, ◌⊎◌, false, true, IfOk, IfErr, OnOk, IsErrOf, string_bytes};
+ghost use Rattle.std.specs.Io.KnownBytes.{Appends};
+ghost use Rattle.pg_pred.specs.Offer.{offer_of};
+ghost use Rattle.pg_grammar_value.specs.Fits.{Fits};
+ghost use Rattle.pg_tree.specs.Json.{quoted};
+ghost use Rattle.pg_tree.specs.Meter.{saturating_sum};
+ghost use Rattle.pg_tree.specs.Bytes.{AppendsPrefix};
+ghost use Rattle.pg_table.specs.Tables.{initial, whole};
+ghost use Rattle.pg_bench.specs.Parsed.{IsLineBy, IsPartlyLineBy, line_front, line_text, error_line_text};
+ghost use Rattle.pg_bench.specs.Refusals.{IsTextFault};
+ghost use Rattle.pg_bench_grammar.specs.Faults.{IsWriteRefusal, IsBeforeWriting};
+
+use crate::done::Done;
+use crate::outcome_page::forest_between;
+use crate::parse::parsed_text;
+use pg_bench_grammar::{AcceptedGrammar, BenchFault, write_page};
+use pg_pred::Registry;
+use pg_text::LIMIT;
+use pg_tree::{Forest, Meter};
+use serde_json::Value;
+use std::alloc::{AllocError, Global};
+use std::io::{Read, Write};
+
+/// As `parse_checked` without a trail, but writes the trees after the text's name: `{"file":NAME,"trees":TREES}` and a line feed (ours). The line is in
+/// memory before its first byte is written.
+pub fn parse_line<R: Read, W: Write>(
+    alloc: Global,
+    accepted: &AcceptedGrammar,
+    registry: &Registry,
+    reader: &mut Meter<R>,
+    writer: &mut Meter<W>,
+    name: &str,
+) -> Result<Done, BenchFault>
+    requires fits { Fits (offer_of registry.now) accepted.now.checked.grammar }
+    requires table { initial accepted.now.checked.grammar ≡ whole accepted.now.table }
+    requires reader { reader.old.failed ≡ false }
+    requires writer { writer.old.failed ≡ false }
+
+    // The whole of the reader's bytes is a text that the grammar derives in one way, and the line of its forest was written.
+    ensures ok { IfOk result (IsLineBy accepted.now.checked.grammar (R.remaining reader.old.inner) (R.remaining reader.new.inner) name.now
+        (W.contents writer.old.inner) (W.contents writer.new.inner)) }
+
+    // Every fault but the writer's is one of the reader or the text, as for `parsed_text`.
+    ensures err { IfErr result (λ fault. IsBeforeWriting fault →
+        IsTextFault accepted.now.checked.grammar reader.old reader.new (R.remaining reader.old.inner) (R.remaining reader.new.inner) fault) }
+
+    // The writer failed after a prefix of the line, and in every other case was given nothing.
+    ensures writer { IsErrOf result BenchFault.Writer → writer.new.failed ≡ true }
+    ensures prefix { IsErrOf result BenchFault.Writer → IsPartlyLineBy accepted.now.checked.grammar (R.remaining reader.old.inner) (R.remaining reader.new.inner) name.now
+        (W.contents writer.old.inner) (W.contents writer.new.inner) }
+    ensures writer_stays { OnOk result (writer.new.failed ≡ false) }
+    ensures unwritten { IfErr result (λ fault. IsBeforeWriting fault → writer.new ≡ writer.old) }
+
+    ensures asked { reader.new.calls ≤ saturating_sum reader.old.calls (4 * LIMIT + 1) }
+{
+    match parsed_text(alloc, accepted, registry, reader) {
+        Ok(parsed) => match write_line(alloc, &parsed.parse.success.forest, name, writer) {
+            Ok(()) => {
+                let done = parsed.parse.done;
+                drop(parsed);
+                Ok(done)
+            }
+            Err(fault) => {
+                drop(parsed);
+                Err(fault)
+            }
+        },
+        Err(fault) => Err(fault),
+    }
+}
+
+/// Writes the line of a text with this name and this forest.
+fn write_line<W: Write>(
+    alloc: Global,
+    forest: &Forest,
+    name: &str,
+    writer: &mut Meter<W>,
+) -> Result<(), BenchFault>
+    requires { writer.old.failed ≡ false }
+    ensures ok { OnOk result (Appends (W.contents writer.old.inner) (W.contents writer.new.inner) (line_text name.now forest.now)) }
+    ensures stays { OnOk result (writer.new.failed ≡ false) }
+    ensures err { IfErr result IsWriteRefusal }
+    ensures failed { IsErrOf result BenchFault.Writer → writer.new.failed ≡ true }
+    ensures prefix { IsErrOf result BenchFault.Writer →
+        AppendsPrefix (W.contents writer.old.inner) (W.contents writer.new.inner) (line_text name.now forest.now) }
+    ensures memory { IsErrOf result BenchFault.Memory → writer.new ≡ writer.old }
+{
+    match line_page(alloc, forest, name) {
+        Ok(page) => write_page(page.as_slice(), writer),
+        Err(_) => Err(BenchFault::Memory),
+    }
+}
+
+/// The line of a text with this name and this forest.
+fn line_page(alloc: Global, forest: &Forest, name: &str) -> Result<Vec<u8>, AllocError>
+    ensures { IfOk result (λ page. page.items ≡ line_text name.now forest.now) }
+{
+    let front = line_front(alloc, name)?;
+    forest_between(alloc, front.into_bytes(), forest, b"}\n")
+}
+
+/// The part of a line before the trees of a text with this name.
+fn line_front(alloc: Global, name: &str) -> Result<String, AllocError>
+    ensures { IfOk result (λ front. string_bytes front ≡ line_front name.now) }
+{
+    let name = quoted(alloc, name)?;
+    let front = format!(in alloc; "{{\"file\":{name},\"trees\":")?;
+    Ok(front)
+}
+
+/// The line of a text with this name that has no trees. `said` is the reason (ours). Fails where memory runs out.
+pub fn error_line(alloc: Global, name: &str, said: &str) -> Result<String, AllocError>
+    ensures { IfOk result (λ line. string_bytes line ≡ error_line_text name.now said.now) }
+{
+    let name = quoted(alloc, name)?;
+    let said = quoted(alloc, said)?;
+    let line = format!(in alloc; "{{\"file\":{name},\"error\":{said}}}\n")?;
+    Ok(line)
+}
+
+/// The text in double quotes, with the escapes of JSON.
+fn quoted(alloc: Global, text: &str) -> Result<String, AllocError>
+    ensures { IfOk result (λ json. string_bytes json ≡ quoted text.now) }
+{
+    let text = String::from_str(alloc, text)?;
+    Value::String(text).to_string(alloc)
+}

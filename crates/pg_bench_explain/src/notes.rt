@@ -1,0 +1,185 @@
+//! Notes on an accepted grammar.
+
+use crate::derivable::derivable_nodes;
+use crate::explain::lent;
+use crate::used::{Used, used_by};
+use pg_bench_grammar::{Judgement, LoadedFile};
+use pg_explain::GrammarFile;
+use pg_explain_json::{Spots, note_line};
+use pg_file_items::Span;
+use pg_grammar_value::{Grammar, Rule};
+use pg_text::{Characters, position_in};
+use std::alloc::{AllocError, Global};
+
+/// The last place with a position of its own.
+const LAST_PLACE: usize = (1 << 28) - 1;
+
+/// A note on a rule, a class or a word item.
+#[derive(Drop)]
+struct Note {
+    words: String,
+    /// Where the rule's body stands, if the note is on a rule.
+    place: Option<usize>,
+}
+
+/// A line for each rule that derives no text or that the start rule doesn't reach, and for each class and each word item that nothing uses.
+pub(crate) fn notes(
+    alloc: Global,
+    grammar: &Grammar,
+    file: &GrammarFile,
+) -> Result<String, AllocError> {
+    let notes = notes_of(alloc, grammar, file.spans)?;
+    let mut page = String::new(alloc);
+    for note in &notes {
+        push_note(alloc, &mut page, file.text, note)?;
+    }
+    Ok(page)
+}
+
+/// Appends a note as a line.
+fn push_note(
+    alloc: Global,
+    page: &mut String,
+    text: &[char],
+    note: &Note,
+) -> Result<(), AllocError> {
+    page.push_str("note: ")?;
+    page.push_str(note.words.as_str())?;
+    if let Some(place) = note.place {
+        push_position(alloc, page, text, place)?;
+    }
+    page.push_str("\n")
+}
+
+/// Appends the line and the column of a place.
+fn push_position(
+    alloc: Global,
+    page: &mut String,
+    text: &[char],
+    place: usize,
+) -> Result<(), AllocError> {
+    let position = position_in(text, place.min(text.len()).min(LAST_PLACE));
+    let line = position.line;
+    let column = position.column;
+    let words = format!(in alloc; " ({line}:{column})")?;
+    page.push_str(words.as_str())
+}
+
+/// The notes on the grammar of a loaded file as lines of JSON, if it is accepted; empty if it isn't (ours). Fails where memory runs out.
+pub fn json_notes(alloc: Global, loaded: &LoadedFile) -> Result<String, AllocError> {
+    match &loaded.judgement {
+        Judgement::Accepted(checked) => note_lines(
+            alloc,
+            checked.grammar(),
+            loaded.name,
+            &lent(loaded),
+        ),
+        Judgement::Refused(_) => Ok(String::new(alloc)),
+    }
+}
+
+/// The notes on a grammar as lines of JSON.
+fn note_lines(
+    alloc: Global,
+    grammar: &Grammar,
+    name: &str,
+    file: &GrammarFile,
+) -> Result<String, AllocError> {
+    let notes = notes_of(alloc, grammar, file.spans)?;
+    let spots = Spots::of(alloc, file.text)?;
+    let mut page = String::new(alloc);
+    for note in &notes {
+        push_note_line(alloc, &mut page, name, &spots, note)?;
+    }
+    Ok(page)
+}
+
+/// Appends a note as a line of JSON.
+fn push_note_line(
+    alloc: Global,
+    page: &mut String,
+    name: &str,
+    spots: &Spots,
+    note: &Note,
+) -> Result<(), AllocError> {
+    let line = note_line(alloc, name, spots, note.place, note.words.as_str())?;
+    page.push_str(line.as_str())
+}
+
+/// The notes on a grammar whose nodes have these spans.
+fn notes_of(alloc: Global, grammar: &Grammar, spans: &[Span]) -> Result<Vec<Note>, AllocError> {
+    let derivable = derivable_nodes(alloc, grammar)?;
+    let used = used_by(alloc, grammar)?;
+    let mut notes = Vec::new(alloc);
+    for (number, rule) in grammar.rules().iter().enumerate() {
+        if !has(&used.rules, number) {
+            let words = "the start rule never reaches";
+            push_rule(alloc, &mut notes, spans, rule, words)?;
+        } else if !has(&derivable, rule.body.index()) {
+            push_rule(alloc, &mut notes, spans, rule, "no text is derived from")?;
+        }
+    }
+    push_items(alloc, &mut notes, grammar, &used)?;
+    Ok(notes)
+}
+
+/// Adds the notes on a rule.
+fn push_rule(
+    alloc: Global,
+    notes: &mut Vec<Note>,
+    spans: &[Span],
+    rule: &Rule,
+    words: &str,
+) -> Result<(), AllocError> {
+    let name = &rule.name;
+    let place = match spans.get(rule.body.index()) {
+        Some(span) => span.first,
+        None => 0,
+    };
+    let words = format!(in alloc; "{words} `{name}`")?;
+    notes.push(Note {
+        words,
+        place: Some(place),
+    })?;
+    Ok(())
+}
+
+/// Adds the notes on the classes and the word items that nothing uses.
+fn push_items(
+    alloc: Global,
+    notes: &mut Vec<Note>,
+    grammar: &Grammar,
+    used: &Used,
+) -> Result<(), AllocError> {
+    for (number, item) in grammar.class_items().iter().enumerate() {
+        if !has(&used.classes, number) {
+            push_unused(alloc, notes, "class", &item.name)?;
+        }
+    }
+    for (number, item) in grammar.word_items().iter().enumerate() {
+        if !has(&used.words, number) {
+            push_unused(alloc, notes, "word item", &item.name)?;
+        }
+    }
+    Ok(())
+}
+
+/// Adds the note that nothing uses an item of this kind.
+fn push_unused(
+    alloc: Global,
+    notes: &mut Vec<Note>,
+    kind: &str,
+    name: &Characters,
+) -> Result<(), AllocError> {
+    let words = format!(in alloc; "nothing uses the {kind} `{name}`")?;
+    notes.push(Note { words, place: None })?;
+    Ok(())
+}
+
+/// Whether this number is marked.
+fn has(marks: &[bool], number: usize) -> bool {
+    match marks.get(number) {
+        Some(mark) => *mark,
+        None => false,
+    }
+}

@@ -1,0 +1,10 @@
+use Rattle.std.proofs.Common.{subst}
+use Rattle.pg_tree.specs.Bytes.{AppendsPrefix}
+use Rattle.pg_bench_places.proofs.Told.{accepted_partly}
+use Rattle.pg_bench_places.proofs.placed.tell_accepted.Goals as goal
+
+pub returns-in_err-write_page-clause-prefix : goal.returns-in_err-write_page-clause-prefix
+returns-in_err-write_page-clause-prefix g c is =
+    let contents = g.W.Write.contents in
+    accepted_partly c.args.checked.now.grammar c.args.certificate (contents c.args.writer.now.inner) (contents c.write_page.new.writer.inner) c.in-Ok.line.items c.in-Ok.ensures
+    (subst (AppendsPrefix (contents c.args.writer.now.inner) (contents c.write_page.new.writer.inner)) c.as_slice.ensures.value c.in_err-write_page.ensures.prefix)

@@ -1,7 +1,0 @@
-use Rattle.std.proofs.Common.{ap, ◌∙◌, arith}
-use Rattle.pg_bit_set.specs.Words.{marks_of}
-use Rattle.pg_bit_set.proofs.Bits.{new_marks}
-use Rattle.pg_bit_set.proofs.bit_set.BitSet.new.Goals as goal
-
-pub returns : goal.returns
-returns c = ap (λ words. marks_of words c.args.limit) (c.in_ok-words.ensures.items_if_clones_equal (λ y e. e)) ∙ new_marks c.args.limit (omega arith)

@@ -1,6 +1,0 @@
-use Rattle.std.proofs.Common.{◌≡◌, ◌*◌}
-use Rattle.pg_bit_set.specs.Words.{bits_below}
-use Rattle.pg_bit_set.proofs.words.count_bits.Given as goal
-
-abbrev pub invariant-loop-k : goal.invariant-loop-k
-invariant-loop-k l = l.count ≡ bits_below l.words (64 * l.k)

@@ -1,5 +1,0 @@
-use Rattle.pg_bound.proofs.InTime.{accepted_texts}
-use Rattle.pg_bound.proofs.bound.accepted_texts_are_answered_in_time.Goals as goal
-
-pub returns : goal.returns
-returns c = accepted_texts

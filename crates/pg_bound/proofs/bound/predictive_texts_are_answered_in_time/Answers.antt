@@ -1,5 +1,0 @@
-use Rattle.pg_bound.proofs.InTime.{predictive_texts}
-use Rattle.pg_bound.proofs.bound.predictive_texts_are_answered_in_time.Goals as goal
-
-pub returns : goal.returns
-returns c = predictive_texts

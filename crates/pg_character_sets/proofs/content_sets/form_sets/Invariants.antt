@@ -1,7 +1,0 @@
-use Rattle.std.proofs.Common.{map, take}
-use Rattle.pg_form.specs.Contents.{class_parts}
-use Rattle.pg_character_sets.specs.Sets.{AreSetsBy}
-use Rattle.pg_character_sets.proofs.content_sets.form_sets.Given as goal
-
-abbrev pub invariant-loop-i : goal.invariant-loop-i
-invariant-loop-i l = AreSetsBy l.items (map class_parts (take l.i l.forms)) l.sets.items

@@ -1,6 +1,0 @@
-use Rattle.std.proofs.Common.{◌≡◌, ◌<◌, ℕ, None}
-use Rattle.pg_heads.specs.Ranks.{rank_at}
-use Rattle.pg_costs.proofs.grammar_cost.all_have_ranks.Given as goal
-
-abbrev pub invariant-loop-rule : goal.invariant-loop-rule
-invariant-loop-rule l = (r : ℕ) → r < l.rule → rank_at l.sets.ranks r ≡ None → ⊥

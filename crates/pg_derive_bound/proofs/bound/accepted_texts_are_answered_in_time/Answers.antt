@@ -1,0 +1,5 @@
+use Rattle.pg_derive_bound.proofs.InTime.{accepted_texts}
+use Rattle.pg_derive_bound.proofs.bound.accepted_texts_are_answered_in_time.Goals as goal
+
+pub returns : goal.returns
+returns c = accepted_texts

@@ -1,0 +1,2 @@
+mod NodeRuns
+mod Saying

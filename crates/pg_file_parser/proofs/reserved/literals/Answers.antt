@@ -1,0 +1,17 @@
+use Rattle.std.proofs.Common.{sym, ◌∙◌}
+use Rattle.std.proofs.lemmas.Result.{err_from_is_err_and}
+use Rattle.pg_file_tokens.specs.View.{tokens_of}
+use Rattle.pg_file_parser.proofs.ParserLemmas.Texts.{literal_read, literal_fails, literals_end}
+use Rattle.pg_file_parser.proofs.reserved.literals.Goals as goal
+
+pub returns-in_err-text : goal.returns-in_err-text
+returns-in_err-text c =
+    let p = err_from_is_err_and c.from_residual.result c.from_residual.ensures.1 in
+    rw (p.1, p.2) (literal_fails c.in_err-text.field-0.0 c.loop-alloc.texts.items (tokens_of c.loop-alloc.rest.now) _ (sym c.has_literal.ensures ∙ c.loop-alloc-test.true) c.in_err-text.ensures c.loop-alloc.invariant)
+
+pub loop-alloc-preserved : goal.loop-alloc-preserved
+loop-alloc-preserved c =
+    rw c.in_ok-push.ensures.items (literal_read c.loop-alloc.texts.items (tokens_of c.loop-alloc.rest.now) c.in_ok-text.text (tokens_of c.in_ok-text.after.now) _ c.in_ok-text.ensures c.loop-alloc.invariant)
+
+pub returns : goal.returns
+returns c = literals_end c.loop-alloc.texts.items (tokens_of c.loop-alloc.rest.now) _ (sym c.has_literal.ensures ∙ c.loop-alloc-test.false) c.loop-alloc.invariant

@@ -1,5 +1,0 @@
-use Rattle.pg_judge.proofs.MetSets.{MetSoFar}
-use Rattle.pg_judge.proofs.met_starts.met_within.Given as goal
-
-abbrev pub invariant-loop-number : goal.invariant-loop-number
-invariant-loop-number l = MetSoFar l.starts l.start l.number l.met

@@ -1,5 +1,0 @@
-use Rattle.pg_judge.proofs.Chains.{MarksBelow}
-use Rattle.pg_judge.proofs.recursion.recursive_bodies.Given as goal
-
-abbrev pub invariant-loop-number : goal.invariant-loop-number
-invariant-loop-number l = MarksBelow l.grammar l.number l.marks.items

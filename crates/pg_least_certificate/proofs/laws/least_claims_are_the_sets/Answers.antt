@@ -1,5 +1,0 @@
-use Rattle.pg_least_certificate.proofs.Standing.{claims_are_so}
-use Rattle.pg_least_certificate.proofs.laws.least_claims_are_the_sets.Goals as goal
-
-pub returns : goal.returns
-returns c = claims_are_so

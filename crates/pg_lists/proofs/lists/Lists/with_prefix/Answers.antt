@@ -1,4 +1,0 @@
-use Rattle.pg_lists.proofs.lists.Lists.with_prefix.Goals as goal
-
-pub apply-requires : goal.apply-requires
-apply-requires g c = c.requires.1.0

@@ -1,6 +1,0 @@
-use Rattle.std.proofs.Common.{◌≡◌, take}
-use Rattle.pg_meaning.specs.Bodies.{bases_of}
-use Rattle.pg_meaning.proofs.body.copied.Given as goal
-
-abbrev pub invariant-loop-placed : goal.invariant-loop-placed
-invariant-loop-placed l = bases_of l.copies.items ≡ bases_of (take l.placed-index l.body)

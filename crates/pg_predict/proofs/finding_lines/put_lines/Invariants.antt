@@ -1,0 +1,14 @@
+use Rattle.std.proofs.Common.{◌≡◌, false, length}
+use Rattle.pg_text_pieces.proofs.Puts.{IsPutSoFar}
+use Rattle.pg_predict.specs.Found.{lines_found}
+use Rattle.pg_predict.proofs.finding_lines.put_lines.Given as goal
+
+abbrev pub invariant-all : goal.invariant-all
+invariant-all g l = record {
+  well : l.writer.failed ≡ false;
+  put : IsPutSoFar (g.W.Write.contents l.initial.writer.inner) l.initial.buffer.items (g.W.Write.contents l.writer.inner) l.buffer.items (lines_found l.findings)
+      (lines_found l.initial.findings);
+}
+
+abbrev pub decreases-all : goal.decreases-all
+decreases-all g l = length l.findings

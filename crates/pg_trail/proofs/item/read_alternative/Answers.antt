@@ -1,0 +1,6 @@
+use Rattle.std.proofs.Common.{Ok, None}
+use Rattle.pg_trail.proofs.Members.{alternative_read}
+use Rattle.pg_trail.proofs.item.read_alternative.Goals as goal
+
+pub returns-in-None : goal.returns-in-None
+returns-in-None c = alternative_read _ c.read_count.new.reader (Ok None) (rw c.in-None.is at c.in_ok-alternative.ensures)

@@ -1,6 +1,0 @@
-use Rattle.std.proofs.Common.{◌∙◌}
-use Rattle.pg_trails.proofs.Parts.{symbol_found}
-use Rattle.pg_trails.proofs.operators.read_symbol.Goals as goal
-
-pub returns : goal.returns
-returns c = symbol_found c.args.text.now c.new.result c.utf8.text (c.new.ensures ∙ c.in_ok-characters.ensures.value)

@@ -1,5 +1,0 @@
-use Rattle.pg_verified.proofs.OwnClosed.{own_sets_closed}
-use Rattle.pg_verified.proofs.laws.own_sets_are_closed.Goals as goal
-
-pub returns : goal.returns
-returns c = own_sets_closed

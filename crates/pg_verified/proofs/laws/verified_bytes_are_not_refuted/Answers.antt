@@ -1,5 +1,0 @@
-use Rattle.pg_verified.proofs.Unrefuted.{not_refuted}
-use Rattle.pg_verified.proofs.laws.verified_bytes_are_not_refuted.Goals as goal
-
-pub returns : goal.returns
-returns c = not_refuted

@@ -1,0 +1,1 @@
+start a; a = choice(string("a"), string("ab"));

@@ -1,0 +1,1 @@
+operators "+" gap "x"; start sum; sum = expr(node, node, node, satisfy("x"));

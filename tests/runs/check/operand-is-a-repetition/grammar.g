@@ -1,0 +1,1 @@
+operators "+" gap " "; start sum; sum = expr(node, node, node, many(satisfy("x")));

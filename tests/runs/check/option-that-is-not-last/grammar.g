@@ -1,0 +1,1 @@
+start either; either = choice(option(satisfy("x")), satisfy("y"));

@@ -1,0 +1,1 @@
+start comparison; comparison = choice(try(string("<"), notFollowedBy("=")), try(string("<=")));

@@ -1,0 +1,1 @@
+start number; number = try(many1(satisfy(digit)));

@@ -1,0 +1,1 @@
+start items; items = many(try(satisfy(digit), string(";")));

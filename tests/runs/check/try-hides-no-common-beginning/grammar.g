@@ -1,0 +1,1 @@
+start either; either = choice(try(string("a"), string("b")), string("ac"));

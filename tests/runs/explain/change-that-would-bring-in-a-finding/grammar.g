@@ -1,0 +1,2 @@
+start a;
+a = seq(choice(option(string("x")), string("y")), option(string("y")));

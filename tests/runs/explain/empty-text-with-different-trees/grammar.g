@@ -1,0 +1,3 @@
+start a;
+a = choice(b, build(list, b));
+b = seq();

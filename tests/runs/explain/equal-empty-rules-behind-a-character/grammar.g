@@ -1,0 +1,4 @@
+start s;
+s = seq(string("x"), a);
+a = choice(b, b);
+b = seq();

@@ -1,0 +1,3 @@
+start a;
+a = choice(b, b);
+b = seq();

@@ -1,0 +1,16 @@
+start a;
+a = choice(r1, string("x"));
+r1 = r2;
+r2 = r3;
+r3 = r4;
+r4 = r5;
+r5 = r6;
+r6 = r7;
+r7 = r8;
+r8 = r9;
+r9 = r10;
+r10 = r11;
+r11 = r12;
+r12 = r13;
+r13 = r14;
+r14 = string("x");

@@ -1,0 +1,2 @@
+start a;
+a = choice(seq(string("x"), option(string("y"))), text(seq(string("x"), option(string("y")))));

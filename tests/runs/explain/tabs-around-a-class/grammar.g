@@ -1,0 +1,3 @@
+start a;
+a = many(seq(name, skip(many(satisfy(" ")))));
+name = text(many1(satisfy(	letter 	)));

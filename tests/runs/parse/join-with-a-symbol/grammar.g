@@ -1,0 +1,1 @@
+start p; p = build(join, "pair", seq(string("x"), string("y")));

@@ -1,0 +1,2 @@
+start a;
+a = build(join, many(satisfy(not "x")));

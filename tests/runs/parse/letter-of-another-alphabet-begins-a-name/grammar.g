@@ -1,0 +1,3 @@
+start use;
+use  = build(call, seq(name, skip(string("(")), build(num, satisfy(digit)), skip(string(")"))));
+name = text(seq(satisfy(letter), satisfy(alphaNum)));

@@ -1,0 +1,1 @@
+start p; p = build(node, "pair", seq(string("x"), string("y")));

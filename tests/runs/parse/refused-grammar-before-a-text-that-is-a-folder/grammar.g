@@ -1,0 +1,1 @@
+start keyword; keyword = choice(string("let"), string("lambda"));

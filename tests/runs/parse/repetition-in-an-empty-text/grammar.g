@@ -1,0 +1,1 @@
+start none; none = many(satisfy(digit));

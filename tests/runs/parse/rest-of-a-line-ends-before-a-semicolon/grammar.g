@@ -1,0 +1,1 @@
+start rest; rest = text(many(satisfy(not ";")));

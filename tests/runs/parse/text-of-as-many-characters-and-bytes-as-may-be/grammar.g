@@ -1,0 +1,1 @@
+start wide; wide = text(many(satisfy(not "x")));

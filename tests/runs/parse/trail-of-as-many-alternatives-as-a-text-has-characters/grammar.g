@@ -1,0 +1,2 @@
+start a;
+a = skip(many(choice(string("x"), string("y"))));

@@ -1,0 +1,2 @@
+start a;
+a = build(list, many(string("x")));

@@ -1,0 +1,1 @@
+start p; p = eof; p = eof;

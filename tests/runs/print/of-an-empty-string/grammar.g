@@ -1,0 +1,1 @@
+start p; p = string("");

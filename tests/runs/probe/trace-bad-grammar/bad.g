@@ -1,0 +1,2 @@
+start a;
+a = string("x") string("y");

@@ -1,0 +1,3 @@
+start a;
+a = skip(many(b));
+b = string("x");

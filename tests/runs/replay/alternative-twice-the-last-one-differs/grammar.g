@@ -1,0 +1,1 @@
+start digit; digit = choice(string("0"), string("1"));

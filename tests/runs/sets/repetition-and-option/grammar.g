@@ -1,0 +1,1 @@
+start all; all = seq(part, option(string("x"))); part = many(satisfy(digit));

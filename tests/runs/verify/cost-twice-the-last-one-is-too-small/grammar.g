@@ -1,0 +1,1 @@
+start digits; digits = text(many(satisfy(digit)));

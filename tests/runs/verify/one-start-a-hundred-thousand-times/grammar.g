@@ -1,0 +1,2 @@
+start a;
+a = text(many(satisfy(digit)));
