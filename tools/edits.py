@@ -2,7 +2,7 @@
 """Tries must-fail edits: wrong bodies that the prover has to refuse.
 
 usage: tools/edits.py [--all | CRATE ..] [--proved FOLDER] [--record]
-       tools/edits.py --fit      tries none, and says in a second which of all edits don't lie in the files as these are
+       tools/edits.py --fit      tries none, and says in a second which of all edits can't be tried in the files as these are
 
 An edit is a file crates/NAME/must-fail/*.edit: a line `file: src/FILE` and pairs of lines `old: TEXT` and `new: TEXT`, as the
 toolchain has them. A line `fn: MODULE::TYPE::FUNCTION` says that all of it lies in the body of that function. First the
@@ -221,6 +221,13 @@ def unfit(edit, folder):
     if edit.function:
         return misplaced(edit, folder)
     return None if applied(edit, folder, {}) is not None else "an 'old:' text isn't once in its file"
+
+
+def unlisted(edit, crate, crates):
+    """Which crate a 'new:' text names that the edit's own crate doesn't list, so that no check would read it, or none."""
+    listed = {crate.name, *(re.split("[/:]", it)[-1] for it in crate.said["deps"])}
+    named = [name for _, _, new in edit.pairs for name in re.findall(r"\b(\w+)::", new) if name in crates and name not in listed]
+    return f"a 'new:' text names {named[0]}, which its crate doesn't list" if named else None
 
 
 def leads_out(text):
@@ -501,9 +508,10 @@ def try_crates(root, crates):
     return found
 
 
-def tell_fit(root, names):
-    """Tells of each edit that doesn't lie in the files as they are, and the sum. Returns whether all do."""
-    why = {it.name(): unfit(it, f"{root}/crates/{name}") for name in names for it in edits_of(root, name)}
+def tell_fit(root, names, crates):
+    """Tells of each edit that can't be tried in the files as they are, and the sum. Returns whether all can."""
+    edits = [(name, it) for name in names for it in edits_of(root, name)]
+    why = {it.name(): unfit(it, f"{root}/crates/{name}") or unlisted(it, crates[name], crates) for name, it in edits}
     for name in (it for it in why if why[it]):
         print(f"{name}: BAD EDIT: {why[name]}")
     failed = sum(map(bool, why.values()))
@@ -517,7 +525,7 @@ def main(arguments):
     crates = crates_of(os.path.realpath(words.proved or root))
     names = [it for it in crates if edits_of(root, it)]
     if words.fit:
-        return 0 if tell_fit(root, names) else 1
+        return 0 if tell_fit(root, names, crates) else 1
     unknown = [it for it in words.crates if it not in names]
     if unknown:
         print(f"tools/edits.py: no crate {unknown[0]} with edits", file=sys.stderr)

@@ -29,6 +29,7 @@ use Rattle.pg_bench.specs.Probing.{IsProbed, IsTextProbed, IsShownOfText}
 use Rattle.pg_bench.specs.Showing.{IsShownOf}
 use Rattle.pg_bench.specs.Replaying.{IsReplayed}
 use Rattle.pg_bench_grammar.specs.Showing.{IsShownFile}
+use Rattle.pg_bench_haskell.specs.Translating.{IsTranslatedFile}
 use Rattle.pg_bench_grammar.specs.Verifying.{IsVerifiedFile, IsVerdictOf}
 use Rattle.pg_bench_grammar.specs.declared.grammar_file.AcceptedGrammar.{AcceptedGrammar}
 use Rattle.pg_bench_grammar.specs.declared.bench_fault.BenchFault.{BenchFault}
@@ -396,6 +397,9 @@ printed_status offer file writer held h = yes (h.grammar, h.spelled, tt)
 
 pub shown_status : (offer : Offer) (file : List ℕ) (writer held : Option (List ℕ)) → IsShownFile offer file writer held → IsPrintStatus offer file 0
 shown_status offer file writer held h = yes (h.grammar, h.spelled, tt)
+
+pub translated_status : (offer : Offer) (file : List ℕ) (writer held : Option (List ℕ)) → IsTranslatedFile offer file writer held → IsPrintStatus offer file 0
+translated_status offer file writer held h = yes (h.grammar, h.spelled, tt)
 
 pub print_fault_status : (offer : Offer) (file : List ℕ) (fault : BenchFault) (status : ℕ) → IsPageRefusal fault → status ≡ status_of fault
     → IsPrintStatus offer file status

@@ -22,7 +22,7 @@ use crate::commands::explain::explain_file;
 use crate::commands::parse::parse_files;
 use crate::commands::probe::{Probing, probe_files};
 use crate::commands::replay::replay_files;
-use crate::commands::show::{print_file, show_file, verify_files};
+use crate::commands::show::{print_file, show_file, translate_file, verify_files};
 use pg_command_line::Request;
 use pg_language::Reading;
 use pg_pred::Registry;
@@ -113,5 +113,6 @@ fn answer<R: AllocGlobal + Files + Input + Print + Eprint>(
         } => replay_files(rt, grammar, text, trail, registry),
         Request::Print { grammar } => print_file(rt, grammar, registry),
         Request::Sets { grammar } => show_file(rt, grammar, registry),
+        Request::Haskell { grammar, module } => translate_file(rt, grammar, registry, module),
     }
 }

@@ -46,11 +46,15 @@ fn status<R: AllocGlobal + Env + Files + Input + Print + Eprint>(rt: &R) -> u8 {
 
 /// Reads the words and does what they ask for.
 fn run<R: AllocGlobal + Env + Files + Input + Print + Eprint>(rt: &R) -> Result<u8, AllocError> {
-    let words = match env::args(rt) {
-        Ok(words) => words.collect::<Vec<String>>(rt.alloc())?,
+    let arguments = match env::args(rt) {
+        Ok(arguments) => arguments,
         Err(error) if error.kind() == io::ErrorKind::OutOfMemory => return Err(AllocError),
         Err(_) => return Ok(refuse(rt, "pgw: an argument is not UTF-8")),
     };
+    let mut words = Vec::new(rt.alloc());
+    for argument in arguments {
+        words.push(argument)?;
+    }
     obey(rt, words.as_slice())
 }
 
@@ -98,15 +102,23 @@ fn pages_asked(alloc: Global, words: &[String]) -> Result<Option<String>, AllocE
 fn pages_of(alloc: Global, codes: &[String]) -> Result<Option<String>, AllocError> {
     let mut pages = String::new(alloc);
     for code in codes {
-        let Some(page) = page(code.as_str()) else {
+        if !push_page(&mut pages, code.as_str())? {
             return Ok(None);
-        };
-        if !pages.is_empty() {
-            pages.push_str("\n")?;
         }
-        pages.push_str(page)?;
     }
     Ok(Some(pages))
+}
+
+/// Appends the page of a code, with a blank line before it unless it is the first. Answers whether it is a code.
+fn push_page(pages: &mut String, code: &str) -> Result<bool, AllocError> {
+    let Some(page) = page(code) else {
+        return Ok(false);
+    };
+    if !pages.is_empty() {
+        pages.push_str("\n")?;
+    }
+    pages.push_str(page)?;
+    Ok(true)
 }
 
 /// Does what words ask for that the command line has accepted.

@@ -1,12 +1,13 @@
 -- What holds of a parse by a loaded grammar holds of the file that it was loaded from.
-use Rattle.std.proofs.Common.{◌≡◌, ℕ, List, Bool, Option}
+use Rattle.std.proofs.Common.{◌≡◌, ℕ, List, Bool, Option, Result, Ok, Err}
+use Rattle.std.specs.Prelude.{IfErr}
 use Rattle.pg_message.specs.declared.error.ParseError as message
 use Rattle.pg_pred.specs.Offer.{Offer}
 use Rattle.pg_grammar_value.specs.Grammar.{Grammar}
 use Rattle.pg_file_making.specs.Spells.{SpellsWithinLimits}
 use Rattle.pg_predict.specs.Checked.{GrammarWithSets, IsChecked}
 use Rattle.pg_bench_grammar.specs.Files.{AreFindingsOf, IsFaultOfFile, SpellsSome}
-use Rattle.pg_bench_grammar.specs.Faults.{IfFile, IfRefused, IfParseError, IsBeforeReading}
+use Rattle.pg_bench_grammar.specs.Faults.{IfFile, IfRefused, IfParseError, IsBeforeReading, IsFileFault}
 use Rattle.pg_bench_grammar.specs.declared.bench_fault.BenchFault.{BenchFault}
 use Rattle.pg_bench_grammar.specs.declared.bench_fault.BenchFault.TheVariants.{File, Refused, ParseError, Memory}
 use Rattle.pg_bench.specs.declared.done.Done.{Done}
@@ -84,7 +85,25 @@ no_findings offer file (Refused refused) h = absurd h
 no_findings offer file _ h = tt
 
 -- it comes once the reader is asked
-pub is_read : {Claim : Type 0} (fault : BenchFault) → IfFile (λ told. ⊥) fault → IfRefused (λ findings. ⊥) fault → IsBeforeReading fault → Claim
-is_read (File told) file findings before = absurd file
-is_read (Refused refused) file findings before = absurd findings
-is_read _ file findings before = absurd before
+pub is_read : {T : Type 0} (Claim : Type 0) (r : Result T BenchFault) → IfErr r (IfFile (λ told. ⊥)) → IfErr r (IfRefused (λ findings. ⊥))
+    → IfErr r (λ fault. IsBeforeReading fault → Claim)
+is_read Claim (Ok x) file findings = tt
+is_read Claim (Err fault) file findings = own fault file findings
+  where
+    own : (f : BenchFault) → IfFile (λ told. ⊥) f → IfRefused (λ findings. ⊥) f → IsBeforeReading f → Claim
+    own (File told) file findings before = absurd file
+    own (Refused refused) file findings before = absurd findings
+    own _ file findings before = absurd before
+
+pub is_read_first : {T : Type 0} (Claim : Type 0) (r : Result T BenchFault) → IfErr r (IfFile (λ told. ⊥)) → IfErr r (λ fault. IsFileFault fault → Claim)
+is_read_first Claim (Ok x) file = tt
+is_read_first Claim (Err fault) file = own fault file
+  where
+    own : (f : BenchFault) → IfFile (λ told. ⊥) f → IsFileFault f → Claim
+    own (File told) file first = absurd file
+    own _ file first = absurd first
+
+-- what holds anyway holds after every error
+pub after_any : {T E : Type 0} {Q : E → Type 0} (r : Result T E) → ((e : E) → Q e) → IfErr r Q
+after_any (Ok x) holds = tt
+after_any (Err e) holds = holds e

@@ -21,13 +21,13 @@ ghost use Rattle.pg_bench.specs.Refusals.{IsErrorOfAnswer, IsTextFault, IsParseR
 
 use crate::done::Done;
 use crate::input::{read_text, text_of};
-use pg_bench_grammar::{AcceptedGrammar, BenchFault, accepted_of};
+use pg_bench_grammar::{AcceptedGrammar, BenchFault, accepted_of, write_page};
 use pg_grammar_value::Trail;
 use pg_machine::{Answer, Success, run};
 use pg_pred::Registry;
 use pg_text::{LIMIT, Text};
 use pg_trail::write_trail;
-use pg_tree::{Forest, Meter, WriteFault, write_bytes, write_json};
+use pg_tree::{Forest, Meter, WriteFault, write_json};
 use std::alloc::{AllocError, Global};
 use std::io::{Read, Write};
 
@@ -59,7 +59,6 @@ pub struct ParsedText {
 /// come before the reader is asked at all. Then come the reader's fault, those of its bytes, `ParseError` if the grammar doesn't derive the text, and the
 /// writer's. Up to `ParseError`, and where memory runs out, nothing is written. A text of over 4,194,304 bytes can't have only 1,048,576 characters, so no
 /// more is read of it.
-#[tactic(auto, using(crate::proofs::Loaded::parsed_file, crate::proofs::Loaded::partly_file, crate::proofs::Loaded::error_of_file, crate::proofs::Loaded::no_file_fault, crate::proofs::Loaded::no_findings, crate::proofs::Loaded::is_read, crate::proofs::Loaded::accepted_file))]
 pub fn parse_bytes<R: Read, W: Write>(
     alloc: Global,
     grammar: &[u8],
@@ -119,10 +118,7 @@ pub fn parse_bytes<R: Read, W: Write>(
     let accepted = accepted_of(alloc, grammar, registry)?;
     let done = parse_checked(alloc, &accepted, registry, reader, writer, with_trail);
     drop(accepted);
-    match done {
-        Ok(done) => Ok(done),
-        Err(fault) => Err(fault),
-    }
+    done
 }
 
 /// As [`parse_bytes`], for a grammar that is loaded already, so that it is read and checked once for many texts. The caller ensures that the registry has
@@ -346,12 +342,7 @@ fn write_lines<W: Write>(
     ensures memory { IsErrOf result BenchFault.Memory → writer.new ≡ writer.old }
 {
     match write_json(alloc, forest, writer) {
-        Ok(()) => {}
-        Err(WriteFault::Writer) => return Err(BenchFault::Writer),
-        Err(WriteFault::Memory) => return Err(BenchFault::Memory),
-    }
-    match write_bytes(rest, writer) {
-        Ok(()) => Ok(()),
+        Ok(()) => write_page(rest, writer),
         Err(WriteFault::Writer) => Err(BenchFault::Writer),
         Err(WriteFault::Memory) => Err(BenchFault::Memory),
     }

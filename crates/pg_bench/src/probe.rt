@@ -33,7 +33,6 @@ use std::io::{Read, Write};
 /// Neither meter must have failed yet. Any grammar is run. The faults come in the order of [`BenchFault`], without `Refused`, `ParseError`, `NotATrail` and
 /// `NotVerified`: a fault of the file before the reader is asked at all, then the reader's, those of its bytes, and the writer's. Before the last, and where
 /// memory runs out, nothing is written.
-#[tactic(auto, using(crate::proofs::ShownTexts::written_file, crate::proofs::ShownTexts::partly_written_file, crate::proofs::ShownTexts::spelled_file, crate::proofs::Loaded::no_file_fault, crate::proofs::Loaded::is_read))]
 pub fn probe_bytes<R: Read, W: Write>(
     alloc: Global,
     grammar: &[u8],
@@ -92,10 +91,7 @@ pub fn probe_bytes<R: Read, W: Write>(
         alloc, &placed, registry, name, reader, writer, max_steps, reading,
     );
     drop(placed);
-    match probed {
-        Ok(accepted) => Ok(accepted),
-        Err(fault) => Err(fault),
-    }
+    probed
 }
 
 /// As [`probe_bytes`], for a grammar that is read already. The caller ensures that the registry has what the grammar names in it, and that the table is its

@@ -75,7 +75,7 @@ pub fn write_shown<W: Write>(shown: &Shown, writer: &mut Meter<W>) -> Result<boo
 }
 
 /// The page about the text that a reader gives, with the grammar that a file spells.
-#[tactic(auto, using(crate::proofs::ShownTexts::file_refused, crate::proofs::ShownTexts::show_refused, crate::proofs::ShownTexts::shown_file))]
+#[tactic(auto, using(crate::proofs::ShownTexts::file_refused))]
 pub fn shown_of_files<S: ShowsText, R: Read>(
     alloc: Global,
     grammar: &[u8],
@@ -94,10 +94,7 @@ pub fn shown_of_files<S: ShowsText, R: Read>(
     let placed = placed_of(alloc, grammar, registry)?;
     let shown = shown_of_reader(alloc, &placed, registry, shower, reader);
     drop(placed);
-    match shown {
-        Ok(shown) => Ok(shown),
-        Err(fault) => Err(fault),
-    }
+    shown
 }
 
 /// The page about the text that a reader gives.
@@ -141,7 +138,6 @@ fn shown_of<S: ShowsText>(
 }
 
 /// The page about a text.
-#[tactic(auto, using(pg_table::proofs::Added::own_table))]
 fn shown_of_text<S: ShowsText>(
     alloc: Global,
     placed: &PlacedGrammar,

@@ -1,5 +1,5 @@
 -- What is written of a grammar is what is told of it.
-use Rattle.std.proofs.Common.{◌≡◌, ℕ, List, Option}
+use Rattle.std.proofs.Common.{ℕ, List, Option}
 use Rattle.std.specs.Io.KnownBytes.{Appends}
 use Rattle.pg_tree.specs.Bytes.{AppendsPrefix}
 use Rattle.pg_pred.specs.Offer.{Offer}

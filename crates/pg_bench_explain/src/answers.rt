@@ -28,7 +28,11 @@ pub(crate) fn answer_words(
 }
 
 /// The words for an error, and where it is.
-fn lost_words(alloc: Global, consumed: bool, error: &ParseError) -> Result<String, AllocError> {
+pub(crate) fn lost_words(
+    alloc: Global,
+    consumed: bool,
+    error: &ParseError,
+) -> Result<String, AllocError> {
     let answer = if consumed {
         "consumed error"
     } else {

@@ -9,7 +9,7 @@ use crate::refused_file::RefusedFile;
 use pg_explain::{Section, push_quoted};
 use pg_explain_comparison::{Kept, Sample, samples_of};
 use pg_explain_cures::{Bound, Cure, Source, find_cure, findings};
-use pg_text::Text;
+use pg_text::{Text, characters_of};
 use pg_text_excerpt::push_shown;
 use std::alloc::{AllocError, Global};
 
@@ -54,7 +54,6 @@ pub(crate) fn cures_of(
 }
 
 /// Texts of the grammar.
-#[tactic(auto, using(pg_table::proofs::Added::own_table))]
 fn texts_of(alloc: Global, file: &RefusedFile<'_>) -> Result<Vec<Sample>, AllocError>
     requires fits { Fits (offer_of file.now.registry.now) file.now.refused.now.grammar }
     requires table { initial file.now.refused.now.grammar ≡ whole file.now.loaded.now.table }
@@ -122,7 +121,7 @@ fn push_help(alloc: Global, page: &mut String, cure: &Cure) -> Result<(), AllocE
     let line = format!(in alloc; "\n  help: {words}:\n")?;
     page.push_str(line.as_str())?;
     for item in &cure.items {
-        push_item(page, item.as_str())?;
+        push_item(alloc, page, item.as_str())?;
     }
     push_taken_out(page, &cure.taken_out)?;
     if cure.accepted {
@@ -163,7 +162,7 @@ fn push_gained(alloc: Global, page: &mut String, kept: &Kept) -> Result<(), Allo
 }
 
 /// Appends a text, and words about it.
-fn push_of(
+pub(crate) fn push_of(
     alloc: Global,
     page: &mut String,
     text: &[char],
@@ -192,19 +191,20 @@ fn push_trees(alloc: Global, page: &mut String, kept: &Kept) -> Result<(), Alloc
 }
 
 /// Appends the lines of an item.
-fn push_item(page: &mut String, item: &str) -> Result<(), AllocError> {
+fn push_item(alloc: Global, page: &mut String, item: &str) -> Result<(), AllocError> {
     for line in item.lines() {
         page.push_str("      ")?;
-        push_line(page, line)?;
+        push_line(alloc, page, line)?;
         page.push_str("\n")?;
     }
     Ok(())
 }
 
 /// Appends a line as an excerpt shows it, so that no control character of the file reaches a terminal.
-fn push_line(page: &mut String, line: &str) -> Result<(), AllocError> {
-    for c in line.chars() {
-        push_shown(page, c)?;
+fn push_line(alloc: Global, page: &mut String, line: &str) -> Result<(), AllocError> {
+    let characters = characters_of(alloc, line)?;
+    for c in characters.as_slice() {
+        push_shown(page, *c)?;
     }
     Ok(())
 }

@@ -3,8 +3,8 @@
 //! A change rewrites items, removes rules and inserts items. Its edit goes from the first item that is rewritten or removed to the last, and keeps what
 //! stands between them. Items are recognized by what they begin with, up to their names, which no change touches.
 
+use crate::cures::push_of;
 use pg_bench_grammar::LoadedFile;
-use pg_explain::push_quoted;
 use pg_explain_comparison::Kept;
 use pg_explain_cures::Cure;
 use pg_explain_drafts::{item_spans, slice_of};
@@ -221,15 +221,15 @@ fn said_of(alloc: Global, cure: &Cure) -> Result<String, AllocError> {
 
 /// Appends what becomes of the language, as far as texts were tried.
 fn push_kept(alloc: Global, said: &mut String, kept: &Kept) -> Result<(), AllocError> {
-    push_of(alloc, said, &kept.lost, " isn't derived any more")?;
-    push_of(
+    push_some(alloc, said, &kept.lost, " isn't derived any more")?;
+    push_some(
         alloc,
         said,
         &kept.unknown,
         " is perhaps not derived any more",
     )?;
-    push_of(alloc, said, &kept.gained, " is now derived too")?;
-    push_of(
+    push_some(alloc, said, &kept.gained, " is now derived too")?;
+    push_some(
         alloc,
         said,
         &kept.other,
@@ -239,18 +239,14 @@ fn push_kept(alloc: Global, said: &mut String, kept: &Kept) -> Result<(), AllocE
 }
 
 /// Appends a text, if there is one, and words about it.
-fn push_of(
+fn push_some(
     alloc: Global,
     said: &mut String,
     text: &Option<Vec<char>>,
-    words: &str,
+    words: &'static str,
 ) -> Result<(), AllocError> {
     match text {
-        Some(text) => {
-            said.push_str("; the text ")?;
-            push_quoted(alloc, said, text.as_slice())?;
-            said.push_str(words)
-        }
+        Some(text) => push_of(alloc, said, text.as_slice(), words),
         None => Ok(()),
     }
 }

@@ -18,7 +18,6 @@ use pg_explain::GrammarFile;
 use pg_grammar_value::Grammar;
 use pg_pred::Registry;
 use pg_predict::{Checked, Refused};
-use pg_text::characters_of;
 use pg_tree::Meter;
 use std::alloc::{AllocError, Global};
 use std::io::Write;
@@ -109,14 +108,6 @@ pub(crate) fn lent<'l>(loaded: &'l LoadedFile) -> GrammarFile<'l> {
         name: loaded.name,
         text: loaded.characters.as_slice(),
         spans: loaded.spans.as_slice(),
-    }
-}
-
-/// The characters of a file; empty if its bytes aren't UTF-8.
-fn characters(alloc: Global, bytes: &[u8]) -> Result<Vec<char>, AllocError> {
-    match std::str::from_utf8(bytes) {
-        Ok(text) => characters_of(alloc, text),
-        Err(_) => Ok(Vec::new(alloc)),
     }
 }
 

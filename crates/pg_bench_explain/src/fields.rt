@@ -174,8 +174,13 @@ fn push_shown(alloc: Global, witness: Witness, texts: &mut Texts) -> Result<(), 
 fn shown_field(alloc: Global, witness: &Witness) -> Result<String, AllocError> {
     let text = utf8(alloc, witness.text.characters())?;
     let answer = answer_words(alloc, &witness.text, &witness.shown)?;
+    witness_field(alloc, text.as_str(), answer.as_str())
+}
+
+/// The field of a text with this answer.
+fn witness_field(alloc: Global, text: &str, answer: &str) -> Result<String, AllocError> {
     let mut field = String::new(alloc);
-    push_witness(alloc, &mut field, text.as_str(), answer.as_str())?;
+    push_witness(alloc, &mut field, text, answer)?;
     Ok(field)
 }
 
@@ -190,8 +195,11 @@ fn all_told(
     let spots = Spots::of(alloc, loaded.characters.as_slice())?;
     let mut told = Vec::new(alloc);
     for (number, section) in sections.iter().enumerate() {
-        let (cure, witness) = (cures.get(number), witnesses.get(number));
-        let fields = fields_of(alloc, loaded, &spots, section, cure, witness)?;
+        let witness = match witnesses.get(number) {
+            Some(field) => field.as_str(),
+            None => "",
+        };
+        let fields = fields_of(alloc, loaded, &spots, section, cures.get(number), witness)?;
         told.push(ToldFinding::of(section.node, &section.kind, fields))?;
     }
     Ok(told)
@@ -204,19 +212,11 @@ fn fields_of(
     spots: &Spots,
     section: &Section,
     cure: Option<&Option<Cure>>,
-    witness: Option<&String>,
+    witness: &str,
 ) -> Result<String, AllocError> {
     let mut fields = String::new(alloc);
     push_change(alloc, &mut fields, loaded, spots, cure)?;
-    push_field(&mut fields, witness)?;
+    fields.push_str(witness)?;
     push_words(alloc, &mut fields, section.words.as_str())?;
     Ok(fields)
-}
-
-/// Appends a field, if there is one.
-fn push_field(fields: &mut String, field: Option<&String>) -> Result<(), AllocError> {
-    match field {
-        Some(field) => fields.push_str(field.as_str()),
-        None => Ok(()),
-    }
 }

@@ -2,6 +2,7 @@
 
 use pg_grammar_form::{ClassExpression, ClassPart, Form, Node, OperatorsItem};
 use pg_grammar_value::Grammar;
+use pg_graph::is_marked;
 use std::alloc::{AllocError, Global};
 
 /// Marks for the rules that the start rule reaches, and for the classes and the word items that something uses.
@@ -57,9 +58,9 @@ fn rules_come_to(alloc: Global, grammar: &Grammar) -> Result<Vec<bool>, AllocErr
 }
 
 /// Marks a rule as reached, unless it was reached before.
-fn come_to(rule: usize, marks: &mut Vec<bool>, open: &mut Vec<usize>) -> Result<(), AllocError> {
-    if rule < marks.len() && !marks[rule] {
-        marks[rule] = true;
+fn come_to(rule: usize, marks: &mut [bool], open: &mut Vec<usize>) -> Result<(), AllocError> {
+    if rule < marks.len() && !is_marked(marks, rule) {
+        mark(marks, rule);
         open.push(rule)?;
     }
     Ok(())

@@ -5,6 +5,7 @@ ghost use Rattle.pg_pred.specs.Offer.{offer_of};
 ghost use Rattle.pg_table.specs.Tables.{initial, whole, ComesFrom};
 ghost use Rattle.pg_grammar_value.specs.Fits.{Fits};
 
+use crate::answers::lost_words;
 use crate::refused_file::RefusedFile;
 use pg_explain::{Section, push_quoted};
 use pg_explain_witness::{Bound, Seeker, Shown, Witness};
@@ -15,7 +16,6 @@ use pg_text::Text;
 use std::alloc::{AllocError, Global};
 
 /// What searches for texts of a refused grammar.
-#[tactic(auto, using(pg_table::proofs::Added::own_table))]
 pub(crate) fn seeker_of<'f>(alloc: Global, file: &RefusedFile<'f>) -> Result<Seeker<'f>, AllocError>
     requires fits { Fits (offer_of file.now.registry.now) file.now.refused.now.grammar }
     requires table { initial file.now.refused.now.grammar ≡ whole file.now.loaded.now.table }
@@ -154,17 +154,9 @@ fn push_lost(
     consumed: bool,
     error: &ParseError,
 ) -> Result<(), AllocError> {
-    page.push_str(" shows it: the grammar derives all of it, but the parse answers\n")?;
-    let answer = if consumed {
-        "consumed error"
-    } else {
-        "empty error"
-    };
-    let line = error.position.line;
-    let column = error.position.column;
-    let words = format!(in alloc; "    {answer} at line {line}, column {column}")?;
+    let words = lost_words(alloc, consumed, error)?;
+    page.push_str(" shows it: the grammar derives all of it, but the parse answers\n    ")?;
     page.push_str(words.as_str())?;
-    push_messages(alloc, page, error)?;
     page.push_str("\n")
 }
 

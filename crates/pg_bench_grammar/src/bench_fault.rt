@@ -16,7 +16,7 @@ use std::fmt;
 ///
 /// The faults are judged in the order of the variants from `File` to `Writer`, and the run ends with the first that holds. Up to `ParseError` nothing has
 /// been written. `Memory` can come at any step, but always before the first byte is written.
-#[derive(Debug, Drop)]
+#[derive(Debug)]
 pub enum BenchFault {
     /// The file isn't a grammar file. The text's reader hasn't been asked yet.
     File(FileFault),
@@ -38,6 +38,24 @@ pub enum BenchFault {
     Writer,
     /// Memory ran out.
     Memory,
+}
+
+// Written out, so that the crates above needn't prove again how each part is dropped.
+impl Drop for BenchFault {
+    fn drop(self) {
+        match self {
+            BenchFault::File(fault) => drop(fault),
+            BenchFault::Refused(refused) => drop(refused),
+            BenchFault::NotVerified(verdict) => drop(verdict),
+            BenchFault::ParseError(error) => drop(error),
+            BenchFault::Reader
+            | BenchFault::NotUtf8
+            | BenchFault::TooLong
+            | BenchFault::NotATrail
+            | BenchFault::Writer
+            | BenchFault::Memory => {}
+        }
+    }
 }
 
 impl fmt::Display for BenchFault {

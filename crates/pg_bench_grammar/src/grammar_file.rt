@@ -76,10 +76,18 @@ pub(crate) fn file_of(
 }
 
 /// An accepted grammar, and its initial operator table.
-#[derive(Drop)]
 pub struct AcceptedGrammar {
     pub checked: Checked,
     pub table: Table,
+}
+
+// Written out, so that the crates above needn't prove again how each part is dropped.
+impl Drop for AcceptedGrammar {
+    fn drop(self) {
+        let AcceptedGrammar { checked, table } = self;
+        drop(checked);
+        drop(table);
+    }
 }
 
 /// The accepted grammar that the bytes of a file spell, with its initial operator table. Fails with `Refused` and the findings if it isn't accepted.

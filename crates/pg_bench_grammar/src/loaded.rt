@@ -42,7 +42,6 @@ impl Judgement {
 }
 
 /// A grammar file that is loaded.
-#[derive(Drop)]
 pub struct LoadedFile<'n> {
     /// Its name, as the caller gave it.
     pub name: &'n str,
@@ -56,6 +55,25 @@ pub struct LoadedFile<'n> {
     pub table: Table,
     /// Its grammar, judged.
     pub judgement: Judgement,
+}
+
+// Written out, so that the crates above needn't prove again how each part is dropped.
+impl Drop for LoadedFile<'_> {
+    fn drop(self) {
+        let LoadedFile {
+            name: _,
+            characters,
+            syntax,
+            spans,
+            table,
+            judgement,
+        } = self;
+        drop(characters);
+        drop(syntax);
+        drop(spans);
+        drop(table);
+        drop(judgement);
+    }
 }
 
 /// Reads the file with this name and these bytes, and judges the grammar that it spells (ours). The registry has the predicates and builders that the file

@@ -1,12 +1,21 @@
 -- What is written of a grammar is what is listed of it.
-use Rattle.std.proofs.Common.{ℕ, List, Bool, false, Option}
+use Rattle.std.proofs.Common.{ℕ, List, [], Bool, true, false, Option, None, Some, refl, sym, append-nil}
+use Rattle.std.specs.Io.KnownBytes.{Appends}
 use Rattle.pg_pred.specs.Offer.{Offer}
 use Rattle.pg_grammar_value.specs.Grammar.{Grammar}
+use Rattle.pg_predict.specs.Checked.{GrammarWithSets, IsChecked}
 use Rattle.pg_predict.specs.Refusals.{RefusedGrammar, IsRefused}
 use Rattle.pg_explain_json.specs.Pages.{WritesPage, WritesPartOfPage}
 use Rattle.pg_bench_grammar.specs.Loading.{judged_grammar, IsLoadedFrom}
 use Rattle.pg_bench_grammar.specs.declared.loaded.LoadedFile.{LoadedFile}
 use Rattle.pg_bench_json.specs.Listing.{IsListed, IsPartlyListed, IsListedFile, IsPartlyListedFile}
+
+nothing_appended : (writer : Option (List ℕ)) → Appends writer writer []
+nothing_appended None = tt
+nothing_appended (Some bytes) = sym (append-nil bytes)
+
+pub listed_none : (checked : GrammarWithSets) (writer : Option (List ℕ)) → IsChecked checked → IsListed checked.grammar writer writer true
+listed_none checked writer is = record { page = []; lists = (is.faultless, refl); written = nothing_appended writer }
 
 module _ (g : Grammar) (refused : RefusedGrammar) (writer held : Option (List ℕ)) (is : IsRefused g refused) where
   pub listed_refused : WritesPage writer held → IsListed g writer held false

@@ -85,7 +85,6 @@ fn list_nothing<W: Write>(checked: &Checked, _writer: &Meter<W>) -> bool
 }
 
 /// Writes all findings of a grammar.
-#[tactic(auto, using(crate::proofs::Listed::listed_refused, crate::proofs::Listed::partly_refused))]
 fn list_refused<W: Write>(
     alloc: Global,
     refused: &Refused,

@@ -106,7 +106,6 @@ struct GrammarFile<'f> {
 }
 
 /// Writes the result for an accepted grammar.
-#[tactic(auto, using(crate::proofs::Told::accepted_told, crate::proofs::Told::accepted_partly))]
 fn tell_accepted<W: Write>(
     alloc: Global,
     checked: &Checked,

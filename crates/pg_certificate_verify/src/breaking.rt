@@ -24,6 +24,16 @@ use std::alloc::{AllocError, Global};
 /// The greatest step cost of a grammar that is accepted.
 const COST_LIMIT: u64 = 4_294_967_296;
 
+/// What the conditions of a grammar's nodes are judged by.
+#[derive(Clone, Copy)]
+struct Claims<'a> {
+    grammar: &'a Grammar,
+    sets: &'a Sets,
+    /// The starts of the grammar's operators, if it has operators.
+    operators: &'a Option<OperatorStarts>,
+    cost: u64,
+}
+
 /// The first condition that is broken at a node by these sets and this step cost, or none.
 pub(crate) fn first_breaking(
     alloc: Global,
@@ -35,27 +45,27 @@ pub(crate) fn first_breaking(
     ensures { IfOk result (IsFirstBroken grammar.now (claimed_facts sets.now cost)) }
 {
     let operators = operator_starts(alloc, grammar)?;
-    let broken = first_node(alloc, grammar, sets, &operators, cost);
+    let claims = Claims {
+        grammar,
+        sets,
+        operators: &operators,
+        cost,
+    };
+    let broken = first_node(alloc, &claims);
     drop(operators);
     broken
 }
 
-/// As `first_breaking`, from the starts of the operators.
-fn first_node(
-    alloc: Global,
-    grammar: &Grammar,
-    sets: &Sets,
-    operators: &Option<OperatorStarts>,
-    cost: u64,
-) -> Result<Option<Broken>, AllocError>
-    requires formed { AreWellFormed grammar.now sets.now }
-    requires operators { AreOperatorStarts grammar.now operators.now }
-    ensures { IfOk result (IsFirstBroken grammar.now (claimed_facts sets.now cost)) }
+/// The first node at which a condition is broken by the claims, with the condition, or none.
+fn first_node(alloc: Global, claims: &Claims<'_>) -> Result<Option<Broken>, AllocError>
+    requires formed { AreWellFormed claims.now.grammar.now claims.now.sets.now }
+    requires operators { AreOperatorStarts claims.now.grammar.now claims.now.operators.now }
+    ensures { IfOk result (IsFirstBroken claims.now.grammar.now (claimed_facts claims.now.sets.now claims.now.cost)) }
 {
-    let nodes = grammar.nodes();
+    let nodes = claims.grammar.nodes();
     for number in 0..nodes.len() {
         let node = NodeId::new(number);
-        match first_condition(alloc, grammar, sets, operators, cost, node, &nodes[number])? {
+        match first_condition(alloc, claims, node, &nodes[number])? {
             Some(condition) => return Ok(Some(Broken { node, condition })),
             None => {}
         }
@@ -66,19 +76,22 @@ fn first_node(
 /// The number of the first condition that is broken at this node, or none.
 fn first_condition(
     alloc: Global,
-    grammar: &Grammar,
-    sets: &Sets,
-    operators: &Option<OperatorStarts>,
-    cost: u64,
+    claims: &Claims<'_>,
     node: NodeId,
     form: &Node,
 ) -> Result<Option<u8>, AllocError>
-    requires formed { AreWellFormed grammar.now sets.now }
-    requires operators { AreOperatorStarts grammar.now operators.now }
-    requires there { slice_get grammar.now.nodes node ≡ Some form.now }
-    requires parts { HasParts sets.now form.now }
-    ensures { IfOk result (λ found. IsFirstAt grammar.now (claimed_facts sets.now cost) node found) }
+    requires formed { AreWellFormed claims.now.grammar.now claims.now.sets.now }
+    requires operators { AreOperatorStarts claims.now.grammar.now claims.now.operators.now }
+    requires there { slice_get claims.now.grammar.now.nodes node ≡ Some form.now }
+    requires parts { HasParts claims.now.sets.now form.now }
+    ensures { IfOk result (λ found. IsFirstAt claims.now.grammar.now (claimed_facts claims.now.sets.now claims.now.cost) node found) }
 {
+    let Claims {
+        grammar,
+        sets,
+        operators,
+        cost,
+    } = *claims;
     if has_empty_round(sets, form) {
         return Ok(Some(2));
     }

@@ -71,6 +71,14 @@ const HELP_OF_SETS: &str =
 
 Example: pgw sets examples/color.g";
 
+const HELP_OF_HASKELL: &str =
+    "Exit status: 0 printed, 2 trouble (arguments or files that can't be used), 3 out of memory
+
+Example: pgw haskell --module Color examples/color.g";
+
+/// The name of a Haskell module if none is given (ours).
+const USUAL_MODULE: &str = "Grammar";
+
 /// How findings are printed.
 #[derive(Clone, Copy)]
 pub enum Findings {
@@ -175,6 +183,11 @@ pub enum Request<'m, 'a> {
     Sets {
         grammar: &'a str,
     },
+    /// Print the grammar as a Haskell module with this name, which may be none.
+    Haskell {
+        grammar: &'a str,
+        module: &'a str,
+    },
 }
 
 /// The program's command line. Its texts call the program `pgw`, whatever its file is called. Fails where memory runs out.
@@ -214,7 +227,8 @@ fn with_printing_commands<'a>(
     program: Result<Command<'a>, AllocError>,
 ) -> Result<Command<'a>, AllocError> {
     let program = with_command(program, print_command(alloc));
-    with_command(program, sets_command(alloc))
+    let program = with_command(program, sets_command(alloc));
+    with_command(program, haskell_command(alloc))
 }
 
 /// Adds a command, if there was memory for both. The calls that add commands can't fail, which keeps the proofs there short.
@@ -456,6 +470,21 @@ fn sets_command<'a>(alloc: Global) -> Result<Command<'a>, AllocError> {
     bare(alloc, "sets", about, HELP_OF_SETS).arg(file(alloc, "grammar", GRAMMAR))
 }
 
+fn haskell_command<'a>(alloc: Global) -> Result<Command<'a>, AllocError> {
+    let about = "Prints a grammar as a Haskell module over Text.Parsec";
+    let command = bare(alloc, "haskell", about, HELP_OF_HASKELL).arg(module(alloc));
+    with_arg(command, file(alloc, "grammar", GRAMMAR))
+}
+
+/// The word that names a module.
+fn module<'a>(alloc: Global) -> Arg<'a> {
+    Arg::new(alloc, "module")
+        .long("module")
+        .value_name("NAME")
+        .action(ArgAction::Set)
+        .help("The module's name; Grammar by default")
+}
+
 /// A word that names a file and is required.
 fn file<'a>(alloc: Global, id: &'a str, help: &'a str) -> Arg<'a> {
     Arg::new(alloc, id)
@@ -489,6 +518,7 @@ pub fn request_of<'m, 'a>(matches: &'m ArgMatches<'a>) -> Option<Request<'m, 'a>
         "replay" => replay_request(found),
         "print" => print_request(found),
         "sets" => sets_request(found),
+        "haskell" => haskell_request(found),
         _ => None,
     }
 }
@@ -583,5 +613,12 @@ fn print_request<'m, 'a>(found: &'m ArgMatches<'a>) -> Option<Request<'m, 'a>> {
 fn sets_request<'m, 'a>(found: &'m ArgMatches<'a>) -> Option<Request<'m, 'a>> {
     Some(Request::Sets {
         grammar: found.get_str("grammar")?,
+    })
+}
+
+fn haskell_request<'m, 'a>(found: &'m ArgMatches<'a>) -> Option<Request<'m, 'a>> {
+    Some(Request::Haskell {
+        grammar: found.get_str("grammar")?,
+        module: found.get_str("module").unwrap_or(USUAL_MODULE),
     })
 }

@@ -211,6 +211,7 @@ fn push_alternatives(
     } else {
         take_away(forms, last.taken, &mut draft);
     }
+    draft.whole()?;
     if has_some {
         push_draft(drafts, draft)?;
     }

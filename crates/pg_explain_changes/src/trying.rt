@@ -54,6 +54,7 @@ fn push_guarded(
             is_guarded = true;
         }
     }
+    draft.whole()?;
     if is_guarded {
         push_draft(drafts, draft)?;
     }

@@ -107,6 +107,14 @@ impl Draft {
         }
     }
 
+    /// Fails where memory ran out while the draft was written.
+    pub fn whole(&self) -> Result<(), AllocError> {
+        if self.is_short {
+            return Err(AllocError);
+        }
+        Ok(())
+    }
+
     /// Remembers whether memory ran out.
     fn note(&mut self, has_run_out: bool) {
         self.is_short = self.is_short || has_run_out;
@@ -161,9 +169,7 @@ fn place_in(edits: &[Edit], first: usize) -> usize {
 
 /// Adds the draft to the list if it has an edit. Fails where memory runs out, now or while the draft was written.
 pub fn push_draft(drafts: &mut Vec<Draft>, draft: Draft) -> Result<(), AllocError> {
-    if draft.is_short {
-        return Err(AllocError);
-    }
+    draft.whole()?;
     if !draft.edits.is_empty() {
         drafts.push(draft)?;
     }

@@ -6,3 +6,4 @@ pub mod Fitting
 pub mod Spelled
 pub mod Unique
 pub mod Refused
+pub mod NodeSpans

@@ -11,7 +11,8 @@ ghost use Rattle.pg_grammar_value.specs.Fits.{Fits};
 ghost use Rattle.pg_grammar_value.specs.Grammar.{Grammar};
 ghost use Rattle.pg_file_making.specs.Spells.{SpellsWithinLimits, SpelledWithinDepth};
 ghost use Rattle.pg_table.specs.Tables.{initial, whole, ComesFrom};
-ghost use Rattle.pg_file.specs.Syntax.{IsSyntaxOf, IsReadFrom};
+ghost use Rattle.pg_file_making.specs.Spans.{items_spans};
+ghost use Rattle.pg_file.specs.Syntax.{AreSpansOf, IsSyntaxOf, IsReadFrom};
 ghost use Rattle.pg_file.specs.Answers.{IsAnswered, IsFault};
 ghost use Rattle.pg_file.specs.Refusals.{IsBadAt, IsErrorAt, IsNotUtf8After, IsRefusalOf, shown_error, shown_position};
 
@@ -57,7 +58,8 @@ pub fn read_placed(
 ) -> Result<PlacedGrammar, FileError>
     ensures ok { IfOk result (λ read. SpellsWithinLimits (offer_of registry.now) bytes.now read.grammar) }
     ensures fits { IfOk result (λ read. Fits (offer_of registry.now) read.grammar) }
-    ensures spans { IfOk result (λ read. length read.spans.items ≡ length read.grammar.nodes) }
+    ensures count { IfOk result (λ read. length read.spans.items ≡ length read.grammar.nodes) }
+    ensures spans { IfOk result (λ read. AreSpansOf (chars bytes.now) read.spans.items) }
     ensures only { (g : Grammar) → SpellsWithinLimits (offer_of registry.now) bytes.now g → IfOk result (λ read. read.grammar ≡ g) }
     ensures refused { (g : Grammar) → SpellsWithinLimits (offer_of registry.now) bytes.now g → IfErr result (λ e. e ≡ FileError.Memory) }
     ensures err { IfErr result (IsRefusalOf bytes.now) }
@@ -89,7 +91,8 @@ pub fn read_file(alloc: Global, bytes: &[u8], registry: &Registry) -> Result<Rea
     // The results beside it.
     ensures characters { IfOk result (λ read. read.characters.items ≡ chars bytes.now) }
     ensures syntax { IfOk result (λ read. IsSyntaxOf (chars bytes.now) read.syntax.lexemes.items read.syntax.items.items) }
-    ensures spans { IfOk result (λ read. length read.placed.spans.items ≡ length read.placed.grammar.nodes) }
+    ensures count { IfOk result (λ read. length read.placed.spans.items ≡ length read.placed.grammar.nodes) }
+    ensures spans { IfOk result (λ read. read.placed.spans.items ≡ items_spans read.syntax.items.items) }
     ensures initial { IfOk result (λ read. initial read.placed.grammar ≡ whole read.placed.table) }
     ensures comes { IfOk result (λ read. ComesFrom read.placed.grammar read.placed.table) }
 

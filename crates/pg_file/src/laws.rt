@@ -3,10 +3,13 @@
 //! A law is a function that does nothing when it runs. Its clause is the law, and calling the function gives the clause.
 
 ghost use Rattle.std.specs.Prelude.{◌≡◌, ℕ, List};
+ghost use Rattle.std.specs.List.{AllByRecursion};
 ghost use Rattle.pg_pred.specs.Offer.{Offer};
 ghost use Rattle.pg_grammar_value.specs.Grammar.{Grammar};
 ghost use Rattle.pg_file_print.specs.Printed.{printed, PrintKeepsLimits};
+ghost use Rattle.pg_file_items.specs.declared.span.Span.{Span};
 ghost use Rattle.pg_file_making.specs.Spells.{Spells, SpellsWithinLimits};
+ghost use Rattle.pg_file.specs.Syntax.{AreSpansOf, IsSpanOfForm};
 
 /// The law that a file spells at most one grammar.
 pub fn files_spell_one_grammar()
@@ -22,4 +25,9 @@ pub fn prints_spell_the_grammar()
 /// returns exactly the grammar that was printed, unless memory runs out.
 pub fn prints_are_read_again()
     ensures { (offer : Offer) (bytes : List ℕ) (g : Grammar) → Spells offer bytes g → PrintKeepsLimits g → SpellsWithinLimits offer (printed g) g }
+{}
+
+/// The law that each span that `read_placed` returns has the characters of a form, from its word to its closing parenthesis, or of a name.
+pub fn spans_are_those_of_forms()
+    ensures { (characters : List ℕ) (spans : List Span) → AreSpansOf characters spans → AllByRecursion (IsSpanOfForm characters) spans }
 {}

@@ -14,6 +14,9 @@ mod syntax;
 
 pub use file::{ReadFile, read, read_file, read_placed};
 pub use file_fault::{FaultKind, FileError, FileFault};
-pub use laws::{files_spell_one_grammar, prints_are_read_again, prints_spell_the_grammar};
+pub use laws::{
+    files_spell_one_grammar, prints_are_read_again, prints_spell_the_grammar,
+    spans_are_those_of_forms,
+};
 pub use printing::print;
 pub use syntax::Syntax;

@@ -8,6 +8,7 @@ ghost use Rattle.pg_file_making.specs.Spells.{SpelledWithinDepth};
 ghost use Rattle.pg_file_tokens.specs.View.{is_bad_at, tokens_of};
 ghost use Rattle.pg_file_items.specs.Entries.{Entry, entries_of};
 ghost use Rattle.pg_file_parser.specs.Items.{AreItems, OnlyItems};
+ghost use Rattle.pg_file_parser.specs.Places.{AreItemsInPlace};
 ghost use Rattle.pg_file.specs.Syntax.{IsSyntaxOf};
 ghost use Rattle.pg_file.specs.Answers.{IsFault};
 ghost use Rattle.pg_file.specs.Refusals.{IsBadAt, IsErrorAt};
@@ -19,10 +20,18 @@ use pg_file_tokens::{Lexeme, lex};
 use std::alloc::Global;
 
 /// The tokens of a file, and the items that they spell.
-#[derive(Drop)]
 pub struct Syntax {
     pub lexemes: Vec<Lexeme>,
     pub items: Vec<Item>,
+}
+
+// Written out, so that the crates above needn't prove again how each part is dropped.
+impl Drop for Syntax {
+    fn drop(self) {
+        let Syntax { lexemes, items } = self;
+        drop(lexemes);
+        drop(items);
+    }
 }
 
 /// The tokens and the items of a file with these characters.
@@ -45,6 +54,7 @@ pub fn syntax_of(alloc: Global, characters: &[char]) -> Result<Syntax, ReadError
 fn items_of(alloc: Global, lexemes: &[Lexeme]) -> Result<Vec<Item>, ReadError>
     ensures items { IfOk result (λ items. AreItems (tokens_of lexemes.now) (entries_of items.items)) }
     ensures only { IfOk result (λ items. OnlyItems (tokens_of lexemes.now) (entries_of items.items)) }
+    ensures places { IfOk result (λ items. AreItemsInPlace lexemes.now items.items) }
     ensures refused { IfErr result (λ e. IsFault e → (entries : List Entry) → AreItems (tokens_of lexemes.now) entries → ⊥) }
     ensures err { IfErr result (IsErrorAt (λ place. list_any (is_bad_at place) lexemes.now ≡ true)) }
 {

@@ -1,6 +1,6 @@
 //! The places of forms in a grammar file.
 //!
-//! Findings about a form are shown there. Nothing is proved about spans; they are tested.
+//! Findings about a form are shown there. `pg_file_parser` proves which characters they are.
 
 /// The characters of a form in the file, counted from 0.
 #[derive(Clone, Copy, PartialEq, Eq)]

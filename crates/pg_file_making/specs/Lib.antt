@@ -1,2 +1,3 @@
 pub mod Spells
 pub mod Making
+pub mod Spans

@@ -3,10 +3,11 @@
 //! A maker knows class items by number, so the names of those it has received are kept beside it. A refusal means that no grammar can be made of the parts
 //! received and this item. Which name is at fault is known before (`names`).
 
-ghost use Rattle.std.specs.Prelude.{◌≡◌, ◌+◌, ◌↔◌, ◌<◌, ◌≤◌, length, None, IfOk, OnOk, IsErrOf, IfSome, IsSome};
+ghost use Rattle.std.specs.Prelude.{◌≡◌, ◌+◌, ◌++◌, ◌↔◌, ◌<◌, ◌≤◌, length, None, IfOk, OnOk, IsErrOf, IfSome, IsSome};
 ghost use Rattle.pg_pred.specs.Offer.{offer_of};
 ghost use Rattle.pg_grammar.specs.Made.{with_initial, with_start};
 ghost use Rattle.pg_file_meaning.specs.Bodies.{bases_of};
+ghost use Rattle.pg_file_meaning.specs.Spans.{spans_of, value_spans};
 ghost use Rattle.pg_file_items.specs.Entries as entries;
 ghost use Rattle.pg_file_items.specs.Entries.{forms_of};
 ghost use Rattle.pg_file_making.specs.Spells.{made_classes};
@@ -199,6 +200,7 @@ pub fn rule_item(
     ensures made { OnOk result (maker.new ≡ with_entry (offer_of registry.now) maker.old (entries.rule rule.now.name.now (forms_of rule.now.body.now))) }
     ensures follows { OnOk result (MayFollow (offer_of registry.now) maker.old (entries.rule rule.now.name.now (forms_of rule.now.body.now))) }
     ensures forms { OnOk result (length spans.new.items ≡ length maker.new.forms) }
+    ensures spans { OnOk result (spans.new.items ≡ spans.old.items ++ value_spans rule.now.body.now) }
     ensures refused { IsErrOf result MakingError.Refused → LeadsNowhere (offer_of registry.now) maker.old (entries.rule rule.now.name.now (forms_of rule.now.body.now)) }
 {
     let placed = body_meant(alloc, registry, classes, rule.body)?;
@@ -216,7 +218,8 @@ fn without_spans(
     spans: &mut Vec<Span>,
 ) -> Result<Vec<BaseForm>, AllocError>
     ensures forms { IfOk result (λ forms. forms.items ≡ bases_of body.items) }
-    ensures spans { OnOk result (length spans.new.items ≡ length spans.old.items + length body.items) }
+    ensures count { OnOk result (length spans.new.items ≡ length spans.old.items + length body.items) }
+    ensures spans { OnOk result (spans.new.items ≡ spans.old.items ++ spans_of body.items) }
 {
     let mut forms = Vec::new(alloc);
     for placed in body {

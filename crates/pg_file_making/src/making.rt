@@ -3,11 +3,12 @@
 //! The names of each item are looked up, and it is given to a maker, in file order; the spans of the base forms are kept beside it. If the items don't make a
 //! grammar, they are refused as a whole, and the first fault of a name is reported. The limits are checked before, so the maker refuses no item for its size.
 
-ghost use Rattle.std.specs.Prelude.{◌≡◌, ◌+◌, length, IfOk, IfErr, OnOk, IsErrOf};
+ghost use Rattle.std.specs.Prelude.{◌≡◌, ◌+◌, ◌++◌, length, IfOk, IfErr, OnOk, IsErrOf};
 ghost use Rattle.pg_pred.specs.Offer.{offer_of};
 ghost use Rattle.pg_table.specs.Tables.{initial, whole, ComesFrom};
 ghost use Rattle.pg_file_items.specs.Entries.{entry_of, entries_of};
 ghost use Rattle.pg_file_making.specs.Spells.{made_classes};
+ghost use Rattle.pg_file_making.specs.Spans.{item_spans, items_spans};
 ghost use Rattle.pg_file_making.specs.Making.{with_entry, MayFollow, LeadsNowhere, IsProperEntry, AreProperEntries, IsGrammarOfEntries, MakeNoGrammar, IsRefusal};
 
 use crate::handing::{
@@ -45,7 +46,8 @@ pub fn grammar_of(
 ) -> Result<PlacedGrammar, GrammarError>
     requires { AreProperEntries (entries_of items.now) }
     ensures ok { IfOk result (λ made. IsGrammarOfEntries (offer_of registry.now) (entries_of items.now) made.grammar) }
-    ensures spans { IfOk result (λ made. length made.spans.items ≡ length made.grammar.nodes) }
+    ensures count { IfOk result (λ made. length made.spans.items ≡ length made.grammar.nodes) }
+    ensures spans { IfOk result (λ made. made.spans.items ≡ items_spans items.now) }
     ensures initial { IfOk result (λ made. initial made.grammar ≡ whole made.table) }
     ensures comes { IfOk result (λ made. ComesFrom made.grammar made.table) }
     ensures refused { IfErr result (λ e. IsRefusal e → MakeNoGrammar (offer_of registry.now) (entries_of items.now)) }
@@ -67,7 +69,8 @@ fn made_of(
 ) -> Result<PlacedGrammar, MakingError>
     requires { AreProperEntries (entries_of items.now) }
     ensures ok { IfOk result (λ made. IsGrammarOfEntries (offer_of registry.now) (entries_of items.now) made.grammar) }
-    ensures spans { IfOk result (λ made. length made.spans.items ≡ length made.grammar.nodes) }
+    ensures count { IfOk result (λ made. length made.spans.items ≡ length made.grammar.nodes) }
+    ensures spans { IfOk result (λ made. made.spans.items ≡ items_spans items.now) }
     ensures initial { IfOk result (λ made. initial made.grammar ≡ whole made.table) }
     ensures comes { IfOk result (λ made. ComesFrom made.grammar made.table) }
     ensures refused { IsErrOf result MakingError.Refused → MakeNoGrammar (offer_of registry.now) (entries_of items.now) }
@@ -96,6 +99,7 @@ fn made_of(
 
 /// Gives an item to a maker. The names of the maker's class items and the spans of its base forms are kept beside it. Refused if the item can't follow the
 /// parts received before, or no grammar can be made of both.
+#[tactic(auto, using(crate::proofs::MakingLemmas::Turns::no_more_spans))]
 fn hand_in(
     alloc: Global,
     registry: &Registry,
@@ -111,6 +115,7 @@ fn hand_in(
     ensures follows { OnOk result (MayFollow (offer_of registry.now) maker.old (entry_of item.now)) }
     ensures names { OnOk result (classes.new.items ≡ made_classes maker.new) }
     ensures forms { OnOk result (length spans.new.items ≡ length maker.new.forms) }
+    ensures spans { OnOk result (spans.new.items ≡ spans.old.items ++ item_spans item.now) }
     ensures refused { IsErrOf result MakingError.Refused → LeadsNowhere (offer_of registry.now) maker.old (entry_of item.now) }
 {
     match item {

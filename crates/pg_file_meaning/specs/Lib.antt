@@ -1,3 +1,4 @@
 pub mod Names
 pub mod Meaning
 pub mod Bodies
+pub mod Spans

@@ -8,6 +8,7 @@ ghost use Rattle.std.specs.Global.{Vec};
 ghost use Rattle.pg_file_items.specs.Joined as spec;
 ghost use Rattle.pg_file_meaning.specs.Bodies.{bases_of, all_bases_of};
 ghost use Rattle.pg_file_meaning.specs.Meaning as meaning;
+ghost use Rattle.pg_file_meaning.specs.Spans.{all_spans_of, before_spans, between_spans, one_spans, optional_spans, separated_spans, some_spans, spans_of, two_spans, whole_spans};
 
 use pg_file_items::{OneForm, SomeForm, Span, TwoForm};
 use pg_grammar_form::{Around, BaseForm, Form, NextForm};
@@ -23,7 +24,8 @@ pub struct PlacedBase {
 
 /// The body of one base form.
 pub fn single(alloc: Global, form: BaseForm, span: Span) -> Result<Vec<PlacedBase>, AllocError>
-    ensures { IfOk result (λ body. bases_of body.items ≡ form ∷ []) }
+    ensures forms { IfOk result (λ body. bases_of body.items ≡ form ∷ []) }
+    ensures spans { IfOk result (λ body. spans_of body.items ≡ span ∷ []) }
 {
     Ok(vec![in alloc; PlacedBase { form, span }]?)
 }
@@ -34,7 +36,8 @@ pub fn before_all(
     span: Span,
     body: Vec<PlacedBase>,
 ) -> Result<Vec<PlacedBase>, AllocError>
-    ensures { IfOk result (λ whole. bases_of whole.items ≡ form ∷ bases_of body.items) }
+    ensures forms { IfOk result (λ whole. bases_of whole.items ≡ form ∷ bases_of body.items) }
+    ensures spans { IfOk result (λ whole. spans_of whole.items ≡ span ∷ spans_of body.items) }
 {
     let mut whole = body;
     whole.insert(0, PlacedBase { form, span })?;
@@ -43,7 +46,8 @@ pub fn before_all(
 
 /// Joins the bodies, one after another.
 pub fn joined(alloc: Global, bodies: Vec<Vec<PlacedBase>>) -> Result<Vec<PlacedBase>, AllocError>
-    ensures { IfOk result (λ all. bases_of all.items ≡ spec.joined (all_bases_of bodies.items)) }
+    ensures forms { IfOk result (λ all. bases_of all.items ≡ spec.joined (all_bases_of bodies.items)) }
+    ensures spans { IfOk result (λ all. spans_of all.items ≡ spec.joined (all_spans_of bodies.items)) }
 {
     let mut all = Vec::new(alloc);
     for body in bodies {
@@ -55,7 +59,8 @@ pub fn joined(alloc: Global, bodies: Vec<Vec<PlacedBase>>) -> Result<Vec<PlacedB
 
 /// A copy of the body in memory of its own.
 fn copied(alloc: Global, body: &[PlacedBase]) -> Result<Vec<PlacedBase>, AllocError>
-    ensures { IfOk result (λ copies. bases_of copies.items ≡ bases_of body.now) }
+    ensures forms { IfOk result (λ copies. bases_of copies.items ≡ bases_of body.now) }
+    ensures spans { IfOk result (λ copies. spans_of copies.items ≡ spans_of body.now) }
 {
     let mut copies = Vec::new(alloc);
     for placed in body {
@@ -73,7 +78,8 @@ pub fn seq_of(
     span: Span,
     bodies: Vec<Vec<PlacedBase>>,
 ) -> Result<Vec<PlacedBase>, AllocError>
-    ensures { IfOk result (λ body. bases_of body.items ≡ meaning.seq_of (all_bases_of bodies.items)) }
+    ensures forms { IfOk result (λ body. bases_of body.items ≡ meaning.seq_of (all_bases_of bodies.items)) }
+    ensures spans { IfOk result (λ body. spans_of body.items ≡ before_spans span (all_spans_of bodies.items)) }
 {
     let count = bodies.len();
     let all = joined(alloc, bodies)?;
@@ -86,7 +92,8 @@ fn choice_of(
     span: Span,
     bodies: Vec<Vec<PlacedBase>>,
 ) -> Result<Vec<PlacedBase>, AllocError>
-    ensures { IfOk result (λ body. bases_of body.items ≡ meaning.choice_of (all_bases_of bodies.items)) }
+    ensures forms { IfOk result (λ body. bases_of body.items ≡ meaning.choice_of (all_bases_of bodies.items)) }
+    ensures spans { IfOk result (λ body. spans_of body.items ≡ before_spans span (all_spans_of bodies.items)) }
 {
     let count = bodies.len();
     let all = joined(alloc, bodies)?;
@@ -99,7 +106,8 @@ fn whole_of(
     span: Span,
     bodies: Vec<Vec<PlacedBase>>,
 ) -> Result<Vec<PlacedBase>, AllocError>
-    ensures { IfOk result (λ body. bases_of body.items ≡ meaning.whole_of (all_bases_of bodies.items)) }
+    ensures forms { IfOk result (λ body. bases_of body.items ≡ meaning.whole_of (all_bases_of bodies.items)) }
+    ensures spans { IfOk result (λ body. spans_of body.items ≡ whole_spans span (all_spans_of bodies.items)) }
 {
     if bodies.len() == 1 {
         joined(alloc, bodies)
@@ -115,7 +123,8 @@ pub fn some_of(
     span: Span,
     bodies: Vec<Vec<PlacedBase>>,
 ) -> Result<Vec<PlacedBase>, AllocError>
-    ensures { IfOk result (λ body. bases_of body.items ≡ meaning.some_of form (all_bases_of bodies.items)) }
+    ensures forms { IfOk result (λ body. bases_of body.items ≡ meaning.some_of form (all_bases_of bodies.items)) }
+    ensures spans { IfOk result (λ body. spans_of body.items ≡ some_spans form span (all_spans_of bodies.items)) }
 {
     match form {
         SomeForm::Choice => choice_of(alloc, span, bodies),
@@ -132,21 +141,24 @@ pub fn some_of(
 
 /// A body whose trees are dropped.
 fn skipped(span: Span, body: Vec<PlacedBase>) -> Result<Vec<PlacedBase>, AllocError>
-    ensures { IfOk result (λ whole. bases_of whole.items ≡ meaning.skipped (bases_of body.items)) }
+    ensures forms { IfOk result (λ whole. bases_of whole.items ≡ meaning.skipped (bases_of body.items)) }
+    ensures spans { IfOk result (λ whole. spans_of whole.items ≡ span ∷ spans_of body.items) }
 {
     before_all(Form::Around(Around::Skip, NextForm), span, body)
 }
 
 /// A body as often as it succeeds.
 fn repeated(span: Span, body: Vec<PlacedBase>) -> Result<Vec<PlacedBase>, AllocError>
-    ensures { IfOk result (λ whole. bases_of whole.items ≡ meaning.repeated (bases_of body.items)) }
+    ensures forms { IfOk result (λ whole. bases_of whole.items ≡ meaning.repeated (bases_of body.items)) }
+    ensures spans { IfOk result (λ whole. spans_of whole.items ≡ span ∷ spans_of body.items) }
 {
     before_all(Form::Many(NextForm), span, body)
 }
 
 /// A body, or nothing.
 fn optional(alloc: Global, span: Span, body: Vec<PlacedBase>) -> Result<Vec<PlacedBase>, AllocError>
-    ensures { IfOk result (λ whole. bases_of whole.items ≡ meaning.optional (bases_of body.items)) }
+    ensures forms { IfOk result (λ whole. bases_of whole.items ≡ meaning.optional (bases_of body.items)) }
+    ensures spans { IfOk result (λ whole. spans_of whole.items ≡ optional_spans span (spans_of body.items)) }
 {
     let nothing = seq_of(alloc, span, Vec::new(alloc))?;
     let bodies = vec![in alloc; body, nothing]?;
@@ -160,7 +172,8 @@ fn separated(
     body: Vec<PlacedBase>,
     separator: Vec<PlacedBase>,
 ) -> Result<Vec<PlacedBase>, AllocError>
-    ensures { IfOk result (λ whole. bases_of whole.items ≡ meaning.separated (bases_of body.items) (bases_of separator.items)) }
+    ensures forms { IfOk result (λ whole. bases_of whole.items ≡ meaning.separated (bases_of body.items) (bases_of separator.items)) }
+    ensures spans { IfOk result (λ whole. spans_of whole.items ≡ separated_spans span (spans_of body.items) (spans_of separator.items)) }
 {
     let again = copied(alloc, body.as_slice())?;
     let round = vec![in alloc; skipped(span, separator)?, again]?;
@@ -176,7 +189,8 @@ pub fn one_of(
     span: Span,
     body: Vec<PlacedBase>,
 ) -> Result<Vec<PlacedBase>, AllocError>
-    ensures { IfOk result (λ whole. bases_of whole.items ≡ meaning.one_of form (bases_of body.items)) }
+    ensures forms { IfOk result (λ whole. bases_of whole.items ≡ meaning.one_of form (bases_of body.items)) }
+    ensures spans { IfOk result (λ whole. spans_of whole.items ≡ one_spans form span (spans_of body.items)) }
 {
     match form {
         OneForm::Many => repeated(span, body),
@@ -199,7 +213,8 @@ pub fn two_of(
     body: Vec<PlacedBase>,
     separator: Vec<PlacedBase>,
 ) -> Result<Vec<PlacedBase>, AllocError>
-    ensures { IfOk result (λ whole. bases_of whole.items ≡ meaning.two_of form (bases_of body.items) (bases_of separator.items)) }
+    ensures forms { IfOk result (λ whole. bases_of whole.items ≡ meaning.two_of form (bases_of body.items) (bases_of separator.items)) }
+    ensures spans { IfOk result (λ whole. spans_of whole.items ≡ two_spans form span (spans_of body.items) (spans_of separator.items)) }
 {
     match form {
         TwoForm::SepBy => {
@@ -222,7 +237,8 @@ pub fn between_of(
     after: Vec<PlacedBase>,
     inner: Vec<PlacedBase>,
 ) -> Result<Vec<PlacedBase>, AllocError>
-    ensures { IfOk result (λ whole. bases_of whole.items ≡ meaning.between_of (bases_of before.items) (bases_of after.items) (bases_of inner.items)) }
+    ensures forms { IfOk result (λ whole. bases_of whole.items ≡ meaning.between_of (bases_of before.items) (bases_of after.items) (bases_of inner.items)) }
+    ensures spans { IfOk result (λ whole. spans_of whole.items ≡ between_spans span (spans_of before.items) (spans_of after.items) (spans_of inner.items)) }
 {
     let bodies = vec![in alloc; skipped(span, before)?, inner, skipped(span, after)?]?;
     seq_of(alloc, span, bodies)

@@ -14,6 +14,7 @@ ghost use Rattle.pg_grammar_form.specs.declared.form.Around.TheVariants as aroun
 ghost use Rattle.pg_file_meaning.specs.Names.{builder_named, BuilderIsKnown, ClassIsKnown, FormIsKnown};
 ghost use Rattle.pg_file_meaning.specs.Meaning as meaning;
 ghost use Rattle.pg_file_items.specs.Sizes.{part_count};
+ghost use Rattle.pg_file_meaning.specs.Spans.{all_spans_of, before_spans, between_spans, one_spans, some_spans, spans_at, spans_of, spans_of_form, two_spans, value_spans};
 ghost use Rattle.pg_file_meaning.specs.Bodies.{bases_of, all_bases_of, body_at, body_of_form, body_meant, parts_meant};
 
 use crate::body::{PlacedBase, before_all, between_of, one_of, seq_of, single, some_of, two_of};
@@ -38,6 +39,7 @@ pub fn body_meant(
     forms: &[PlacedForm],
 ) -> Result<Vec<PlacedBase>, MakingError>
     ensures meant { IfOk result (λ body. bases_of body.items ≡ body_meant (offer_of registry.now) classes.now (forms_of forms.now)) }
+    ensures spans { IfOk result (λ body. spans_of body.items ≡ value_spans forms.now) }
     ensures known { OnOk result (AllByRecursion (FormIsKnown (offer_of registry.now) classes.now) (forms_of forms.now)) }
     ensures refused { IsErrOf result MakingError.Refused → AllByRecursion (FormIsKnown (offer_of registry.now) classes.now) (forms_of forms.now) → ⊥ }
 {
@@ -54,6 +56,7 @@ pub fn body_meant(
 /// Takes the first waiting body out; the empty one if there is none.
 fn next_body(alloc: Global, waiting: &mut VecDeque<Vec<PlacedBase>>) -> Vec<PlacedBase>
     ensures first { bases_of result.items ≡ body_at 0 (all_bases_of waiting.old.items) }
+    ensures spans { spans_of result.items ≡ spans_at 0 (all_spans_of waiting.old.items) }
     ensures rest { waiting.new.items ≡ drop 1 waiting.old.items }
 {
     match waiting.pop_front() {
@@ -89,6 +92,7 @@ fn around(
     waiting: &mut VecDeque<Vec<PlacedBase>>,
 ) -> Result<Vec<PlacedBase>, AllocError>
     ensures body { IfOk result (λ body. bases_of body.items ≡ form ∷ body_at 0 (all_bases_of waiting.old.items)) }
+    ensures spans { IfOk result (λ body. spans_of body.items ≡ span ∷ spans_at 0 (all_spans_of waiting.old.items)) }
     ensures rest { OnOk result (waiting.new.items ≡ drop 1 waiting.old.items) }
 {
     let body = next_body(alloc, waiting);
@@ -101,6 +105,7 @@ fn next_two(
     waiting: &mut VecDeque<Vec<PlacedBase>>,
 ) -> Result<Vec<PlacedBase>, AllocError>
     ensures bodies { IfOk result (λ both. bases_of both.items ≡ body_at 0 (all_bases_of waiting.old.items) ++ body_at 1 (all_bases_of waiting.old.items)) }
+    ensures spans { IfOk result (λ both. spans_of both.items ≡ spans_at 0 (all_spans_of waiting.old.items) ++ spans_at 1 (all_spans_of waiting.old.items)) }
     ensures rest { OnOk result (waiting.new.items ≡ drop 2 waiting.old.items) }
 {
     let mut both = next_body(alloc, waiting);
@@ -110,7 +115,7 @@ fn next_two(
 }
 
 /// A `seq` of the first `count` waiting bodies.
-#[tactic(auto, using(crate::proofs::MeaningLemmas::Placed::bases_taken))]
+#[tactic(auto, using(crate::proofs::MeaningLemmas::Placed::bases_taken, crate::proofs::MeaningLemmas::Placed::spans_taken))]
 fn seq_body(
     alloc: Global,
     count: usize,
@@ -118,6 +123,7 @@ fn seq_body(
     waiting: &mut VecDeque<Vec<PlacedBase>>,
 ) -> Result<Vec<PlacedBase>, MakingError>
     ensures body { IfOk result (λ body. bases_of body.items ≡ meaning.seq_of (take count (all_bases_of waiting.old.items))) }
+    ensures spans { IfOk result (λ body. spans_of body.items ≡ before_spans span (take count (all_spans_of waiting.old.items))) }
     ensures rest { OnOk result (waiting.new.items ≡ drop count waiting.old.items) }
     ensures memory { IsErrOf result MakingError.Refused → ⊥ }
 {
@@ -126,7 +132,7 @@ fn seq_body(
 }
 
 /// A form of the first `count` waiting bodies.
-#[tactic(auto, using(crate::proofs::MeaningLemmas::Placed::bases_taken))]
+#[tactic(auto, using(crate::proofs::MeaningLemmas::Placed::bases_taken, crate::proofs::MeaningLemmas::Placed::spans_taken))]
 fn some_body(
     alloc: Global,
     form: SomeForm,
@@ -135,6 +141,7 @@ fn some_body(
     waiting: &mut VecDeque<Vec<PlacedBase>>,
 ) -> Result<Vec<PlacedBase>, MakingError>
     ensures body { IfOk result (λ body. bases_of body.items ≡ meaning.some_of form (take count (all_bases_of waiting.old.items))) }
+    ensures spans { IfOk result (λ body. spans_of body.items ≡ some_spans form span (take count (all_spans_of waiting.old.items))) }
     ensures rest { OnOk result (waiting.new.items ≡ drop count waiting.old.items) }
     ensures memory { IsErrOf result MakingError.Refused → ⊥ }
 {
@@ -150,6 +157,7 @@ fn one_body(
     waiting: &mut VecDeque<Vec<PlacedBase>>,
 ) -> Result<Vec<PlacedBase>, MakingError>
     ensures body { IfOk result (λ body. bases_of body.items ≡ meaning.one_of form (body_at 0 (all_bases_of waiting.old.items))) }
+    ensures spans { IfOk result (λ body. spans_of body.items ≡ one_spans form span (spans_at 0 (all_spans_of waiting.old.items))) }
     ensures rest { OnOk result (waiting.new.items ≡ drop 1 waiting.old.items) }
     ensures memory { IsErrOf result MakingError.Refused → ⊥ }
 {
@@ -165,6 +173,7 @@ fn two_body(
     waiting: &mut VecDeque<Vec<PlacedBase>>,
 ) -> Result<Vec<PlacedBase>, MakingError>
     ensures body { IfOk result (λ body. bases_of body.items ≡ meaning.two_of form (body_at 0 (all_bases_of waiting.old.items)) (body_at 1 (all_bases_of waiting.old.items))) }
+    ensures spans { IfOk result (λ body. spans_of body.items ≡ two_spans form span (spans_at 0 (all_spans_of waiting.old.items)) (spans_at 1 (all_spans_of waiting.old.items))) }
     ensures rest { OnOk result (waiting.new.items ≡ drop 2 waiting.old.items) }
     ensures memory { IsErrOf result MakingError.Refused → ⊥ }
 {
@@ -180,6 +189,7 @@ fn between_body(
     waiting: &mut VecDeque<Vec<PlacedBase>>,
 ) -> Result<Vec<PlacedBase>, MakingError>
     ensures body { IfOk result (λ body. bases_of body.items ≡ meaning.between_of (body_at 0 (all_bases_of waiting.old.items)) (body_at 1 (all_bases_of waiting.old.items)) (body_at 2 (all_bases_of waiting.old.items))) }
+    ensures spans { IfOk result (λ body. spans_of body.items ≡ between_spans span (spans_at 0 (all_spans_of waiting.old.items)) (spans_at 1 (all_spans_of waiting.old.items)) (spans_at 2 (all_spans_of waiting.old.items))) }
     ensures rest { OnOk result (waiting.new.items ≡ drop 3 waiting.old.items) }
     ensures memory { IsErrOf result MakingError.Refused → ⊥ }
 {
@@ -210,6 +220,7 @@ fn class_body(
     span: Span,
 ) -> Result<Vec<PlacedBase>, MakingError>
     ensures meant { IfOk result (λ body. bases_of body.items ≡ meaning.class_of form (parts_meant (offer_of registry.now) classes.now class.now) ∷ []) }
+    ensures spans { IfOk result (λ body. spans_of body.items ≡ span ∷ []) }
     ensures known { OnOk result (ClassIsKnown (offer_of registry.now) classes.now class.now) }
     ensures refused { IsErrOf result MakingError.Refused → ClassIsKnown (offer_of registry.now) classes.now class.now → ⊥ }
 {
@@ -227,6 +238,7 @@ fn chain_body(
     waiting: &mut VecDeque<Vec<PlacedBase>>,
 ) -> Result<Vec<PlacedBase>, MakingError>
     ensures meant { IfOk result (λ body. bases_of body.items ≡ meaning.chain_of side (builder_named (offer_of registry.now) builder.now) ∷ (body_at 0 (all_bases_of waiting.old.items) ++ body_at 1 (all_bases_of waiting.old.items))) }
+    ensures spans { IfOk result (λ body. spans_of body.items ≡ span ∷ (spans_at 0 (all_spans_of waiting.old.items) ++ spans_at 1 (all_spans_of waiting.old.items))) }
     ensures rest { OnOk result (waiting.new.items ≡ drop 2 waiting.old.items) }
     ensures known { OnOk result (BuilderIsKnown (offer_of registry.now) builder.now) }
     ensures refused { IsErrOf result MakingError.Refused → BuilderIsKnown (offer_of registry.now) builder.now → ⊥ }
@@ -246,6 +258,7 @@ fn expression_body(
     waiting: &mut VecDeque<Vec<PlacedBase>>,
 ) -> Result<Vec<PlacedBase>, MakingError>
     ensures meant { IfOk result (λ body. bases_of body.items ≡ form.Expression (meaning.builders_named (offer_of registry.now) builders.now.infix.now builders.now.prefix.now builders.now.postfix.now) (record {}) ∷ body_at 0 (all_bases_of waiting.old.items)) }
+    ensures spans { IfOk result (λ body. spans_of body.items ≡ span ∷ spans_at 0 (all_spans_of waiting.old.items)) }
     ensures rest { OnOk result (waiting.new.items ≡ drop 1 waiting.old.items) }
     ensures known { OnOk result (BuilderIsKnown (offer_of registry.now) builders.now.infix.now × BuilderIsKnown (offer_of registry.now) builders.now.prefix.now × BuilderIsKnown (offer_of registry.now) builders.now.postfix.now) }
     ensures refused { IsErrOf result MakingError.Refused → (BuilderIsKnown (offer_of registry.now) builders.now.infix.now × BuilderIsKnown (offer_of registry.now) builders.now.prefix.now × BuilderIsKnown (offer_of registry.now) builders.now.postfix.now) → ⊥ }
@@ -264,6 +277,7 @@ fn build_body(
     waiting: &mut VecDeque<Vec<PlacedBase>>,
 ) -> Result<Vec<PlacedBase>, MakingError>
     ensures meant { IfOk result (λ body. bases_of body.items ≡ form.Around (around.Build (builder_named (offer_of registry.now) builder.now) (encode_utf8_all symbol.now)) (record {}) ∷ body_at 0 (all_bases_of waiting.old.items)) }
+    ensures spans { IfOk result (λ body. spans_of body.items ≡ span ∷ spans_at 0 (all_spans_of waiting.old.items)) }
     ensures rest { OnOk result (waiting.new.items ≡ drop 1 waiting.old.items) }
     ensures known { OnOk result (BuilderIsKnown (offer_of registry.now) builder.now) }
     ensures refused { IsErrOf result MakingError.Refused → BuilderIsKnown (offer_of registry.now) builder.now → ⊥ }
@@ -279,6 +293,7 @@ fn build_body(
 /// The body of a string.
 fn string_body(alloc: Global, text: &Characters, span: Span) -> Result<Vec<PlacedBase>, MakingError>
     ensures body { IfOk result (λ body. bases_of body.items ≡ form.Leaf (leaf.String text.now) ∷ []) }
+    ensures spans { IfOk result (λ body. spans_of body.items ≡ span ∷ []) }
     ensures memory { IsErrOf result MakingError.Refused → ⊥ }
 {
     let form = Form::Leaf(Leaf::String(copied(alloc, text.as_slice())?));
@@ -288,6 +303,7 @@ fn string_body(alloc: Global, text: &Characters, span: Span) -> Result<Vec<Place
 /// The body of a word.
 fn word_body(alloc: Global, text: &Characters, span: Span) -> Result<Vec<PlacedBase>, MakingError>
     ensures body { IfOk result (λ body. bases_of body.items ≡ form.Leaf (leaf.Word text.now) ∷ []) }
+    ensures spans { IfOk result (λ body. spans_of body.items ≡ span ∷ []) }
     ensures memory { IsErrOf result MakingError.Refused → ⊥ }
 {
     let form = Form::Leaf(Leaf::Word(copied(alloc, text.as_slice())?));
@@ -297,6 +313,7 @@ fn word_body(alloc: Global, text: &Characters, span: Span) -> Result<Vec<PlacedB
 /// The body of a rule's name.
 fn rule_body(alloc: Global, text: &Characters, span: Span) -> Result<Vec<PlacedBase>, MakingError>
     ensures body { IfOk result (λ body. bases_of body.items ≡ form.Rule text.now ∷ []) }
+    ensures spans { IfOk result (λ body. spans_of body.items ≡ span ∷ []) }
     ensures memory { IsErrOf result MakingError.Refused → ⊥ }
 {
     let form = Form::Rule(copied(alloc, text.as_slice())?);
@@ -306,6 +323,7 @@ fn rule_body(alloc: Global, text: &Characters, span: Span) -> Result<Vec<PlacedB
 /// The body of the end of the text.
 fn end_body(alloc: Global, span: Span) -> Result<Vec<PlacedBase>, MakingError>
     ensures body { IfOk result (λ body. bases_of body.items ≡ form.Leaf leaf.EndOfText ∷ []) }
+    ensures spans { IfOk result (λ body. spans_of body.items ≡ span ∷ []) }
     ensures memory { IsErrOf result MakingError.Refused → ⊥ }
 {
     Ok(single(alloc, Form::Leaf(Leaf::EndOfText), span)?)
@@ -319,6 +337,7 @@ fn label_body(
     waiting: &mut VecDeque<Vec<PlacedBase>>,
 ) -> Result<Vec<PlacedBase>, MakingError>
     ensures body { IfOk result (λ body. bases_of body.items ≡ form.Around (around.Label message.now) (record {}) ∷ body_at 0 (all_bases_of waiting.old.items)) }
+    ensures spans { IfOk result (λ body. spans_of body.items ≡ span ∷ spans_at 0 (all_spans_of waiting.old.items)) }
     ensures rest { OnOk result (waiting.new.items ≡ drop 1 waiting.old.items) }
     ensures memory { IsErrOf result MakingError.Refused → ⊥ }
 {
@@ -335,6 +354,7 @@ fn body_of_form(
     waiting: &mut VecDeque<Vec<PlacedBase>>,
 ) -> Result<Vec<PlacedBase>, MakingError>
     ensures meant { IfOk result (λ body. bases_of body.items ≡ body_of_form (offer_of registry.now) classes.now placed.now.form (take (part_count placed.now.form) (all_bases_of waiting.old.items))) }
+    ensures spans { IfOk result (λ body. spans_of body.items ≡ spans_of_form placed.now.form placed.now.span (take (part_count placed.now.form) (all_spans_of waiting.old.items))) }
     ensures rest { OnOk result (waiting.new.items ≡ drop (part_count placed.now.form) waiting.old.items) }
     ensures known { OnOk result (FormIsKnown (offer_of registry.now) classes.now placed.now.form) }
     ensures refused { IsErrOf result MakingError.Refused → FormIsKnown (offer_of registry.now) classes.now placed.now.form → ⊥ }

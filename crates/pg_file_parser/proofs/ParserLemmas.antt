@@ -1,5 +1,6 @@
 -- What the parser's proofs share.
 pub mod Steps
+pub mod Rests
 pub mod Loop
 pub mod Parts
 pub mod Digits
@@ -8,6 +9,7 @@ pub mod Spelled
 pub mod Words
 pub mod ValueLists
 pub mod Values
+pub mod Covered
 pub mod ValuesFound
 pub mod Items
 pub mod ItemsFound

@@ -1,11 +1,12 @@
 -- The results of the parser's functions, without places.
-use Rattle.std.specs.Prelude.{◌≡◌, List, ◌∷◌, map, Option, Some, None, Result, Ok, Err}
+use Rattle.std.specs.Prelude.{◌≡◌, ◌+◌, ◌-◌, ◌^◌, ℕ, min, List, [], ◌∷◌, map, Option, Some, None, Result, Ok, Err}
 use Rattle.std.specs.Global.{Vec}
 use Rattle.std.specs.Borrow.{Bor}
 use Rattle.pg_file_items.specs.declared.written.WrittenPart.{WrittenPart}
 use Rattle.pg_file_items.specs.declared.written.WrittenForm.{WrittenForm}
 use Rattle.pg_file_tokens.specs.declared.token.Lexeme.{Lexeme}
 use Rattle.pg_file_items.specs.declared.item.PlacedForm.{PlacedForm}
+use Rattle.pg_file_items.specs.declared.span.Span.{Span}
 use Rattle.pg_file_parser.specs.declared.head.Form.{Form}
 use Rattle.pg_file_parser.specs.declared.error.SyntaxError.{SyntaxError}
 use Rattle.pg_file_parser.specs.declared.error.SyntaxError.TheVariants.{Memory, Fault}
@@ -27,6 +28,28 @@ classes_of classes = map (λ (c : Vec WrittenPart). c.items) classes
 -- a form and its parts
 abbrev pub body_of : Form → List WrittenForm
 body_of f = f.form ∷ forms_of f.parts.items
+
+-- ---- places
+
+-- the characters of each form
+abbrev pub spans_of : List PlacedForm → List Span
+spans_of forms = map (λ (f : PlacedForm). f.span) forms
+
+-- the place of the token at the front
+abbrev pub place_at : List Lexeme → Option ℕ
+place_at [] = None
+place_at (token ∷ others) = Some token.place
+
+-- the place after some characters that begin at a place; none is beyond the greatest number
+abbrev pub after_characters : ℕ → ℕ → ℕ
+after_characters first count = min (first + count) (2 ^ 64 - 1)
+
+-- the place after the mark at the front, which is one character
+abbrev pub after_mark_at : List Lexeme → ℕ
+after_mark_at [] = 0
+after_mark_at (mark ∷ others) = after_characters mark.place 1
+
+-- ---- errors
 
 -- an error is a fault of the file, not out of memory
 abbrev pub IsFault : SyntaxError → Type 0

@@ -4,10 +4,13 @@
 //! which parentheses may still nest is passed down, so the recursion ends at the limit. Consecutive `not`s are read in
 //! a loop, since only the file's length bounds their number. The places of names are noted from left to right.
 
+#![tactic(auto, using(crate::proofs::ParserLemmas::Rests::ends))]
+
 ghost use Rattle.std.specs.Prelude.{◌≡◌, [], ◌∷◌, length, IfOk};
 ghost use Rattle.pg_file_tokens.specs.declared.token.Mark.TheVariants.{Bar};
 ghost use Rattle.pg_file_tokens.specs.View.{tokens_of};
 ghost use Rattle.pg_file_items.specs.Joined as spec;
+ghost use Rattle.pg_file_parser.specs.Rests.{EndsWith};
 ghost use Rattle.pg_file_parser.specs.Given.{Gives, classes_of};
 ghost use Rattle.pg_file_parser.specs.Reading.{range_at, literal_atom_at, named_at, plain_at, atom_at, more_at, some_at, expressed, class_with, group_at, class_at};
 ghost use Rattle.pg_file_parser.specs.Reading as reading;
@@ -35,7 +38,8 @@ fn range<'a>(
     place: usize,
     tokens: &'a [Lexeme],
 ) -> Result<(WrittenPart, &'a [Lexeme]), SyntaxError>
-    ensures { Gives (λ x. (x.0 ∷ [], tokens_of x.1.now)) result (range_at text.now (tokens_of tokens.now)) }
+    ensures read { Gives (λ x. (x.0 ∷ [], tokens_of x.1.now)) result (range_at text.now (tokens_of tokens.now)) }
+    ensures rest { IfOk result (λ x. EndsWith tokens.now x.1.now) }
 {
     let low = range_end(text, place)?;
     let (text, place, rest) = literal(tokens)?;
@@ -48,7 +52,8 @@ fn range<'a>(
 
 /// A set or a range: a literal, or two with `..` between them.
 fn literal_part(alloc: Global, tokens: &[Lexeme]) -> Result<(WrittenPart, &[Lexeme]), SyntaxError>
-    ensures { Gives (λ x. (x.0 ∷ [], tokens_of x.1.now)) result (literal_atom_at (tokens_of tokens.now)) }
+    ensures read { Gives (λ x. (x.0 ∷ [], tokens_of x.1.now)) result (literal_atom_at (tokens_of tokens.now)) }
+    ensures rest { IfOk result (λ x. EndsWith tokens.now x.1.now) }
 {
     let (text, place, rest) = literal(tokens)?;
     match after_mark(rest, Mark::Dots) {
@@ -72,7 +77,8 @@ fn literal_atom(
     alloc: Global,
     tokens: &[Lexeme],
 ) -> Result<(Vec<WrittenPart>, &[Lexeme]), SyntaxError>
-    ensures { Gives (λ x. (x.0.items, tokens_of x.1.now)) result (literal_atom_at (tokens_of tokens.now)) }
+    ensures read { Gives (λ x. (x.0.items, tokens_of x.1.now)) result (literal_atom_at (tokens_of tokens.now)) }
+    ensures rest { IfOk result (λ x. EndsWith tokens.now x.1.now) }
 {
     let (part, rest) = literal_part(alloc, tokens)?;
     Ok((single(alloc, part)?, rest))
@@ -86,7 +92,8 @@ fn named<'a>(
     rest: &'a [Lexeme],
     names: &mut Vec<usize>,
 ) -> Result<(Vec<WrittenPart>, &'a [Lexeme]), SyntaxError>
-    ensures { Gives (λ x. (x.0.items, tokens_of x.1.now)) result (named_at text.now (tokens_of rest.now)) }
+    ensures read { Gives (λ x. (x.0.items, tokens_of x.1.now)) result (named_at text.now (tokens_of rest.now)) }
+    ensures rest { IfOk result (λ x. EndsWith rest.now x.1.now) }
 {
     let name = free_name(alloc, text, place)?;
     names.push(place)?;
@@ -95,14 +102,15 @@ fn named<'a>(
 
 /// An atom without `not`: a name, a class in parentheses, a set or a range.
 #[cycle(class)]
-#[tactic(auto, unfolding(crate::specs::Reading::plain_at))]
+#[tactic(auto, using(crate::proofs::ParserLemmas::Rests::ends), unfolding(crate::specs::Reading::plain_at))]
 fn plain_atom<'a>(
     alloc: Global,
     depth: usize,
     tokens: &'a [Lexeme],
     names: &mut Vec<usize>,
 ) -> Result<(Vec<WrittenPart>, &'a [Lexeme]), SyntaxError>
-    ensures { Gives (λ x. (x.0.items, tokens_of x.1.now)) result (plain_at (group_at depth) (tokens_of tokens.now)) }
+    ensures read { Gives (λ x. (x.0.items, tokens_of x.1.now)) result (plain_at (group_at depth) (tokens_of tokens.now)) }
+    ensures rest { IfOk result (λ x. EndsWith tokens.now x.1.now) }
 {
     let [first, rest @ ..] = tokens else {
         return Err(unexpected(tokens));
@@ -118,7 +126,7 @@ fn plain_atom<'a>(
 /// The class after an opening parenthesis at a place, and the closing parenthesis. F8 at the place if it nests too
 /// deep.
 #[cycle(class)]
-#[tactic(auto, unfolding(crate::specs::Reading::group_at))]
+#[tactic(auto, using(crate::proofs::ParserLemmas::Rests::ends), unfolding(crate::specs::Reading::group_at))]
 fn group<'a>(
     alloc: Global,
     depth: usize,
@@ -126,7 +134,8 @@ fn group<'a>(
     tokens: &'a [Lexeme],
     names: &mut Vec<usize>,
 ) -> Result<(Vec<WrittenPart>, &'a [Lexeme]), SyntaxError>
-    ensures { Gives (λ x. (x.0.items, tokens_of x.1.now)) result (group_at depth (tokens_of tokens.now)) }
+    ensures read { Gives (λ x. (x.0.items, tokens_of x.1.now)) result (group_at depth (tokens_of tokens.now)) }
+    ensures rest { IfOk result (λ x. EndsWith tokens.now x.1.now) }
 {
     if depth == 0 {
         return Err(SyntaxError::Fault(SyntaxFault::LimitPassed, Some(place)));
@@ -143,7 +152,8 @@ fn atom<'a>(
     tokens: &'a [Lexeme],
     names: &mut Vec<usize>,
 ) -> Result<(Vec<WrittenPart>, &'a [Lexeme]), SyntaxError>
-    ensures { Gives (λ x. (x.0.items, tokens_of x.1.now)) result (atom_at (group_at depth) (tokens_of tokens.now)) }
+    ensures read { Gives (λ x. (x.0.items, tokens_of x.1.now)) result (atom_at (group_at depth) (tokens_of tokens.now)) }
+    ensures rest { IfOk result (λ x. EndsWith tokens.now x.1.now) }
 {
     let mut parts = Vec::new(alloc);
     let mut rest = tokens;
@@ -165,7 +175,8 @@ fn more_atoms<'a>(
     tokens: &'a [Lexeme],
     names: &mut Vec<usize>,
 ) -> Result<(Vec<Vec<WrittenPart>>, &'a [Lexeme]), SyntaxError>
-    ensures { Gives (λ x. (classes_of x.0.items, tokens_of x.1.now)) result (more_at Bar (atom_at (group_at depth)) most (tokens_of tokens.now)) }
+    ensures read { Gives (λ x. (classes_of x.0.items, tokens_of x.1.now)) result (more_at Bar (atom_at (group_at depth)) most (tokens_of tokens.now)) }
+    ensures rest { IfOk result (λ x. EndsWith tokens.now x.1.now) }
 {
     let mut atoms = Vec::new(alloc);
     let mut rest = tokens;
@@ -182,14 +193,15 @@ fn more_atoms<'a>(
 
 /// One atom or more.
 #[cycle(class)]
-#[tactic(auto, using(crate::proofs::ParserLemmas::Loop::tokens_len), unfolding(crate::specs::Reading::some_at))]
+#[tactic(auto, using(crate::proofs::ParserLemmas::Rests::ends, crate::proofs::ParserLemmas::Loop::tokens_len), unfolding(crate::specs::Reading::some_at))]
 fn atoms<'a>(
     alloc: Global,
     depth: usize,
     tokens: &'a [Lexeme],
     names: &mut Vec<usize>,
 ) -> Result<(Vec<Vec<WrittenPart>>, &'a [Lexeme]), SyntaxError>
-    ensures { Gives (λ x. (classes_of x.0.items, tokens_of x.1.now)) result (some_at Bar (atom_at (group_at depth)) (length tokens.now) (tokens_of tokens.now)) }
+    ensures read { Gives (λ x. (classes_of x.0.items, tokens_of x.1.now)) result (some_at Bar (atom_at (group_at depth)) (length tokens.now) (tokens_of tokens.now)) }
+    ensures rest { IfOk result (λ x. EndsWith tokens.now x.1.now) }
 {
     let (first, rest) = atom(alloc, depth, tokens, names)?;
     let (mut atoms, rest) = more_atoms(alloc, depth, tokens.len(), rest, names)?;
@@ -222,14 +234,15 @@ fn expression(alloc: Global, atoms: Vec<Vec<WrittenPart>>) -> Result<Vec<Written
 
 /// A class expression in which parentheses may nest this deep.
 #[cycle(class)]
-#[tactic(auto, using(crate::proofs::ParserLemmas::Loop::tokens_len), unfolding(crate::specs::Reading::class_with))]
+#[tactic(auto, using(crate::proofs::ParserLemmas::Rests::ends, crate::proofs::ParserLemmas::Loop::tokens_len), unfolding(crate::specs::Reading::class_with))]
 fn class<'a>(
     alloc: Global,
     depth: usize,
     tokens: &'a [Lexeme],
     names: &mut Vec<usize>,
 ) -> Result<(Vec<WrittenPart>, &'a [Lexeme]), SyntaxError>
-    ensures { Gives (λ x. (x.0.items, tokens_of x.1.now)) result (class_with (group_at depth) (tokens_of tokens.now)) }
+    ensures read { Gives (λ x. (x.0.items, tokens_of x.1.now)) result (class_with (group_at depth) (tokens_of tokens.now)) }
+    ensures rest { IfOk result (λ x. EndsWith tokens.now x.1.now) }
 {
     let (atoms, rest) = atoms(alloc, depth, tokens, names)?;
     Ok((expression(alloc, atoms)?, rest))
@@ -242,7 +255,8 @@ pub fn written_class<'a>(
     tokens: &'a [Lexeme],
     names: &mut Vec<usize>,
 ) -> Result<(WrittenClass, &'a [Lexeme]), SyntaxError>
-    ensures { Gives (λ x. (x.0, tokens_of x.1.now)) result (class_at depth (tokens_of tokens.now)) }
+    ensures read { Gives (λ x. (x.0, tokens_of x.1.now)) result (class_at depth (tokens_of tokens.now)) }
+    ensures rest { IfOk result (λ x. EndsWith tokens.now x.1.now) }
 {
     let (parts, rest) = class(alloc, depth, tokens, names)?;
     Ok((WrittenClass::new(parts), rest))
@@ -254,7 +268,8 @@ pub fn placed_class(
     depth: usize,
     tokens: &[Lexeme],
 ) -> Result<(PlacedClass, &[Lexeme]), SyntaxError>
-    ensures { Gives (λ x. (x.0.class, tokens_of x.1.now)) result (class_at depth (tokens_of tokens.now)) }
+    ensures read { Gives (λ x. (x.0.class, tokens_of x.1.now)) result (class_at depth (tokens_of tokens.now)) }
+    ensures rest { IfOk result (λ x. EndsWith tokens.now x.1.now) }
 {
     let mut names = Vec::new(alloc);
     let (class, rest) = written_class(alloc, depth, tokens, &mut names)?;

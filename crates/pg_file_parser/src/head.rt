@@ -3,8 +3,11 @@
 //! A form is put before its parts, with its span, only once these are read. The places of its names are noted from left
 //! to right, each before its name is checked.
 
-ghost use Rattle.std.specs.Prelude.{◌≡◌, [], ◌∷◌};
+#![tactic(auto, using(crate::proofs::ParserLemmas::Rests::ends))]
+
+ghost use Rattle.std.specs.Prelude.{◌≡◌, [], ◌∷◌, IfOk};
 ghost use Rattle.pg_file_tokens.specs.View.{tokens_of};
+ghost use Rattle.pg_file_parser.specs.Rests.{EndsWith};
 ghost use Rattle.pg_file_parser.specs.Given.{Gives, body_of};
 ghost use Rattle.pg_file_parser.specs.Reading.{of_class_at, string_at, word_name_at, builder_at, chain_head_at, expression_head_at, written_symbol_at, symbol_at, build_head_at, class_at};
 
@@ -27,7 +30,8 @@ pub struct Form {
 
 /// A form without parts.
 pub fn alone(alloc: Global, form: WrittenForm) -> Form
-    ensures { body_of result ≡ form ∷ [] }
+    ensures forms { body_of result ≡ form ∷ [] }
+    ensures parts { result.parts.items ≡ [] }
 {
     let parts = Vec::new(alloc);
     Form { form, parts }
@@ -41,7 +45,9 @@ pub fn of_class<'a>(
     tokens: &'a [Lexeme],
     names: &mut Vec<usize>,
 ) -> Result<(Form, &'a [Lexeme]), SyntaxError>
-    ensures { Gives (λ x. (body_of x.0, tokens_of x.1.now)) result (of_class_at form (class_at depth) (tokens_of tokens.now)) }
+    ensures read { Gives (λ x. (body_of x.0, tokens_of x.1.now)) result (of_class_at form (class_at depth) (tokens_of tokens.now)) }
+    ensures alone { IfOk result (λ x. x.0.parts.items ≡ []) }
+    ensures rest { IfOk result (λ x. EndsWith tokens.now x.1.now) }
 {
     let (class, rest) = written_class(alloc, depth, tokens, names)?;
     Ok((alone(alloc, WrittenForm::OfClass(form, class)), rest))
@@ -49,7 +55,9 @@ pub fn of_class<'a>(
 
 /// A `string`.
 pub fn string(alloc: Global, tokens: &[Lexeme]) -> Result<(Form, &[Lexeme]), SyntaxError>
-    ensures { Gives (λ x. (body_of x.0, tokens_of x.1.now)) result (string_at (tokens_of tokens.now)) }
+    ensures read { Gives (λ x. (body_of x.0, tokens_of x.1.now)) result (string_at (tokens_of tokens.now)) }
+    ensures alone { IfOk result (λ x. x.0.parts.items ≡ []) }
+    ensures rest { IfOk result (λ x. EndsWith tokens.now x.1.now) }
 {
     let (text, _place, rest) = filled_at(alloc, tokens)?;
     Ok((alone(alloc, WrittenForm::String(text)), rest))
@@ -61,7 +69,9 @@ pub fn word_name<'a>(
     tokens: &'a [Lexeme],
     names: &mut Vec<usize>,
 ) -> Result<(Form, &'a [Lexeme]), SyntaxError>
-    ensures { Gives (λ x. (body_of x.0, tokens_of x.1.now)) result (word_name_at (tokens_of tokens.now)) }
+    ensures read { Gives (λ x. (body_of x.0, tokens_of x.1.now)) result (word_name_at (tokens_of tokens.now)) }
+    ensures alone { IfOk result (λ x. x.0.parts.items ≡ []) }
+    ensures rest { IfOk result (λ x. EndsWith tokens.now x.1.now) }
 {
     let (text, place, rest) = name(tokens)?;
     names.push(place)?;
@@ -75,7 +85,8 @@ fn builder<'a>(
     tokens: &'a [Lexeme],
     names: &mut Vec<usize>,
 ) -> Result<(Characters, &'a [Lexeme]), SyntaxError>
-    ensures { Gives (λ x. (x.0, tokens_of x.1.now)) result (builder_at (tokens_of tokens.now)) }
+    ensures read { Gives (λ x. (x.0, tokens_of x.1.now)) result (builder_at (tokens_of tokens.now)) }
+    ensures rest { IfOk result (λ x. EndsWith tokens.now x.1.now) }
 {
     let (text, place, rest) = name(tokens)?;
     names.push(place)?;
@@ -90,7 +101,8 @@ pub fn chain_head<'a>(
     tokens: &'a [Lexeme],
     names: &mut Vec<usize>,
 ) -> Result<(WrittenForm, &'a [Lexeme]), SyntaxError>
-    ensures { Gives (λ x. (x.0, tokens_of x.1.now)) result (chain_head_at side (tokens_of tokens.now)) }
+    ensures read { Gives (λ x. (x.0, tokens_of x.1.now)) result (chain_head_at side (tokens_of tokens.now)) }
+    ensures rest { IfOk result (λ x. EndsWith tokens.now x.1.now) }
 {
     let (builder, rest) = builder(alloc, tokens, names)?;
     Ok((WrittenForm::Chain { side, builder }, rest))
@@ -102,7 +114,8 @@ pub fn expression_head<'a>(
     tokens: &'a [Lexeme],
     names: &mut Vec<usize>,
 ) -> Result<(WrittenForm, &'a [Lexeme]), SyntaxError>
-    ensures { Gives (λ x. (x.0, tokens_of x.1.now)) result (expression_head_at (tokens_of tokens.now)) }
+    ensures read { Gives (λ x. (x.0, tokens_of x.1.now)) result (expression_head_at (tokens_of tokens.now)) }
+    ensures rest { IfOk result (λ x. EndsWith tokens.now x.1.now) }
 {
     let (infix, rest) = builder(alloc, tokens, names)?;
     let (prefix, rest) = builder(alloc, rest, names)?;
@@ -119,7 +132,8 @@ pub fn expression_head<'a>(
 
 /// A builder's symbol, and the tokens after the comma.
 fn written_symbol(alloc: Global, tokens: &[Lexeme]) -> Result<(Characters, &[Lexeme]), SyntaxError>
-    ensures { Gives (λ x. (x.0, tokens_of x.1.now)) result (written_symbol_at (tokens_of tokens.now)) }
+    ensures read { Gives (λ x. (x.0, tokens_of x.1.now)) result (written_symbol_at (tokens_of tokens.now)) }
+    ensures rest { IfOk result (λ x. EndsWith tokens.now x.1.now) }
 {
     let (text, place, rest) = literal(tokens)?;
     let text = literal_text(alloc, text, place)?;
@@ -128,7 +142,8 @@ fn written_symbol(alloc: Global, tokens: &[Lexeme]) -> Result<(Characters, &[Lex
 
 /// A builder's symbol, if a literal is at the front, and otherwise the empty symbol.
 fn symbol(alloc: Global, tokens: &[Lexeme]) -> Result<(Characters, &[Lexeme]), SyntaxError>
-    ensures { Gives (λ x. (x.0, tokens_of x.1.now)) result (symbol_at (tokens_of tokens.now)) }
+    ensures read { Gives (λ x. (x.0, tokens_of x.1.now)) result (symbol_at (tokens_of tokens.now)) }
+    ensures rest { IfOk result (λ x. EndsWith tokens.now x.1.now) }
 {
     if has_literal(tokens) {
         written_symbol(alloc, tokens)
@@ -143,7 +158,8 @@ pub fn build_head<'a>(
     tokens: &'a [Lexeme],
     names: &mut Vec<usize>,
 ) -> Result<(WrittenForm, &'a [Lexeme]), SyntaxError>
-    ensures { Gives (λ x. (x.0, tokens_of x.1.now)) result (build_head_at (tokens_of tokens.now)) }
+    ensures read { Gives (λ x. (x.0, tokens_of x.1.now)) result (build_head_at (tokens_of tokens.now)) }
+    ensures rest { IfOk result (λ x. EndsWith tokens.now x.1.now) }
 {
     let (builder, rest) = builder(alloc, tokens, names)?;
     let (symbol, rest) = symbol(alloc, rest)?;

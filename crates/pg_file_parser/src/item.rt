@@ -2,10 +2,14 @@
 //!
 //! The reader of the whole file checks whether there is room for an item, and reads its semicolon.
 
-ghost use Rattle.std.specs.Prelude.{◌≡◌};
+#![tactic(auto, using(crate::proofs::ParserLemmas::Rests::ends, crate::proofs::ParserLemmas::Covered::places))]
+
+ghost use Rattle.std.specs.Prelude.{◌≡◌, IfOk};
 ghost use Rattle.pg_file_tokens.specs.View.{tokens_of};
 ghost use Rattle.pg_file_items.specs.Entries.{entry_of};
+ghost use Rattle.pg_file_parser.specs.Rests.{EndsWith};
 ghost use Rattle.pg_file_parser.specs.Given.{Gives};
+ghost use Rattle.pg_file_parser.specs.Places.{IsInPlace};
 ghost use Rattle.pg_file_parser.specs.ItemReading.{class_item_at, class_after, word_item_at, operators_at, table_at, start_at, rule_at, item_at, item_named_at};
 
 use crate::class::placed_class;
@@ -26,7 +30,9 @@ const PRECEDENCE_LIMIT: usize = 9;
 
 /// A class item, after its word.
 fn class_item(alloc: Global, tokens: &[Lexeme]) -> Result<(Item, &[Lexeme]), SyntaxError>
-    ensures { Gives (λ x. (entry_of x.0, tokens_of x.1.now)) result (class_item_at (tokens_of tokens.now)) }
+    ensures read { Gives (λ x. (entry_of x.0, tokens_of x.1.now)) result (class_item_at (tokens_of tokens.now)) }
+    ensures places { IfOk result (λ x. IsInPlace tokens.now x.0) }
+    ensures rest { IfOk result (λ x. EndsWith tokens.now x.1.now) }
 {
     let (name, name_place, rest) = free_name_at(alloc, tokens)?;
     let rest = expect_mark(rest, Mark::Equals)?;
@@ -47,14 +53,17 @@ fn class_after<'a>(
     word: &str,
     tokens: &'a [Lexeme],
 ) -> Result<(PlacedClass, &'a [Lexeme]), SyntaxError>
-    ensures { Gives (λ x. (x.0.class, tokens_of x.1.now)) result (class_after 64 word.now (tokens_of tokens.now)) }
+    ensures read { Gives (λ x. (x.0.class, tokens_of x.1.now)) result (class_after 64 word.now (tokens_of tokens.now)) }
+    ensures rest { IfOk result (λ x. EndsWith tokens.now x.1.now) }
 {
     placed_class(alloc, DEPTH_LIMIT, expect_word(tokens, word)?)
 }
 
 /// A word item, after its word.
 fn word_item(alloc: Global, tokens: &[Lexeme]) -> Result<(Item, &[Lexeme]), SyntaxError>
-    ensures { Gives (λ x. (entry_of x.0, tokens_of x.1.now)) result (word_item_at (tokens_of tokens.now)) }
+    ensures read { Gives (λ x. (entry_of x.0, tokens_of x.1.now)) result (word_item_at (tokens_of tokens.now)) }
+    ensures places { IfOk result (λ x. IsInPlace tokens.now x.0) }
+    ensures rest { IfOk result (λ x. EndsWith tokens.now x.1.now) }
 {
     let (name, name_place, after) = free_name_at(alloc, tokens)?;
     let (head, after) = class_after(alloc, "head", after)?;
@@ -78,7 +87,9 @@ fn operators(
     place: usize,
     tokens: &[Lexeme],
 ) -> Result<(Item, &[Lexeme]), SyntaxError>
-    ensures { Gives (λ x. (entry_of x.0, tokens_of x.1.now)) result (operators_at (tokens_of tokens.now)) }
+    ensures read { Gives (λ x. (entry_of x.0, tokens_of x.1.now)) result (operators_at (tokens_of tokens.now)) }
+    ensures places { IfOk result (λ x. IsInPlace tokens.now x.0) }
+    ensures rest { IfOk result (λ x. EndsWith tokens.now x.1.now) }
 {
     let (class, rest) = placed_class(alloc, DEPTH_LIMIT, tokens)?;
     let (gap, rest) = class_after(alloc, "gap", rest)?;
@@ -98,7 +109,9 @@ fn operators(
 
 /// An initial operator, after its word, which stands at a place. F3 if the precedence is over 9.
 fn table(alloc: Global, place: usize, tokens: &[Lexeme]) -> Result<(Item, &[Lexeme]), SyntaxError>
-    ensures { Gives (λ x. (entry_of x.0, tokens_of x.1.now)) result (table_at (tokens_of tokens.now)) }
+    ensures read { Gives (λ x. (entry_of x.0, tokens_of x.1.now)) result (table_at (tokens_of tokens.now)) }
+    ensures places { IfOk result (λ x. IsInPlace tokens.now x.0) }
+    ensures rest { IfOk result (λ x. EndsWith tokens.now x.1.now) }
 {
     let (word, _place, rest) = name(tokens)?;
     let Some(role) = role_named(word) else {
@@ -121,7 +134,9 @@ fn table(alloc: Global, place: usize, tokens: &[Lexeme]) -> Result<(Item, &[Lexe
 
 /// A start item, after its word, which stands at a place.
 fn start(alloc: Global, place: usize, tokens: &[Lexeme]) -> Result<(Item, &[Lexeme]), SyntaxError>
-    ensures { Gives (λ x. (entry_of x.0, tokens_of x.1.now)) result (start_at (tokens_of tokens.now)) }
+    ensures read { Gives (λ x. (entry_of x.0, tokens_of x.1.now)) result (start_at (tokens_of tokens.now)) }
+    ensures places { IfOk result (λ x. IsInPlace tokens.now x.0) }
+    ensures rest { IfOk result (λ x. EndsWith tokens.now x.1.now) }
 {
     let (name, name_place, rest) = free_name_at(alloc, tokens)?;
     Ok((
@@ -141,7 +156,9 @@ fn rule<'a>(
     place: usize,
     tokens: &'a [Lexeme],
 ) -> Result<(Item, &'a [Lexeme]), SyntaxError>
-    ensures { Gives (λ x. (entry_of x.0, tokens_of x.1.now)) result (rule_at name.now (tokens_of tokens.now)) }
+    ensures read { Gives (λ x. (entry_of x.0, tokens_of x.1.now)) result (rule_at name.now (tokens_of tokens.now)) }
+    ensures places { IfOk result (λ x. IsInPlace tokens.now x.0) }
+    ensures rest { IfOk result (λ x. EndsWith tokens.now x.1.now) }
 {
     let name = free_name(alloc, name, place)?;
     let rest = expect_mark(tokens, Mark::Equals)?;
@@ -150,14 +167,16 @@ fn rule<'a>(
 }
 
 /// The item that a name at a place begins.
-#[tactic(auto, unfolding(crate::specs::ItemReading::item_named_at))]
+#[tactic(auto, using(crate::proofs::ParserLemmas::Rests::ends, crate::proofs::ParserLemmas::Covered::places), unfolding(crate::specs::ItemReading::item_named_at))]
 fn item_named<'a>(
     alloc: Global,
     name: &[char],
     place: usize,
     rest: &'a [Lexeme],
 ) -> Result<(Item, &'a [Lexeme]), SyntaxError>
-    ensures { Gives (λ x. (entry_of x.0, tokens_of x.1.now)) result (item_named_at name.now (tokens_of rest.now)) }
+    ensures read { Gives (λ x. (entry_of x.0, tokens_of x.1.now)) result (item_named_at name.now (tokens_of rest.now)) }
+    ensures places { IfOk result (λ x. IsInPlace rest.now x.0) }
+    ensures rest { IfOk result (λ x. EndsWith rest.now x.1.now) }
 {
     if is_word("class", name) {
         class_item(alloc, rest)
@@ -176,7 +195,9 @@ fn item_named<'a>(
 
 /// An item, up to its semicolon.
 pub fn item(alloc: Global, tokens: &[Lexeme]) -> Result<(Item, &[Lexeme]), SyntaxError>
-    ensures { Gives (λ x. (entry_of x.0, tokens_of x.1.now)) result (item_at (tokens_of tokens.now)) }
+    ensures read { Gives (λ x. (entry_of x.0, tokens_of x.1.now)) result (item_at (tokens_of tokens.now)) }
+    ensures places { IfOk result (λ x. IsInPlace tokens.now x.0) }
+    ensures rest { IfOk result (λ x. EndsWith tokens.now x.1.now) }
 {
     let (name, place, rest) = name(tokens)?;
     let (item, rest) = item_named(alloc, name, place, rest)?;

@@ -1,7 +1,10 @@
 //! The optional ends of an item: reserved texts, and the limit on operators.
 
-ghost use Rattle.std.specs.Prelude.{◌≡◌};
+#![tactic(auto, using(crate::proofs::ParserLemmas::Rests::ends))]
+
+ghost use Rattle.std.specs.Prelude.{◌≡◌, IfOk};
 ghost use Rattle.pg_file_tokens.specs.View.{tokens_of};
+ghost use Rattle.pg_file_parser.specs.Rests.{EndsWith};
 ghost use Rattle.pg_file_parser.specs.Given.{Gives};
 ghost use Rattle.pg_file_parser.specs.ItemReading.{literals_at, reserved_at, most_at};
 
@@ -17,7 +20,8 @@ const OPERATOR_LIMIT: usize = 64;
 
 /// Consecutive literals, none of them empty.
 fn literals(alloc: Global, tokens: &[Lexeme]) -> Result<(Vec<Characters>, &[Lexeme]), SyntaxError>
-    ensures { Gives (λ x. (x.0.items, tokens_of x.1.now)) result (literals_at (tokens_of tokens.now)) }
+    ensures read { Gives (λ x. (x.0.items, tokens_of x.1.now)) result (literals_at (tokens_of tokens.now)) }
+    ensures rest { IfOk result (λ x. EndsWith tokens.now x.1.now) }
 {
     let mut texts = Vec::new(alloc);
     let mut rest = tokens;
@@ -34,7 +38,8 @@ pub fn reserved(
     alloc: Global,
     tokens: &[Lexeme],
 ) -> Result<(Vec<Characters>, &[Lexeme]), SyntaxError>
-    ensures { Gives (λ x. (x.0.items, tokens_of x.1.now)) result (reserved_at (tokens_of tokens.now)) }
+    ensures read { Gives (λ x. (x.0.items, tokens_of x.1.now)) result (reserved_at (tokens_of tokens.now)) }
+    ensures rest { IfOk result (λ x. EndsWith tokens.now x.1.now) }
 {
     let Some(after) = after_word(tokens, "reserved") else {
         return Ok((Vec::new(alloc), tokens));
@@ -47,7 +52,8 @@ pub fn reserved(
 
 /// The number after the word `max`, if it is at the front. F3 if it isn't from 1 to 64.
 pub fn most(tokens: &[Lexeme]) -> Result<(Option<usize>, &[Lexeme]), SyntaxError>
-    ensures { Gives (λ x. (x.0, tokens_of x.1.now)) result (most_at (tokens_of tokens.now)) }
+    ensures read { Gives (λ x. (x.0, tokens_of x.1.now)) result (most_at (tokens_of tokens.now)) }
+    ensures rest { IfOk result (λ x. EndsWith tokens.now x.1.now) }
 {
     let Some(after) = after_word(tokens, "max") else {
         return Ok((None, tokens));

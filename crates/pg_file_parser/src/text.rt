@@ -2,8 +2,11 @@
 //!
 //! A text is checked where its use is known, and then copied. A fault is reported at the text itself.
 
+#![tactic(auto, using(crate::proofs::ParserLemmas::Rests::ends))]
+
 ghost use Rattle.std.specs.Prelude.{◌≡◌, ◌≤◌, IfOk};
 ghost use Rattle.pg_file_tokens.specs.View.{tokens_of};
+ghost use Rattle.pg_file_parser.specs.Rests.{EndsWith};
 ghost use Rattle.pg_file_parser.specs.Given.{Gives};
 ghost use Rattle.pg_file_parser.specs.Reading as reading;
 ghost use Rattle.pg_file_parser.specs.ItemReading as item_reading;
@@ -33,7 +36,7 @@ pub fn short_name(alloc: Global, name: &[char], place: usize) -> Result<Characte
 }
 
 /// The name of a rule, a class or a word. F3 if it is a reserved word, F8 if it has over 64 characters.
-#[tactic(auto, unfolding(crate::specs::Reading::free_name))]
+#[tactic(auto, using(crate::proofs::ParserLemmas::Rests::ends), unfolding(crate::specs::Reading::free_name))]
 pub fn free_name(alloc: Global, name: &[char], place: usize) -> Result<Characters, SyntaxError>
     ensures { Gives (λ copy. copy) result (reading.free_name name.now) }
 {
@@ -54,7 +57,7 @@ pub fn literal_text(alloc: Global, text: &[char], place: usize) -> Result<Charac
 }
 
 /// The text of a literal that mustn't be empty. F7 if it is, F8 if it has over 1,024 characters.
-#[tactic(auto, unfolding(crate::specs::Reading::filled_text))]
+#[tactic(auto, using(crate::proofs::ParserLemmas::Rests::ends), unfolding(crate::specs::Reading::filled_text))]
 pub fn filled_text(alloc: Global, text: &[char], place: usize) -> Result<Characters, SyntaxError>
     ensures { Gives (λ copy. copy) result (reading.filled_text text.now) }
 {
@@ -69,7 +72,8 @@ pub fn free_name_at(
     alloc: Global,
     tokens: &[Lexeme],
 ) -> Result<(Characters, usize, &[Lexeme]), SyntaxError>
-    ensures { Gives (λ x. (x.0, tokens_of x.2.now)) result (item_reading.free_name_at (tokens_of tokens.now)) }
+    ensures read { Gives (λ x. (x.0, tokens_of x.2.now)) result (item_reading.free_name_at (tokens_of tokens.now)) }
+    ensures rest { IfOk result (λ x. EndsWith tokens.now x.2.now) }
 {
     let (text, place, rest) = name(tokens)?;
     Ok((free_name(alloc, text, place)?, place, rest))
@@ -80,14 +84,15 @@ pub fn filled_at(
     alloc: Global,
     tokens: &[Lexeme],
 ) -> Result<(Characters, usize, &[Lexeme]), SyntaxError>
-    ensures { Gives (λ x. (x.0, tokens_of x.2.now)) result (item_reading.filled_at (tokens_of tokens.now)) }
+    ensures read { Gives (λ x. (x.0, tokens_of x.2.now)) result (item_reading.filled_at (tokens_of tokens.now)) }
+    ensures rest { IfOk result (λ x. EndsWith tokens.now x.2.now) }
 {
     let (text, place, rest) = literal(tokens)?;
     Ok((filled_text(alloc, text, place)?, place, rest))
 }
 
 /// The number that the digits write, if it is at most `most`.
-#[tactic(auto, unfolding(crate::specs::Reading::value_within))]
+#[tactic(auto, using(crate::proofs::ParserLemmas::Rests::ends), unfolding(crate::specs::Reading::value_within))]
 fn number_within(most: usize, digits: &[char]) -> Option<usize>
     requires { most ≤ 64 }
     ensures { result ≡ reading.value_within most digits.now }

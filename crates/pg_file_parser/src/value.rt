@@ -3,12 +3,16 @@
 //! A form's parts are read completely before the form is put before them. The depth to which parentheses may still nest
 //! is passed down, so the recursion ends at the limit.
 
+#![tactic(auto, using(crate::proofs::ParserLemmas::Rests::ends, crate::proofs::ParserLemmas::Covered::places))]
+
 ghost use Rattle.std.specs.Prelude.{◌≡◌, [], ◌∷◌, ◌<◌, length, IfOk};
 ghost use Rattle.pg_file_tokens.specs.declared.token.Mark.TheVariants.{Comma, Close};
 ghost use Rattle.pg_file_tokens.specs.View.{tokens_of};
 ghost use Rattle.pg_file_items.specs.Entries.{forms_of};
 ghost use Rattle.pg_file_items.specs.Joined as spec;
-ghost use Rattle.pg_file_parser.specs.Given.{Gives, bodies_of, body_of};
+ghost use Rattle.pg_file_parser.specs.Rests.{EndsWith};
+ghost use Rattle.pg_file_parser.specs.Given.{Gives, after_characters, after_mark_at, bodies_of, body_of, spans_of};
+ghost use Rattle.pg_file_parser.specs.Places.{AreInPlace, AreAllInPlace, placed_of};
 ghost use Rattle.pg_file_parser.specs.Reading.{with_close, more_at, some_at, mark_at, class_at, seq_with, of_some_at, counted, around_at, message_at, label_at, form_at, value_at, rule_named_at};
 ghost use Rattle.pg_file_parser.specs.Reading as reading;
 
@@ -25,7 +29,8 @@ use std::alloc::{AllocError, Global};
 
 /// Joins bodies, one after another.
 fn joined(alloc: Global, bodies: Vec<Vec<PlacedForm>>) -> Result<Vec<PlacedForm>, AllocError>
-    ensures { IfOk result (λ parts. forms_of parts.items ≡ spec.joined (bodies_of bodies.items)) }
+    ensures forms { IfOk result (λ parts. forms_of parts.items ≡ spec.joined (bodies_of bodies.items)) }
+    ensures placed { IfOk result (λ parts. parts.items ≡ spec.joined (placed_of bodies.items)) }
 {
     let mut parts = Vec::new(alloc);
     for mut body in bodies {
@@ -36,7 +41,8 @@ fn joined(alloc: Global, bodies: Vec<Vec<PlacedForm>>) -> Result<Vec<PlacedForm>
 
 /// The form with this span and the places of its names, before its parts.
 fn placed(form: Form, span: Span, names: Vec<usize>) -> Result<Vec<PlacedForm>, AllocError>
-    ensures { IfOk result (λ body. forms_of body.items ≡ body_of form) }
+    ensures forms { IfOk result (λ body. forms_of body.items ≡ body_of form) }
+    ensures spans { IfOk result (λ body. spans_of body.items ≡ span ∷ spans_of form.parts.items) }
 {
     let Form { form, parts } = form;
     let mut body = parts;
@@ -44,14 +50,16 @@ fn placed(form: Form, span: Span, names: Vec<usize>) -> Result<Vec<PlacedForm>, 
     Ok(body)
 }
 
-/// The body of the form that begins at a place, and the tokens after the closing parenthesis.
+/// The body of the form that begins at a place, and the tokens after the closing parenthesis. The form's span ends after that parenthesis.
 fn closed(
     form: Form,
     first: usize,
     names: Vec<usize>,
     tokens: &[Lexeme],
 ) -> Result<(Vec<PlacedForm>, &[Lexeme]), SyntaxError>
-    ensures { Gives (λ x. (forms_of x.0.items, tokens_of x.1.now)) result (with_close (body_of form) (tokens_of tokens.now)) }
+    ensures read { Gives (λ x. (forms_of x.0.items, tokens_of x.1.now)) result (with_close (body_of form) (tokens_of tokens.now)) }
+    ensures spans { IfOk result (λ x. spans_of x.0.items ≡ record { first = first; after = after_mark_at tokens.now } ∷ spans_of form.parts.items) }
+    ensures rest { IfOk result (λ x. EndsWith tokens.now x.1.now) }
 {
     match expect_close(tokens) {
         Ok((after, rest)) => Ok((placed(form, Span { first, after }, names)?, rest)),
@@ -69,7 +77,8 @@ fn counted(
     values: Vec<Vec<PlacedForm>>,
     rest: &[Lexeme],
 ) -> Result<Vec<PlacedForm>, SyntaxError>
-    ensures { Gives (λ parts. (forms_of parts.items, tokens_of rest.now)) result (counted count (bodies_of values.items) (tokens_of rest.now)) }
+    ensures read { Gives (λ parts. (forms_of parts.items, tokens_of rest.now)) result (counted count (bodies_of values.items) (tokens_of rest.now)) }
+    ensures placed { IfOk result (λ parts. parts.items ≡ spec.joined (placed_of values.items)) }
 {
     if values.len() != count {
         return Err(unexpected(rest));
@@ -84,7 +93,8 @@ fn single(
     first: usize,
     length: usize,
 ) -> Result<Vec<PlacedForm>, AllocError>
-    ensures { IfOk result (λ body. forms_of body.items ≡ form ∷ []) }
+    ensures forms { IfOk result (λ body. forms_of body.items ≡ form ∷ []) }
+    ensures spans { IfOk result (λ body. spans_of body.items ≡ record { first = first; after = after_characters first length } ∷ []) }
 {
     let names = Vec::new(alloc);
     let after = first.saturating_add(length);
@@ -100,7 +110,9 @@ fn more_values(
     most: usize,
     tokens: &[Lexeme],
 ) -> Result<(Vec<Vec<PlacedForm>>, &[Lexeme]), SyntaxError>
-    ensures { Gives (λ x. (bodies_of x.0.items, tokens_of x.1.now)) result (more_at Comma (value_at depth) most (tokens_of tokens.now)) }
+    ensures read { Gives (λ x. (bodies_of x.0.items, tokens_of x.1.now)) result (more_at Comma (value_at depth) most (tokens_of tokens.now)) }
+    ensures places { IfOk result (λ x. AreAllInPlace tokens.now x.0.items) }
+    ensures rest { IfOk result (λ x. EndsWith tokens.now x.1.now) }
 {
     let mut values = Vec::new(alloc);
     let mut rest = tokens;
@@ -117,14 +129,16 @@ fn more_values(
 
 /// A value and at most this many further ones.
 #[cycle(value)]
-#[tactic(auto, unfolding(crate::specs::Reading::some_at))]
+#[tactic(auto, using(crate::proofs::ParserLemmas::Rests::ends, crate::proofs::ParserLemmas::Covered::places), unfolding(crate::specs::Reading::some_at))]
 fn values(
     alloc: Global,
     depth: usize,
     most: usize,
     tokens: &[Lexeme],
 ) -> Result<(Vec<Vec<PlacedForm>>, &[Lexeme]), SyntaxError>
-    ensures { Gives (λ x. (bodies_of x.0.items, tokens_of x.1.now)) result (some_at Comma (value_at depth) most (tokens_of tokens.now)) }
+    ensures read { Gives (λ x. (bodies_of x.0.items, tokens_of x.1.now)) result (some_at Comma (value_at depth) most (tokens_of tokens.now)) }
+    ensures places { IfOk result (λ x. AreAllInPlace tokens.now x.0.items) }
+    ensures rest { IfOk result (λ x. EndsWith tokens.now x.1.now) }
 {
     let (first, rest) = value(alloc, depth, tokens)?;
     let (mut values, rest) = more_values(alloc, depth, most, rest)?;
@@ -142,7 +156,9 @@ fn around(
     tokens: &[Lexeme],
 ) -> Result<(Form, &[Lexeme]), SyntaxError>
     requires { 0 < count }
-    ensures { Gives (λ x. (body_of x.0, tokens_of x.1.now)) result (around_at form count (value_at depth) (tokens_of tokens.now)) }
+    ensures read { Gives (λ x. (body_of x.0, tokens_of x.1.now)) result (around_at form count (value_at depth) (tokens_of tokens.now)) }
+    ensures places { IfOk result (λ x. AreInPlace tokens.now x.0.parts.items) }
+    ensures rest { IfOk result (λ x. EndsWith tokens.now x.1.now) }
 {
     let (values, rest) = values(alloc, depth, count - 1, tokens)?;
     let parts = counted(alloc, count, values, rest)?;
@@ -152,7 +168,9 @@ fn around(
 /// A `seq` of any number of values.
 #[cycle(value)]
 fn seq(alloc: Global, depth: usize, tokens: &[Lexeme]) -> Result<(Form, &[Lexeme]), SyntaxError>
-    ensures { Gives (λ x. (body_of x.0, tokens_of x.1.now)) result (seq_with (value_at depth) (tokens_of tokens.now) (mark_at Close (tokens_of tokens.now))) }
+    ensures read { Gives (λ x. (body_of x.0, tokens_of x.1.now)) result (seq_with (value_at depth) (tokens_of tokens.now) (mark_at Close (tokens_of tokens.now))) }
+    ensures places { IfOk result (λ x. AreInPlace tokens.now x.0.parts.items) }
+    ensures rest { IfOk result (λ x. EndsWith tokens.now x.1.now) }
 {
     if after_mark(tokens, Mark::Close).is_some() {
         return Ok((alone(alloc, WrittenForm::Seq(0)), tokens));
@@ -172,7 +190,9 @@ fn of_some(
     form: SomeForm,
     tokens: &[Lexeme],
 ) -> Result<(Form, &[Lexeme]), SyntaxError>
-    ensures { Gives (λ x. (body_of x.0, tokens_of x.1.now)) result (of_some_at form (value_at depth) (tokens_of tokens.now)) }
+    ensures read { Gives (λ x. (body_of x.0, tokens_of x.1.now)) result (of_some_at form (value_at depth) (tokens_of tokens.now)) }
+    ensures places { IfOk result (λ x. AreInPlace tokens.now x.0.parts.items) }
+    ensures rest { IfOk result (λ x. EndsWith tokens.now x.1.now) }
 {
     let (values, rest) = values(alloc, depth, tokens.len(), tokens)?;
     let count = values.len();
@@ -183,7 +203,8 @@ fn of_some(
 
 /// A comma and a message.
 fn message(alloc: Global, tokens: &[Lexeme]) -> Result<(Characters, &[Lexeme]), SyntaxError>
-    ensures { Gives (λ x. (x.0, tokens_of x.1.now)) result (message_at (tokens_of tokens.now)) }
+    ensures read { Gives (λ x. (x.0, tokens_of x.1.now)) result (message_at (tokens_of tokens.now)) }
+    ensures rest { IfOk result (λ x. EndsWith tokens.now x.1.now) }
 {
     let (text, place, rest) = literal(expect_mark(tokens, Mark::Comma)?)?;
     Ok((literal_text(alloc, text, place)?, rest))
@@ -192,7 +213,9 @@ fn message(alloc: Global, tokens: &[Lexeme]) -> Result<(Characters, &[Lexeme]), 
 /// A `label`: a value and its message.
 #[cycle(value)]
 fn label(alloc: Global, depth: usize, tokens: &[Lexeme]) -> Result<(Form, &[Lexeme]), SyntaxError>
-    ensures { Gives (λ x. (body_of x.0, tokens_of x.1.now)) result (label_at (value_at depth) (tokens_of tokens.now)) }
+    ensures read { Gives (λ x. (body_of x.0, tokens_of x.1.now)) result (label_at (value_at depth) (tokens_of tokens.now)) }
+    ensures places { IfOk result (λ x. AreInPlace tokens.now x.0.parts.items) }
+    ensures rest { IfOk result (λ x. EndsWith tokens.now x.1.now) }
 {
     let (parts, rest) = value(alloc, depth, tokens)?;
     let (message, rest) = message(alloc, rest)?;
@@ -202,7 +225,7 @@ fn label(alloc: Global, depth: usize, tokens: &[Lexeme]) -> Result<(Form, &[Lexe
 
 /// The contents of a form's parentheses, up to the closing one.
 #[cycle(value)]
-#[tactic(auto, unfolding(crate::specs::Reading::form_at))]
+#[tactic(auto, using(crate::proofs::ParserLemmas::Rests::ends, crate::proofs::ParserLemmas::Covered::places), unfolding(crate::specs::Reading::form_at))]
 fn form<'a>(
     alloc: Global,
     depth: usize,
@@ -210,7 +233,9 @@ fn form<'a>(
     tokens: &'a [Lexeme],
     names: &mut Vec<usize>,
 ) -> Result<(Form, &'a [Lexeme]), SyntaxError>
-    ensures { Gives (λ x. (body_of x.0, tokens_of x.1.now)) result (form_at (class_at depth) (value_at depth) word (tokens_of tokens.now)) }
+    ensures read { Gives (λ x. (body_of x.0, tokens_of x.1.now)) result (form_at (class_at depth) (value_at depth) word (tokens_of tokens.now)) }
+    ensures places { IfOk result (λ x. AreInPlace tokens.now x.0.parts.items) }
+    ensures rest { IfOk result (λ x. EndsWith tokens.now x.1.now) }
 {
     match word {
         FormWord::OfClass(form) => of_class(alloc, depth, form, tokens, names),
@@ -244,7 +269,9 @@ fn rule_named<'a>(
     place: usize,
     rest: &'a [Lexeme],
 ) -> Result<(Vec<PlacedForm>, &'a [Lexeme]), SyntaxError>
-    ensures { Gives (λ x. (forms_of x.0.items, tokens_of x.1.now)) result (rule_named_at text.now (tokens_of rest.now)) }
+    ensures read { Gives (λ x. (forms_of x.0.items, tokens_of x.1.now)) result (rule_named_at text.now (tokens_of rest.now)) }
+    ensures spans { IfOk result (λ x. spans_of x.0.items ≡ record { first = place; after = after_characters place (length text.now) } ∷ []) }
+    ensures rest { IfOk result (λ x. EndsWith rest.now x.1.now) }
 {
     let name = free_name(alloc, text, place)?;
     Ok((
@@ -253,15 +280,17 @@ fn rule_named<'a>(
     ))
 }
 
-/// A value in which parentheses may nest this deep. F8 at the first parenthesis that nests deeper.
+/// A value in which parentheses may nest this deep. The span of each form in it has the form's characters. F8 at the first parenthesis that nests deeper.
 #[cycle(value)]
-#[tactic(auto, using(crate::proofs::ParserLemmas::Loop::value_nested), unfolding(crate::specs::Reading::value_at))]
+#[tactic(auto, using(crate::proofs::ParserLemmas::Rests::ends, crate::proofs::ParserLemmas::Covered::places, crate::proofs::ParserLemmas::Loop::value_nested), unfolding(crate::specs::Reading::value_at))]
 pub fn value(
     alloc: Global,
     depth: usize,
     tokens: &[Lexeme],
 ) -> Result<(Vec<PlacedForm>, &[Lexeme]), SyntaxError>
-    ensures { Gives (λ x. (forms_of x.0.items, tokens_of x.1.now)) result (value_at depth (tokens_of tokens.now)) }
+    ensures read { Gives (λ x. (forms_of x.0.items, tokens_of x.1.now)) result (value_at depth (tokens_of tokens.now)) }
+    ensures places { IfOk result (λ x. AreInPlace tokens.now x.0.items) }
+    ensures rest { IfOk result (λ x. EndsWith tokens.now x.1.now) }
 {
     let (text, place, rest) = name(tokens)?;
     if is_word("eof", text) {

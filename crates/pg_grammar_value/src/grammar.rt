@@ -30,7 +30,6 @@ pub struct Rule {
 }
 
 /// A grammar, seen as its items, its initial declarations, its nodes, its rules and its start rule.
-#[derive(Drop)]
 pub struct Grammar {
     classes: Vec<ClassItem>,
     words: Vec<WordItem>,
@@ -40,6 +39,29 @@ pub struct Grammar {
     rules: Vec<Rule>,
     start: RuleId,
     sets: ContentSets,
+}
+
+// Written out, so that the crates above needn't prove again how each part is dropped.
+impl Drop for Grammar {
+    fn drop(self) {
+        let Grammar {
+            classes,
+            words,
+            operators,
+            initials,
+            nodes,
+            rules,
+            start: _,
+            sets,
+        } = self;
+        drop(classes);
+        drop(words);
+        drop(operators);
+        drop(initials);
+        drop(nodes);
+        drop(rules);
+        drop(sets);
+    }
 }
 
 impl Model for Grammar {

@@ -82,9 +82,16 @@ pub enum TrailItem {
 }
 
 /// The items of a derivation in preorder, seen as their list (ours; Parsec keeps no such list).
-#[derive(Drop)]
 pub struct Trail {
     items: Vec<TrailItem>,
+}
+
+// Written out, so that the crates above needn't prove again how each part is dropped.
+impl Drop for Trail {
+    fn drop(self) {
+        let Trail { items } = self;
+        drop(items);
+    }
 }
 
 impl Model for Trail {

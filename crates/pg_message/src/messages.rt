@@ -19,12 +19,28 @@ use std::mem::replace;
 type Texts = SmallVec<MessageText, 1>;
 
 /// The messages of an error, by kind and in the order in which they were added.
-#[derive(Debug, Drop)]
+#[derive(Debug)]
 pub struct Messages {
     system_unexpected: Texts,
     unexpected: Texts,
     expected: Texts,
     plain: Texts,
+}
+
+// Written out, so that the crates above needn't prove again how each part is dropped.
+impl Drop for Messages {
+    fn drop(self) {
+        let Messages {
+            system_unexpected,
+            unexpected,
+            expected,
+            plain,
+        } = self;
+        drop(system_unexpected);
+        drop(unexpected);
+        drop(expected);
+        drop(plain);
+    }
 }
 
 impl Model for Messages {

@@ -9,11 +9,23 @@ use pg_sets::Sets;
 use std::marker::Model;
 
 /// A predictive grammar with its sets and its step cost, seen as the three.
-#[derive(Drop)]
 pub struct Checked {
     grammar: Grammar,
     sets: Sets,
     cost: u64,
+}
+
+// Written out, so that the crates above needn't prove again how each part is dropped.
+impl Drop for Checked {
+    fn drop(self) {
+        let Checked {
+            grammar,
+            sets,
+            cost: _,
+        } = self;
+        drop(grammar);
+        drop(sets);
+    }
 }
 
 impl Model for Checked {

@@ -27,9 +27,16 @@ use std::marker::Model;
 const BUFFER: usize = 65_536;
 
 /// A grammar that isn't predictive. Contracts see it with all its findings, at least one, in the order of nodes, numbers and alternatives.
-#[derive(Drop)]
 pub struct Refused {
     source: Source,
+}
+
+// Written out, so that the crates above needn't prove again how each part is dropped.
+impl Drop for Refused {
+    fn drop(self) {
+        let Refused { source } = self;
+        drop(source);
+    }
 }
 
 impl Model for Refused {

@@ -19,7 +19,7 @@ use std::alloc::{AllocError, Global};
 use std::marker::Model;
 
 /// The least sets of a grammar's nodes and rules, which the checks of a grammar use.
-#[derive(Debug, Drop)]
+#[derive(Debug)]
 pub struct Sets {
     nullable: Vec<bool>,
     starts: Vec<ListedStart>,
@@ -29,6 +29,28 @@ pub struct Sets {
     ranks: Vec<Option<u32>>,
     /// The set of a node that doesn't exist.
     none: BitSet,
+}
+
+// Written out, so that the crates above needn't prove again how each part is dropped.
+impl Drop for Sets {
+    fn drop(self) {
+        let Sets {
+            nullable,
+            starts,
+            firsts,
+            follows,
+            heads,
+            ranks,
+            none,
+        } = self;
+        drop(nullable);
+        drop(starts);
+        drop(firsts);
+        drop(follows);
+        drop(heads);
+        drop(ranks);
+        drop(none);
+    }
 }
 
 impl Model for Sets {
@@ -76,14 +98,16 @@ impl Sets {
         ensures { IfOk result (λ sets. sets ≡
             record { nullable = nullable.items; starts = starts.items; firsts = firsts.items; follows = follows.items; heads = []; ranks = [] }) }
     {
+        let heads = Vec::new(alloc);
+        let ranks = Vec::new(alloc);
         let none = BitSet::new(alloc, 0)?;
         Ok(Sets {
             nullable,
             starts,
             firsts,
             follows,
-            heads: Vec::new(alloc),
-            ranks: Vec::new(alloc),
+            heads,
+            ranks,
             none,
         })
     }

@@ -18,11 +18,23 @@ use std::alloc::{AllocError, Global};
 use std::marker::Model;
 
 /// A table, seen as its operators, the reserved symbols, and the limit on operators.
-#[derive(Drop)]
 pub struct Table {
     operators: Vec<Decl>,
     reserved: Texts,
     most: usize,
+}
+
+// Written out, so that the crates above needn't prove again how each part is dropped.
+impl Drop for Table {
+    fn drop(self) {
+        let Table {
+            operators,
+            reserved,
+            most: _,
+        } = self;
+        drop(operators);
+        drop(reserved);
+    }
 }
 
 impl Model for Table {

@@ -5,12 +5,16 @@ ghost use Rattle.std.specs.Str.{chars, all_scalars, encode_utf8_all};
 
 use std::alloc::{AllocError, Global};
 
-/// The characters of a text.
+/// The characters of a text. They are counted first, so that their memory is asked for once, and a refusal is told.
 pub fn characters_of(alloc: Global, text: &str) -> Result<Vec<char>, AllocError>
     ensures value { IfOk result (λ characters. characters.items ≡ chars text.now) }
     ensures scalars { IfOk result (λ characters. all_scalars characters.items ≡ true) }
 {
-    text.chars().collect(alloc)
+    let mut characters = Vec::with_capacity(alloc, text.chars().count())?;
+    for c in text.chars() {
+        characters.push(c)?;
+    }
+    Ok(characters)
 }
 
 /// The text with these characters.

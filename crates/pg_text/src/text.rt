@@ -30,9 +30,17 @@ pub enum TextFault {
 }
 
 /// A text to be parsed, in memory of its own.
-#[derive(Debug, Drop)]
+#[derive(Debug)]
 pub struct Text {
     characters: Vec<char>,
+}
+
+// Written out, so that the crates above needn't prove again how each part is dropped.
+impl Drop for Text {
+    fn drop(self) {
+        let Text { characters } = self;
+        drop(characters);
+    }
 }
 
 impl Model for Text {

@@ -15,9 +15,17 @@ use std::rc::Rc;
 const FEW: usize = 16;
 
 /// Texts in order, seen as the list of their characters. Copies share their memory.
-#[derive(Debug, Drop)]
+#[derive(Debug)]
 pub struct Texts {
     kept: Rc<Kept>,
+}
+
+// Written out, so that the crates above needn't prove again how each part is dropped.
+impl Drop for Texts {
+    fn drop(self) {
+        let Texts { kept } = self;
+        drop(kept);
+    }
 }
 
 /// The texts themselves, seen as the list of their characters.

@@ -30,6 +30,7 @@ complete -c pgw -n __fish_use_subcommand -a probe -d 'Runs a grammar on a text a
 complete -c pgw -n __fish_use_subcommand -a replay -d 'Goes along a trail that parse printed'
 complete -c pgw -n __fish_use_subcommand -a sets -d 'Prints what can begin and follow each form'
 complete -c pgw -n __fish_use_subcommand -a print -d 'Prints a grammar in canonical form'
+complete -c pgw -n __fish_use_subcommand -a haskell -d 'Prints a grammar as a Haskell module'
 complete -c pgw -n __fish_use_subcommand -a help -d 'Says more of the program, a command or a code'
 complete -c pgw -n __fish_use_subcommand -s V -l version -d 'Prints the version'
 complete -c pgw -s h -l help -d 'Says how it is called'
@@ -48,5 +49,6 @@ complete -c pgw -n '__fish_seen_subcommand_from probe' -l steps -x -d 'The most 
 complete -c pgw -n '__fish_seen_subcommand_from probe' -l report -d 'Reads choice as the report of 2001 does'
 complete -c pgw -n '__fish_seen_subcommand_from probe' -l trace -d 'Tells which rules are entered and left'
 complete -c pgw -n '__fish_seen_subcommand_from probe' -l only -x -a '(__pgw_rules)' -d 'Traces only this rule'
+complete -c pgw -n '__fish_seen_subcommand_from haskell' -l module -x -d 'The name of the module'
 complete -c pgw -n '__fish_seen_subcommand_from explain; and __pgw_grammar >/dev/null' -f -a '(__pgw_rules)'
-complete -c pgw -n '__fish_seen_subcommand_from help' -f -a "check explain verify parse probe replay sets print $codes"
+complete -c pgw -n '__fish_seen_subcommand_from help' -f -a "check explain verify parse probe replay sets print haskell $codes"

@@ -92,7 +92,6 @@ fn check_read<R: AllocGlobal + Print + Eprint>(
 }
 
 /// Prints each line after its place or the file's name.
-#[tactic(auto, using(crate::proofs::Statuses::placed_yes_status, crate::proofs::Statuses::placed_no_status, crate::proofs::Statuses::check_fault_status))]
 fn check_placed<R: AllocGlobal + Print + Eprint>(
     rt: &Handle<R>,
     bytes: &[u8],
@@ -120,7 +119,6 @@ fn check_placed<R: AllocGlobal + Print + Eprint>(
 }
 
 /// Prints each line without a prefix.
-#[tactic(auto, using(crate::proofs::Statuses::accepted_status, crate::proofs::Statuses::refused_status, crate::proofs::Statuses::check_fault_status))]
 fn check_grammar<R: AllocGlobal + Print + Eprint>(
     rt: &Handle<R>,
     bytes: &[u8],

@@ -16,7 +16,6 @@ use std::alloc::{AllocError, Global};
 use std::io;
 
 /// Prints that a grammar is accepted, with its step cost, or its findings. Each line has this prefix, if there is one.
-#[tactic(auto, using(crate::proofs::Statuses::judged_status, crate::proofs::Statuses::file_fault_status))]
 pub(crate) fn check_with_cost<R: AllocGlobal + Print + Eprint>(
     rt: &Handle<R>,
     bytes: &[u8],
@@ -95,7 +94,6 @@ fn cost_line(
 }
 
 /// Prints the findings, each after this prefix.
-#[tactic(auto, using(crate::proofs::Statuses::placed_status, crate::proofs::Statuses::write_fault_status))]
 fn tell_placed<R: AllocGlobal + Print + Eprint>(
     rt: &Handle<R>,
     loaded: &LoadedFile,
@@ -111,7 +109,6 @@ fn tell_placed<R: AllocGlobal + Print + Eprint>(
 }
 
 /// Prints the findings without a prefix.
-#[tactic(auto, using(crate::proofs::Statuses::told_check_status, crate::proofs::Statuses::write_fault_status))]
 fn tell_findings<R: AllocGlobal + Print + Eprint>(
     rt: &Handle<R>,
     loaded: &LoadedFile,

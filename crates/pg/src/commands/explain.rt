@@ -34,7 +34,6 @@ pub(crate) fn explain_file<R: AllocGlobal + Files + Input + Print + Eprint>(
 }
 
 /// As `explain_file`, for the bytes of the file.
-#[tactic(auto, using(crate::proofs::Statuses::judged_status, crate::proofs::Statuses::file_fault_status))]
 fn explain_read<R: AllocGlobal + Print + Eprint>(
     rt: &Handle<R>,
     bytes: &[u8],
@@ -55,7 +54,6 @@ fn explain_read<R: AllocGlobal + Print + Eprint>(
 }
 
 /// Prints what is wrong with the grammar of a loaded file.
-#[tactic(auto, using(crate::proofs::Statuses::faultless_grammar, crate::proofs::Statuses::faulty_grammar, crate::proofs::Statuses::unusable_grammar, crate::proofs::Statuses::write_fault_status))]
 fn explain_grammar<R: AllocGlobal + Print + Eprint>(
     rt: &Handle<R>,
     loaded: &LoadedFile,

@@ -91,7 +91,7 @@ fn print_line_fault<R: AllocGlobal + Print + Eprint>(
 ) -> Result<u8, AllocError>
     ensures { IfOk result (λ status. (status ≡ UNUSABLE) ⊎ (status ≡ status_of fault)) }
 {
-    match fault {
+    match &fault {
         BenchFault::Writer | BenchFault::Memory => print_report(rt, fault, names),
         BenchFault::File(_)
         | BenchFault::Refused(_)

@@ -19,7 +19,6 @@ use std::alloc::AllocError;
 use std::io;
 
 /// Writes the findings with their explanations, or the notes if these are wanted, or the faults of the file.
-#[tactic(auto, using(crate::proofs::Statuses::judged_status, crate::proofs::Statuses::file_fault_status))]
 pub(crate) fn check_as_json<R: AllocGlobal + Print + Eprint>(
     rt: &Handle<R>,
     bytes: &[u8],
@@ -72,7 +71,6 @@ fn told_of<R: AllocGlobal>(
 }
 
 /// Writes the findings, of which some have these explanations, or the notes.
-#[tactic(auto, using(crate::proofs::Statuses::listed_none_status, crate::proofs::Statuses::listed_some_status, crate::proofs::Statuses::write_fault_status))]
 fn list_told<R: AllocGlobal + Print + Eprint>(
     rt: &Handle<R>,
     loaded: &LoadedFile,

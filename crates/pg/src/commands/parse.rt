@@ -102,7 +102,6 @@ fn outline_alone<R: AllocGlobal + Print + Eprint>(
 }
 
 /// Parses the text that a file gives by the grammar with these bytes.
-#[tactic(auto, using(crate::proofs::Statuses::loaded_status, crate::proofs::Statuses::not_loaded_status))]
 fn parse_text<F: Read + Drop, R: AllocGlobal + Print + Eprint>(
     rt: &Handle<R>,
     bytes: &[u8],

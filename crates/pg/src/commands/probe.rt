@@ -71,7 +71,6 @@ fn trace_file<F: Read + Drop, R: AllocGlobal + Print + Eprint>(
 }
 
 /// As `trace_file`, for the text with these bytes. The grammar is read once. If the grammar or the text can't be used, only the reason is printed.
-#[tactic(auto, using(crate::proofs::Statuses::run_status))]
 fn trace_text<R: AllocGlobal + Print + Eprint>(
     rt: &Handle<R>,
     bytes: &[u8],
@@ -176,7 +175,6 @@ fn told(status: u8, is_told: bool) -> u8
 }
 
 /// Runs the start rule of the grammar with these bytes on the text that a file gives, and prints its answer.
-#[tactic(auto, using(crate::proofs::Statuses::ok_status, crate::proofs::Statuses::other_status, crate::proofs::Statuses::shown_fault_status))]
 fn probe_text<F: Read + Drop, R: AllocGlobal + Print + Eprint>(
     rt: &Handle<R>,
     bytes: &[u8],

@@ -43,7 +43,6 @@ pub(crate) fn replay_files<R: AllocGlobal + Files + Input + Print + Eprint>(
 }
 
 /// As `replay_files`, over the text that an open file gives.
-#[tactic(auto, using(crate::proofs::Statuses::led_status, crate::proofs::Statuses::stopped_status, crate::proofs::Statuses::shown_fault_status))]
 fn replay_text<F: Read + Drop, R: AllocGlobal + Print + Eprint>(
     rt: &Handle<R>,
     bytes: &[u8],

@@ -1,13 +1,15 @@
-//! What is printed of a grammar: its canonical form, its sets, and whether a certificate shows that it is accepted.
+//! What is printed of a grammar: its canonical form, its sets, a Haskell module, and whether a certificate shows that it is accepted.
 
 ghost use Rattle.std.specs.Prelude.{IfOk};
 ghost use Rattle.pg_pred.specs.Offer.{offer_of};
 ghost use Rattle.pg.specs.Status.{IsPrintStatus, IsVerifyStatus};
 
 use pg_bench::{print_bytes, sets_bytes, verify_bytes};
+use pg_bench_haskell::{haskell_bytes, is_module_name};
 use pg_pred::Registry;
 use pg_report::{
     Handle, Names, UNUSABLE, grammar_alone, grammar_with_certificate, print_report, print_verdict,
+    refuse,
 };
 use pg_tree::Meter;
 use std::alloc::AllocError;
@@ -55,7 +57,6 @@ pub(crate) fn print_file<R: AllocGlobal + Files + Input + Print + Eprint>(
     }
 }
 
-#[tactic(auto, using(crate::proofs::Statuses::printed_status, crate::proofs::Statuses::print_fault_status))]
 fn print_grammar<R: AllocGlobal + Print + Eprint>(
     rt: &Handle<R>,
     bytes: &[u8],
@@ -83,7 +84,6 @@ pub(crate) fn show_file<R: AllocGlobal + Files + Input + Print + Eprint>(
     }
 }
 
-#[tactic(auto, using(crate::proofs::Statuses::shown_status, crate::proofs::Statuses::print_fault_status))]
 fn show_grammar<R: AllocGlobal + Print + Eprint>(
     rt: &Handle<R>,
     bytes: &[u8],
@@ -94,6 +94,41 @@ fn show_grammar<R: AllocGlobal + Print + Eprint>(
 {
     let mut writer = Meter::new(io::writer(rt));
     match sets_bytes(rt.alloc(), bytes, registry, &mut writer) {
+        Ok(()) => Ok(0),
+        Err(fault) => print_report(rt, fault, Names::of_grammar(grammar)),
+    }
+}
+
+/// Prints the grammar in a file as a Haskell module with this name, if a module can have it.
+pub(crate) fn translate_file<R: AllocGlobal + Files + Input + Print + Eprint>(
+    rt: &Handle<R>,
+    grammar: &str,
+    registry: &Registry,
+    module: &str,
+) -> Result<u8, AllocError> {
+    if !is_module_name(module) {
+        return Ok(refuse(
+            rt.rt,
+            format_args!("pgw: {module} can't be the module's name"),
+        ));
+    }
+    match grammar_alone(rt, grammar)? {
+        Some(bytes) => translate_grammar(rt, bytes.as_slice(), grammar, registry, module),
+        None => Ok(UNUSABLE),
+    }
+}
+
+fn translate_grammar<R: AllocGlobal + Print + Eprint>(
+    rt: &Handle<R>,
+    bytes: &[u8],
+    grammar: &str,
+    registry: &Registry,
+    module: &str,
+) -> Result<u8, AllocError>
+    ensures { IfOk result (IsPrintStatus (offer_of registry.now) bytes.now) }
+{
+    let mut writer = Meter::new(io::writer(rt));
+    match haskell_bytes(rt.alloc(), grammar, bytes, registry, &mut writer, module) {
         Ok(()) => Ok(0),
         Err(fault) => print_report(rt, fault, Names::of_grammar(grammar)),
     }

@@ -1,6 +1,6 @@
 -- Items that are handed to a maker one by one, as the code goes through them.
 use Rattle.std.proofs.Common.{◌≡◌, ◌<◌, ◌≤◌, ◌+◌, ℕ, zero, suc, List, [], ◌∷◌, ◌++◌, length, get_or, map, take, drop, None, refl, sym, ap, subst, ◌∙◌, arith}
-use Rattle.std.proofs.lemmas.List.{length-map, map_push, take_all, take_more}
+use Rattle.std.proofs.lemmas.List.{append-nil, length-map, map_push, take_all, take_more}
 use Rattle.std.specs.List.{AllByRecursion}
 use Rattle.pg_pred.specs.Offer.{Offer}
 use Rattle.pg_grammar_form.specs.Forms.{form_of}
@@ -12,6 +12,10 @@ use Rattle.pg_file_items.specs.Tree.{Item}
 use Rattle.pg_file_items.specs.Proper.{IsProperItem}
 use Rattle.pg_file_items.specs.Heads.{entry_of_item}
 use Rattle.pg_file_items.specs.Entries.{Entry, entry_of, entries_of}
+use Rattle.pg_file_items.specs.Joined.{joined}
+use Rattle.pg_file_items.proofs.ItemLemmas.Joined.{joined_push}
+use Rattle.pg_file_meaning.specs.Spans.{Spans}
+use Rattle.pg_file_making.specs.Spans.{item_spans, items_spans}
 use Rattle.pg_file_making.specs.Making.{with_entry, with_entries, MayFollow, EntriesAreInOrder, LeadsNowhere, IsProperEntry, IsGrammarOfEntries}
 use Rattle.pg_file_making.proofs.MakingLemmas.Finished.{said_no_fault}
 
@@ -119,3 +123,20 @@ only_grammar offer entries made g other handed says grammar =
 -- it has as many nodes as base forms were handed in
 pub said_nodes : (made : Made) (g : Grammar) → Says made g → length made.forms ≡ length g.nodes
 said_nodes made g says = ap length says.forms ∙ length-map g.nodes (form_of (rule_names g) (word_names g))
+
+-- ---- the spans of what was handed in
+
+pub no_more_spans : (spans : Spans) → spans ≡ spans ++ []
+no_more_spans spans = sym (append-nil spans)
+
+-- those of one item more
+pub spans_next : (items : List declared.Item) (i : ℕ) (item : declared.Item) (spans next : Spans) → i < length items → item ≡ get_or items i item
+    → spans ≡ items_spans (take i items) → next ≡ spans ++ item_spans item → next ≡ items_spans (take (i + 1) items)
+spans_next items i item spans next below is h e =
+    let more : take (i + 1) items ≡ take i items ++ item ∷ [] = take_more items i item below ∙ ap (λ x. take i items ++ x ∷ []) (sym is) in
+    e ∙ ap (λ (xs : Spans). xs ++ item_spans item) h ∙ sym (joined_push (map item_spans (take i items)) (item_spans item))
+    ∙ ap (λ (all : List Spans). joined all) (sym (map_push item_spans (take i items) item)) ∙ ap items_spans (sym more)
+
+-- after the last item
+pub all_spans_noted : (items : List declared.Item) (i : ℕ) (spans : Spans) → length items ≤ i → spans ≡ items_spans (take i items) → spans ≡ items_spans items
+all_spans_noted items i spans end h = h ∙ ap items_spans (take_all i items end)

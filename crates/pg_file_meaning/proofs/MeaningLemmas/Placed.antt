@@ -15,6 +15,7 @@ use Rattle.pg_file_items.proofs.ItemLemmas.Joined.{joined_push}
 use Rattle.pg_file_meaning.specs.Meaning.{Body}
 use Rattle.pg_file_items.specs.Sizes.{part_count}
 use Rattle.pg_file_meaning.specs.Bodies.{bases_of, all_bases_of, body_of_form, bodies}
+use Rattle.pg_file_meaning.specs.Spans.{Spans, spans_of, all_spans_of, spans_of_form, all_spans}
 use Rattle.pg_file_items.proofs.ItemLemmas.Backwards.{IsOneBack}
 
 -- joined bodies, and one more
@@ -34,6 +35,24 @@ pub bases_step : (offer : Offer) (classes : List Name) (form : WrittenForm) (for
     → all_bases_of (body ∷ drop (part_count form) waiting) ≡ bodies offer classes (form ∷ forms)
 bases_step offer classes form forms waiting body h e =
     let rest : drop (part_count form) (all_bases_of waiting) ≡ all_bases_of (drop (part_count form) waiting) = drop-map (λ (b : Vec PlacedBase). bases_of b.items) (part_count form) waiting in
+    cc
+
+-- the same of spans: joined bodies, and one more
+pub spans_joined : (bodies : List (Vec PlacedBase)) (body : Vec PlacedBase) (all after : List PlacedBase)
+    → after ≡ all ++ body.items → spans_of all ≡ joined (all_spans_of bodies) → spans_of after ≡ joined (all_spans_of (bodies ++ body ∷ []))
+spans_joined bodies body all after e h =
+    ap spans_of e ∙ map-append (λ (b : PlacedBase). b.span) all body.items ∙ ap (λ (spans : Spans). spans ++ spans_of body.items) h
+    ∙ sym (joined_push (all_spans_of bodies) (spans_of body.items))
+    ∙ ap (λ (lists : List Spans). joined lists) (sym (map_push (λ (b : Vec PlacedBase). spans_of b.items) bodies body))
+
+pub spans_taken : (n : ℕ) (items bodies : List (Vec PlacedBase)) → bodies ≡ take n items → all_spans_of bodies ≡ take n (all_spans_of items)
+spans_taken n items bodies h = ap all_spans_of h ∙ sym (take-map (λ (b : Vec PlacedBase). spans_of b.items) n items)
+
+pub spans_step : (form : PlacedForm) (forms : List PlacedForm) (waiting : List (Vec PlacedBase)) (body : Vec PlacedBase)
+    → all_spans_of waiting ≡ all_spans forms → spans_of body.items ≡ spans_of_form form.form form.span (take (part_count form.form) (all_spans_of waiting))
+    → all_spans_of (body ∷ drop (part_count form.form) waiting) ≡ all_spans (form ∷ forms)
+spans_step form forms waiting body h e =
+    let rest : drop (part_count form.form) (all_spans_of waiting) ≡ all_spans_of (drop (part_count form.form) waiting) = drop-map (λ (b : Vec PlacedBase). spans_of b.items) (part_count form.form) waiting in
     cc
 
 -- a fact of each form is one of a form among them

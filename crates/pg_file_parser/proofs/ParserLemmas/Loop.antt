@@ -14,6 +14,7 @@ use Rattle.pg_file_tokens.specs.Tokens.{Token}
 use Rattle.pg_file_tokens.specs.View.{tokens_of}
 use Rattle.pg_file_items.specs.Entries.{forms_of}
 use Rattle.pg_file_parser.specs.Given.{Fails, bodies_of, classes_of}
+use Rattle.pg_file_parser.specs.Places.{placed_of}
 use Rattle.pg_file_items.specs.Joined.{joined}
 use Rattle.pg_file_items.proofs.ItemLemmas.Joined.{joined_push}
 use Rattle.pg_file_parser.specs.Reading.{◌>>=◌, Body, ClassParts, Reader, mark_at, word_at, plain_at, atom_at, with_first, more_at, class_at, form_at, value_with, value_at}
@@ -79,7 +80,7 @@ ends (Fault kind place) between part front most i ts following total lt m h so_f
     sym so_far ∙ one
 
 -- one list more after joined lists
-forms_append : (a b : List PlacedForm) → forms_of (a ++ b) ≡ forms_of a ++ forms_of b
+pub forms_append : (a b : List PlacedForm) → forms_of (a ++ b) ≡ forms_of a ++ forms_of b
 forms_append [] b = refl
 forms_append (f ∷ a) b = ap (λ (forms : Body). f.form ∷ forms) (forms_append a b)
 
@@ -90,6 +91,13 @@ body_joined bodies body parts after e h =
     ap forms_of e ∙ forms_append parts body.items ∙ ap (λ (forms : Body). forms ++ forms_of body.items) h
     ∙ sym (joined_push (bodies_of bodies) (forms_of body.items))
     ∙ ap (λ (all : List Body). joined all) (sym (map_push (λ (b : Vec PlacedForm). forms_of b.items) bodies body))
+
+-- joined bodies with their places, and one more
+pub placed_joined : (bodies : List (Vec PlacedForm)) (body : Vec PlacedForm) (parts after : List PlacedForm)
+    → after ≡ parts ++ body.items → parts ≡ joined (placed_of bodies) → after ≡ joined (placed_of (bodies ++ body ∷ []))
+placed_joined bodies body parts after e h =
+    e ∙ ap (λ (ps : List PlacedForm). ps ++ body.items) h ∙ sym (joined_push (placed_of bodies) body.items)
+    ∙ ap (λ (all : List (List PlacedForm)). joined all) (sym (map_push (λ (b : Vec PlacedForm). b.items) bodies body))
 
 -- joined lists, and one more
 pub list_joined : (lists : List (Vec WrittenPart)) (list : Vec WrittenPart) (parts after : List WrittenPart)

@@ -1,5 +1,5 @@
 -- Reading literals next to one another, as a loop does.
-use Rattle.std.proofs.Common.{◌≡◌, ℕ, ◌<◌, true, false, List, [], ◌∷◌, ◌++◌, Option, Some, None, refl, sym, ap, ◌∙◌}
+use Rattle.std.proofs.Common.{◌≡◌, ℕ, true, false, List, [], ◌∷◌, ◌++◌, Option, Some, None, refl, sym, ap, ◌∙◌}
 use Rattle.std.proofs.lemmas.List.{append-nil}
 use Rattle.pg_file_parser.specs.declared.error.SyntaxError.{SyntaxError}
 use Rattle.pg_file_parser.specs.declared.error.SyntaxError.TheVariants.{Memory, Fault}

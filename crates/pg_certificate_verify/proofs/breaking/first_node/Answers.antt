@@ -11,12 +11,12 @@ first_condition-requires-clause-parts c =
     let nodes = c.nodes-nodes.result.now in
     let at = sym (ap (λ (ns : List Node). slice_get ns i) c.nodes-nodes.ensures.all)
     ∙ slice_get_read nodes (length nodes) i c.index-nodes-number.result refl c.loop-number-test.true c.index-nodes-number.is in
-    parts_fit c.args.grammar.now c.args.sets.now i c.index-nodes-number.result c.nodes-nodes.ensures.grammar c.requires.formed at
+    parts_fit c.args.claims.now.grammar.now c.args.claims.now.sets.now i c.index-nodes-number.result c.nodes-nodes.ensures.grammar c.requires.formed at
 
 pub returns : goal.returns
 returns c =
-    let g = c.args.grammar.now in
+    let g = c.args.claims.now.grammar.now in
     let past = c.loop-number-test.false in
     let same = ap length c.nodes-nodes.ensures.all in
-    nothing_wrong g c.args.sets.now c.args.cost c.loop-number.number (bodies_are_nodes g.rules g.nodes c.nodes-nodes.ensures.grammar.bodies) (omega (arith, past, same))
+    nothing_wrong g c.args.claims.now.sets.now c.args.claims.now.cost c.loop-number.number (bodies_are_nodes g.rules g.nodes c.nodes-nodes.ensures.grammar.bodies) (omega (arith, past, same))
     c.loop-number.invariant

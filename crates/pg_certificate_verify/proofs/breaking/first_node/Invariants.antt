@@ -3,4 +3,4 @@ use Rattle.pg_certificate_verify.proofs.Violated.{NothingBefore}
 use Rattle.pg_certificate_verify.proofs.breaking.first_node.Given as goal
 
 abbrev pub invariant-loop-number : goal.invariant-loop-number
-invariant-loop-number l = NothingBefore l.grammar (claimed_facts l.sets l.cost) l.number
+invariant-loop-number l = NothingBefore l.claims.grammar.now (claimed_facts l.claims.sets.now l.claims.cost) l.number

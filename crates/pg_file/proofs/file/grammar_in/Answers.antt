@@ -1,10 +1,11 @@
-use Rattle.std.proofs.Common.{List, sym, subst}
+use Rattle.std.proofs.Common.{List, sym, ap, subst, ◌∙◌}
 use Rattle.std.proofs.lemmas.Result.{err_from_is_err_and}
 use Rattle.pg_pred.specs.Offer.{offer_of}
 use Rattle.pg_grammar.proofs.Unique.{same_grammar}
 use Rattle.pg_file_items.specs.Entries.{entries_of}
 use Rattle.pg_file_items.specs.declared.item.Item.{Item}
 use Rattle.pg_file_making.specs.Making.{IsGrammarOfEntries}
+use Rattle.pg_file_making.specs.Spans.{items_spans}
 use Rattle.pg_file.specs.Answers.{IsFault}
 use Rattle.pg_file.specs.Refusals.{IsBadAt, IsErrorAt}
 use Rattle.pg_file.proofs.ReadLemmas.Spelled.{is_spelled, spelled_grammar}
@@ -32,7 +33,8 @@ returns-in-Ok-clause-ok g c =
       spelled = is_spelled offer characters _ _ _ syntax.spelled syntax.written made;
       only = λ g' h. same_grammar _ _ _ made.says (spelled_grammar offer characters _ _ g' syntax.only_tokens syntax.only_items h).says;
       fits = grammar_fits _ _ _ made;
-      spans = c.in-Ok.ensures.spans;
+      spans = c.in-Ok.ensures.count;
+      spans_are = c.in-Ok.ensures.spans ∙ ap items_spans c.as_slice.ensures.value;
       initial_is = c.in-Ok.ensures.initial;
       comes = c.in-Ok.ensures.comes;
     }

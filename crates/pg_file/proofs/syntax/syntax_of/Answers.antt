@@ -7,6 +7,7 @@ use Rattle.pg_file_tokens.specs.Lexing.{placed_of, up_to}
 use Rattle.pg_file_tokens.specs.View.{tokens_of, placed_tokens_of, is_bad_at}
 use Rattle.pg_file_tokens.proofs.LexerLemmas.Exact.{up_to_all}
 use Rattle.pg_file_parser.specs.Items.{AreItems, OnlyItems}
+use Rattle.pg_file_parser.specs.Places.{AreItemsInPlace}
 use Rattle.pg_file.specs.Refusals.{IsBadAt}
 use Rattle.pg_file.proofs.ReadLemmas.Refused.{found_bad, error_leads}
 use Rattle.pg_file.proofs.ReadLemmas.Spelled.{spelled_items}
@@ -22,6 +23,7 @@ returns-in-Ok-clause-ok c =
       only_tokens = read.only;
       written = subst (λ (ls : List Lexeme). AreItems (tokens_of ls) (entries_of c.in-Ok.items.items)) same c.in-Ok.ensures.items;
       only_items = subst (λ (ls : List Lexeme). OnlyItems (tokens_of ls) (entries_of c.in-Ok.items.items)) same c.in-Ok.ensures.only;
+      in_place = subst (λ (ls : List Lexeme). AreItemsInPlace ls c.in-Ok.items.items) same c.in-Ok.ensures.places;
     }
 
 pub returns-in-Err-clause-refused : goal.returns-in-Err-clause-refused

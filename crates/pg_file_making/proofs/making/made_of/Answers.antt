@@ -7,28 +7,30 @@ use Rattle.pg_file_items.specs.Entries.{entries_of}
 use Rattle.pg_file_making.specs.Spells.{HasInitialTable}
 use Rattle.pg_file_meaning.specs.declared.error.MakingError.TheVariants.{Memory, Refused}
 use Rattle.pg_file_making.proofs.MakingLemmas.Refused.{where_none}
-use Rattle.pg_file_making.proofs.MakingLemmas.Turns.{proper_next, hand_next, next_nowhere, all_handed, grammar_no_fault, only_grammar, said_nodes}
+use Rattle.pg_file_making.proofs.MakingLemmas.Turns.{proper_next, hand_next, next_nowhere, all_handed, grammar_no_fault, only_grammar, said_nodes, spans_next, all_spans_noted}
 use Rattle.pg_file_making.proofs.making.made_of.Goals as goal
 
 pub loop-item-init : goal.loop-item-init
 loop-item-init g c = record {
   handed = record { made_is = c.new-maker.ensures; ordered = tt };
   classes = rw (c.new-classes.ensures.items, c.new-maker.ensures) refl;
-  spans = rw (c.new-spans.ensures.items, c.new-maker.ensures) refl;
+  count = rw (c.new-spans.ensures.items, c.new-maker.ensures) refl;
+  spans = c.new-spans.ensures.items;
 }
 
 pub hand_in-requires : goal.hand_in-requires
 hand_in-requires g c = record {
   proper = proper_next c.args.items.now c.requires.items c.loop-item.item-index c.item-item.result c.requires.proper c.requires.meant c.loop-item-test.true c.item-item.is;
   names = c.loop-item.invariant.classes;
-  forms = c.loop-item.invariant.spans;
+  forms = c.loop-item.invariant.count;
 }
 
 pub loop-item-preserved : goal.loop-item-preserved
 loop-item-preserved g c = record {
   handed = hand_next _ c.args.items.now c.loop-item.item-index c.item-item.result c.loop-item.maker c.hand_in.new.maker c.loop-item-test.true c.item-item.is c.loop-item.invariant.handed c.in_ok-hand_in.ensures.follows c.in_ok-hand_in.ensures.made;
   classes = c.in_ok-hand_in.ensures.names;
-  spans = c.in_ok-hand_in.ensures.forms;
+  count = c.in_ok-hand_in.ensures.forms;
+  spans = spans_next c.args.items.now c.loop-item.item-index c.item-item.result c.loop-item.spans.items c.hand_in.new.spans.items c.loop-item-test.true c.item-item.is c.loop-item.invariant.spans c.in_ok-hand_in.ensures.spans;
 }
 
 pub returns-in_err-hand_in-clause-refused : goal.returns-in_err-hand_in-clause-refused
@@ -63,7 +65,8 @@ returns g c =
         says = subst (λ m. Says m c.in-Ok.grammar) handed.made_is c.in-Ok.ensures.ok;
         admitted = (c.in_ok-table.table, c.in_ok-table.ensures.ok);
       };
-      spans = c.loop-item.invariant.spans ∙ said_nodes c.loop-item.maker c.in-Ok.grammar c.in-Ok.ensures.ok;
+      count = c.loop-item.invariant.count ∙ said_nodes c.loop-item.maker c.in-Ok.grammar c.in-Ok.ensures.ok;
+      spans = all_spans_noted c.args.items.now c.loop-item.item-index c.loop-item.spans.items c.loop-item-test.false c.loop-item.invariant.spans;
       initial = c.in_ok-table.ensures.ok;
       comes = c.in_ok-table.ensures.comes;
       refused = λ refused grammar is. absurd cc;

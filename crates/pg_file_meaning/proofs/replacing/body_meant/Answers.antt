@@ -4,9 +4,10 @@ use Rattle.pg_pred.specs.Offer.{offer_of}
 use Rattle.pg_file_meaning.specs.Names.{FormIsKnown}
 use Rattle.pg_file_items.specs.Entries.{forms_of}
 use Rattle.pg_file_meaning.specs.Bodies.{all_bases_of}
+use Rattle.pg_file_meaning.specs.Spans.{all_spans_of}
 use Rattle.pg_file_meaning.proofs.MeaningLemmas.Lookup.{same_err}
 use Rattle.pg_file_items.proofs.ItemLemmas.Backwards.{one_back}
-use Rattle.pg_file_meaning.proofs.MeaningLemmas.Placed.{bases_step, form_back}
+use Rattle.pg_file_meaning.proofs.MeaningLemmas.Placed.{bases_step, spans_step, form_back}
 use Rattle.pg_file_meaning.proofs.replacing.body_meant.Goals as goal
 
 pub returns-in_err-body-clause-refused : goal.returns-in_err-body-clause-refused
@@ -28,5 +29,7 @@ loop-form-preserved g c =
       bodies = ap all_bases_of c.in_ok-push_front.ensures.items ∙ rw (back.back, c.in_ok-body.ensures.rest)
           (bases_step (offer_of c.args.registry.now) c.args.classes.now c.in-Some.form.now.form (forms_of (drop (length c.loop-form.rest.now) forms))
           c.loop-form.waiting.items c.in_ok-body.body c.loop-form.invariant.bodies c.in_ok-body.ensures.meant);
+      spans = ap all_spans_of c.in_ok-push_front.ensures.items ∙ rw (back.back, c.in_ok-body.ensures.rest)
+          (spans_step c.in-Some.form.now (drop (length c.loop-form.rest.now) forms) c.loop-form.waiting.items c.in_ok-body.body c.loop-form.invariant.spans c.in_ok-body.ensures.spans);
       known = rw back.back (c.in_ok-body.ensures.known, c.loop-form.invariant.known);
     }

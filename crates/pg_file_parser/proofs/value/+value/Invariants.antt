@@ -1,6 +1,8 @@
 use Rattle.std.proofs.Common.{◌≡◌, ◌+◌, ◌-◌, ◌*◌}
 use Rattle.pg_file_tokens.specs.declared.token.Mark.TheVariants.{Comma}
 use Rattle.pg_file_tokens.specs.View.{tokens_of}
+use Rattle.pg_file_parser.specs.Rests.{EndsWith}
+use Rattle.pg_file_parser.specs.Places.{AreAllInPlace}
 use Rattle.pg_file_parser.specs.Given.{bodies_of}
 use Rattle.pg_file_parser.specs.Reading.{more_at, value_at}
 use Rattle.pg_file_parser.proofs.ParserLemmas.Loop.{with_front}
@@ -31,4 +33,8 @@ abbrev pub decreases-form : goal.decreases-form
 decreases-form l = 5 * l.depth + 4
 
 abbrev pub invariant-more_values-loop : goal.invariant-more_values-loop
-invariant-more_values-loop l = with_front (bodies_of l.values.items) (more_at Comma (value_at l.depth) (l.most - l.counter) (tokens_of l.rest)) ≡ more_at Comma (value_at l.depth) l.most (tokens_of l.tokens)
+invariant-more_values-loop l = record {
+  read : with_front (bodies_of l.values.items) (more_at Comma (value_at l.depth) (l.most - l.counter) (tokens_of l.rest)) ≡ more_at Comma (value_at l.depth) l.most (tokens_of l.tokens);
+  places : AreAllInPlace l.tokens l.values.items;
+  rest : EndsWith l.tokens l.rest;
+}

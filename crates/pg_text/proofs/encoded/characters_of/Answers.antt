@@ -1,13 +1,14 @@
-use Rattle.std.proofs.Common.{rules, ◌≡◌, true, ap, ◌∙◌}
-use Rattle.std.proofs.lemmas.Result.{IfOk-weaker}
-use Rattle.std.proofs.lemmas.Str.{chars_from_encodes, scalars-chars}
-use Rattle.std.specs.Str.{chars, all_scalars}
+use Rattle.std.proofs.Common.{ap, sym, ◌∙◌, map-id}
+use Rattle.std.proofs.lemmas.Iterator.{YieldsList-from_chars}
+use Rattle.std.proofs.lemmas.Iterator.Consumers.{YieldsList-end}
+use Rattle.std.proofs.lemmas.Str.{scalars-chars}
+use Rattle.std.specs.Str.{all_scalars}
 use Rattle.pg_text.proofs.encoded.characters_of.Goals as goal
 
 pub returns-clause-value : goal.returns-clause-value
-returns-clause-value c = search (rules, chars_from_encodes)
+returns-clause-value c =
+    let end = YieldsList-end (YieldsList-from_chars c.args.text.now c.utf8.text cc) c.loop-c.yielded _ c.loop-c.yielded_by _ _ c.in-None.is c.next.ensures.steps in
+    c.loop-c.invariant ∙ sym (map-id c.loop-c.yielded) ∙ end.0
 
 pub returns-clause-scalars : goal.returns-clause-scalars
-returns-clause-scalars c =
-    IfOk-weaker c.collect.result (λ v. v.items ≡ chars c.args.text.now) (λ v. all_scalars v.items ≡ true)
-    (λ v is. ap all_scalars is ∙ scalars-chars _ c.utf8.text) (returns-clause-value c)
+returns-clause-scalars c = ap all_scalars (returns-clause-value c) ∙ scalars-chars _ c.utf8.text

@@ -1,7 +1,10 @@
 use Rattle.std.proofs.lemmas.Result.{IfOk-weaker}
 use Rattle.pg_pred.specs.Offer.{offer_of}
-use Rattle.pg.proofs.Statuses.{print_fault_status}
+use Rattle.pg.proofs.Statuses.{printed_status, print_fault_status}
 use Rattle.pg.proofs.commands.show.print_grammar.Goals as goal
+
+pub returns-in-Ok : goal.returns-in-Ok
+returns-in-Ok g c = printed_status _ _ _ _ c.in-Ok.ensures.ok
 
 pub returns-in-Err : goal.returns-in-Err
 returns-in-Err g c =
