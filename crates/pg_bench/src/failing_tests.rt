@@ -5,7 +5,7 @@ ghost use Rattle.std.specs.Prelude.{◌≡◌, false};
 use crate::parse::parse_bytes;
 use crate::probe::probe_bytes;
 use crate::replay::replay_bytes;
-use crate::tests::{CALCULATOR, Drips, Narrow, SUM_FOREST, calculator};
+use crate::tests::{CALCULATOR, Drips, Narrow, SUM_FOREST, calculator, is_memory};
 use pg_bench_grammar::{BenchFault, check_bytes, print_bytes, sets_bytes};
 use pg_language::Reading;
 use pg_pred::{Builder, Registry};
@@ -67,7 +67,7 @@ fn called<R: Read, W: Write>(
         Call::Sets => sets_bytes(alloc, b"start a; a = eof;", registry, writer).map(|_| true),
     };
     match outcome {
-        Err(BenchFault::Memory) => Err(AllocError),
+        Err(fault) if is_memory(&fault) => Err(AllocError),
         outcome => Ok(outcome),
     }
 }
@@ -107,7 +107,7 @@ fn fails_where_the_reader_does(rt: HostRuntime) -> Result<(), Fail> {
             let written = writer.into_inner();
             if fails_at < 7 {
                 assert!(rt;
-                    matches!(outcome, Err(BenchFault::Reader)),
+                    matches!(&outcome, Err(BenchFault::Reader)),
                     "at call {fails_at}"
                 );
                 assert!(rt; written.is_empty(), "at call {fails_at}");
@@ -146,7 +146,7 @@ fn fails_where_the_writer_does(rt: HostRuntime) -> Result<(), Fail> {
                 let outcome = called(alloc, call, &registry, &mut reader, &mut writer)?;
                 let narrow = writer.into_inner();
                 if most < wanted.len() {
-                    assert!(rt; matches!(outcome, Err(BenchFault::Writer)), "after {most}");
+                    assert!(rt; matches!(&outcome, Err(BenchFault::Writer)), "after {most}");
                 } else {
                     assert!(rt; outcome.is_ok(), "{wanted}");
                 }

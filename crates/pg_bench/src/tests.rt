@@ -17,6 +17,11 @@ use std::io;
 use std::io::{ErrorKind, Read, Write};
 use std::test::Fail;
 
+/// Whether memory ran out.
+pub(crate) fn is_memory(fault: &BenchFault) -> bool {
+    matches!(fault, BenchFault::Memory)
+}
+
 const GRAMMAR: &[u8] =
     b"start a; d = satisfy(\"0\"..\"9\"); a = seq(string(\"(\"), choice(d, string(\"x\")), string(\")\"));";
 
@@ -100,7 +105,7 @@ fn parsed<R: Read, W: Write>(
         unreachable!()
     };
     match parse_bytes(alloc, grammar, &registry, reader, writer, false) {
-        Err(BenchFault::Memory) => Err(AllocError),
+        Err(fault) if is_memory(&fault) => Err(AllocError),
         Ok(_) => Ok(Ok(())),
         Err(fault) => Ok(Err(fault)),
     }
@@ -118,7 +123,7 @@ fn parsed_by<R: Read, W: Write>(
     requires writer { writer.old.failed ≡ false }
 {
     match parse_bytes(alloc, grammar, registry, reader, writer, false) {
-        Err(BenchFault::Memory) => Err(AllocError),
+        Err(fault) if is_memory(&fault) => Err(AllocError),
         Ok(done) => Ok(Ok(done)),
         Err(fault) => Ok(Err(fault)),
     }
@@ -221,7 +226,7 @@ fn replays_the_trail_of_a_parse(rt: HostRuntime) -> Result<(), Fail> {
 #[test]
 fn does_not_ask_the_reader_where_the_file_is_at_fault(rt: HostRuntime) -> Result<(), Fail> {
     let (outcome, calls, written) = asked(rt.alloc(), b"start a;")?;
-    assert!(rt; matches!(outcome, Err(BenchFault::File(_))));
+    assert!(rt; matches!(&outcome, Err(BenchFault::File(_))));
     assert_eq!(rt; calls, 0);
     assert!(rt; written.is_empty());
     Ok(())
@@ -244,8 +249,8 @@ fn does_not_ask_the_reader_where_an_operand_can_be_empty(rt: HostRuntime) -> Res
     });
     let mut writer = Meter::new(Vec::<u8>::new(alloc));
     match parse_bytes(alloc, grammar, &registry, &mut reader, &mut writer, false) {
-        Err(BenchFault::Memory) => Err(AllocError)?,
-        outcome => assert!(rt; matches!(outcome, Err(BenchFault::Refused(_)))),
+        Err(fault) if is_memory(&fault) => Err(AllocError)?,
+        outcome => assert!(rt; matches!(&outcome, Err(BenchFault::Refused(_)))),
     }
     assert_eq!(rt; reader.into_inner().calls, 0);
     assert!(rt; writer.into_inner().is_empty());
@@ -256,7 +261,7 @@ fn does_not_ask_the_reader_where_an_operand_can_be_empty(rt: HostRuntime) -> Res
 fn does_not_ask_the_reader_where_the_grammar_is_refused(rt: HostRuntime) -> Result<(), Fail> {
     let grammar = b"start a; a = choice(string(\"let\"), string(\"lambda\"));";
     let (outcome, calls, written) = asked(rt.alloc(), grammar)?;
-    let Err(BenchFault::Refused(refused)) = outcome else {
+    let Err(BenchFault::Refused(refused)) = &outcome else {
         return Err(Fail::new("no findings"));
     };
     let mut lines = Meter::new(Vec::<u8>::new(rt.alloc()));
@@ -274,7 +279,7 @@ fn writes_nothing_where_the_text_does_not_parse(rt: HostRuntime) -> Result<(), F
         let mut reader = Meter::new(text.as_bytes());
         let mut writer = Meter::new(Vec::<u8>::new(rt.alloc()));
         let outcome = parsed(rt.alloc(), GRAMMAR, &mut reader, &mut writer)?;
-        let Err(BenchFault::ParseError(error)) = outcome else {
+        let Err(BenchFault::ParseError(error)) = &outcome else {
             return Err(Fail::new("no parse error"));
         };
         assert_eq!(rt; error.place, place);
@@ -298,7 +303,7 @@ fn writes_nothing_where_the_reader_fails(rt: HostRuntime) -> Result<(), Fail> {
         let written = writer.into_inner();
         if fails_at < 7 {
             assert!(rt;
-                matches!(outcome, Err(BenchFault::Reader)),
+                matches!(&outcome, Err(BenchFault::Reader)),
                 "at call {fails_at}"
             );
             assert!(rt; written.is_empty(), "at call {fails_at}");
@@ -325,7 +330,7 @@ fn writes_a_prefix_where_the_writer_fails(rt: HostRuntime) -> Result<(), Fail> {
             });
             let outcome = parsed_by(rt.alloc(), grammar, &registry, &mut reader, &mut writer)?;
             if most < 130 {
-                assert!(rt; matches!(outcome, Err(BenchFault::Writer)), "after {most}");
+                assert!(rt; matches!(&outcome, Err(BenchFault::Writer)), "after {most}");
             } else {
                 assert!(rt; outcome.is_ok());
             }
@@ -359,7 +364,7 @@ fn parses_by_the_predicates_and_builders(rt: HostRuntime) -> Result<(), Fail> {
     let mut reader = Meter::new(b"\xc3\xa9y".as_slice());
     let mut writer = Meter::new(Vec::<u8>::new(alloc));
     match parse_bytes(alloc, grammar, &registry, &mut reader, &mut writer, false) {
-        Err(BenchFault::Memory) => Err(AllocError)?,
+        Err(fault) if is_memory(&fault) => Err(AllocError)?,
         outcome => assert!(rt; outcome.is_ok()),
     }
     let wanted = b"[{\"kids\":[\"\xc3\xa9\",\"y\"],\"node\":\"p\"}]\n".as_slice();
@@ -420,7 +425,7 @@ fn prints_the_canonical_form(rt: HostRuntime) -> Result<(), Fail> {
     let registry = Registry::new(Vec::new(alloc), Vec::new(alloc))?;
     let mut writer = Meter::new(Vec::<u8>::new(alloc));
     match print_bytes(alloc, b"a = many1(eof); start a;", &registry, &mut writer) {
-        Err(BenchFault::Memory) => Err(AllocError)?,
+        Err(fault) if is_memory(&fault) => Err(AllocError)?,
         outcome => assert!(rt; outcome.is_ok()),
     }
     let wanted = b"start a;\na = seq(eof, many(eof));\n".as_slice();
@@ -460,7 +465,7 @@ fn parses_by_operators_of_the_table_and_of_the_text(rt: HostRuntime) -> Result<(
         &mut reader,
         &mut writer,
     )?;
-    let Err(BenchFault::ParseError(error)) = outcome else {
+    let Err(BenchFault::ParseError(error)) = &outcome else {
         return Err(Fail::new("no parse error"));
     };
     assert_eq!(rt; error.place, 0);
@@ -571,7 +576,7 @@ fn replays_a_trail_or_tells_where_it_stops(rt: HostRuntime) -> Result<(), Fail> 
             &mut page,
         );
         match replayed {
-            Err(BenchFault::Memory) => Err(AllocError)?,
+            Err(fault) if is_memory(&fault) => Err(AllocError)?,
             outcome => assert!(rt; matches!(outcome, Ok(_)), "{wanted}"),
         }
         assert!(rt;
@@ -600,7 +605,7 @@ fn probes_a_grammar_that_is_refused(rt: HostRuntime) -> Result<(), Fail> {
         Reading::Library,
     );
     match outcome {
-        Err(BenchFault::Memory) => Err(AllocError)?,
+        Err(fault) if is_memory(&fault) => Err(AllocError)?,
         outcome => assert!(rt; matches!(outcome, Ok(true))),
     }
     let wanted = b"empty ok\nplace 0\n[]\n".as_slice();
@@ -615,7 +620,7 @@ fn writes_the_certificate(rt: HostRuntime) -> Result<(), Fail> {
     let grammar = b"start a; a = text(many(satisfy(digit)));";
     let mut writer = Meter::new(Vec::<u8>::new(alloc));
     match check_bytes(alloc, grammar, &registry, &mut writer, true) {
-        Err(BenchFault::Memory) => Err(AllocError)?,
+        Err(fault) if is_memory(&fault) => Err(AllocError)?,
         outcome => assert!(rt; matches!(outcome, Ok(true))),
     }
     let wanted =
@@ -635,7 +640,7 @@ fn prints_an_option(rt: HostRuntime) -> Result<(), Fail> {
         &registry,
         &mut writer,
     ) {
-        Err(BenchFault::Memory) => Err(AllocError)?,
+        Err(fault) if is_memory(&fault) => Err(AllocError)?,
         outcome => assert!(rt; outcome.is_ok()),
     }
     let wanted = b"start a;\na = choice(satisfy(\"x\"), seq());\n".as_slice();
