@@ -31,6 +31,7 @@ SUITES = {
     "replays": ["0", "100"],
     "outlines": ["0", "200"],
     "explanations": ["0", "400"],
+    "long_texts": ["0", "100"],
     "level": [],
     "refused_memory": ["7"],
     "slow_files": ["7"],

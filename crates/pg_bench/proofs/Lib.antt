@@ -4,3 +4,5 @@ pub mod Shown
 pub mod ShownTexts
 pub mod Replayed
 pub mod Watched
+pub mod QuickForest
+pub mod PiecesLemmas

@@ -77,6 +77,13 @@ abbrev pub IfRead : Bool → List TrailItem → Type 0
 IfRead false trail = Unit {0}
 IfRead true trail = IsTrailText (trail_json trail) trail
 
+-- a forest and what is written after its JSON, at this cost: for some trail of which this holds with them
+pub record ArePieces (Is : List Tree → List TrailItem → Done → Type 0) (with_trail : Bool) (forest : List Tree) (rest : List ℕ) (done : Done) : Type 0 where
+  pub trail : List TrailItem
+  pub is : Is forest trail done
+  pub rest_is : rest ≡ after_forest with_trail trail
+  pub read : IfRead with_trail trail
+
 -- this is the forest, with this trail and at this cost, and it was written, with the trail if that is wanted
 pub record IsParsed (offer : Offer) (file : List ℕ) (reader left : Option (List ℕ)) (with_trail : Bool) (writer held : Option (List ℕ)) (done : Done) : Type 0 where
   pub forest : List Tree

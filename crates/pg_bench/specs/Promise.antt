@@ -61,6 +61,11 @@ pub record IsForestOfText (g : Grammar) (text : List ℕ) (forest : List Tree) (
       (after ≡ other) × (forest ≡ others) × (trail ≡ items)
   pub commits : CommitsRightly g text
 
+-- the same along some trail
+pub record HasForestOfText (g : Grammar) (text : List ℕ) (forest : List Tree) (done : Done) : Type 0 where
+  pub trail : List TrailItem
+  pub is : IsForestOfText g text forest trail done
+
 -- under the initial table nothing derives the text, and this is the error that the start rule, or the end after it, answers
 pub record IsErrorOfText (g : Grammar) (text : List ℕ) (e : ParseError) : Type 0 where
   pub table : Table

@@ -18,7 +18,9 @@ mod line;
 mod number_tests;
 mod outcome_page;
 mod parse;
+mod pieces;
 mod probe;
+mod quick;
 mod replay;
 mod showing;
 #[cfg(test)]

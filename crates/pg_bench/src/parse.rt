@@ -21,6 +21,7 @@ ghost use Rattle.pg_bench.specs.Refusals.{IsErrorOfAnswer, IsTextFault, IsParseR
 
 use crate::done::Done;
 use crate::input::{read_text, text_of};
+use crate::pieces::read_pieces;
 use pg_bench_grammar::{AcceptedGrammar, BenchFault, accepted_of, write_page};
 use pg_grammar_value::Trail;
 use pg_machine::{Answer, Success, run};
@@ -123,6 +124,7 @@ pub fn parse_bytes<R: Read, W: Write>(
 
 /// As [`parse_bytes`], for a grammar that is loaded already, so that it is read and checked once for many texts. The caller ensures that the registry has
 /// what the grammar names in it, and that the table is its own. Faults of a file and findings don't occur.
+#[tactic(auto, using(crate::proofs::PiecesLemmas::parsed_pieces, crate::proofs::PiecesLemmas::partly_pieces))]
 pub fn parse_checked<R: Read, W: Write>(
     alloc: Global,
     accepted: &AcceptedGrammar,
@@ -178,15 +180,15 @@ pub fn parse_checked<R: Read, W: Write>(
 
     ensures asked { reader.new.calls ≤ saturating_sum reader.old.calls (4 * LIMIT + 1) }
 {
-    match parsed_text(alloc, accepted, registry, reader) {
-        Ok(parsed) => match write_parse(alloc, &parsed.parse.success, with_trail, writer) {
+    match read_pieces(alloc, accepted, registry, reader, with_trail) {
+        Ok(pieces) => match write_lines(alloc, &pieces.forest, pieces.rest.as_slice(), writer) {
             Ok(()) => {
-                let done = parsed.parse.done;
-                drop(parsed);
+                let done = pieces.done;
+                drop(pieces);
                 Ok(done)
             }
             Err(fault) => {
-                drop(parsed);
+                drop(pieces);
                 Err(fault)
             }
         },
@@ -248,7 +250,7 @@ fn parse_of(
 
 /// The parse of a text.
 #[tactic(auto, using(crate::proofs::Parses::found_forest, crate::proofs::Parses::found_refused, pg_table::proofs::Added::own_table))]
-fn parse_of_text(
+pub(crate) fn parse_of_text(
     alloc: Global,
     accepted: &AcceptedGrammar,
     registry: &Registry,
@@ -288,31 +290,12 @@ fn parse_of_answer(answer: Answer, cost: u64, places: usize) -> Result<Parse, Be
     }
 }
 
-/// Writes the forest's JSON and a line feed, and the trail's too if it is wanted.
-fn write_parse<W: Write>(
-    alloc: Global,
-    parse: &Success,
-    with_trail: bool,
-    writer: &mut Meter<W>,
-) -> Result<(), BenchFault>
-    requires { writer.old.failed ≡ false }
-    ensures ok { OnOk result (Appends (W.contents writer.old.inner) (W.contents writer.new.inner) (parse_text with_trail parse.now.forest parse.now.trail)) }
-    ensures read { OnOk result (IfRead with_trail parse.now.trail) }
-    ensures stays { OnOk result (writer.new.failed ≡ false) }
-    ensures err { IfErr result IsWriteRefusal }
-    ensures failed { IsErrOf result BenchFault.Writer → writer.new.failed ≡ true }
-    ensures prefix { IsErrOf result BenchFault.Writer →
-        AppendsPrefix (W.contents writer.old.inner) (W.contents writer.new.inner) (parse_text with_trail parse.now.forest parse.now.trail) }
-    ensures memory { IsErrOf result BenchFault.Memory → writer.new ≡ writer.old }
-{
-    match after_forest(alloc, &parse.trail, with_trail) {
-        Ok(rest) => write_lines(alloc, &parse.forest, rest.as_slice(), writer),
-        Err(_) => Err(BenchFault::Memory),
-    }
-}
-
 /// What is written after the forest's JSON: a line feed, and the trail on a line of its own if it is wanted.
-fn after_forest(alloc: Global, trail: &Trail, with_trail: bool) -> Result<Vec<u8>, AllocError>
+pub(crate) fn after_forest(
+    alloc: Global,
+    trail: &Trail,
+    with_trail: bool,
+) -> Result<Vec<u8>, AllocError>
     ensures text { IfOk result (λ rest. rest.items ≡ after_forest with_trail trail.now) }
     ensures read { OnOk result (IfRead with_trail trail.now) }
 {

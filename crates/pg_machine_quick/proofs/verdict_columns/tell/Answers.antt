@@ -1,0 +1,11 @@
+use Rattle.std.proofs.Common.{◌≡◌, subst, slice_get}
+use Rattle.pg_machine_quick.specs.Columns.{verdict_at}
+use Rattle.pg_machine_quick.specs.Verdicts.{node_verdict}
+use Rattle.pg_machine_quick.proofs.Told.{told}
+use Rattle.pg_machine_quick.proofs.verdict_columns.tell.Goals as goal
+
+pub returns : goal.returns
+returns c =
+    told c.args.grammar.now c.args.next c.args.column.now c.args.index c.node_verdict-verdict.result c.requires
+    (subst (λ i. c.node_verdict-verdict.result ≡ node_verdict c.args.grammar.now (verdict_at c.args.column.now) c.args.next (slice_get c.args.grammar.now.nodes i)) c.new.ensures
+    c.node_verdict-verdict.ensures)

@@ -1,0 +1,233 @@
+//! The state of a run over arrays.
+//!
+//! Each method makes one kind of turn as `specs/Tape.antt` says, or gives up. It gives up where a number would be too great, so that no bound has to be kept.
+
+ghost use Rattle.std.specs.Prelude.{◌≡◌, ◌+◌, ◌∷◌, false, length, take, IfOk};
+ghost use Rattle.pg_machine_quick.specs.Running.{shown, Does};
+ghost use Rattle.pg_machine_quick.specs.Tape.{tape, tape_goes, tape_back, tape_picked, tape_returned, tape_released, tape_committed, tape_again, tape_stopped, before};
+ghost use Rattle.pg_machine_quick.specs.declared.frame.Frame.TheVariants.{Returns, Encloses, Holds, Marks};
+
+use crate::frame::{Before, Frame};
+use crate::instruction::Arm;
+use crate::step::Step;
+use pg_tree::Forest;
+use std::alloc::AllocError;
+
+/// The state of a run. It is seen as a tape (`specs/Running.antt`).
+#[derive(Drop)]
+pub struct Running {
+    /// The place in the code.
+    pub pc: usize,
+    /// The place in the text, in characters.
+    pub place: usize,
+    /// What waits, the last one at the end.
+    pub frames: Vec<Frame>,
+    /// All trees.
+    pub trees: Forest,
+    /// The nodes entered.
+    pub nodes: usize,
+    /// Whether something was consumed since the last frame that notes it.
+    pub taken: bool,
+}
+
+impl Running {
+    /// Goes on there.
+    pub(crate) fn jump(&mut self, target: usize) -> Step
+        ensures { Does (tape_goes (record (shown self.old) { pc = target })) result (shown self.new) }
+    {
+        self.pc = target;
+        Step::GoesOn
+    }
+
+    /// Goes on after this instruction, where a node is entered.
+    pub(crate) fn enter(&mut self) -> Step
+        ensures { Does (tape_goes (record (shown self.old) { pc = self.old.pc + 1; nodes = self.old.nodes + 1 })) result (shown self.new) }
+    {
+        let Some(pc) = self.pc.checked_add(1) else {
+            return Step::GivesUp;
+        };
+        let Some(nodes) = self.nodes.checked_add(1) else {
+            return Step::GivesUp;
+        };
+        self.pc = pc;
+        self.nodes = nodes;
+        Step::GoesOn
+    }
+
+    /// Goes on at the arm, if there is one.
+    pub(crate) fn pick(&mut self, arm: Option<Arm>) -> Step
+        ensures { Does (tape_picked (shown self.old) arm) result (shown self.new) }
+    {
+        let Some(arm) = arm else {
+            return Step::GivesUp;
+        };
+        let Some(nodes) = self.nodes.checked_add(arm.nodes) else {
+            return Step::GivesUp;
+        };
+        self.pc = arm.target;
+        self.nodes = nodes;
+        Step::GoesOn
+    }
+
+    /// Goes on where the last call was made.
+    pub(crate) fn come_back(&mut self) -> Step
+        ensures { Does (tape_returned (shown self.old) (shown self.old).stack) result (shown self.new) }
+    {
+        match self.frames.pop() {
+            Some(Frame::Returns(target)) => {
+                self.pc = target;
+                Step::GoesOn
+            }
+            Some(Frame::Encloses(_, _) | Frame::Holds(_) | Frame::Marks(_, _)) | None =>
+                Step::GivesUp,
+        }
+    }
+
+    /// Makes a call to this place.
+    pub(crate) fn call(&mut self, target: usize) -> Result<Step, AllocError>
+        ensures { IfOk result (λ step. Does (tape_goes (tape target self.old.place (Returns (self.old.pc + 1) ∷ (shown self.old).stack) self.old.trees (self.old.nodes + 1) self.old.taken)) step (shown self.new)) }
+    {
+        let step = self.enter();
+        self.frames.push(Frame::Returns(self.pc))?;
+        self.pc = target;
+        Ok(step)
+    }
+
+    /// Begins a form around a part.
+    pub(crate) fn open(&mut self, counts: bool) -> Result<Step, AllocError>
+        ensures { IfOk result (λ step. Does (tape_goes (tape (self.old.pc + 1) self.old.place (Encloses counts (before (length self.old.trees) self.old.place self.old.taken) ∷ (shown self.old).stack) self.old.trees (self.old.nodes + 1) false)) step (shown self.new)) }
+    {
+        let step = self.enter();
+        let before = self.before();
+        self.frames.push(Frame::Encloses(counts, before))?;
+        self.taken = false;
+        Ok(step)
+    }
+
+    /// Begins a chain.
+    pub(crate) fn hold(&mut self) -> Result<Step, AllocError>
+        ensures { IfOk result (λ step. Does (tape_goes (tape (self.old.pc + 1) self.old.place (Holds (length self.old.trees) ∷ (shown self.old).stack) self.old.trees (self.old.nodes + 1) self.old.taken)) step (shown self.new)) }
+    {
+        let step = self.enter();
+        self.frames.push(Frame::Holds(self.trees.len()))?;
+        Ok(step)
+    }
+
+    /// Sets a mark.
+    pub(crate) fn mark(&mut self, target: usize) -> Result<Step, AllocError>
+        ensures { IfOk result (λ step. Does (tape_goes (tape (self.old.pc + 1) self.old.place (Marks target (before (length self.old.trees) self.old.place self.old.taken) ∷ (shown self.old).stack) self.old.trees self.old.nodes false)) step (shown self.new)) }
+    {
+        let Some(pc) = self.pc.checked_add(1) else {
+            return Ok(Step::GivesUp);
+        };
+        let before = self.before();
+        self.frames.push(Frame::Marks(target, before))?;
+        self.pc = pc;
+        self.taken = false;
+        Ok(Step::GoesOn)
+    }
+
+    /// How it is now.
+    fn before(&self) -> Before
+        ensures { result ≡ before (length self.now.trees) self.now.place self.now.taken }
+    {
+        Before {
+            trees: self.trees.len(),
+            place: self.place,
+            taken: self.taken,
+        }
+    }
+
+    /// Ends a chain.
+    pub(crate) fn release(&mut self) -> Step
+        ensures { Does (tape_released (shown self.old) (shown self.old).stack) result (shown self.new) }
+    {
+        match self.frames.pop() {
+            Some(Frame::Holds(_)) => {
+                let Some(pc) = self.pc.checked_add(1) else {
+                    return Step::GivesUp;
+                };
+                self.pc = pc;
+                Step::GoesOn
+            }
+            Some(Frame::Encloses(_, _) | Frame::Returns(_) | Frame::Marks(_, _)) | None =>
+                Step::GivesUp,
+        }
+    }
+
+    /// Takes the last mark away and goes on there.
+    pub(crate) fn commit(&mut self, target: usize) -> Step
+        ensures { Does (tape_committed target (shown self.old) (shown self.old).stack) result (shown self.new) }
+    {
+        match self.frames.pop() {
+            Some(Frame::Marks(_, before)) => {
+                self.pc = target;
+                self.taken = before.taken || self.taken;
+                Step::GoesOn
+            }
+            Some(Frame::Encloses(_, _) | Frame::Returns(_) | Frame::Holds(_)) | None =>
+                Step::GivesUp,
+        }
+    }
+
+    /// The same, where something was consumed since the mark.
+    pub(crate) fn again(&mut self, target: usize) -> Step
+        ensures { Does (tape_again target (shown self.old) self.old.taken) result (shown self.new) }
+    {
+        if self.taken {
+            self.commit(target)
+        } else {
+            Step::GivesUp
+        }
+    }
+
+    /// Fails after so many nodes: goes back to the last mark after which nothing was consumed. `consumed` says whether something was.
+    pub(crate) fn back(&mut self, consumed: bool, nodes: usize) -> Step
+        ensures { Does (tape_back consumed nodes self.old.trees (shown self.old).stack) result (shown self.new) }
+    {
+        let mut consumed = consumed;
+        while let Some(frame) = self.frames.pop() {
+            match frame {
+                Frame::Returns(_) | Frame::Holds(_) => {}
+                Frame::Encloses(counts, before) => {
+                    consumed = before.taken || (counts && consumed);
+                }
+                Frame::Marks(target, before) => {
+                    if !consumed {
+                        return self.back_to(target, before, nodes);
+                    }
+                }
+            }
+        }
+        Step::GivesUp
+    }
+
+    /// Goes on at a mark, after so many nodes.
+    fn back_to(&mut self, target: usize, before: Before, nodes: usize) -> Step
+        ensures { Does (tape_goes (tape target before.place (shown self.old).stack (take before.trees self.old.trees) nodes before.taken)) result (shown self.new) }
+    {
+        if before.trees > self.trees.len() {
+            return Step::GivesUp;
+        }
+        self.trees.cut(before.trees);
+        self.pc = target;
+        self.place = before.place;
+        self.nodes = nodes;
+        self.taken = before.taken;
+        Step::GoesOn
+    }
+
+    /// At the end of the text, with nothing waiting: the end counts as a node.
+    pub(crate) fn stop(&mut self, at_end: bool) -> Step
+        ensures { Does (tape_stopped (shown self.old) at_end (shown self.old).stack) result (shown self.new) }
+    {
+        if !at_end || !self.frames.is_empty() {
+            return Step::GivesUp;
+        }
+        let Some(nodes) = self.nodes.checked_add(1) else {
+            return Step::GivesUp;
+        };
+        self.nodes = nodes;
+        Step::Stops
+    }
+}

@@ -1,0 +1,171 @@
+//! Turns, by their instructions.
+
+ghost use Rattle.std.specs.Prelude.{◌≡◌, Some, slice_get, IfOk};
+ghost use Rattle.pg_language.specs.Answers.{given};
+ghost use Rattle.pg_machine_quick.specs.Running.{shown, Does, program};
+ghost use Rattle.pg_machine_quick.specs.Tape.{tape_act, tape_closed, tape_folded, tape_reads, tape_spans};
+ghost use Rattle.pg_table.specs.Tables.{Table};
+
+use crate::instruction::{Instruction, Keep};
+use crate::next::chosen;
+use crate::plan::Plan;
+use crate::reading::{after, counted, reading_at};
+use crate::running::Running;
+use crate::step::Step;
+use pg_grammar_classes::ClassSite;
+use pg_grammar_form::{Form, Leaf, NodeId};
+use pg_grammar_value::Grammar;
+use pg_language::Reading as Manner;
+use pg_text::Text;
+use std::alloc::AllocError;
+
+impl Running {
+    /// Makes a turn.
+    pub(crate) fn turn(
+        &mut self,
+        grammar: &Grammar,
+        plan: &Plan,
+        text: &Text,
+    ) -> Result<Step, AllocError>
+        ensures { IfOk result (λ step. (table : Table) → Does (tape_act (program grammar.now plan.now text.now) table (shown self.old) (slice_get plan.now.code self.old.pc)) step (shown self.new)) }
+    {
+        match plan.code().get(self.pc) {
+            Some(instruction) => self.act(grammar, plan, text, *instruction),
+            None => Ok(Step::GivesUp),
+        }
+    }
+
+    /// Does what an instruction says.
+    fn act(
+        &mut self,
+        grammar: &Grammar,
+        plan: &Plan,
+        text: &Text,
+        instruction: Instruction,
+    ) -> Result<Step, AllocError>
+        ensures { IfOk result (λ step. (table : Table) → Does (tape_act (program grammar.now plan.now text.now) table (shown self.old) (Some instruction)) step (shown self.new)) }
+    {
+        match instruction {
+            Instruction::Enter => Ok(self.enter()),
+            Instruction::Read(keep, node) => self.read(keep, grammar, text, node),
+            Instruction::Span(keep, node) => self.span_node(keep, grammar, text, node),
+            Instruction::Jump(target) => Ok(self.jump(target)),
+            Instruction::Pick(table) => Ok(self.pick(chosen(
+                plan,
+                table,
+                text.char_at(self.place),
+            ))),
+            Instruction::Call(target) => self.call(target),
+            Instruction::Return => Ok(self.come_back()),
+            Instruction::Open(counts) => self.open(counts),
+            Instruction::Close(keep, node) => self.close_node(keep, grammar, text, node),
+            Instruction::Hold => self.hold(),
+            Instruction::Fold(keep, node) => self.fold_node(keep, grammar, node),
+            Instruction::Release => Ok(self.release()),
+            Instruction::Mark(target) => self.mark(target),
+            Instruction::Commit(target) => Ok(self.commit(target)),
+            Instruction::Again(target) => Ok(self.again(target)),
+            Instruction::Fail => Ok(self.back(self.taken, self.nodes)),
+            Instruction::Stop => Ok(self.stop(self.place == text.len())),
+        }
+    }
+
+    /// Reads what the leaf at a node takes.
+    fn read(
+        &mut self,
+        keep: Keep,
+        grammar: &Grammar,
+        text: &Text,
+        node: NodeId,
+    ) -> Result<Step, AllocError>
+        ensures { IfOk result (λ step. (table : Table) → Does (tape_reads (given Manner.Library grammar.now text.now) table keep (shown self.old) (slice_get grammar.now.nodes node)) step (shown self.new)) }
+    {
+        let Some(found) = grammar.nodes().get(node.index()) else {
+            return Ok(Step::GivesUp);
+        };
+        let Some(reading) = reading_at(grammar, text, node, found, self.place) else {
+            return Ok(Step::GivesUp);
+        };
+        self.react(keep, text, reading)
+    }
+
+    /// Takes all characters that come next of the class of the leaf at a node.
+    fn span_node(
+        &mut self,
+        keep: Keep,
+        grammar: &Grammar,
+        text: &Text,
+        node: NodeId,
+    ) -> Result<Step, AllocError>
+        ensures { IfOk result (λ step. Does (tape_spans (given Manner.Library grammar.now text.now) keep (shown self.old) (slice_get grammar.now.nodes node)) step (shown self.new)) }
+    {
+        match grammar.nodes().get(node.index()) {
+            Some(Form::Leaf(Leaf::Satisfy(_))) => {
+                let rest = after(text.characters(), self.place);
+                let count = counted(grammar, ClassSite::Node(node), rest);
+                self.span(keep, &rest[..count])
+            }
+            Some(
+                Form::Leaf(
+                    Leaf::String(_)
+                    | Leaf::Word(_)
+                    | Leaf::NotFollowedBy(_)
+                    | Leaf::EndOfText
+                    | Leaf::Declare(_),
+                )
+                | Form::Seq(_)
+                | Form::Choice(_)
+                | Form::Many(_)
+                | Form::Chain(_, _, _, _)
+                | Form::Rule(_)
+                | Form::Expression(_, _)
+                | Form::Around(_, _),
+            )
+            | None => Ok(Step::GivesUp),
+        }
+    }
+
+    /// Ends the form around a part at a node.
+    fn close_node(
+        &mut self,
+        keep: Keep,
+        grammar: &Grammar,
+        text: &Text,
+        node: NodeId,
+    ) -> Result<Step, AllocError>
+        ensures { IfOk result (λ step. Does (tape_closed (given Manner.Library grammar.now text.now) keep (shown self.old) (slice_get grammar.now.nodes node)) step (shown self.new)) }
+    {
+        match grammar.nodes().get(node.index()) {
+            Some(Form::Around(around, _)) => self.close(keep, around, text),
+            Some(
+                Form::Leaf(_)
+                | Form::Seq(_)
+                | Form::Choice(_)
+                | Form::Many(_)
+                | Form::Chain(_, _, _, _)
+                | Form::Rule(_)
+                | Form::Expression(_, _),
+            )
+            | None => Ok(Step::GivesUp),
+        }
+    }
+
+    /// Folds the trees of the chain at a node.
+    fn fold_node(&mut self, keep: Keep, grammar: &Grammar, node: NodeId) -> Result<Step, AllocError>
+        ensures { IfOk result (λ step. Does (tape_folded keep (shown self.old) (slice_get grammar.now.nodes node)) step (shown self.new)) }
+    {
+        match grammar.nodes().get(node.index()) {
+            Some(Form::Chain(_, used, _, _)) => self.fold(keep, used),
+            Some(
+                Form::Leaf(_)
+                | Form::Seq(_)
+                | Form::Choice(_)
+                | Form::Many(_)
+                | Form::Rule(_)
+                | Form::Expression(_, _)
+                | Form::Around(_, _),
+            )
+            | None => Ok(Step::GivesUp),
+        }
+    }
+}
