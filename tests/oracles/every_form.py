@@ -1,4 +1,4 @@
-"""Random grammar files of every form, one for each seed, and texts drawn along them.
+"""Random grammar files of every form, and random calculators, one for each seed, and texts drawn along them.
 
 A value is a tuple: its form's word, and what stands in its parentheses. Texts are drawn along the values, so that most are parsed, and some are then changed.
 """
@@ -235,6 +235,80 @@ class EveryForm:
 
     def operator(self):
         return self.one([symbol for _, _, symbol in self.table] or SYMBOLS) + self.run_of(self.gap)
+
+
+class Calculator:
+    """A calculator with a random table, whose texts declare operators. Precedences are few, so that uses of operators are ambiguous often."""
+
+    def __init__(self, seed):
+        self.random = random.Random(f"calculator {seed}")
+        self.symbols = ["+", "-", "*", "/", "<", "!", "+-", "**", "<=", "-!", "=", "+" * 17]
+        self.precedences = self.random.sample(range(10), self.random.randint(1, 4))
+        self.reserved = self.random.sample(self.symbols, self.random.randint(0, 2))
+        self.most = self.random.choice([None, 3, 5, 9])
+        self.gap = self.random.choice(["", " ", " \n"])
+        self.has_scopes = self.random.random() < 0.6
+        self.builders = [self.random.choice(["node", "node", *BUILDERS]) for _ in range(3)]
+        self.table = []
+        for _ in range(self.random.randint(0, 7)):
+            role, symbol = self.random.choice(ROLES), self.random.choice(self.symbols[:-1])
+            there = any(text == symbol and (other == "prefix") == (role == "prefix") for other, _, text in self.table)
+            if symbol not in self.reserved and not there and len(self.table) < (self.most or 64):
+                self.table.append((role, self.random.choice(self.precedences), symbol))
+
+    def file(self):
+        reserved = f" reserved {' '.join(map(literal, self.reserved))}" if self.reserved else ""
+        most = f" max {self.most}" if self.most else ""
+        items = [f'operators "+-*/<!=" gap {literal(self.gap)}{reserved}{most};']
+        items += [f"table {role} {precedence} {literal(symbol)};" for role, precedence, symbol in self.table]
+        scope = "local(file)" if self.has_scopes else "sum"
+        return "\n".join([*items, f"""start file;
+file = seq(many(seq(declare(letter), skip(string(";")), blanks)), sum);
+sum = expr({', '.join(self.builders)}, term);
+term = seq(choice(build(num, text(many1(satisfy(digit)))), between(string("("), string(")"), {scope})), blanks);
+blanks = skip(many(satisfy(" ")));
+"""])
+
+    def blanks(self):
+        return self.random.choice(["", "", " ", "  "])
+
+    def gaps(self):
+        return self.random.choice(["", self.gap])
+
+    def declaration(self):
+        role = self.random.choice([*ROLES, *ROLES, "infixed", "in"])
+        return f"{role}{self.gaps()}{self.random.choice(self.precedences)}{self.gaps()}{self.random.choice(self.symbols)}{self.gaps()};{self.blanks()}"
+
+    def operator(self, roles):
+        found = [symbol for role, _, symbol in self.table if role in roles]
+        symbol = self.random.choice(found) if found and self.random.random() < 0.8 else self.random.choice(self.symbols)
+        return symbol + self.gaps()
+
+    def sum(self, depth):
+        text = self.term(depth)
+        for _ in range(self.random.choice([0, 1, 1, 2, 2, 3])):
+            text += self.operator(ROLES[:3]) + self.term(depth)
+        return text
+
+    def term(self, depth):
+        text = self.operator(["prefix"]) if self.random.random() < 0.2 else ""
+        if depth and self.random.random() < 0.3:
+            text += f"({self.scope(depth - 1) if self.has_scopes else self.sum(depth - 1)})"
+        else:
+            text += str(self.random.choice([1, 2, 30]))
+        return text + self.blanks() + (self.operator(["postfix"]) if self.random.random() < 0.2 else "")
+
+    def scope(self, depth):
+        count = self.random.choice([0, 0, 1, 1, 2, 3])
+        return "".join(self.declaration() for _ in range(count)) + self.sum(depth)
+
+    def text(self):
+        """A text of the calculator, a third of the times with a change."""
+        text = self.scope(2)
+        if self.random.random() < 0.3:
+            place = self.random.randint(0, len(text))
+            text = text[:place] + self.random.choice(["", "(", ";", "a", *self.symbols[:4]]) + text[place + self.random.randint(0, 1) :]
+        return text
 
 
 def written_class(it):

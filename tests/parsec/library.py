@@ -7,6 +7,7 @@ import subprocess
 import tempfile
 
 SECONDS = 600
+MEMORY = "3g"
 
 # Our place of the error of notFollowedBy is where it begins: docs/PARSEC.md.
 OURS = """module Ours (notFollowedBy) where
@@ -110,7 +111,7 @@ def run_main(sources, text):
         for name, source in sources.items():
             with open(f"{folder}/{name}.hs", "w", encoding="utf-8") as file:
                 file.write(source)
-        words = ["ghc", "-v0", "-Wall", "-Werror", "-fbyte-code", "-e", "main", "Main.hs"]
+        words = ["ghc", "+RTS", f"-M{MEMORY}", "-RTS", "-v0", "-Wall", "-Werror", "-fbyte-code", "-e", "main", "Main.hs"]
         ran = subprocess.run(words, cwd=folder, input=text.encode(), capture_output=True, timeout=SECONDS, check=False)
         return ran.stdout.decode(), ran.stderr.decode()[:3000]
 
