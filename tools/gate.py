@@ -3,7 +3,8 @@
 
 usage: tools/gate.py
 
-Where there is no GHC, by which modules are compared with the real library, apt-get installs it first, and the gate fails if it can't. The last line is one sum of both, 'N passed, M failed', and the status is 1 if anything failed.
+Where there is no GHC, by which modules are compared with the real library, apt-get installs it first, and the gate fails if it can't.
+The last line is one sum of both, 'N passed, M failed', and the status is 1 if anything failed.
 """
 
 import os
