@@ -32,6 +32,7 @@ SUITES = {
     "outlines": ["0", "200"],
     "explanations": ["0", "400"],
     "long_texts": ["0", "100"],
+    "plans": ["0", "150"],
     "level": [],
     "refused_memory": ["7"],
     "slow_files": ["7"],

@@ -39,6 +39,10 @@ RECORD = "tools/edits.record"
 ANSWERS = ("Answers.antt", "Invariants.antt")
 # A module of tests, as the file that it is declared in has it. All lie in files tests.rt, or of a name that ends in _tests.rt, and proofs are tried without them.
 TEST_MODULE = re.compile(r"^#\[cfg\(test\)\]\nmod (?:\w+_)?tests;\n", re.M)
+# A character or a string in a source file.
+STRING = re.compile(r"""b?'\\?.'|"(\\.|[^"\\])*\"""")
+# What a source file may name without a path and without importing it.
+PRELUDE = {"Some", "None", "Ok", "Err", "Option", "Result", "Vec", "String", "Box", "Default", "Drop", "Clone", "Self"}
 # A function that isn't proved for this reason may be right itself.
 FOR_ANOTHER = re.compile(r"it calls|of this cycle|which (is|are) not proved|could not tell")
 
@@ -230,10 +234,22 @@ def unlisted(edit, crate, crates):
     return f"a 'new:' text names {named[0]}, which its crate doesn't list" if named else None
 
 
+def unknown(edit, folder):
+    """Which type a 'new:' text names without its path that its file doesn't name, so that no check would read it, or none."""
+    for path, _, new in edit.pairs:
+        if path.endswith(".rt"):
+            with open(f"{folder}/{path}", encoding="utf-8") as file:
+                known = {*PRELUDE, *re.findall(r"\w+", file.read())}
+            named = re.findall(r"(?<![:\w])([A-Z]\w*[a-z]\w*)\b", re.sub(STRING, "", new))
+            if strange := [it for it in named if it not in known]:
+                return f"a 'new:' text names {strange[0]}, which {path} doesn't"
+    return None
+
+
 def leads_out(text):
     """Whether the braces of a text end what it stands in, or open what it doesn't close."""
     depth = 0
-    for brace in re.findall("[{}]", re.sub(r"""b?'\\?.'|"(\\.|[^"\\])*\"""", "", text)):
+    for brace in re.findall("[{}]", re.sub(STRING, "", text)):
         depth += 1 if brace == "{" else -1
         if depth < 0:
             return True
@@ -511,7 +527,8 @@ def try_crates(root, crates):
 def tell_fit(root, names, crates):
     """Tells of each edit that can't be tried in the files as they are, and the sum. Returns whether all can."""
     edits = [(name, it) for name in names for it in edits_of(root, name)]
-    why = {it.name(): unfit(it, f"{root}/crates/{name}") or unlisted(it, crates[name], crates) for name, it in edits}
+    folders = {name: f"{root}/crates/{name}" for name in names}
+    why = {it.name(): unfit(it, folders[name]) or unlisted(it, crates[name], crates) or unknown(it, folders[name]) for name, it in edits}
     for name in (it for it in why if why[it]):
         print(f"{name}: BAD EDIT: {why[name]}")
     failed = sum(map(bool, why.values()))

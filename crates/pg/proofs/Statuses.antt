@@ -22,7 +22,7 @@ use Rattle.pg_bench_grammar.specs.Files.{AreFindingsOf}
 use Rattle.pg_bench_grammar.specs.Loading.{judged_grammar, IsLoadedFrom}
 use Rattle.pg_bench_grammar.specs.declared.loaded.LoadedFile.{LoadedFile}
 use Rattle.pg_bench.specs.declared.done.Done.{Done}
-use Rattle.pg_bench.specs.Parsed.{IsParsedBy, IsLineBy, IsForestBy, IsErrorBy, IsSpelledBy}
+use Rattle.pg_bench.specs.Parsed.{IsParsedBy, IsLineBy, IsForestBy, HasForestBy, IsErrorBy, IsSpelledBy}
 use Rattle.pg_bench.specs.Refusals.{IsTextFault, IsTextRefusal}
 use Rattle.pg_bench_grammar.specs.Printing.{IsPrinted}
 use Rattle.pg_bench.specs.Probing.{IsProbed, IsTextProbed, IsShownOfText}
@@ -161,6 +161,9 @@ verdict_status offer file certificate verdict status ok refusal refuted (inr is)
     own (Err f) ok h k = of f h k
 
 -- ---- a parse by a loaded grammar
+
+pub derived_status : (g : Grammar) (reader left : Option (List ℕ)) (done : Done) → HasForestBy g reader left done → IsTextStatus g reader 0
+derived_status g reader left done h = yes (left, h.0, h.1, done, h.2)
 
 pub parsed_status : (g : Grammar) (reader left : Option (List ℕ)) (with_trail : Bool) (writer held : Option (List ℕ)) (done : Done)
     → IsParsedBy g reader left with_trail writer held done → IsTextStatus g reader 0

@@ -13,6 +13,7 @@ mod explain;
 mod lines;
 mod listing;
 mod parse;
+mod places;
 mod probe;
 mod replay;
 mod show;

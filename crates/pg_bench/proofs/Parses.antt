@@ -1,5 +1,5 @@
 -- What a run of an accepted grammar says of a text, in terms of the promise and of the bytes that spell the text.
-use Rattle.std.proofs.Common.{◌≡◌, ◌≤◌, ◌+◌, ◌*◌, ℕ, length, List, Option, None, Some, refl, sym, ap, ◌∙◌, subst}
+use Rattle.std.proofs.Common.{◌≡◌, ◌≤◌, ◌+◌, ◌*◌, ℕ, Bool, false, length, List, Option, None, Some, refl, sym, ap, ◌∙◌, subst}
 use Rattle.std.specs.Prelude.{IfSome, IfNone}
 use Rattle.std.specs.Io.KnownBytes.{Consumes, IsAtEnd}
 use Rattle.pg_tree.specs.Meter.{Metered}
@@ -34,9 +34,9 @@ commits_rightly : (checked : GrammarWithSets) (text : List ℕ) → IsChecked ch
 commits_rightly checked text is choices rounds links once =
     record { sets = checked.sets; least = is.sets; choices = choices; rounds = rounds; links = links; once = once }
 
-answered_in : (checked : GrammarWithSets) (text : List ℕ) (table : Table) (a : Answer) → IsChecked checked → IsTextAnswer (given Library checked.grammar text) table a
-    → a.steps ≤ checked.cost * (length text + 1) → IsAnsweredIn checked.grammar text table (outcome_of a) (record { steps = a.steps; cost = checked.cost; most = most_steps checked.cost (length text + 1) })
-answered_in checked text table a is h few = record {
+answered_in : (checked : GrammarWithSets) (text : List ℕ) (table : Table) (a : Answer) (planned : Bool) → IsChecked checked → IsTextAnswer (given Library checked.grammar text) table a
+    → a.steps ≤ checked.cost * (length text + 1) → IsAnsweredIn checked.grammar text table (outcome_of a) (record { steps = a.steps; cost = checked.cost; most = most_steps checked.cost (length text + 1); planned = planned })
+answered_in checked text table a planned is h few = record {
   nodes = h.nodes;
   answers = h.answers;
   steps = h.steps;
@@ -45,17 +45,17 @@ answered_in checked text table a is h few = record {
   most = refl;
 }
 
-pub found_forest : (checked : GrammarWithSets) (text : List ℕ) (table : Table) (a : Answer) (s : Success) (done : Done) → IsChecked checked
+pub found_forest : (checked : GrammarWithSets) (text : List ℕ) (table : Table) (a : Answer) (s : Success) (done : Done) (planned : Bool) → IsChecked checked
     → initial checked.grammar ≡ whole table → IsTextAnswer (given Library checked.grammar text) table a → a.steps ≤ checked.cost * (length text + 1)
     → IfSome a.success (IsOnlyDerivation checked.grammar text table)
     → LosesNoAlternative (given Library checked.grammar text) (node_sets checked.grammar checked.sets) → EachRoundConsumes (given Library checked.grammar text)
-    → EachLinkConsumes (given Library checked.grammar text) → StartReadsNothingTwice (given Library checked.grammar text) → a.success ≡ Some s → done ≡ record { steps = a.steps; cost = checked.cost; most = most_steps checked.cost (length text + 1) }
+    → EachLinkConsumes (given Library checked.grammar text) → StartReadsNothingTwice (given Library checked.grammar text) → a.success ≡ Some s → done ≡ record { steps = a.steps; cost = checked.cost; most = most_steps checked.cost (length text + 1); planned = planned }
     → IsForestOfText checked.grammar text s.forest s.trail done
-found_forest checked text table a s done is initially reply few derived choices rounds links once answered took =
+found_forest checked text table a s done planned is initially reply few derived choices rounds links once answered took =
     let g = checked.grammar in
     let h = subst (λ o. IfSome o (IsOnlyDerivation g text table)) answered derived in
-    let taken : Done = record { steps = a.steps; cost = checked.cost; most = most_steps checked.cost (length text + 1) } in
-    let shown = subst (λ o. IsAnsweredIn g text table (outcome_with a.consumed (without_position a.error) o) taken) answered (answered_in checked text table a is reply few) in
+    let taken : Done = record { steps = a.steps; cost = checked.cost; most = most_steps checked.cost (length text + 1); planned = planned } in
+    let shown = subst (λ o. IsAnsweredIn g text table (outcome_with a.consumed (without_position a.error) o) taken) answered (answered_in checked text table a planned is reply few) in
     record {
       table = table;
       is_table = initially;
@@ -75,7 +75,7 @@ found_error : (checked : GrammarWithSets) (text : List ℕ) (table : Table) (a :
     → LosesNoAlternative (given Library checked.grammar text) (node_sets checked.grammar checked.sets) → EachRoundConsumes (given Library checked.grammar text)
     → EachLinkConsumes (given Library checked.grammar text) → StartReadsNothingTwice (given Library checked.grammar text) → IsErrorOfText checked.grammar text a.error
 found_error checked text table a is initially none h few underivable choices rounds links once =
-    let taken : Done = record { steps = a.steps; cost = checked.cost; most = most_steps checked.cost (length text + 1) } in
+    let taken : Done = record { steps = a.steps; cost = checked.cost; most = most_steps checked.cost (length text + 1); planned = false } in
     record {
       table = table;
       is_table = initially;
@@ -85,7 +85,7 @@ found_error checked text table a is initially none h few underivable choices rou
       done = taken;
       answered =
           subst (λ (s : Option Success). IsAnsweredIn checked.grammar text table (outcome_with a.consumed (without_position a.error) s) taken) none
-          (answered_in checked text table a is h few);
+          (answered_in checked text table a false is h few);
       stands = subst (λ p. record { place = a.error.place; position = p; messages = a.error.messages } ≡ a.error) h.position refl;
       commits = commits_rightly checked text is choices rounds links once;
     }

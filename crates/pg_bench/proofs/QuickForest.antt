@@ -16,9 +16,9 @@ use Rattle.pg_machine.specs.declared.answer.Success.{Success}
 use Rattle.pg_machine.proofs.FewSteps.{few_steps}
 use Rattle.pg_machine.proofs.Whole.{derived}
 use Rattle.pg_machine_quick.specs.Laws.{TapeHasAnswered}
-use Rattle.pg_machine_quick.specs.Running.{program}
+use Rattle.pg_machine_plan.specs.Plans.{program}
 use Rattle.pg_machine_quick.specs.Tape.{Tape}
-use Rattle.pg_machine_quick.specs.Turns.{Plan}
+use Rattle.pg_machine_plan.specs.Plans.{Plan}
 use Rattle.pg_predict.specs.Checked.{GrammarWithSets, IsChecked}
 use Rattle.pg_bench.specs.declared.done.Done.{Done}
 use Rattle.pg_bench.specs.Promise.{HasForestOfText, most_steps}
@@ -31,7 +31,7 @@ accepts checked text is grammar scalars = record { grammar = grammar; least = is
 
 pub quick_forest : (checked : GrammarWithSets) (plan : Plan) (text : List ℕ) (table : Table) (s : Tape) (done : Done) → IsChecked checked → IsGrammar checked.grammar
     → all_scalars text ≡ true → initial checked.grammar ≡ whole table → ComesFrom checked.grammar table → TapeHasAnswered (program checked.grammar plan text) table s
-    → done ≡ record { steps = min (2 * s.nodes - 1) (2 ^ 64 - 1); cost = checked.cost; most = most_steps checked.cost (length text + 1) }
+    → done ≡ record { steps = min (2 * s.nodes - 1) (2 ^ 64 - 1); cost = checked.cost; most = most_steps checked.cost (length text + 1); planned = true }
     → HasForestOfText checked.grammar text s.trees done
 quick_forest checked plan text table s done is grammar scalars initially from answered took =
     let G = given Library checked.grammar text in
@@ -44,6 +44,6 @@ quick_forest checked plan text table s done is grammar scalars initially from an
     record {
       trail = answered.trail;
       is =
-          found_forest checked text table answer success done is initially reply few (derived G (checked.sets, so) table from answer reply) (loses_none G checked.sets so)
+          found_forest checked text table answer success done true is initially reply few (derived G (checked.sets, so) table from answer reply) (loses_none G checked.sets so)
           (accepted_rounds G checked.sets so) (accepted_links G checked.sets so) (accepted_reads_nothing_twice G checked.sets so) refl took;
     }

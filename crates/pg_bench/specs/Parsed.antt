@@ -1,5 +1,5 @@
 -- What a run from bytes to bytes reads and writes, with a registry that offers predicates and builders.
-use Rattle.std.specs.Prelude.{◌≡◌, ◌≤◌, ℕ, List, ◌++◌, Bool, true, false, length, Option, codes}
+use Rattle.std.specs.Prelude.{◌≡◌, ◌≤◌, ℕ, List, [], ◌++◌, Bool, true, false, length, Option, codes}
 use Rattle.std.specs.Str.{chars, IsUtf8}
 use Rattle.std.specs.Io.KnownBytes.{Appends, Consumes, IsAtEnd}
 use Rattle.pg_text.specs.declared.text.TheConstants.{LIMIT}
@@ -59,6 +59,10 @@ ReadsText reader left Is = (bytes : List ℕ) × Consumes reader left bytes × I
 abbrev pub IsForestBy : Grammar → Option (List ℕ) → Option (List ℕ) → List Tree → List TrailItem → Done → Type 0
 IsForestBy g reader left forest trail done = ReadsText reader left (λ bytes. IsForestOfBytes g bytes forest trail done)
 
+-- the grammar derives the reader's whole bytes at this cost, to some forest along some trail
+abbrev pub HasForestBy : Grammar → Option (List ℕ) → Option (List ℕ) → Done → Type 0
+HasForestBy g reader left done = (forest : List Tree) × (trail : List TrailItem) × IsForestBy g reader left forest trail done
+
 -- this is the error of the reader's whole bytes by the grammar
 abbrev pub IsErrorBy : Grammar → Option (List ℕ) → Option (List ℕ) → message.ParseError → Type 0
 IsErrorBy g reader left e = ReadsText reader left (λ bytes. IsErrorOfBytes g bytes e)
@@ -83,6 +87,17 @@ pub record ArePieces (Is : List Tree → List TrailItem → Done → Type 0) (wi
   pub is : Is forest trail done
   pub rest_is : rest ≡ after_forest with_trail trail
   pub read : IfRead with_trail trail
+
+-- the JSON of a forest, if it is wanted
+abbrev pub json_if : Bool → List Tree → List ℕ
+json_if true forest = json forest
+json_if false forest = []
+
+-- that, and what is written after it, at this cost
+pub record AreJsonPieces (Is : List Tree → List TrailItem → Done → Type 0) (with_json with_trail : Bool) (page rest : List ℕ) (done : Done) : Type 0 where
+  pub forest : List Tree
+  pub pieces : ArePieces Is with_trail forest rest done
+  pub page_is : page ≡ json_if with_json forest
 
 -- this is the forest, with this trail and at this cost, and it was written, with the trail if that is wanted
 pub record IsParsed (offer : Offer) (file : List ℕ) (reader left : Option (List ℕ)) (with_trail : Bool) (writer held : Option (List ℕ)) (done : Done) : Type 0 where

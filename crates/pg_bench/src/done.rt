@@ -9,4 +9,6 @@ pub struct Done {
     pub cost: u64,
     /// The most steps that a run on this text takes: the step cost for each character and for the end. The greatest number of 64 bits if that is more.
     pub most: u64,
+    /// Whether the text went along a plan of the grammar (ours, `pg_machine_plan`). If not, the machine ran: there is no plan, the plan gave up, or a trail was wanted.
+    pub planned: bool,
 }

@@ -1,6 +1,6 @@
 //! A line of JSON for each text: its trees, or why it has none. A text always gets its line, so lines and texts stay in step.
 
-ghost use Rattle.std.specs.Prelude.{◌≡◌, ◌≤◌, ◌+◌, ◌*◌, ◌⊎◌, false, true, IfOk, IfErr, OnOk, IsErrOf, string_bytes};
+ghost use Rattle.std.specs.Prelude.{◌≡◌, ◌≤◌, ◌+◌, ◌*◌, ◌++◌, ◌⊎◌, codes, false, true, IfOk, IfErr, OnOk, IsErrOf, string_bytes};
 ghost use Rattle.std.specs.Io.KnownBytes.{Appends};
 ghost use Rattle.pg_pred.specs.Offer.{offer_of};
 ghost use Rattle.pg_grammar_value.specs.Fits.{Fits};
@@ -8,23 +8,23 @@ ghost use Rattle.pg_tree.specs.Json.{quoted};
 ghost use Rattle.pg_tree.specs.Meter.{saturating_sum};
 ghost use Rattle.pg_tree.specs.Bytes.{AppendsPrefix};
 ghost use Rattle.pg_table.specs.Tables.{initial, whole};
-ghost use Rattle.pg_bench.specs.Parsed.{IsLineBy, IsPartlyLineBy, line_front, line_text, error_line_text};
+ghost use Rattle.pg_bench.specs.Parsed.{IsLineBy, IsPartlyLineBy, line_front, error_line_text};
 ghost use Rattle.pg_bench.specs.Refusals.{IsTextFault};
 ghost use Rattle.pg_bench_grammar.specs.Faults.{IsWriteRefusal, IsBeforeWriting};
 
 use crate::done::Done;
-use crate::outcome_page::forest_between;
-use crate::parse::parsed_text;
+use crate::pieces::{Pieces, read_pieces};
 use pg_bench_grammar::{AcceptedGrammar, BenchFault, write_page};
 use pg_pred::Registry;
 use pg_text::LIMIT;
-use pg_tree::{Forest, Meter};
+use pg_tree::Meter;
 use serde_json::Value;
 use std::alloc::{AllocError, Global};
 use std::io::{Read, Write};
 
 /// As `parse_checked` without a trail, but writes the trees after the text's name: `{"file":NAME,"trees":TREES}` and a line feed (ours). The line is in
 /// memory before its first byte is written.
+#[tactic(auto, using(crate::proofs::PiecesLemmas::line_pieces, crate::proofs::PiecesLemmas::partly_line_pieces))]
 pub fn parse_line<R: Read, W: Write>(
     alloc: Global,
     accepted: &AcceptedGrammar,
@@ -55,50 +55,51 @@ pub fn parse_line<R: Read, W: Write>(
 
     ensures asked { reader.new.calls ≤ saturating_sum reader.old.calls (4 * LIMIT + 1) }
 {
-    match parsed_text(alloc, accepted, registry, reader) {
-        Ok(parsed) => match write_line(alloc, &parsed.parse.success.forest, name, writer) {
-            Ok(()) => {
-                let done = parsed.parse.done;
-                drop(parsed);
-                Ok(done)
-            }
-            Err(fault) => {
-                drop(parsed);
-                Err(fault)
-            }
-        },
+    match read_pieces(alloc, accepted, registry, reader, true, false) {
+        Ok(pieces) => {
+            let Pieces { json, rest, done } = pieces;
+            drop(rest);
+            let written = write_line(alloc, json.as_slice(), name, writer);
+            drop(json);
+            written?;
+            Ok(done)
+        }
         Err(fault) => Err(fault),
     }
 }
 
-/// Writes the line of a text with this name and this forest.
+/// Writes the line of a text with this name and the JSON of its forest.
 fn write_line<W: Write>(
     alloc: Global,
-    forest: &Forest,
+    json: &[u8],
     name: &str,
     writer: &mut Meter<W>,
 ) -> Result<(), BenchFault>
     requires { writer.old.failed ≡ false }
-    ensures ok { OnOk result (Appends (W.contents writer.old.inner) (W.contents writer.new.inner) (line_text name.now forest.now)) }
+    ensures ok { OnOk result (Appends (W.contents writer.old.inner) (W.contents writer.new.inner) (line_front name.now ++ (json.now ++ codes "}\n"))) }
     ensures stays { OnOk result (writer.new.failed ≡ false) }
     ensures err { IfErr result IsWriteRefusal }
     ensures failed { IsErrOf result BenchFault.Writer → writer.new.failed ≡ true }
     ensures prefix { IsErrOf result BenchFault.Writer →
-        AppendsPrefix (W.contents writer.old.inner) (W.contents writer.new.inner) (line_text name.now forest.now) }
+        AppendsPrefix (W.contents writer.old.inner) (W.contents writer.new.inner) (line_front name.now ++ (json.now ++ codes "}\n")) }
     ensures memory { IsErrOf result BenchFault.Memory → writer.new ≡ writer.old }
 {
-    match line_page(alloc, forest, name) {
+    match line_page(alloc, json, name) {
         Ok(page) => write_page(page.as_slice(), writer),
         Err(_) => Err(BenchFault::Memory),
     }
 }
 
-/// The line of a text with this name and this forest.
-fn line_page(alloc: Global, forest: &Forest, name: &str) -> Result<Vec<u8>, AllocError>
-    ensures { IfOk result (λ page. page.items ≡ line_text name.now forest.now) }
+/// The line of a text with this name and the JSON of its forest.
+fn line_page(alloc: Global, json: &[u8], name: &str) -> Result<Vec<u8>, AllocError>
+    ensures { IfOk result (λ page. page.items ≡ line_front name.now ++ (json.now ++ codes "}\n")) }
 {
     let front = line_front(alloc, name)?;
-    forest_between(alloc, front.into_bytes(), forest, b"}\n")
+    let mut page = front.into_bytes();
+    page.reserve(json.len())?;
+    page.extend_from_slice(json)?;
+    page.extend_from_slice(b"}\n")?;
+    Ok(page)
 }
 
 /// The part of a line before the trees of a text with this name.

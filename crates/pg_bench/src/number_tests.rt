@@ -96,7 +96,7 @@ fn tells_which_characters_a_class_has(rt: HostRuntime) -> Result<(), Fail> {
     let Ok(accepted) = accepted_of(alloc, file, &registry) else {
         return Err(Fail::new("not accepted"));
     };
-    let grammar = accepted.checked.grammar();
+    let grammar = accepted.checked.as_checked().grammar();
     assert!(rt; grammar.fits(&registry) && grammar.fits(&other));
     let (Some(digits), Some(others)) = (grammar.class_items().first(), grammar.class_items().last())
     else {

@@ -59,6 +59,17 @@ fn forest_after(alloc: Global, head: Vec<u8>, forest: &Forest) -> Result<Vec<u8>
     forest_between(alloc, head, forest, b"\n")
 }
 
+/// The forest's JSON alone. Fails where memory runs out.
+pub fn json_page(alloc: Global, forest: &Forest) -> Result<Vec<u8>, AllocError>
+    ensures { IfOk result (λ page. page.items ≡ json forest.now) }
+{
+    let mut page = Meter::new(Vec::new(alloc));
+    if write_json(alloc, forest, &mut page).is_err() {
+        return Err(AllocError);
+    }
+    Ok(page.into_inner())
+}
+
 /// The bytes before, the forest's JSON and the rest. Fails where memory runs out.
 pub fn forest_between(
     alloc: Global,

@@ -9,13 +9,12 @@ ghost use Rattle.std.specs.Str.{chars, IsUtf8};
 ghost use Rattle.std.specs.Io.KnownBytes.{Appends};
 ghost use Rattle.pg_pred.specs.Offer.{offer_of};
 ghost use Rattle.pg_grammar_value.specs.Fits.{Fits};
-ghost use Rattle.pg_tree.specs.Json.{json};
 ghost use Rattle.pg_tree.specs.Meter.{saturating_sum};
 ghost use Rattle.pg_tree.specs.Bytes.{AppendsPrefix};
 ghost use Rattle.pg_table.specs.Tables.{initial, whole};
 ghost use Rattle.pg_bench.specs.Promise.{IsAccepted, IsForestOfText, most_steps};
 ghost use Rattle.pg_bench_grammar.specs.Files.{AreFindingsOf, IsFaultOfFile, SpellsSome};
-ghost use Rattle.pg_bench.specs.Parsed.{IsParsed, IsParsedBy, IsForestBy, IsForestOfBytes, IsErrorOf, IsErrorBy, IsSpelledBy, ReadsText, IsPartlyWritten, IsPartlyParsedBy, after_forest, parse_text, IfRead};
+ghost use Rattle.pg_bench.specs.Parsed.{IsParsed, IsParsedBy, IsForestBy, HasForestBy, IsForestOfBytes, IsErrorOf, IsErrorBy, IsSpelledBy, ReadsText, IsPartlyWritten, IsPartlyParsedBy, after_forest, parse_text, IfRead};
 ghost use Rattle.pg_bench_grammar.specs.Faults.{IfRefused, IfParseError, IfNotATrail, IfNotVerified, IsWriteRefusal, IsBeforeReading, IsAfterFile, IsAfterReading, IfFile, IsBeforeWriting};
 ghost use Rattle.pg_bench.specs.Refusals.{IsErrorOfAnswer, IsTextFault, IsParseRefusal, IsRunRefusal, IsWell};
 
@@ -26,9 +25,11 @@ use pg_bench_grammar::{AcceptedGrammar, BenchFault, accepted_of, write_page};
 use pg_grammar_value::Trail;
 use pg_machine::{Answer, Success, run};
 use pg_pred::Registry;
+use pg_predict::Checked;
+use pg_table::Table;
 use pg_text::{LIMIT, Text};
 use pg_trail::write_trail;
-use pg_tree::{Forest, Meter, WriteFault, write_json};
+use pg_tree::{Meter, write_bytes};
 use std::alloc::{AllocError, Global};
 use std::io::{Read, Write};
 
@@ -180,8 +181,8 @@ pub fn parse_checked<R: Read, W: Write>(
 
     ensures asked { reader.new.calls ≤ saturating_sum reader.old.calls (4 * LIMIT + 1) }
 {
-    match read_pieces(alloc, accepted, registry, reader, with_trail) {
-        Ok(pieces) => match write_lines(alloc, &pieces.forest, pieces.rest.as_slice(), writer) {
+    match read_pieces(alloc, accepted, registry, reader, true, with_trail) {
+        Ok(pieces) => match write_lines(pieces.json.as_slice(), pieces.rest.as_slice(), writer) {
             Ok(()) => {
                 let done = pieces.done;
                 drop(pieces);
@@ -192,6 +193,32 @@ pub fn parse_checked<R: Read, W: Write>(
                 Err(fault)
             }
         },
+        Err(fault) => Err(fault),
+    }
+}
+
+/// The cost of a parse of the text that a reader gives, for whoever writes nothing of its trees (ours). The caller ensures the same as for [`parsed_text`], and
+/// the faults are the same.
+#[tactic(auto, using(crate::proofs::PiecesLemmas::cost_of_pieces))]
+pub fn parse_cost<R: Read>(
+    alloc: Global,
+    accepted: &AcceptedGrammar,
+    registry: &Registry,
+    reader: &mut Meter<R>,
+) -> Result<Done, BenchFault>
+    requires fits { Fits (offer_of registry.now) accepted.now.checked.grammar }
+    requires table { initial accepted.now.checked.grammar ≡ whole accepted.now.table }
+    requires reader { reader.old.failed ≡ false }
+    ensures ok { IfOk result (HasForestBy accepted.now.checked.grammar (R.remaining reader.old.inner) (R.remaining reader.new.inner)) }
+    ensures err { IfErr result (IsTextFault accepted.now.checked.grammar reader.old reader.new (R.remaining reader.old.inner) (R.remaining reader.new.inner)) }
+    ensures asked { reader.new.calls ≤ saturating_sum reader.old.calls (4 * LIMIT + 1) }
+{
+    match read_pieces(alloc, accepted, registry, reader, false, false) {
+        Ok(pieces) => {
+            let done = pieces.done;
+            drop(pieces);
+            Ok(done)
+        }
         Err(fault) => Err(fault),
     }
 }
@@ -249,7 +276,6 @@ fn parse_of(
 }
 
 /// The parse of a text.
-#[tactic(auto, using(crate::proofs::Parses::found_forest, crate::proofs::Parses::found_refused, pg_table::proofs::Added::own_table))]
 pub(crate) fn parse_of_text(
     alloc: Global,
     accepted: &AcceptedGrammar,
@@ -261,8 +287,26 @@ pub(crate) fn parse_of_text(
     ensures ok { IfOk result (λ p. IsForestOfText accepted.now.checked.grammar text.now p.success.forest p.success.trail p.done) }
     ensures err { IfErr result (IsRunRefusal accepted.now.checked.grammar text.now) }
 {
-    match run(alloc, &accepted.checked, text, &accepted.table, registry) {
-        Ok(answer) => parse_of_answer(answer, accepted.checked.cost(), text.len() + 1),
+    let checked = accepted.checked.as_checked();
+    run_of_text(alloc, checked, &accepted.table, registry, text)
+}
+
+/// The parse of a text by a checked grammar, with its initial table.
+#[tactic(auto, using(crate::proofs::Parses::found_forest, crate::proofs::Parses::found_refused, pg_table::proofs::Added::own_table))]
+fn run_of_text(
+    alloc: Global,
+    checked: &Checked,
+    table: &Table,
+    registry: &Registry,
+    text: &Text,
+) -> Result<Parse, BenchFault>
+    requires fits { Fits (offer_of registry.now) checked.now.grammar }
+    requires table { initial checked.now.grammar ≡ whole table.now }
+    ensures ok { IfOk result (λ p. IsForestOfText checked.now.grammar text.now p.success.forest p.success.trail p.done) }
+    ensures err { IfErr result (IsRunRefusal checked.now.grammar text.now) }
+{
+    match run(alloc, checked, text, table, registry) {
+        Ok(answer) => parse_of_answer(answer, checked.cost(), text.len() + 1),
         Err(_) => Err(BenchFault::Memory),
     }
 }
@@ -270,7 +314,7 @@ pub(crate) fn parse_of_text(
 /// The parse from an ok answer to a text with this many places, its end among them, with its steps, or the error of another answer.
 fn parse_of_answer(answer: Answer, cost: u64, places: usize) -> Result<Parse, BenchFault>
     ensures ok { IfOk result (λ p. answer.success ≡ Some p.success) }
-    ensures done { IfOk result (λ p. p.done ≡ record { steps = answer.steps; cost = cost; most = most_steps cost places }) }
+    ensures done { IfOk result (λ p. p.done ≡ record { steps = answer.steps; cost = cost; most = most_steps cost places; planned = false }) }
     ensures err { IfErr result (IsErrorOfAnswer answer) }
 {
     let Answer {
@@ -283,7 +327,13 @@ fn parse_of_answer(answer: Answer, cost: u64, places: usize) -> Result<Parse, Be
         Some(success) => {
             drop(error);
             let most = cost.saturating_mul(places as u64);
-            let done = Done { steps, cost, most };
+            let planned = false;
+            let done = Done {
+                steps,
+                cost,
+                most,
+                planned,
+            };
             Ok(Parse { success, done })
         }
         None => Err(BenchFault::ParseError(error)),
@@ -309,24 +359,18 @@ pub(crate) fn after_forest(
 }
 
 /// Writes the forest's JSON, and then the rest.
-fn write_lines<W: Write>(
-    alloc: Global,
-    forest: &Forest,
-    rest: &[u8],
-    writer: &mut Meter<W>,
-) -> Result<(), BenchFault>
+fn write_lines<W: Write>(json: &[u8], rest: &[u8], writer: &mut Meter<W>) -> Result<(), BenchFault>
     requires { writer.old.failed ≡ false }
-    ensures ok { OnOk result (Appends (W.contents writer.old.inner) (W.contents writer.new.inner) (json forest.now ++ rest.now)) }
+    ensures ok { OnOk result (Appends (W.contents writer.old.inner) (W.contents writer.new.inner) (json.now ++ rest.now)) }
     ensures stays { OnOk result (writer.new.failed ≡ false) }
     ensures err { IfErr result IsWriteRefusal }
     ensures failed { IsErrOf result BenchFault.Writer → writer.new.failed ≡ true }
     ensures prefix { IsErrOf result BenchFault.Writer →
-        AppendsPrefix (W.contents writer.old.inner) (W.contents writer.new.inner) (json forest.now ++ rest.now) }
+        AppendsPrefix (W.contents writer.old.inner) (W.contents writer.new.inner) (json.now ++ rest.now) }
     ensures memory { IsErrOf result BenchFault.Memory → writer.new ≡ writer.old }
 {
-    match write_json(alloc, forest, writer) {
+    match write_bytes(json, writer) {
         Ok(()) => write_page(rest, writer),
-        Err(WriteFault::Writer) => Err(BenchFault::Writer),
-        Err(WriteFault::Memory) => Err(BenchFault::Memory),
+        Err(_) => Err(BenchFault::Writer),
     }
 }

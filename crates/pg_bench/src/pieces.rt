@@ -8,27 +8,28 @@ ghost use Rattle.pg_grammar_value.specs.Fits.{Fits};
 ghost use Rattle.pg_table.specs.Tables.{initial, whole};
 ghost use Rattle.pg_tree.specs.Meter.{saturating_sum};
 ghost use Rattle.pg_bench.specs.Promise.{IsForestOfText};
-ghost use Rattle.pg_bench.specs.Parsed.{ArePieces, IfRead, IsForestBy, IsForestOfBytes, after_forest};
+ghost use Rattle.pg_bench.specs.Parsed.{AreJsonPieces, json_if, IfRead, IsForestBy, IsForestOfBytes, after_forest};
 ghost use Rattle.pg_bench.specs.Refusals.{IsTextFault, IsParseRefusal, IsRunRefusal, IsWell};
 
 use crate::done::Done;
 use crate::input::{read_text, text_of};
+use crate::outcome_page::json_page;
 use crate::parse::{Parse, after_forest, parse_of_text};
 use crate::quick::{ForestParse, quick_parse};
 use pg_bench_grammar::{AcceptedGrammar, BenchFault};
-use pg_machine::Success;
 use pg_pred::Registry;
 use pg_text::{LIMIT, Text};
 use pg_tree::{Forest, Meter};
-use std::alloc::Global;
+use pg_tree_placed::{PlacedForest, placed_json};
+use std::alloc::{AllocError, Global};
 use std::io::Read;
 
 /// What is written of a text, and the cost of its parse.
 #[derive(Drop)]
 pub(crate) struct Pieces {
-    /// The forest.
-    pub forest: Forest,
-    /// What is written after its JSON.
+    /// The JSON of the forest, if it is wanted; otherwise nothing.
+    pub json: Vec<u8>,
+    /// What is written after it.
     pub rest: Vec<u8>,
     /// The cost of the parse.
     pub done: Done,
@@ -42,19 +43,27 @@ pub(crate) fn read_pieces<R: Read>(
     accepted: &AcceptedGrammar,
     registry: &Registry,
     reader: &mut Meter<R>,
+    with_json: bool,
     with_trail: bool,
 ) -> Result<Pieces, BenchFault>
     requires fits { Fits (offer_of registry.now) accepted.now.checked.grammar }
     requires table { initial accepted.now.checked.grammar ≡ whole accepted.now.table }
     requires reader { reader.old.failed ≡ false }
-    ensures ok { IfOk result (λ p. ArePieces (IsForestBy accepted.now.checked.grammar (R.remaining reader.old.inner) (R.remaining reader.new.inner)) with_trail
-        p.forest p.rest.items p.done) }
+    ensures ok { IfOk result (λ p. AreJsonPieces (IsForestBy accepted.now.checked.grammar (R.remaining reader.old.inner) (R.remaining reader.new.inner)) with_json with_trail
+        p.json.items p.rest.items p.done) }
     ensures well { OnOk result (IsWell reader.old reader.new) }
     ensures err { IfErr result (IsTextFault accepted.now.checked.grammar reader.old reader.new (R.remaining reader.old.inner) (R.remaining reader.new.inner)) }
     ensures asked { reader.new.calls ≤ saturating_sum reader.old.calls (4 * LIMIT + 1) }
 {
     let bytes = read_text(alloc, reader)?;
-    pieces_of(alloc, accepted, registry, bytes.as_slice(), with_trail)
+    pieces_of(
+        alloc,
+        accepted,
+        registry,
+        bytes.as_slice(),
+        with_json,
+        with_trail,
+    )
 }
 
 /// The pieces of the text that bytes spell.
@@ -64,15 +73,16 @@ fn pieces_of(
     accepted: &AcceptedGrammar,
     registry: &Registry,
     bytes: &[u8],
+    with_json: bool,
     with_trail: bool,
 ) -> Result<Pieces, BenchFault>
     requires fits { Fits (offer_of registry.now) accepted.now.checked.grammar }
     requires table { initial accepted.now.checked.grammar ≡ whole accepted.now.table }
-    ensures ok { IfOk result (λ p. ArePieces (IsForestOfBytes accepted.now.checked.grammar bytes.now) with_trail p.forest p.rest.items p.done) }
+    ensures ok { IfOk result (λ p. AreJsonPieces (IsForestOfBytes accepted.now.checked.grammar bytes.now) with_json with_trail p.json.items p.rest.items p.done) }
     ensures err { IfErr result (IsParseRefusal accepted.now.checked.grammar bytes.now) }
 {
     let text = text_of(alloc, bytes)?;
-    match pieces_of_text(alloc, accepted, registry, &text, with_trail) {
+    match pieces_of_text(alloc, accepted, registry, &text, with_json, with_trail) {
         Ok(pieces) => {
             drop(text);
             Ok(pieces)
@@ -90,17 +100,18 @@ fn pieces_of_text(
     accepted: &AcceptedGrammar,
     registry: &Registry,
     text: &Text,
+    with_json: bool,
     with_trail: bool,
 ) -> Result<Pieces, BenchFault>
     requires fits { Fits (offer_of registry.now) accepted.now.checked.grammar }
     requires table { initial accepted.now.checked.grammar ≡ whole accepted.now.table }
-    ensures ok { IfOk result (λ p. ArePieces (IsForestOfText accepted.now.checked.grammar text.now) with_trail p.forest p.rest.items p.done) }
+    ensures ok { IfOk result (λ p. AreJsonPieces (IsForestOfText accepted.now.checked.grammar text.now) with_json with_trail p.json.items p.rest.items p.done) }
     ensures err { IfErr result (IsRunRefusal accepted.now.checked.grammar text.now) }
 {
     if with_trail {
-        all_pieces(alloc, accepted, registry, text, true)
+        all_pieces(alloc, accepted, registry, text, with_json, true)
     } else {
-        bare_pieces(alloc, accepted, registry, text)
+        bare_pieces(alloc, accepted, registry, text, with_json)
     }
 }
 
@@ -111,28 +122,66 @@ fn bare_pieces(
     accepted: &AcceptedGrammar,
     registry: &Registry,
     text: &Text,
+    with_json: bool,
 ) -> Result<Pieces, BenchFault>
     requires fits { Fits (offer_of registry.now) accepted.now.checked.grammar }
     requires table { initial accepted.now.checked.grammar ≡ whole accepted.now.table }
-    ensures ok { IfOk result (λ p. ArePieces (IsForestOfText accepted.now.checked.grammar text.now) false p.forest p.rest.items p.done) }
+    ensures ok { IfOk result (λ p. AreJsonPieces (IsForestOfText accepted.now.checked.grammar text.now) with_json false p.json.items p.rest.items p.done) }
     ensures err { IfErr result (IsRunRefusal accepted.now.checked.grammar text.now) }
 {
     match quick_parse(alloc, accepted, text) {
-        Ok(Some(parse)) => pieces_of_forest(alloc, parse),
-        Ok(None) => all_pieces(alloc, accepted, registry, text, false),
+        Ok(Some(parse)) => pieces_of_forest(alloc, parse, with_json),
+        Ok(None) => all_pieces(alloc, accepted, registry, text, with_json, false),
         Err(_) => Err(BenchFault::Memory),
     }
 }
 
 /// Those of a forest with no trail: a line feed comes after its JSON.
-fn pieces_of_forest(alloc: Global, parse: ForestParse) -> Result<Pieces, BenchFault>
-    ensures ok { IfOk result (λ p. (p.forest ≡ parse.forest) × (p.rest.items ≡ codes "\n") × (p.done ≡ parse.done)) }
+fn pieces_of_forest(
+    alloc: Global,
+    parse: ForestParse<'_>,
+    with_json: bool,
+) -> Result<Pieces, BenchFault>
+    ensures ok { IfOk result (λ p. (p.json.items ≡ json_if with_json parse.entry.forest) × (p.rest.items ≡ codes "\n") × (p.done ≡ parse.entry.done)) }
     ensures err { IfErr result (λ fault. fault ≡ BenchFault.Memory) }
 {
-    let ForestParse { forest, done } = parse;
-    match Vec::from_slice(alloc, b"\n") {
-        Ok(rest) => Ok(Pieces { forest, rest, done }),
+    let made = made_quickly(alloc, &parse, with_json);
+    drop(parse);
+    match made {
+        Ok(pieces) => Ok(pieces),
         Err(_) => Err(BenchFault::Memory),
+    }
+}
+
+/// The same, where the only error is running out of memory.
+fn made_quickly(
+    alloc: Global,
+    parse: &ForestParse<'_>,
+    with_json: bool,
+) -> Result<Pieces, AllocError>
+    ensures { IfOk result (λ p. (p.json.items ≡ json_if with_json parse.now.forest) × (p.rest.items ≡ codes "\n") × (p.done ≡ parse.now.done)) }
+{
+    let rest = Vec::from_slice(alloc, b"\n")?;
+    let json = quick_json(alloc, &parse.forest, with_json)?;
+    Ok(Pieces {
+        json,
+        rest,
+        done: parse.done,
+    })
+}
+
+/// The JSON of a forest over its text, if it is wanted.
+fn quick_json(
+    alloc: Global,
+    forest: &PlacedForest<'_>,
+    with_json: bool,
+) -> Result<Vec<u8>, AllocError>
+    ensures { IfOk result (λ json. json.items ≡ json_if with_json forest.now) }
+{
+    if with_json {
+        placed_json(alloc, forest)
+    } else {
+        Ok(Vec::new(alloc))
     }
 }
 
@@ -143,37 +192,65 @@ fn all_pieces(
     accepted: &AcceptedGrammar,
     registry: &Registry,
     text: &Text,
+    with_json: bool,
     with_trail: bool,
 ) -> Result<Pieces, BenchFault>
     requires fits { Fits (offer_of registry.now) accepted.now.checked.grammar }
     requires table { initial accepted.now.checked.grammar ≡ whole accepted.now.table }
-    ensures ok { IfOk result (λ p. ArePieces (IsForestOfText accepted.now.checked.grammar text.now) with_trail p.forest p.rest.items p.done) }
+    ensures ok { IfOk result (λ p. AreJsonPieces (IsForestOfText accepted.now.checked.grammar text.now) with_json with_trail p.json.items p.rest.items p.done) }
     ensures err { IfErr result (IsRunRefusal accepted.now.checked.grammar text.now) }
 {
     match parse_of_text(alloc, accepted, registry, text) {
-        Ok(parse) => pieces_of_parse(alloc, parse, with_trail),
+        Ok(parse) => pieces_of_parse(alloc, parse, with_json, with_trail),
         Err(fault) => Err(fault),
     }
 }
 
 /// Those of a parse: a line feed comes after the forest's JSON, and the trail on a line of its own if it is wanted.
-fn pieces_of_parse(alloc: Global, parse: Parse, with_trail: bool) -> Result<Pieces, BenchFault>
-    ensures ok { IfOk result (λ p. (p.forest ≡ parse.success.forest) × (p.done ≡ parse.done) × (p.rest.items ≡ after_forest with_trail parse.success.trail)) }
+fn pieces_of_parse(
+    alloc: Global,
+    parse: Parse,
+    with_json: bool,
+    with_trail: bool,
+) -> Result<Pieces, BenchFault>
+    ensures ok { IfOk result (λ p. (p.json.items ≡ json_if with_json parse.success.forest) × (p.done ≡ parse.done) × (p.rest.items ≡ after_forest with_trail parse.success.trail)) }
     ensures read { OnOk result (IfRead with_trail parse.success.trail) }
     ensures err { IfErr result (λ fault. fault ≡ BenchFault.Memory) }
 {
-    let Parse { success, done } = parse;
-    let Success {
-        forest,
-        trail,
-        table,
-        place: _,
-    } = success;
-    drop(table);
-    let rest = after_forest(alloc, &trail, with_trail);
-    drop(trail);
-    match rest {
-        Ok(rest) => Ok(Pieces { forest, rest, done }),
+    let made = made_by_run(alloc, &parse, with_json, with_trail);
+    drop(parse);
+    match made {
+        Ok(pieces) => Ok(pieces),
         Err(_) => Err(BenchFault::Memory),
+    }
+}
+
+/// The same, where the only error is running out of memory.
+fn made_by_run(
+    alloc: Global,
+    parse: &Parse,
+    with_json: bool,
+    with_trail: bool,
+) -> Result<Pieces, AllocError>
+    ensures ok { IfOk result (λ p. (p.json.items ≡ json_if with_json parse.now.success.forest) × (p.done ≡ parse.now.done) × (p.rest.items ≡ after_forest with_trail parse.now.success.trail)) }
+    ensures read { OnOk result (IfRead with_trail parse.now.success.trail) }
+{
+    let rest = after_forest(alloc, &parse.success.trail, with_trail)?;
+    let json = run_json(alloc, &parse.success.forest, with_json)?;
+    Ok(Pieces {
+        json,
+        rest,
+        done: parse.done,
+    })
+}
+
+/// The JSON of a forest, if it is wanted.
+fn run_json(alloc: Global, forest: &Forest, with_json: bool) -> Result<Vec<u8>, AllocError>
+    ensures { IfOk result (λ json. json.items ≡ json_if with_json forest.now) }
+{
+    if with_json {
+        json_page(alloc, forest)
+    } else {
+        Ok(Vec::new(alloc))
     }
 }

@@ -150,7 +150,7 @@ fn cost_of(alloc: Global, grammar: &[u8], registry: &Registry) -> Result<u64, Fa
     let Ok(accepted) = accepted_of(alloc, grammar, registry) else {
         return Err(Fail::new("not accepted"));
     };
-    Ok(accepted.checked.cost())
+    Ok(accepted.checked.as_checked().cost())
 }
 
 /// How many steps the parse of a text took, and the bound on them. The text is derived.
@@ -524,8 +524,8 @@ fn tells_whether_a_registry_fits(rt: HostRuntime) -> Result<(), Fail> {
     let Ok(accepted) = accepted_of(alloc, b"start a; a = satisfy(digit);", &registry) else {
         return Err(Fail::new("not accepted"));
     };
-    assert!(rt; accepted.checked.grammar().fits(&registry));
-    assert!(rt; !accepted.checked.grammar().fits(&other));
+    assert!(rt; accepted.checked.as_checked().grammar().fits(&registry));
+    assert!(rt; !accepted.checked.as_checked().grammar().fits(&other));
     Ok(())
 }
 

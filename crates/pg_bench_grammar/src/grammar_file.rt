@@ -12,13 +12,14 @@ ghost use Rattle.pg_bench_grammar.specs.Files.{IsFaultOfFile, AreFindingsOf};
 ghost use Rattle.pg_bench_grammar.specs.Faults.{IfFile, IsFileRefusal, IsFindingRefusal, IsGrammarRefusal, IfRefused};
 
 use crate::bench_fault::BenchFault;
+use crate::planned::PlannedGrammar;
 use pg_file::{FileError, ReadFile, read_file};
 use pg_file_making::PlacedGrammar;
 use pg_grammar_value::Grammar;
 use pg_pred::Registry;
 use pg_predict::{CheckFault, Checked, check};
 use pg_table::Table;
-use std::alloc::Global;
+use std::alloc::{AllocError, Global};
 
 /// The grammar that the bytes of a file spell.
 pub fn grammar_of(alloc: Global, bytes: &[u8], registry: &Registry) -> Result<Grammar, BenchFault>
@@ -75,9 +76,9 @@ pub(crate) fn file_of(
     }
 }
 
-/// An accepted grammar, and its initial operator table.
+/// An accepted grammar with the plan by which its texts are parsed first, and its initial operator table.
 pub struct AcceptedGrammar {
-    pub checked: Checked,
+    pub checked: PlannedGrammar,
     pub table: Table,
 }
 
@@ -112,15 +113,26 @@ pub fn accepted_of(
     }
 }
 
-/// The grammar if it is accepted, else its findings.
-fn accepted(alloc: Global, grammar: Grammar) -> Result<Checked, BenchFault>
+/// The grammar with a plan if it is accepted, else its findings.
+fn accepted(alloc: Global, grammar: Grammar) -> Result<PlannedGrammar, BenchFault>
     ensures same { IfOk result (λ checked. checked.grammar ≡ grammar) }
     ensures accepted { IfOk result (λ checked. IsChecked checked) }
     ensures err { IfErr result (IsFindingRefusal grammar) }
 {
     match check(alloc, grammar) {
-        Ok(checked) => Ok(checked),
+        Ok(checked) => planned(alloc, checked),
         Err(CheckFault::Refused(refused)) => Err(BenchFault::Refused(refused)),
         Err(CheckFault::Memory(_)) => Err(BenchFault::Memory),
+    }
+}
+
+/// The grammar with a plan. It fails only where memory runs out.
+fn planned(alloc: Global, checked: Checked) -> Result<PlannedGrammar, BenchFault>
+    ensures ok { IfOk result (λ planned. planned ≡ checked) }
+    ensures err { IfErr result (λ fault. fault ≡ BenchFault.Memory) }
+{
+    match PlannedGrammar::of(alloc, checked) {
+        Ok(planned) => Ok(planned),
+        Err(AllocError) => Err(BenchFault::Memory),
     }
 }

@@ -14,7 +14,7 @@ const MOST_STEPS: i64 = 1_000_000_000;
 const USUAL_STEPS: u64 = 1_000_000;
 
 /// The version, and the toolchain that proved it.
-const VERSION: &str = "0.6.0 (proved by rattle-kit-13f)";
+const VERSION: &str = "0.7.0 (proved by rattle-kit-13f)";
 
 /// The help of a word that names a file.
 const GRAMMAR: &str = "The grammar file, or - for standard input";
@@ -112,6 +112,8 @@ pub enum Parsed {
     ForestAndTrail,
     /// The forest as an outline for people to read.
     Outline,
+    /// The forest with the places of its trees as a line of JSON.
+    Places,
 }
 
 /// Whether the steps of a parse are printed, with the most that there can be.
@@ -285,10 +287,12 @@ fn verify_command<'a>(alloc: Global) -> Result<Command<'a>, AllocError> {
 
 fn parse_command<'a>(alloc: Global) -> Result<Command<'a>, AllocError> {
     let tree = tree(alloc)?;
+    let places = places_of_trees(alloc)?;
     let lines = lines(alloc)?;
     let about = "Parses texts with a grammar and prints the trees as JSON, one line per text";
     let command = bare(alloc, "parse", about, HELP_OF_PARSE).arg(trail(alloc));
     let command = with_arg(command, tree);
+    let command = with_arg(command, places);
     let command = with_arg(command, lines);
     let command = with_arg(command, counted(alloc));
     let command = with_arg(command, quiet(alloc));
@@ -404,6 +408,16 @@ fn tree<'a>(alloc: Global) -> Result<Arg<'a>, AllocError> {
         .conflicts_with("trail")
 }
 
+/// The word that asks for the places of the trees.
+fn places_of_trees<'a>(alloc: Global) -> Result<Arg<'a>, AllocError> {
+    Arg::new(alloc, "places")
+        .long("places")
+        .action(ArgAction::SetTrue)
+        .help("Prints the trees with what each node and leaf read: start, end, line and column")
+        .conflicts_with("trail")?
+        .conflicts_with("tree")
+}
+
 /// The word that asks for a line for each text, parsed or not.
 fn lines<'a>(alloc: Global) -> Result<Arg<'a>, AllocError> {
     Arg::new(alloc, "lines")
@@ -411,7 +425,8 @@ fn lines<'a>(alloc: Global) -> Result<Arg<'a>, AllocError> {
         .action(ArgAction::SetTrue)
         .help("Prints a line of JSON for each text, with its trees or why it has none")
         .conflicts_with("trail")?
-        .conflicts_with("tree")
+        .conflicts_with("tree")?
+        .conflicts_with("places")
 }
 
 /// The word that asks for the steps.
@@ -565,6 +580,8 @@ fn parse_request<'m, 'a>(found: &'m ArgMatches<'a>) -> Option<Request<'m, 'a>> {
         Parsed::Line
     } else if found.get_flag("tree") {
         Parsed::Outline
+    } else if found.get_flag("places") {
+        Parsed::Places
     } else if found.get_flag("trail") {
         Parsed::ForestAndTrail
     } else {

@@ -5,16 +5,17 @@ use Rattle.pg_grammar_form.specs.declared.form.Form.TheVariants as form
 use Rattle.pg_grammar_form.specs.declared.form.Around.{Around}
 use Rattle.pg_grammar_form.specs.declared.form.Around.TheVariants as kind
 use Rattle.pg_language.specs.Answers as answers
-use Rattle.pg_language.specs.Answers.{Given, Answers, entered, AnswersForm, seq, choice, many, rule, first_operand, first_failed, first_ok}
+use Rattle.pg_language.specs.Answers.{Answers}
 use Rattle.pg_language.specs.Derives.{Spot, left_by, made_by}
 use Rattle.pg_language.specs.Outcomes.{Outcome, ok, failed, empty_round}
 use Rattle.pg_language.specs.Reactions.{noted, surrounded, counted_by}
-use Rattle.pg_machine_quick.specs.Facts.{outcomes_of}
-use Rattle.pg_machine_quick.specs.Layout.{IsNoted, keep_below, IsTransparent}
-use Rattle.pg_machine_quick.specs.Turns.{Program, State, state, encloses, added, closed, on_turn, run}
-use Rattle.pg_machine_quick.specs.declared.instruction.Instruction.TheVariants.{Enter, Open, Close}
-use Rattle.pg_machine_quick.specs.declared.instruction.Keep.{Keep}
-use Rattle.pg_machine_quick.specs.declared.instruction.Keep.TheVariants.{Kept, Hidden}
+use Rattle.pg_machine_plan.specs.Facts.{outcomes_of}
+use Rattle.pg_machine_plan.specs.Layout.{IsNoted, keep_below, IsTransparent}
+use Rattle.pg_machine_plan.specs.Plans.{Program}
+use Rattle.pg_machine_quick.specs.Turns.{State, state, encloses, added, closed, on_turn, run}
+use Rattle.pg_machine_plan.specs.declared.instruction.Instruction.TheVariants.{Enter, Open, Close}
+use Rattle.pg_machine_plan.specs.declared.instruction.Keep.{Keep}
+use Rattle.pg_machine_plan.specs.declared.instruction.Keep.TheVariants.{Kept, Hidden}
 use Rattle.pg_machine_quick.proofs.Comes.{onward, Comes, Claim, turned, same_run, same_back, same_count}
 use Rattle.pg_machine_quick.proofs.Entered.{entered_too}
 

@@ -9,14 +9,15 @@ use Rattle.pg_language.specs.Errors.{Error, merge, no_messages_at}
 use Rattle.pg_language.specs.Outcomes.{Outcome, ok, failed, empty_round}
 use Rattle.pg_language.specs.Reactions.{after_failure}
 use Rattle.pg_language.specs.declared.reading.Reading.TheVariants.{Library}
-use Rattle.pg_machine_quick.specs.Facts.{outcomes_of, NeverFailsEmpty}
-use Rattle.pg_machine_quick.specs.Layout.{ComesTo, Tries, none_left, passed_by, last_one, sure_one, marked_one}
-use Rattle.pg_machine_quick.specs.Turns.{Program, Frame, State, state, marks, added, on_turn, run, picked, chosen}
-use Rattle.pg_machine_quick.specs.declared.instruction.Arm.{Arm}
-use Rattle.pg_machine_quick.specs.declared.instruction.Instruction.TheVariants.{Pick, Mark, Commit, Fail}
-use Rattle.pg_machine_quick.specs.declared.instruction.Keep.{Keep}
+use Rattle.pg_machine_plan.specs.Facts.{outcomes_of, NeverFailsEmpty}
+use Rattle.pg_machine_plan.specs.Layout.{ComesTo, Tries, none_left, passed_by, last_one, sure_one, marked_one}
+use Rattle.pg_machine_plan.specs.Plans.{Program, chosen}
+use Rattle.pg_machine_quick.specs.Turns.{Frame, State, state, marks, added, on_turn, run, picked}
+use Rattle.pg_machine_plan.specs.declared.instruction.Arm.{Arm}
+use Rattle.pg_machine_plan.specs.declared.instruction.Instruction.TheVariants.{Pick, Mark, Commit, Fail}
+use Rattle.pg_machine_plan.specs.declared.instruction.Keep.{Keep}
 use Rattle.pg_machine_quick.proofs.Comes.{or_false, or_true, onward, Comes, Claim, turned, comes_to, same_run, same_back, same_count, on_after_failure, seen_as}
-use Rattle.pg_machine_quick.proofs.Verdicts.{alone, of_all}
+use Rattle.pg_machine_plan.proofs.Verdicts.{alone, of_all}
 
 -- ---- one alternative that ran
 

@@ -6,14 +6,15 @@ use Rattle.pg_language.specs.Derives.{Spot}
 use Rattle.pg_language.specs.Errors.{Error}
 use Rattle.pg_language.specs.Outcomes.{Outcome, ok, failed, empty_round}
 use Rattle.pg_language.specs.Reactions.{then_rest, then_round, noted, after_failure}
-use Rattle.pg_machine_quick.specs.Facts.{Outcomes, outcomes_of}
-use Rattle.pg_machine_quick.specs.Layout.{IsNoted, ComesTo}
-use Rattle.pg_machine_quick.specs.Turns.{Program, Frame, State, state, added, back, act, on_turn, run, picked}
-use Rattle.pg_machine_quick.specs.declared.instruction.Arm.{Arm}
-use Rattle.pg_machine_quick.specs.declared.instruction.Instruction.{Instruction}
-use Rattle.pg_machine_quick.specs.declared.instruction.Instruction.TheVariants.{Jump}
-use Rattle.pg_machine_quick.specs.declared.instruction.Keep.{Keep}
-use Rattle.pg_machine_quick.specs.declared.instruction.Keep.TheVariants.{Kept, Hidden}
+use Rattle.pg_machine_plan.specs.Facts.{Outcomes, outcomes_of}
+use Rattle.pg_machine_plan.specs.Layout.{IsNoted, ComesTo}
+use Rattle.pg_machine_plan.specs.Plans.{Program}
+use Rattle.pg_machine_quick.specs.Turns.{Frame, State, state, added, back, act, on_turn, run, picked}
+use Rattle.pg_machine_plan.specs.declared.instruction.Arm.{Arm}
+use Rattle.pg_machine_plan.specs.declared.instruction.Instruction.{Instruction}
+use Rattle.pg_machine_plan.specs.declared.instruction.Instruction.TheVariants.{Jump}
+use Rattle.pg_machine_plan.specs.declared.instruction.Keep.{Keep}
+use Rattle.pg_machine_plan.specs.declared.instruction.Keep.TheVariants.{Kept, Hidden}
 
 -- ---- truths
 

@@ -12,15 +12,16 @@ use Rattle.pg_language.specs.Derives.{Spot, carried}
 use Rattle.pg_language.specs.Errors.{Error, merge, no_messages_at}
 use Rattle.pg_language.specs.Outcomes.{Outcome, ok, failed, empty_round}
 use Rattle.pg_language.specs.Reactions.{then_rest, error_after, as_finished}
-use Rattle.pg_machine_quick.specs.Facts.{Outcomes}
-use Rattle.pg_machine_quick.specs.Layout.{GoesRound, FoldsBack}
-use Rattle.pg_machine_quick.specs.Turns.{Program, Frame, State, state, added, on_turn, run, chosen, folded, folded_by}
-use Rattle.pg_machine_quick.specs.declared.instruction.Arm.{Arm}
-use Rattle.pg_machine_quick.specs.declared.instruction.Instruction.TheVariants.{Jump, Pick, Fold}
-use Rattle.pg_machine_quick.specs.declared.instruction.Keep.{Keep}
-use Rattle.pg_machine_quick.specs.declared.instruction.Keep.TheVariants.{Kept, Hidden}
+use Rattle.pg_machine_plan.specs.Facts.{Outcomes}
+use Rattle.pg_machine_plan.specs.Layout.{GoesRound, FoldsBack}
+use Rattle.pg_machine_plan.specs.Plans.{Program, chosen}
+use Rattle.pg_machine_quick.specs.Turns.{Frame, State, state, added, on_turn, run, folded, folded_by}
+use Rattle.pg_machine_plan.specs.declared.instruction.Arm.{Arm}
+use Rattle.pg_machine_plan.specs.declared.instruction.Instruction.TheVariants.{Jump, Pick, Fold}
+use Rattle.pg_machine_plan.specs.declared.instruction.Keep.{Keep}
+use Rattle.pg_machine_plan.specs.declared.instruction.Keep.TheVariants.{Kept, Hidden}
 use Rattle.pg_machine_quick.proofs.Comes.{or_assoc, or_false, or_true, onward, Comes, Claim, turned, same_run, same_back, same_count}
-use Rattle.pg_machine_quick.proofs.LeafVerdicts.{of_form}
+use Rattle.pg_machine_plan.proofs.LeafVerdicts.{of_form}
 use Rattle.pg_machine_quick.proofs.Rounds.{Round, ends, fails, goes_on, Folds, round_comes}
 
 -- the outcomes of links after this forest, of any number

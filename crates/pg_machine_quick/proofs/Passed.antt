@@ -1,41 +1,38 @@
 -- Code that is laid out for a node is passed: a run that stops after it began there came to an outcome of the node.
-use Rattle.std.proofs.Common.{◌≡◌, ◌∙◌, ◌<◌, ◌≤◌, ◌+◌, ℕ, zero, suc, List, [], ◌∷◌, ◌++◌, Bool, ◌||◌, refl, sym, ap, subst, Option, Some, None, length, slice_get, append-nil, arith}
+use Rattle.std.proofs.Common.{◌≡◌, ◌∙◌, ◌<◌, ◌≤◌, ◌+◌, ℕ, zero, suc, List, ◌∷◌, Bool, ◌||◌, refl, sym, ap, subst, Option, Some, None, length, slice_get, arith}
 use Rattle.pg_tree.specs.Trees.{Tree}
 use Rattle.pg_grammar_form.specs.Forms.{Node}
 use Rattle.pg_grammar_form.specs.declared.class.ClassPart.{ClassPart}
 use Rattle.pg_grammar_form.specs.declared.form.Form.TheVariants as form
 use Rattle.pg_grammar_form.specs.declared.form.Leaf.{Leaf}
 use Rattle.pg_grammar_form.specs.declared.form.Leaf.TheVariants as leaf
-use Rattle.pg_grammar_form.specs.declared.side.Side.TheVariants.{Left}
-use Rattle.pg_grammar_form.specs.declared.used.BuilderUse.{BuilderUse}
 use Rattle.pg_grammar_value.specs.declared.grammar.Rule as declared
-use Rattle.pg_grammar_value.specs.declared.trail.TrailItem.{TrailItem}
 use Rattle.pg_grammar_value.specs.declared.trail.TrailItem.TheVariants.{Rounds}
 use Rattle.pg_language.specs.Answers as answers
-use Rattle.pg_language.specs.Answers.{Given, Answers, entered, AnswersForm, seq, choice, many, rule, first_operand, first_failed, first_ok}
+use Rattle.pg_language.specs.Answers.{Answers, entered, AnswersForm, choice, many, rule, first_operand, first_failed, first_ok}
 use Rattle.pg_language.specs.Derives.{Spot, after}
-use Rattle.pg_language.specs.Errors.{Error}
 use Rattle.pg_language.specs.Leaves.{leaf_outcome}
 use Rattle.pg_language.specs.Outcomes.{Outcome, ok, failed, empty_round}
-use Rattle.pg_language.specs.Reactions.{then_rest, noted}
+use Rattle.pg_language.specs.Reactions.{noted}
 use Rattle.pg_language.specs.Runs.{run_at}
 use Rattle.pg_language.specs.declared.reading.Reading.TheVariants.{Library}
-use Rattle.pg_machine_quick.specs.Facts.{outcomes_of}
-use Rattle.pg_machine_quick.specs.Layout.{IsNoted, Adjoin, TriesBy, IsLaid, a_leaf, a_seq, a_choice, a_span, a_many, a_chain, a_rule, a_rule_inside, a_transparent, an_around, IsLaidOut}
-use Rattle.pg_machine_quick.specs.Turns.{Program, Frame, State, state, returns, holds, added, has_read, reads, spans, is_some_character, leaves_of, on_turn, run, chosen}
-use Rattle.pg_machine_quick.specs.declared.instruction.Instruction.TheVariants.{Enter, Read, Span, Pick, Call, Return, Hold, Release}
-use Rattle.pg_machine_quick.specs.declared.instruction.Keep.{Keep}
-use Rattle.pg_machine_quick.specs.declared.instruction.Keep.TheVariants.{Kept, Hidden}
+use Rattle.pg_machine_plan.specs.Facts.{outcomes_of}
+use Rattle.pg_machine_plan.specs.Layout.{IsNoted, Adjoin, TriesBy, IsLaid, a_leaf, a_seq, a_choice, a_span, a_many, a_chain, a_right_chain, an_expression, a_rule, a_rule_inside, a_transparent, an_around, IsLaidOut}
+use Rattle.pg_machine_plan.specs.Plans.{Program, chosen}
+use Rattle.pg_machine_quick.specs.Turns.{Frame, State, state, returns, added, has_read, reads, spans, is_some_character, leaves_of, on_turn, run}
+use Rattle.pg_machine_plan.specs.declared.instruction.Instruction.TheVariants.{Enter, Read, Span, Pick, Call, Return}
+use Rattle.pg_machine_plan.specs.declared.instruction.Keep.{Keep}
 use Rattle.pg_machine_quick.proofs.Choices.{alternatives_come}
-use Rattle.pg_machine_quick.proofs.Comes.{or_assoc, onward, Comes, Claim, turned, was_picked, same_run, same_back, same_count, on_noted, counted_too}
-use Rattle.pg_machine_quick.proofs.LeafVerdicts.{of_form}
-use Rattle.pg_machine_quick.proofs.Links.{IsLinkHead, links_come}
+use Rattle.pg_machine_quick.proofs.Comes.{onward, Comes, Claim, turned, was_picked, same_run, same_count, on_noted, counted_too}
+use Rattle.pg_machine_plan.proofs.LeafVerdicts.{of_form}
+use Rattle.pg_machine_quick.proofs.Chains.{chain_comes, right_chain_comes}
 use Rattle.pg_machine_quick.proofs.Rounds.{of_rounds, IsHead, rounds_come}
 use Rattle.pg_machine_quick.proofs.Sequences.{parts_come}
 use Rattle.pg_machine_quick.proofs.Spans.{span_answers}
-use Rattle.pg_machine_quick.proofs.Verdicts.{alone, of_all}
+use Rattle.pg_machine_plan.proofs.Verdicts.{of_all}
 use Rattle.pg_machine_quick.proofs.AroundParts.{transparent_comes, around_comes}
 use Rattle.pg_machine_quick.proofs.Entered.{entered_too}
+use Rattle.pg_machine_quick.proofs.RowsAround.{expression_comes}
 
 -- ---- leaves
 
@@ -130,71 +127,6 @@ many_comes P N claim n q p keep table end s t below h enter is on =
     of_many P n u.left q p (s.pc + 1) keep end s t (omega arith) h
     (rounds_come P N claim (suc u.left) u.left keep (s.pc + 1) table end p s.spot s.stack s.forest (s.nodes + 1) s.taken t is (omega arith) (omega arith) u.on)
 
--- ---- chains
-
-chain_forest : (keep : Keep) (f v : List Tree) → f ++ added keep [] v ≡ added keep f v
-chain_forest Kept f v = refl
-chain_forest Hidden f v = append-nil f
-
--- after the links, the forest is put back
-released : (P : Program) (l N m : ℕ) (keep : Keep) (out : ℕ) (b : Spot) (s t : State) (d : Bool) (e : Error) (i : List TrailItem) (v : List Tree) (k : ℕ) (o : Outcome) → l < N →
-    slice_get P.plan.code out ≡ Some Release → onward P l keep out (holds s.forest ∷ s.stack) [] (s.taken || d) o (s.nodes + m) ≡ Some t →
-    (j : ℕ) × (j < N) × (onward P j keep (out + 1) s.stack s.forest s.taken (noted (Rounds k) (then_rest d [] i e o)) (s.nodes + m) ≡ Some t)
-released P l N m keep out b s t d e i v k (ok y a w u f) less release on =
-    let g = turned P l (state out a (holds s.forest ∷ s.stack) (added keep [] w) (s.nodes + m) ((s.taken || d) || y)) t Release release on in
-    let counted = g.counted in (
-      g.left,
-      omega arith,
-      same_run P g.left (out + 1) a s.stack (s.forest ++ added keep [] w) (added keep s.forest w) (s.nodes + m) (s.nodes + m) ((s.taken || d) || y)
-          (s.taken || (d || y)) t (chain_forest keep s.forest w) refl (or_assoc s.taken d y) g.on,
-    )
-released P l N m keep out b s t d e i v k (failed y f) less release on =
-    (l, less, same_back P l s.stack (s.nodes + m) ((s.taken || d) || y) (s.taken || (d || y)) t (or_assoc s.taken d y) on)
-released P l N m keep out b s t d e i v k empty_round less release on = absurd (cc)
-
-first_came : (P : Program) (N : ℕ) → Claim P N → (l n m q p separator : ℕ) (keep : Keep) (used : BuilderUse) (head table out : ℕ) (s t : State) (o : Outcome) → l < n → n ≤ N →
-    IsLinkHead P keep q head table out p separator used → slice_get P.plan.code out ≡ Some Release → Answers P.given p s.spot o m →
-    onward P l keep head (holds s.forest ∷ s.stack) [] s.taken o (s.nodes + 1 + m) ≡ Some t → Comes P n keep (out + 1) s t (outcomes_of P.given q s.spot)
-first_came P N claim l n m q p separator keep used head table out s t (ok c b v i e) less below is release d on =
-    let r = links_come P N claim (suc l) l keep q head table out p separator used v b (holds s.forest ∷ s.stack) (s.nodes + 1 + m) (s.taken || c) t is
-    (omega arith) (omega arith) on in
-    let few = r.fewer in
-    let links = r.has in
-    let total : s.nodes + 1 + m + r.nodes ≡ s.nodes + (1 + (m + r.nodes)) = omega arith in
-    let g = released P r.left n (1 + (m + r.nodes)) keep out b s t c e i v links.0 r.outcome (omega arith) release
-    (same_count P r.left keep out (holds s.forest ∷ s.stack) [] (s.taken || c) r.outcome (s.nodes + 1 + m + r.nodes) (s.nodes + (1 + (m + r.nodes))) t total r.on) in
-    let o : Outcome = noted (Rounds links.0) (then_rest c [] i e r.outcome) in
-    record {
-      left = g.0;
-      fewer = g.1;
-      outcome = o;
-      nodes = 1 + (m + r.nodes);
-      has = entered_too P.given q (form.Chain Left used p separator) s.spot o (m + r.nodes) is.chain (answers.chain (first_operand d (first_ok links.1)));
-      on = g.2;
-    }
-first_came P N claim l n m q p separator keep used head table out s t (failed c e) less below is release d on =
-    let total : s.nodes + 1 + m ≡ s.nodes + (1 + m) = omega arith in
-    record {
-      left = l;
-      fewer = less;
-      outcome = failed c e;
-      nodes = 1 + m;
-      has = entered_too P.given q (form.Chain Left used p separator) s.spot (failed c e) m is.chain
-          (subst (AnswersForm P.given (form.Chain Left used p separator) s.spot (failed c e)) (alone m) (answers.chain (first_operand d first_failed)));
-      on = same_count P l keep (out + 1) s.stack s.forest s.taken (failed c e) (s.nodes + 1 + m) (s.nodes + (1 + m)) t total on;
-    }
-first_came P N claim l n m q p separator keep used head table out s t empty_round less below is release d on = absurd (cc)
-
-chain_comes : (P : Program) (N : ℕ) → Claim P N → (n q p separator : ℕ) (keep : Keep) (used : BuilderUse) (head table out : ℕ) (s t : State) → n ≤ N →
-    IsLinkHead P keep q head table out p separator used → slice_get P.plan.code s.pc ≡ Some Hold → IsNoted P keep p (s.pc + 1) head →
-    slice_get P.plan.code out ≡ Some Release → run P n s ≡ Some t → Comes P n keep (out + 1) s t (outcomes_of P.given q s.spot)
-chain_comes P N claim n q p separator keep used head table out s t below is hold noted release on =
-    let u = turned P n s t Hold hold on in
-    let counted = u.counted in
-    let c = claim u.left keep p head (state (s.pc + 1) s.spot (holds s.forest ∷ s.stack) [] (s.nodes + 1) s.taken) t (omega arith) noted u.on in
-    let few = c.fewer in
-    first_came P N claim c.left n c.nodes q p separator keep used head table out s t c.outcome (omega arith) below is release c.has c.on
-
 -- ---- rules
 
 body_came : (P : Program) (l n m q r exit : ℕ) (named : declared.Rule) (keep : Keep) (s t : State) (o : Outcome) → l < n →
@@ -276,6 +208,12 @@ form_comes P library N claim n q end keep node s t below h laid on = by_form P l
     by_form P library N claim n keep q pc node end a k f c x t below h
         (a_chain {used = used} {p = p} {separator = separator} {head = head} {table = table} {out = out} hold noted pick arms release) on =
         chain_comes P N claim n q p separator keep used head table out (state pc a k f c x) t below (record { chain = h; pick = pick; arms = arms }) hold noted release on
+    by_form P library N claim n keep q pc node end a k f c x t below h
+        (a_right_chain {used = used} {p = p} {separator = separator} {head = head} {table = table} {end = round} {out = out} hold noted pick arms link operand comes folds release) on =
+        right_chain_comes P N claim n q p separator keep used head table round out (state pc a k f c x) t below
+        (record { chain = h; pick = pick; arms = arms; link = link; operand = operand; comes = comes; folds = folds }) hold noted release on
+    by_form P library N claim n keep q pc node end a k f c x t below h (an_expression {builders = builders} {p = p} {rows = count} {out = out} code laid release) on =
+        expression_comes P N claim n q p count out keep builders (state pc a k f c x) t below h code laid release on
     by_form P library N claim n keep q pc node end a k f c x t below h (a_rule {r = r} {target = target} {exit = exit} {named = named} is call noted return) on =
         rule_comes P N claim n q r target exit named keep (state pc a k f c x) t below h is call noted return on
     by_form P library N claim n keep q pc node end a k f c x t below h (a_rule_inside {r = r} {named = named} is enter noted) on =

@@ -1,11 +1,12 @@
 -- Where a run of turns leads.
-use Rattle.std.proofs.Common.{◌≡◌, ◌∙◌, ◌+◌, ℕ, suc, ap, subst, Option, Some, None, Result, Ok, Err, IfOk, IfSome, slice_get, arith}
+use Rattle.std.proofs.Common.{◌≡◌, ◌∙◌, ◌+◌, ℕ, suc, List, sym, ap, subst, Option, Some, None, Result, Ok, Err, IfOk, IfSome, slice_get, arith}
+use Rattle.pg_grammar_form.specs.Operators.{Operator}
 use Rattle.pg_table.specs.Tables.{Table}
 use Rattle.pg_machine_quick.specs.Laws.{TapeHasAnswered, TapesAnswer}
-use Rattle.pg_machine_quick.specs.Layout.{IsForTexts}
+use Rattle.pg_machine_plan.specs.Layout.{IsForTexts}
 use Rattle.pg_machine_quick.specs.Running.{shown, Does}
 use Rattle.pg_machine_quick.specs.Tape.{Tape, tape_act, on_tape_turn, tape_run, first_tape}
-use Rattle.pg_machine_quick.specs.Turns.{Program}
+use Rattle.pg_machine_plan.specs.Plans.{Program}
 use Rattle.pg_machine_quick.specs.declared.running.Running.{Running}
 use Rattle.pg_machine_quick.specs.declared.step.Step.{Step}
 use Rattle.pg_machine_quick.specs.declared.step.Step.TheVariants.{GoesOn, Stops}
@@ -45,9 +46,9 @@ leads_out P table s y z step h is d =
     (h.turns + 1, h.so 1 z (ap (λ u. on_tape_turn u (λ x. tape_run P table 0 x)) turn))
 
 -- what stops has answered
-pub answers_so : {E : Type 0} (law : TapesAnswer) (P : Program) → IsForTexts P → (r : Result (Option Running) E) →
-    IfOk r (λ ran. IfSome ran (λ s. (table : Table) → StopsAt P table (first_tape P) (shown s))) →
-    IfOk r (λ ran. IfSome ran (λ s. (table : Table) → TapeHasAnswered P table (shown s)))
-answers_so law P whole (Ok (Some s)) h = λ table. let w = h table in law P whole table w.0 (shown s) w.1
-answers_so law P whole (Ok None) h = h
-answers_so law P whole (Err e) h = h
+pub answers_so : {E : Type 0} (law : TapesAnswer) (P : Program) (table : Table) (os : List Operator) → os ≡ table.operators → IsForTexts P → (r : Result (Option Running) E) →
+    IfOk r (λ ran. IfSome ran (λ s. (table : Table) → table.operators ≡ os → StopsAt P table (first_tape P) (shown s))) →
+    IfOk r (λ ran. IfSome ran (λ s. TapeHasAnswered P table (shown s)))
+answers_so law P table os e whole (Ok (Some s)) h = let w = h table (sym e) in law P whole table w.0 (shown s) w.1
+answers_so law P table os e whole (Ok None) h = h
+answers_so law P table os e whole (Err e') h = h

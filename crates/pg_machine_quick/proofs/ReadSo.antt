@@ -18,12 +18,12 @@ use Rattle.pg_table.specs.Tables.{Table}
 use Rattle.pg_machine_quick.specs.Readings.{Reads, IsReadAt, IsWordReadAt}
 use Rattle.pg_machine_quick.specs.Running.{Does}
 use Rattle.pg_machine_quick.specs.Tape.{Tape, spot_at, tape_has_read, tape_reads}
-use Rattle.pg_machine_quick.specs.declared.instruction.Keep.{Keep}
+use Rattle.pg_machine_plan.specs.declared.instruction.Keep.{Keep}
 use Rattle.pg_machine_quick.specs.declared.reading.Reading.{Reading}
 use Rattle.pg_machine_quick.specs.declared.step.Step.{Step}
 
 -- the node that is this leaf
-as_leaf : (node : Node) (l : Leaf ℕ) → Some l ≡ leaf_in node → form.Leaf l ≡ node
+pub as_leaf : (node : Node) (l : Leaf ℕ) → Some l ≡ leaf_in node → form.Leaf l ≡ node
 as_leaf (form.Leaf x) l h = cc
 as_leaf (form.Seq ps) l h = absurd (cc)
 as_leaf (form.Choice ps) l h = absurd (cc)

@@ -20,7 +20,7 @@ use Rattle.pg_language.specs.Runs.{run_at}
 use Rattle.pg_table.specs.Tables.{Table}
 use Rattle.pg_machine_quick.specs.Readings.{Reads, IsWordReadAt}
 use Rattle.pg_machine_quick.specs.Tape.{spot_at}
-use Rattle.pg_machine_quick.proofs.LeafVerdicts.{at_front}
+use Rattle.pg_machine_plan.proofs.LeafVerdicts.{at_front}
 use Rattle.pg_machine_quick.proofs.Spans.{front_taken, past_front}
 use Rattle.pg_machine_quick.specs.declared.reading.Reading.{Reading}
 use Rattle.pg_machine_quick.specs.declared.reading.Reading.TheVariants.{Took, Nothing, Failed}

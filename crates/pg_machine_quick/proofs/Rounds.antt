@@ -8,16 +8,17 @@ use Rattle.pg_language.specs.Derives.{Spot}
 use Rattle.pg_language.specs.Errors.{Error}
 use Rattle.pg_language.specs.Outcomes.{Outcome, ok, failed, empty_round}
 use Rattle.pg_language.specs.Reactions.{then_round}
-use Rattle.pg_machine_quick.specs.Facts.{Outcomes, TakesAtOnce}
-use Rattle.pg_machine_quick.specs.Layout.{GoesRound, goes_past, goes_in, goes_marked, ComesTo}
-use Rattle.pg_machine_quick.specs.Turns.{Program, Frame, State, state, marks, added, back, on_turn, run, chosen}
-use Rattle.pg_machine_quick.specs.declared.instruction.Arm.{Arm}
-use Rattle.pg_machine_quick.specs.declared.instruction.Instruction.TheVariants.{Pick, Mark, Again}
-use Rattle.pg_machine_quick.specs.declared.instruction.Keep.{Keep}
+use Rattle.pg_machine_plan.specs.Facts.{Outcomes, TakesAtOnce}
+use Rattle.pg_machine_plan.specs.Layout.{GoesRound, goes_past, goes_in, goes_marked, ComesTo}
+use Rattle.pg_machine_plan.specs.Plans.{Program, chosen}
+use Rattle.pg_machine_quick.specs.Turns.{Frame, State, state, marks, added, back, on_turn, run}
+use Rattle.pg_machine_plan.specs.declared.instruction.Arm.{Arm}
+use Rattle.pg_machine_plan.specs.declared.instruction.Instruction.TheVariants.{Pick, Mark, Again}
+use Rattle.pg_machine_plan.specs.declared.instruction.Keep.{Keep}
 use Rattle.pg_machine_quick.proofs.Comes.{or_false, or_true, none_added, onward, Comes, Claim, turned, comes_to, was_picked, same_run, same_back, same_count, joined_round}
-use Rattle.pg_machine_quick.proofs.LeafVerdicts.{of_form}
+use Rattle.pg_machine_plan.proofs.LeafVerdicts.{of_form}
 use Rattle.pg_machine_quick.proofs.Sequences.{parts_come}
-use Rattle.pg_machine_quick.proofs.Verdicts.{alone, seq_fails, first_takes}
+use Rattle.pg_machine_plan.proofs.Verdicts.{alone, seq_fails, first_takes}
 
 -- a round that was begun in state s, of fewer turns than N: it ended the loop, or failed, or consumed and is at the head again, where the forest is this
 -- function of the one after the round's parts
@@ -75,7 +76,7 @@ marked_ended P N l m keep exit next head out s t Has LeadsBack fold empty_round 
 
 -- ---- either, by the arm at the head
 
-by_arm : (P : Program) (N : ℕ) → Claim P N → (n : ℕ) (keep : Keep) (head out : ℕ) (arm : Arm) (p : ℕ) (ps : List ℕ) (s t : State) (LeadsBack : ℕ → Type 0)
+pub by_arm : (P : Program) (N : ℕ) → Claim P N → (n : ℕ) (keep : Keep) (head out : ℕ) (arm : Arm) (p : ℕ) (ps : List ℕ) (s t : State) (LeadsBack : ℕ → Type 0)
     (fold : List Tree → List Tree) → n < N → Folds P head LeadsBack fold → GoesRound P keep head out s.spot arm p ps LeadsBack →
     run P n (state arm.target s.spot s.stack s.forest (s.nodes + arm.nodes) s.taken) ≡ Some t →
     Round P (suc n) keep head out s t (of_form P.given (form.Seq (p ∷ ps)) s.spot) fold
@@ -119,10 +120,10 @@ abbrev pub of_rounds : Given → ℕ → Spot → Outcomes
 of_rounds G p a = λ o m. (k : ℕ) × AnswersRounds G p k a o m
 
 -- the one part of a round
-part_of : (G : Given) (p : ℕ) (a : Spot) (o : Outcome) (m : ℕ) → AnswersForm G (form.Seq (p ∷ [])) a o m → Answers G p a o m
+pub part_of : (G : Given) (p : ℕ) (a : Spot) (o : Outcome) (m : ℕ) → AnswersForm G (form.Seq (p ∷ [])) a o m → Answers G p a o m
 part_of G p a o m (seq (part {m = j} d part_last)) = subst (Answers G p a o) (sym (alone j)) d
 
-jumps : (P : Program) (head : ℕ) → Folds P head (ComesTo P.plan head) (λ f. f)
+pub jumps : (P : Program) (head : ℕ) → Folds P head (ComesTo P.plan head) (λ f. f)
 jumps P head = λ l z t leads on. comes_to P head l z t leads on
 
 -- what is at the head of a repetition

@@ -6,13 +6,14 @@ use Rattle.pg_language.specs.Derives.{Spot}
 use Rattle.pg_language.specs.Errors.{no_messages_at}
 use Rattle.pg_language.specs.Outcomes.{Outcome, ok, failed, empty_round}
 use Rattle.pg_language.specs.Reactions.{then_rest}
-use Rattle.pg_machine_quick.specs.Facts.{outcomes_of}
-use Rattle.pg_machine_quick.specs.Layout.{IsNoted, Adjoin}
-use Rattle.pg_machine_quick.specs.Turns.{Program, State, state, added, run}
-use Rattle.pg_machine_quick.specs.declared.instruction.Keep.{Keep}
+use Rattle.pg_machine_plan.specs.Facts.{outcomes_of}
+use Rattle.pg_machine_plan.specs.Layout.{IsNoted, Adjoin}
+use Rattle.pg_machine_plan.specs.Plans.{Program}
+use Rattle.pg_machine_quick.specs.Turns.{State, state, added, run}
+use Rattle.pg_machine_plan.specs.declared.instruction.Keep.{Keep}
 use Rattle.pg_machine_quick.proofs.Comes.{or_false, none_added, onward, Comes, Claim, same_run, same_count, joined, seen_as}
-use Rattle.pg_machine_quick.proofs.LeafVerdicts.{of_form}
-use Rattle.pg_machine_quick.proofs.Verdicts.{alone, parts_in}
+use Rattle.pg_machine_plan.proofs.LeafVerdicts.{of_form}
+use Rattle.pg_machine_plan.proofs.Verdicts.{alone, parts_in}
 
 -- one part
 only_part : (G : Given) (p : ℕ) (a : Spot) (o : Outcome) (m : ℕ) → Answers G p a o m → AnswersForm G (form.Seq (p ∷ [])) a o m

@@ -7,14 +7,14 @@ use Rattle.pg_grammar_form.specs.declared.form.Form.TheVariants as form
 use Rattle.pg_grammar_form.specs.declared.form.Leaf.TheVariants as leaf
 use Rattle.pg_grammar_value.specs.declared.trail.TrailItem.{TrailItem}
 use Rattle.pg_language.specs.Answers as answers
-use Rattle.pg_language.specs.Answers.{Given, Answers, entered, AnswersRounds, round, round_ended, round_ok}
+use Rattle.pg_language.specs.Answers.{Given, entered, AnswersRounds, round, round_ended, round_ok}
 use Rattle.pg_language.specs.Derives.{Spot, after}
 use Rattle.pg_language.specs.Errors.{Error, stopped_by, quote}
 use Rattle.pg_language.specs.Leaves.{satisfy_next, taken}
 use Rattle.pg_language.specs.Outcomes.{ok, failed}
 use Rattle.pg_language.specs.Runs.{run_at}
 use Rattle.pg_machine_quick.specs.Turns.{is_some_character, leaves_of}
-use Rattle.pg_machine_quick.proofs.LeafVerdicts.{at_front}
+use Rattle.pg_machine_plan.proofs.LeafVerdicts.{at_front}
 
 -- rounds take these characters and then end
 pub record Spanned (G : Given) (p : ℕ) (a : Spot) (cs : List ℕ) : Type 0 where

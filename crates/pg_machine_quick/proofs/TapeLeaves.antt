@@ -20,7 +20,7 @@ use Rattle.pg_language.specs.Runs.{run_at}
 use Rattle.pg_table.specs.Tables.{Table}
 use Rattle.pg_machine_quick.specs.Tape.{tape, tape_goes, spot_at, tape_has_read, tape_reads, tape_spans}
 use Rattle.pg_machine_quick.specs.Turns.{State, state, goes, added, has_read, reads, spans, leaves_of, is_some_character}
-use Rattle.pg_machine_quick.specs.declared.instruction.Keep.{Keep}
+use Rattle.pg_machine_plan.specs.declared.instruction.Keep.{Keep}
 use Rattle.pg_machine_quick.proofs.TapeStates.{below, waiting, flat, IsFine, Follows, joined_trees, added_fine, back_follows}
 
 -- ---- leaves

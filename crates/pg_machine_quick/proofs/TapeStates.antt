@@ -3,12 +3,12 @@ use Rattle.std.proofs.Common.{◌≡◌, ◌∙◌, ℕ, List, [], ◌∷◌, �
 use Rattle.std.proofs.Math.Seq.{take-append_seam, drop-append_seam}
 use Rattle.pg_tree.specs.Trees.{Tree}
 use Rattle.pg_table.specs.Tables.{Table}
-use Rattle.pg_machine_quick.specs.Tape.{Tape, tape, TapeTurn, tape_gives_up, tape_stops, tape_goes, before, tape_back}
-use Rattle.pg_machine_quick.specs.Turns.{Frame, returns, encloses, holds, marks, State, state, Turn, stops, goes, added, back}
+use Rattle.pg_machine_quick.specs.Tape.{Tape, tape, TapeTurn, tape_gives_up, tape_stops, tape_goes, before, operation, tape_back}
+use Rattle.pg_machine_quick.specs.Turns.{Frame, returns, encloses, holds, operates, marks, State, state, Turn, stops, goes, added, back}
 use Rattle.pg_machine_quick.specs.declared.frame.Frame.{Frame as Waiting}
-use Rattle.pg_machine_quick.specs.declared.frame.Frame.TheVariants.{Returns, Encloses, Holds, Marks}
-use Rattle.pg_machine_quick.specs.declared.instruction.Keep.{Keep}
-use Rattle.pg_machine_quick.specs.declared.instruction.Keep.TheVariants.{Kept, Hidden}
+use Rattle.pg_machine_quick.specs.declared.frame.Frame.TheVariants.{Returns, Encloses, Holds, Operates, Marks}
+use Rattle.pg_machine_plan.specs.declared.instruction.Keep.{Keep}
+use Rattle.pg_machine_plan.specs.declared.instruction.Keep.TheVariants.{Kept, Hidden}
 
 -- ---- a state as a tape
 
@@ -17,14 +17,16 @@ abbrev pub below : List Frame → List Tree
 below [] = []
 below (returns target ∷ k) = below k
 below (encloses counts f a x ∷ k) = below k ++ f
-below (holds f ∷ k) = below k ++ f
+below (holds f T ∷ k) = below k ++ f
+below (operates rank role i c f T ∷ k) = below k ++ f
 below (marks target f a x ∷ k) = below k
 
 abbrev pub waiting : List Frame → List Waiting
 waiting [] = []
 waiting (returns target ∷ k) = Returns target ∷ waiting k
 waiting (encloses counts f a x ∷ k) = Encloses counts (before (length (below k ++ f)) a.place x) ∷ waiting k
-waiting (holds f ∷ k) = Holds (length (below k ++ f)) ∷ waiting k
+waiting (holds f T ∷ k) = Holds (length (below k ++ f)) ∷ waiting k
+waiting (operates rank role i c f T ∷ k) = Operates (operation rank role i c (length (below k ++ f))) ∷ waiting k
 waiting (marks target f a x ∷ k) = Marks target (before (length (below k ++ f)) a.place x) ∷ waiting k
 
 abbrev pub flat : State → Tape
@@ -38,7 +40,8 @@ abbrev pub AreFine : Table → List Tree → List Frame → Type 0
 AreFine table g [] = Unit {0}
 AreFine table g (returns target ∷ k) = AreFine table g k
 AreFine table g (encloses counts f a x ∷ k) = (a.table ≡ table) × AreFine table f k
-AreFine table g (holds f ∷ k) = AreFine table f k
+AreFine table g (holds f T ∷ k) = (T ≡ table) × AreFine table f k
+AreFine table g (operates rank role i c f T ∷ k) = (T ≡ table) × AreFine table f k
 AreFine table g (marks target f a x ∷ k) = (a.table ≡ table) × Goes f g × AreFine table f k
 
 pub record IsFine (table : Table) (s : State) : Type 0 where
@@ -72,7 +75,8 @@ pub longer : (table : Table) (g v : List Tree) (k : List Frame) → AreFine tabl
 longer table g v [] h = tt
 longer table g v (returns target ∷ k) h = longer table g v k h
 longer table g v (encloses counts f a x ∷ k) h = h
-longer table g v (holds f ∷ k) h = h
+longer table g v (holds f T ∷ k) h = h
+longer table g v (operates rank role i c f T ∷ k) h = h
 longer table g v (marks target f a x ∷ k) h = (h.0, more_trees f g v h.1, h.2)
 
 pub added_fine : (keep : Keep) (table : Table) (g v : List Tree) (k : List Frame) → AreFine table g k → AreFine table (added keep g v) k
@@ -91,7 +95,9 @@ back_follows table y n trees g [] e h = tt
 back_follows table y n trees g (returns target ∷ k) e h = back_follows table y n trees g k e h
 back_follows table y n trees g (encloses counts f a x ∷ k) e h =
     back_follows table (x || (counts && y)) n trees (f ++ g) k (e ∙ append_assoc (below k) f g) (longer table f g k h.1)
-back_follows table y n trees g (holds f ∷ k) e h = back_follows table y n trees (f ++ g) k (e ∙ append_assoc (below k) f g) (longer table f g k h)
+back_follows table y n trees g (holds f T ∷ k) e h = back_follows table y n trees (f ++ g) k (e ∙ append_assoc (below k) f g) (longer table f g k h.1)
+back_follows table y n trees g (operates rank role i c f T ∷ k) e h =
+    back_follows table y n trees (f ++ g) k (e ∙ append_assoc (below k) f g) (longer table f g k h.1)
 back_follows table true n trees g (marks target f a x ∷ k) e h = back_follows table true n trees g k e (at_mark table f g k h.1 h.2)
 back_follows table false n trees g (marks target f a x ∷ k) e h =
     let all : trees ≡ (below k ++ f) ++ h.1.0 = e ∙ ap (λ z. below k ++ z) (sym h.1.1) ∙ sym (append_assoc (below k) f h.1.0) in

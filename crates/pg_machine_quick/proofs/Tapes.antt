@@ -1,7 +1,6 @@
 -- A run whose trees are in one list does what the run does that has a list for each frame, or gives up.
 use Rattle.std.proofs.Common.{◌≡◌, ◌∙◌, ◌+◌, ◌==◌, ℕ, zero, suc, List, [], ◌∷◌, ◌++◌, Bool, true, false, ◌||◌, refl, sym, ap, subst, Option, Some, None, length, take, drop, slice_get, append_assoc, append-nil, if◌then◌else◌}
 use Rattle.pg_tree.specs.Trees.{Tree}
-use Rattle.pg_tree.specs.Built.{built}
 use Rattle.pg_grammar_form.specs.declared.side.Side.{Side}
 use Rattle.pg_grammar_form.specs.Forms.{Node}
 use Rattle.pg_grammar_form.specs.declared.form.Form.TheVariants as form
@@ -14,14 +13,16 @@ use Rattle.pg_language.specs.Derives.{Spot, left_by, made_by}
 use Rattle.pg_language.specs.Outcomes.{ok}
 use Rattle.pg_table.specs.Tables.{Table}
 use Rattle.pg_machine_quick.specs.Laws.{first_state, TapesAnswer}
-use Rattle.pg_machine_quick.specs.Tape.{Tape, tape, TapeTurn, tape_gives_up, tape_stops, tape_goes, spot_at, tape_picked, tape_returned, tape_ends, tape_closed, tape_folded_by, tape_folds, tape_folded, tape_released, tape_committed, tape_again, tape_stopped, tape_act, on_tape_turn, tape_run}
-use Rattle.pg_machine_quick.specs.Turns.{Program, Frame, returns, encloses, holds, marks, State, state, Turn, gives_up, stops, added, chosen, picked, returned, closed, folded, folded_by, released, committed, again, act, on_turn, run}
-use Rattle.pg_machine_quick.specs.declared.instruction.Arm.{Arm}
-use Rattle.pg_machine_quick.specs.declared.instruction.Instruction.{Instruction}
-use Rattle.pg_machine_quick.specs.declared.instruction.Instruction.TheVariants.{Enter, Read, Span, Jump, Pick, Call, Return, Open, Close, Hold, Fold, Release, Mark, Commit, Again, Fail, Stop}
-use Rattle.pg_machine_quick.specs.declared.instruction.Keep.{Keep}
-use Rattle.pg_machine_quick.specs.declared.instruction.Keep.TheVariants.{Kept, Hidden}
+use Rattle.pg_machine_quick.specs.Tape.{Tape, tape, TapeTurn, tape_gives_up, tape_stops, tape_goes, spot_at, tape_picked, tape_returned, tape_ends, tape_closed, tape_folds, tape_folded, tape_released, tape_committed, tape_again, tape_stopped, tape_act, on_tape_turn, tape_run}
+use Rattle.pg_machine_plan.specs.Plans.{Program, chosen}
+use Rattle.pg_machine_quick.specs.Turns.{Frame, returns, encloses, holds, operates, marks, State, state, Turn, gives_up, stops, added, picked, returned, closed, folded, folded_by, released, committed, again, act, on_turn, run}
+use Rattle.pg_machine_plan.specs.declared.instruction.Arm.{Arm}
+use Rattle.pg_machine_plan.specs.declared.instruction.Instruction.{Instruction}
+use Rattle.pg_machine_plan.specs.declared.instruction.Instruction.TheVariants.{Enter, Read, Span, Jump, Pick, Call, Return, Open, Close, Hold, Fold, Link, FoldLinks, Release, Rows, ReadPrefix, ReadPostfix, ReadInfix, Settle, Mark, Commit, Again, Fail, Stop}
+use Rattle.pg_machine_plan.specs.declared.instruction.Keep.{Keep}
 use Rattle.pg_machine_quick.proofs.WholeTexts.{stops_with_answers}
+use Rattle.pg_machine_quick.proofs.TapeLinks.{folded_trees, linked_follows, links_folded_follow}
+use Rattle.pg_machine_quick.proofs.TapeRows.{begun_follows, prefix_follows, postfix_follows, infix_follows, settle_follows}
 use Rattle.pg_machine_quick.proofs.TapeLeaves.{one_spot, reads_follow, spans_follow}
 use Rattle.pg_machine_quick.proofs.TapeStates.{below, waiting, flat, IsFine, Follows, kept_front, dropped_front, joined_trees, longer, added_fine, at_mark, back_follows}
 
@@ -37,7 +38,8 @@ returned_follows : (table : Table) (pc : ℕ) (a : Spot) (k : List Frame) (f : L
 returned_follows table pc a [] f n x fine = tt
 returned_follows table pc a (returns target ∷ k) f n x fine = (state target a k f n x, refl, refl, record { spot = fine.spot; stack = fine.stack })
 returned_follows table pc a (encloses counts g b y ∷ k) f n x fine = tt
-returned_follows table pc a (holds g ∷ k) f n x fine = tt
+returned_follows table pc a (holds g T ∷ k) f n x fine = tt
+returned_follows table pc a (operates rank role i c g T ∷ k) f n x fine = tt
 returned_follows table pc a (marks target g b y ∷ k) f n x fine = tt
 
 left_table : (k : Around) (a b : Spot) (table : Table) → a.table ≡ table → b.table ≡ table → (left_by k a b).table ≡ table
@@ -67,7 +69,8 @@ around_follows G table keep kind p pc a (encloses counts g b y ∷ k) f n x fine
       ap (λ z. tape (pc + 1) a.place (waiting k) z n (y || x)) (closed_trees keep kind G.text b.place a.place (below k) g f),
       record { spot = left_table kind b a table fine.stack.0 fine.spot; stack = added_fine keep table g v k fine.stack.1 },
     )
-around_follows G table keep kind p pc a (holds g ∷ k) f n x fine = tt
+around_follows G table keep kind p pc a (holds g T ∷ k) f n x fine = tt
+around_follows G table keep kind p pc a (operates rank role i c g T ∷ k) f n x fine = tt
 around_follows G table keep kind p pc a (marks target g b y ∷ k) f n x fine = tt
 
 closed_follows : (G : Given) (table : Table) (keep : Keep) (s : State) (n : Option Node) → IsFine table s →
@@ -82,23 +85,19 @@ closed_follows G table keep s (Some (form.Rule r)) fine = tt
 closed_follows G table keep s (Some (form.Expression builders p)) fine = tt
 closed_follows G table keep s (Some (form.Around k p)) fine = around_follows G table keep k p s.pc s.spot s.stack s.forest s.nodes s.taken fine
 
-folded_trees : (keep : Keep) (used : BuilderUse) (z f : List Tree) → tape_folded_by keep used (length z) (z ++ f) ≡ z ++ folded_by keep used f
-folded_trees Kept used z f = ap (λ v. v ++ built used.shape [] (drop (length z) (z ++ f)) ∷ []) (kept_front z f)
-    ∙ ap (λ v. z ++ built used.shape [] v ∷ []) (dropped_front z f)
-folded_trees Hidden used z f = refl
-
 chain_follows : (table : Table) (keep : Keep) (side : Side) (used : BuilderUse) (p q pc : ℕ) (a : Spot) (k : List Frame) (f : List Tree) (n : ℕ) (x : Bool) →
     IsFine table (state pc a k f n x) →
     Follows table (tape_folds keep used (flat (state pc a k f n x)) (waiting k)) (folded keep (state pc a k f n x) (Some (form.Chain side used p q)))
 chain_follows table keep side used p q pc a [] f n x fine = tt
 chain_follows table keep side used p q pc a (returns target ∷ k) f n x fine = tt
 chain_follows table keep side used p q pc a (encloses counts g b y ∷ k) f n x fine = tt
-chain_follows table keep side used p q pc a (holds g ∷ k) f n x fine = (
-  state (pc + 1) a (holds g ∷ k) (folded_by keep used f) n x,
+chain_follows table keep side used p q pc a (holds g T ∷ k) f n x fine = (
+  state (pc + 1) a (holds g T ∷ k) (folded_by keep used f) n x,
   refl,
-  ap (λ z. tape (pc + 1) a.place (waiting (holds g ∷ k)) z n x) (folded_trees keep used (below k ++ g) f),
+  ap (λ z. tape (pc + 1) a.place (waiting (holds g T ∷ k)) z n x) (folded_trees keep used (below k ++ g) f),
   record { spot = fine.spot; stack = fine.stack },
 )
+chain_follows table keep side used p q pc a (operates rank role i c g T ∷ k) f n x fine = tt
 chain_follows table keep side used p q pc a (marks target g b y ∷ k) f n x fine = tt
 
 folded_follows : (table : Table) (keep : Keep) (s : State) (n : Option Node) → IsFine table s →
@@ -118,12 +117,13 @@ released_follows : (table : Table) (pc : ℕ) (a : Spot) (k : List Frame) (f : L
 released_follows table pc a [] f n x fine = tt
 released_follows table pc a (returns target ∷ k) f n x fine = tt
 released_follows table pc a (encloses counts g b y ∷ k) f n x fine = tt
-released_follows table pc a (holds g ∷ k) f n x fine = (
+released_follows table pc a (holds g T ∷ k) f n x fine = (
   state (pc + 1) a k (g ++ f) n x,
   refl,
   ap (λ z. tape (pc + 1) a.place (waiting k) z n x) (append_assoc (below k) g f),
-  record { spot = fine.spot; stack = longer table g f k fine.stack },
+  record { spot = fine.spot; stack = longer table g f k fine.stack.1 },
 )
+released_follows table pc a (operates rank role i c g T ∷ k) f n x fine = tt
 released_follows table pc a (marks target g b y ∷ k) f n x fine = tt
 
 committed_follows : (table : Table) (target pc : ℕ) (a : Spot) (k : List Frame) (f : List Tree) (n : ℕ) (x : Bool) → IsFine table (state pc a k f n x) →
@@ -131,7 +131,8 @@ committed_follows : (table : Table) (target pc : ℕ) (a : Spot) (k : List Frame
 committed_follows table target pc a [] f n x fine = tt
 committed_follows table target pc a (returns other ∷ k) f n x fine = tt
 committed_follows table target pc a (encloses counts g b y ∷ k) f n x fine = tt
-committed_follows table target pc a (holds g ∷ k) f n x fine = tt
+committed_follows table target pc a (holds g T ∷ k) f n x fine = tt
+committed_follows table target pc a (operates rank role i c g T ∷ k) f n x fine = tt
 committed_follows table target pc a (marks other g b y ∷ k) f n x fine =
     (state target a k f n (y || x), refl, refl, record { spot = fine.spot; stack = at_mark table g f k fine.stack.1 fine.stack.2 })
 
@@ -145,7 +146,8 @@ stopped_follows table true pc a [] f n x fine = (state pc a [] f (n + 1) x, refl
 stopped_follows table false pc a [] f n x fine = tt
 stopped_follows table b pc a (returns target ∷ k) f n x fine = tt
 stopped_follows table b pc a (encloses counts g c y ∷ k) f n x fine = tt
-stopped_follows table b pc a (holds g ∷ k) f n x fine = tt
+stopped_follows table b pc a (holds g T ∷ k) f n x fine = tt
+stopped_follows table b pc a (operates rank role i c g T ∷ k) f n x fine = tt
 stopped_follows table b pc a (marks target g c y ∷ k) f n x fine = tt
 
 -- ---- turns
@@ -168,13 +170,20 @@ turn_follows P table s (Some (Open counts)) fine = (
 )
 turn_follows P table s (Some (Close keep q)) fine = closed_follows P.given table keep s (slice_get P.given.grammar.nodes q) fine
 turn_follows P table s (Some Hold) fine = (
-  state (s.pc + 1) s.spot (holds s.forest ∷ s.stack) [] (s.nodes + 1) s.taken,
+  state (s.pc + 1) s.spot (holds s.forest s.spot.table ∷ s.stack) [] (s.nodes + 1) s.taken,
   refl,
-  ap (λ z. tape (s.pc + 1) s.spot.place (waiting (holds s.forest ∷ s.stack)) z (s.nodes + 1) s.taken) (sym (append-nil (below s.stack ++ s.forest))),
-  record { spot = fine.spot; stack = fine.stack },
+  ap (λ z. tape (s.pc + 1) s.spot.place (waiting (holds s.forest s.spot.table ∷ s.stack)) z (s.nodes + 1) s.taken) (sym (append-nil (below s.stack ++ s.forest))),
+  record { spot = fine.spot; stack = (fine.spot, fine.stack) },
 )
 turn_follows P table s (Some (Fold keep q)) fine = folded_follows table keep s (slice_get P.given.grammar.nodes q) fine
 turn_follows P table s (Some Release) fine = released_follows table s.pc s.spot s.stack s.forest s.nodes s.taken fine
+turn_follows P table s (Some Link) fine = linked_follows table s fine
+turn_follows P table s (Some (FoldLinks keep q)) fine = links_folded_follow table keep s (slice_get P.given.grammar.nodes q) fine
+turn_follows P table s (Some (Rows count)) fine = begun_follows table count s P.given.grammar.operators fine
+turn_follows P table s (Some (ReadPrefix row)) fine = prefix_follows P.given table row s fine
+turn_follows P table s (Some (ReadPostfix keep q row)) fine = postfix_follows P.given table keep row s (slice_get P.given.grammar.nodes q) fine
+turn_follows P table s (Some (ReadInfix keep q row)) fine = infix_follows P.given table keep row s (slice_get P.given.grammar.nodes q) fine
+turn_follows P table s (Some (Settle keep q rank)) fine = settle_follows P.given table keep rank s (slice_get P.given.grammar.nodes q) fine
 turn_follows P table s (Some (Mark target)) fine = (
   state (s.pc + 1) s.spot (marks target s.forest s.spot s.taken ∷ s.stack) s.forest s.nodes false,
   refl,

@@ -13,10 +13,11 @@ use Rattle.pg_language.specs.Reactions.{then_rest, error_after}
 use Rattle.pg_language.specs.WholeTexts.{beginning, AnswersText, from_start}
 use Rattle.pg_table.specs.Tables.{Table}
 use Rattle.pg_machine_quick.specs.Laws.{first_state, HasAnswered, StopsWithAnswers}
-use Rattle.pg_machine_quick.specs.Layout.{IsForTexts}
-use Rattle.pg_machine_quick.specs.Turns.{Program, State, state, returns, gives_up, stops, on_turn, run}
-use Rattle.pg_machine_quick.specs.declared.instruction.Instruction.TheVariants.{Return, Stop}
-use Rattle.pg_machine_quick.specs.declared.instruction.Keep.TheVariants.{Kept}
+use Rattle.pg_machine_plan.specs.Layout.{IsForTexts}
+use Rattle.pg_machine_plan.specs.Plans.{Program}
+use Rattle.pg_machine_quick.specs.Turns.{State, state, returns, gives_up, stops, on_turn, run}
+use Rattle.pg_machine_plan.specs.declared.instruction.Instruction.TheVariants.{Return, Stop}
+use Rattle.pg_machine_plan.specs.declared.instruction.Keep.TheVariants.{Kept}
 use Rattle.pg_machine_quick.proofs.Comes.{onward, turned}
 use Rattle.pg_machine_quick.proofs.Passed.{claims}
 

@@ -5,9 +5,10 @@ use Rattle.pg_language.specs.Errors.{Error}
 use Rattle.pg_language.specs.Outcomes.{ok}
 use Rattle.pg_language.specs.WholeTexts.{beginning, AnswersText}
 use Rattle.pg_table.specs.Tables.{Table}
-use Rattle.pg_machine_quick.specs.Layout.{IsForTexts}
+use Rattle.pg_machine_plan.specs.Layout.{IsForTexts}
 use Rattle.pg_machine_quick.specs.Tape.{Tape, spot_at, first_tape, tape_run}
-use Rattle.pg_machine_quick.specs.Turns.{Program, State, state, returns, run}
+use Rattle.pg_machine_plan.specs.Plans.{Program}
+use Rattle.pg_machine_quick.specs.Turns.{State, state, returns, run}
 
 -- the state in which a run over a whole text begins, with a table of operators
 abbrev pub first_state : Program → Table → State

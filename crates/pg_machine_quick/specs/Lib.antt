@@ -1,10 +1,5 @@
-pub mod Facts
-pub mod Verdicts
-pub mod Columns
 pub mod Turns
-pub mod Layout
 pub mod Tape
 pub mod Readings
 pub mod Running
 pub mod Laws
-pub mod Judged

@@ -1,10 +1,12 @@
 -- The arrays of a run as a tape, and what a step says of a turn.
-use Rattle.std.specs.Prelude.{◌≡◌, ℕ, List, reverse}
+use Rattle.std.specs.Prelude.{◌≡◌, Bool, ◌||◌, ℕ, List, [], ◌∷◌, Option, Some, None, reverse}
+use Rattle.pg_expand.specs.declared.rows.Row.{Row}
+use Rattle.pg_language_operators.specs.RowRoles.{is_any}
 use Rattle.pg_machine_quick.specs.Tape.{Tape, tape, TapeTurn, tape_stops, tape_goes}
-use Rattle.pg_grammar_value.specs.Grammar.{Grammar}
-use Rattle.pg_language.specs.Answers.{given}
-use Rattle.pg_language.specs.declared.reading.Reading.TheVariants.{Library}
-use Rattle.pg_machine_quick.specs.Turns.{Plan, Program}
+use Rattle.pg_grammar_form.specs.Forms.{Node}
+use Rattle.pg_grammar_form.specs.declared.form.Form.TheVariants as form
+use Rattle.pg_grammar_form.specs.declared.used.OperatorBuilders.{OperatorBuilders}
+use Rattle.pg_machine_quick.specs.declared.frame.Frame.{Frame}
 use Rattle.pg_machine_quick.specs.declared.running.Running.{Running}
 use Rattle.pg_machine_quick.specs.declared.step.Step.{Step}
 use Rattle.pg_machine_quick.specs.declared.step.Step.TheVariants.{GoesOn, GivesUp, Stops}
@@ -19,6 +21,15 @@ Does turn GoesOn t = turn ≡ tape_goes t
 Does turn Stops t = turn ≡ tape_stops t
 Does turn GivesUp t = Unit {0}
 
--- a plan for a grammar and a text, read as the library does
-abbrev pub program : Grammar → Plan → List ℕ → Program
-program g plan text = record { given = given Library g text; plan = plan }
+-- what waits last, from the last to the first
+abbrev pub first_frame : List Frame → Option Frame
+first_frame [] = None
+first_frame (f ∷ k) = Some f
+
+-- a node is an expression with these builders
+abbrev pub IsOfExpression : Option Node → OperatorBuilders → Type 0
+IsOfExpression node builders = (p : ℕ) × (node ≡ Some (form.Expression builders p))
+
+-- whether a row has infix operators
+abbrev pub has_infix : Row → Bool
+has_infix row = is_any row.right || (is_any row.left || is_any row.non)

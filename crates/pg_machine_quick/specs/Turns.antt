@@ -1,43 +1,41 @@
 -- What the instructions do: a run is a number of turns at most, and may give up at each.
-use Rattle.std.specs.Prelude.{◌+◌, ◌*◌, ◌==◌, ℕ, zero, suc, List, [], ◌∷◌, ◌++◌, Bool, true, false, ◌||◌, ◌&&◌, Option, Some, None, length, slice_get, if◌then◌else◌}
+use Rattle.std.specs.Prelude.{◌+◌, ◌==◌, ℕ, zero, suc, List, [], ◌∷◌, ◌++◌, Bool, true, false, ◌||◌, ◌&&◌, Option, Some, None, length, take, drop, slice_get, if◌then◌else◌}
+use Rattle.std.specs.Str.{encode_utf8_all}
 use Rattle.pg_tree.specs.Trees.{Tree}
 use Rattle.pg_tree.specs.Built.{built}
 use Rattle.pg_grammar_form.specs.Forms.{Node}
 use Rattle.pg_grammar_form.specs.declared.form.Form.TheVariants as form
 use Rattle.pg_grammar_form.specs.declared.form.Leaf.TheVariants as leaf
 use Rattle.pg_grammar_form.specs.declared.form.Around.{Around}
+use Rattle.pg_grammar_form.specs.declared.decl.Role.{Role}
+use Rattle.pg_grammar_form.specs.declared.decl.Role.TheVariants.{InfixLeft, InfixRight, InfixNone, Prefix, Postfix}
+use Rattle.pg_grammar_form.specs.declared.operators_item.OperatorsItem.{OperatorsItem}
 use Rattle.pg_grammar_form.specs.declared.used.BuilderUse.{BuilderUse}
+use Rattle.pg_grammar_form.specs.declared.used.OperatorBuilders.{OperatorBuilders}
+use Rattle.pg_table.specs.Rows.{rows}
+use Rattle.pg_table.specs.Tables.{Table}
+use Rattle.pg_expand.specs.Rows.{of_role, row_numbered}
 use Rattle.pg_language.specs.Answers.{Given}
-use Rattle.pg_language.specs.Derives.{Spot, after, leaf_of, left_by, made_by}
+use Rattle.pg_language.specs.Derives.{Spot, at, after, leaf_of, left_by, made_by}
 use Rattle.pg_language.specs.Leaves.{leaf_outcome}
+use Rattle.pg_language.specs.OperatorReads.{Read as OperatorRead, read_at}
 use Rattle.pg_language.specs.Outcomes.{Outcome, ok, failed, empty_round}
 use Rattle.pg_language.specs.Runs.{run_at}
-use Rattle.pg_machine_quick.specs.Verdicts.{next_of, slot}
-use Rattle.pg_machine_quick.specs.declared.instruction.Arm.{Arm}
-use Rattle.pg_machine_quick.specs.declared.instruction.Instruction.{Instruction}
-use Rattle.pg_machine_quick.specs.declared.instruction.Instruction.TheVariants.{Enter, Read, Span, Jump, Pick, Call, Return, Open, Close, Hold, Fold, Release, Mark, Commit, Again, Fail, Stop}
-use Rattle.pg_machine_quick.specs.declared.instruction.Keep.{Keep}
-use Rattle.pg_machine_quick.specs.declared.instruction.Keep.TheVariants.{Kept, Hidden}
-use Rattle.pg_machine_quick.specs.declared.instruction.Stretch.{Stretch}
-
--- code, its tables of 130 arms each, the stretches by where they begin, and where a text's run begins
-pub record Plan : Type 0 where
-  pub code : List Instruction
-  pub arms : List Arm
-  pub stretches : List (Option Stretch)
-  pub entry : ℕ
-
--- a grammar and a text, and a plan for the grammar
-pub record Program : Type 0 where
-  pub given : Given
-  pub plan : Plan
+use Rattle.pg_machine_plan.specs.Plans.{Program, chosen}
+use Rattle.pg_machine_plan.specs.declared.instruction.Arm.{Arm}
+use Rattle.pg_machine_plan.specs.declared.instruction.Instruction.{Instruction}
+use Rattle.pg_machine_plan.specs.declared.instruction.Instruction.TheVariants.{Enter, Read, Span, Jump, Pick, Call, Return, Open, Close, Hold, Fold, Link, FoldLinks, Release, Rows, ReadPrefix, ReadPostfix, ReadInfix, Settle, Mark, Commit, Again, Fail, Stop}
+use Rattle.pg_machine_plan.specs.declared.instruction.Keep.{Keep}
+use Rattle.pg_machine_plan.specs.declared.instruction.Keep.TheVariants.{Kept, Hidden}
 
 -- what waits: where a call returns; a form around a part, whether it counts what was consumed, and the forest, the spot and whether something was consumed
--- before it; the forest before a chain; or the same of a mark, with where to go on
+-- before it; the forest before a chain or an expression, and the table; an operator, with its rank, its role, where in the text its symbol stands, how long
+-- it is, the forest before it, and the table where its expression began; or the same as of a form of a mark, with where to go on
 pub data Frame : Type 0 where
   returns : (target : ℕ) → Frame
   encloses : (counts : Bool) (forest : List Tree) (spot : Spot) (taken : Bool) → Frame
-  holds : (forest : List Tree) → Frame
+  holds : (forest : List Tree) (table : Table) → Frame
+  operates : (rank : ℕ) (role : Role) (place count : ℕ) (forest : List Tree) (table : Table) → Frame
   marks : (target : ℕ) (forest : List Tree) (spot : Spot) (taken : Bool) → Frame
 
 -- the place in the code, the spot in the text, what waits, the forest since the last frame that has one, the nodes entered, and whether something was
@@ -71,7 +69,8 @@ abbrev pub back : Bool → ℕ → List Frame → Turn
 back y n [] = gives_up
 back y n (returns target ∷ k) = back y n k
 back y n (encloses counts f a x ∷ k) = back (x || (counts && y)) n k
-back y n (holds f ∷ k) = back y n k
+back y n (holds f T ∷ k) = back y n k
+back y n (operates rank role i c f T ∷ k) = back y n k
 back y n (marks target f a x ∷ k) = if y then back true n k else goes (state target a k f n x)
 
 -- a leaf's outcome
@@ -106,10 +105,6 @@ spans G keep s None = gives_up
 spans G keep s (Some (form.Leaf (leaf.Satisfy class))) = has_spanned keep s (run_at G.grammar G.text class s.spot.place)
 spans G keep s (Some _) = gives_up
 
--- the arm of a table for what comes next
-abbrev pub chosen : Plan → ℕ → Option ℕ → Option Arm
-chosen plan table next = slice_get plan.arms (130 * table + slot (next_of next))
-
 abbrev pub picked : State → Option Arm → Turn
 picked s None = gives_up
 picked s (Some arm) = goes (state arm.target s.spot s.stack s.forest (s.nodes + arm.nodes) s.taken)
@@ -141,8 +136,129 @@ folded keep s (Some (form.Chain side used p separator)) = goes (state (s.pc + 1)
 folded keep s _ = gives_up
 
 abbrev pub released : State → List Frame → Turn
-released s (holds f ∷ k) = goes (state (s.pc + 1) s.spot k (f ++ s.forest) s.nodes s.taken)
+released s (holds f T ∷ k) = goes (state (s.pc + 1) s.spot k (f ++ s.forest) s.nodes s.taken)
 released s _ = gives_up
+
+-- ---- expressions
+
+-- the table where the expression began
+abbrev pub table_of : Spot → List Frame → Table
+table_of a (holds f T ∷ k) = T
+table_of a (operates rank role i c f T ∷ k) = T
+table_of a _ = a.table
+
+-- the operator of a row of a table, numbered from 0, and a role that is read at a place, if one is
+abbrev pub read_by : Given → Table → ℕ → ℕ → Role → Option OperatorsItem → Option OperatorRead
+read_by G table i row role None = None
+read_by G table i row role (Some item) = read_at G.grammar G.text item (of_role role (row_numbered table.operators (suc row))) i
+
+abbrev pub operator_at : Given → Table → ℕ → ℕ → Role → Option OperatorRead
+operator_at G table i row role = read_by G table i row role G.grammar.operators
+
+-- the builder of operators of a role
+abbrev pub builder_of : OperatorBuilders → Role → BuilderUse
+builder_of builders InfixLeft = builders.infix
+builder_of builders InfixRight = builders.infix
+builder_of builders InfixNone = builders.infix
+builder_of builders Prefix = builders.prefix
+builder_of builders Postfix = builders.postfix
+
+-- the forest of an operator applied to a forest; its symbol is so many characters from a place on
+abbrev pub operated : Keep → List ℕ → OperatorBuilders → Role → ℕ → ℕ → List Tree → List Tree
+operated Kept text builders role i c f = built (builder_of builders role).shape (encode_utf8_all (take c (drop i text))) f ∷ []
+operated Hidden text builders role i c f = f
+
+abbrev pub begun : ℕ → State → Option OperatorsItem → Turn
+begun count s None = gives_up
+begun count s (Some item) = if length (rows s.spot.table.operators) == count
+    then goes (state (s.pc + 1) s.spot (holds s.forest s.spot.table ∷ s.stack) [] (s.nodes + 1) s.taken) else gives_up
+
+-- it goes on after so many instructions
+abbrev pub passed : ℕ → State → Turn
+passed n s = goes (state (s.pc + n) s.spot s.stack s.forest s.nodes s.taken)
+
+-- an operator that was read waits
+abbrev pub waits : ℕ → Role → State → OperatorRead → Turn
+waits rank role s r =
+    goes (state (s.pc + 1) (at s.spot r.end) (operates rank role s.spot.place (length r.operator.symbol) s.forest (table_of s.spot s.stack) ∷ s.stack) [] s.nodes true)
+
+abbrev pub prefixed : ℕ → State → Option OperatorRead → Turn
+prefixed row s None = passed 1 s
+prefixed row s (Some r) = waits (row + row) Prefix s r
+
+abbrev pub postfixed : Given → Keep → OperatorBuilders → State → Option OperatorRead → Turn
+postfixed G keep builders s None = passed 1 s
+postfixed G keep builders s (Some r) = goes (state (s.pc + 1) (at s.spot r.end) s.stack
+    (operated keep G.text builders Postfix s.spot.place (length r.operator.symbol) s.forest) s.nodes true)
+
+-- the operator that waits last is applied, if its rank is this
+abbrev pub settled : Given → Keep → OperatorBuilders → ℕ → State → List Frame → Turn
+settled G keep builders rank s (operates r role i c f T ∷ k) = if r == rank
+    then goes (state s.pc s.spot k (operated keep G.text builders role i c (f ++ s.forest)) s.nodes s.taken) else passed 1 s
+settled G keep builders rank s _ = passed 1 s
+
+-- the role of the operator that waits last, if its rank is this
+abbrev pub awaited : ℕ → List Frame → Option Role
+awaited rank (operates r role i c f T ∷ k) = if r == rank then Some role else None
+awaited rank _ = None
+
+abbrev pub joined : ℕ → Role → State → Option OperatorRead → Turn
+joined row role s None = passed 2 s
+joined row role s (Some r) = waits (row + row + 1) role s r
+
+-- the first operand of a row is followed by an operator that associates to the right, or else to the left, or else to neither side; where none follows,
+-- nothing of the row waits
+abbrev pub first_joined : ℕ → State → Option OperatorRead → Option OperatorRead → Option OperatorRead → Turn
+first_joined row s (Some r) left non = waits (row + row + 1) InfixRight s r
+first_joined row s None (Some r) non = waits (row + row + 1) InfixLeft s r
+first_joined row s None None (Some r) = waits (row + row + 1) InfixNone s r
+first_joined row s None None None = passed 3 s
+
+-- another operator waits in the place of the one that waits last, which is applied
+abbrev pub replaced : Given → Keep → OperatorBuilders → ℕ → State → OperatorRead → List Frame → Turn
+replaced G keep builders row s r (operates rank role i c f T ∷ k) = goes (state (s.pc + 1) (at s.spot r.end)
+    (operates (row + row + 1) InfixLeft s.spot.place (length r.operator.symbol) (operated keep G.text builders InfixLeft i c (f ++ s.forest)) T ∷ k) [] s.nodes true)
+replaced G keep builders row s r _ = gives_up
+
+abbrev pub left_joined : Given → Keep → OperatorBuilders → ℕ → State → Option OperatorRead → Turn
+left_joined G keep builders row s None = passed 2 s
+left_joined G keep builders row s (Some r) = replaced G keep builders row s r s.stack
+
+-- the operator of the row and a role that is read
+abbrev pub read_here : Given → State → ℕ → Role → Option OperatorRead
+read_here G s row role = operator_at G (table_of s.spot s.stack) s.spot.place row role
+
+-- what may follow an operand, by the operator of the row that waits before it
+abbrev pub infixed : Given → Keep → OperatorBuilders → ℕ → State → Option Role → Turn
+infixed G keep builders row s None =
+    first_joined row s (read_here G s row InfixRight) (read_here G s row InfixLeft) (read_here G s row InfixNone)
+infixed G keep builders row s (Some InfixRight) = joined row InfixRight s (read_here G s row InfixRight)
+infixed G keep builders row s (Some InfixLeft) = left_joined G keep builders row s (read_here G s row InfixLeft)
+infixed G keep builders row s (Some InfixNone) = passed 2 s
+infixed G keep builders row s (Some Prefix) = gives_up
+infixed G keep builders row s (Some Postfix) = gives_up
+
+-- by the builders of the expression at a node
+abbrev pub by_builders : Option Node → (OperatorBuilders → Turn) → Turn
+by_builders (Some (form.Expression builders p)) turn = turn builders
+by_builders _ turn = gives_up
+
+-- ---- links of chains that are folded from the right
+
+-- what is before an operand waits
+abbrev pub linked : State → Turn
+linked s = goes (state (s.pc + 1) s.spot (operates 0 InfixRight s.spot.place 0 s.forest s.spot.table ∷ s.stack) [] s.nodes s.taken)
+
+-- what waits last becomes one tree with what is after it
+abbrev pub unlinked : Keep → BuilderUse → State → List Frame → Turn
+unlinked keep used s (operates rank role i c f T ∷ k) = goes (state s.pc s.spot k (folded_by keep used (f ++ s.forest)) s.nodes s.taken)
+unlinked keep used s _ = passed 1 s
+
+abbrev pub links_folded : Keep → State → Option Node → Turn
+links_folded keep s (Some (form.Chain side used p separator)) = unlinked keep used s s.stack
+links_folded keep s _ = gives_up
+
+-- ---- marks
 
 abbrev pub committed : ℕ → State → List Frame → Turn
 committed target s (marks other f a x ∷ k) = goes (state target s.spot k s.forest s.nodes (x || s.taken))
@@ -164,9 +280,18 @@ act P s (Some (Call target)) = goes (state target s.spot (returns (s.pc + 1) ∷
 act P s (Some Return) = returned s s.stack
 act P s (Some (Open counts)) = goes (state (s.pc + 1) s.spot (encloses counts s.forest s.spot s.taken ∷ s.stack) [] (s.nodes + 1) false)
 act P s (Some (Close keep q)) = closed P.given keep s (slice_get P.given.grammar.nodes q)
-act P s (Some Hold) = goes (state (s.pc + 1) s.spot (holds s.forest ∷ s.stack) [] (s.nodes + 1) s.taken)
+act P s (Some Hold) = goes (state (s.pc + 1) s.spot (holds s.forest s.spot.table ∷ s.stack) [] (s.nodes + 1) s.taken)
 act P s (Some (Fold keep q)) = folded keep s (slice_get P.given.grammar.nodes q)
 act P s (Some Release) = released s s.stack
+act P s (Some Link) = linked s
+act P s (Some (FoldLinks keep q)) = links_folded keep s (slice_get P.given.grammar.nodes q)
+act P s (Some (Rows count)) = begun count s P.given.grammar.operators
+act P s (Some (ReadPrefix row)) = prefixed row s (read_here P.given s row Prefix)
+act P s (Some (ReadPostfix keep q row)) =
+    by_builders (slice_get P.given.grammar.nodes q) (λ builders. postfixed P.given keep builders s (read_here P.given s row Postfix))
+act P s (Some (ReadInfix keep q row)) =
+    by_builders (slice_get P.given.grammar.nodes q) (λ builders. infixed P.given keep builders row s (awaited (row + row + 1) s.stack))
+act P s (Some (Settle keep q rank)) = by_builders (slice_get P.given.grammar.nodes q) (λ builders. settled P.given keep builders rank s s.stack)
 act P s (Some (Mark target)) = goes (state (s.pc + 1) s.spot (marks target s.forest s.spot s.taken ∷ s.stack) s.forest s.nodes false)
 act P s (Some (Commit target)) = committed target s s.stack
 act P s (Some (Again target)) = again target s s.taken

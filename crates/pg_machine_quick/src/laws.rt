@@ -1,14 +1,8 @@
-//! What verdicts and laid-out code owe, as laws.
+//! What laid-out code owes, as laws.
 //!
 //! A law is a function that does nothing when it runs. Its clause is the law, and calling the function gives the clause.
 
 ghost use Rattle.pg_machine_quick.specs.Laws.{StopsWithAnswers, TapesAnswer};
-ghost use Rattle.pg_machine_quick.specs.Verdicts.{VerdictsFollow};
-
-/// The law that a verdict is so at every spot of every text where that character comes next, if those are so from which it is worked out.
-pub fn verdicts_are_true()
-    ensures { VerdictsFollow }
-{}
 
 /// The law that a run of laid-out code that stops has answered: for some trail, consumption and error the start rule and the end after it answer ok with the
 /// forest, the spot and the number of nodes that it stopped with.

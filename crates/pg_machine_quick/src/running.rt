@@ -8,29 +8,29 @@ ghost use Rattle.pg_machine_quick.specs.Tape.{tape, tape_goes, tape_back, tape_p
 ghost use Rattle.pg_machine_quick.specs.declared.frame.Frame.TheVariants.{Returns, Encloses, Holds, Marks};
 
 use crate::frame::{Before, Frame};
-use crate::instruction::Arm;
 use crate::step::Step;
-use pg_tree::Forest;
+use pg_machine_plan::Arm;
+use pg_tree_placed::PlacedForest;
 use std::alloc::AllocError;
 
 /// The state of a run. It is seen as a tape (`specs/Running.antt`).
 #[derive(Drop)]
-pub struct Running {
+pub struct Running<'a> {
     /// The place in the code.
     pub pc: usize,
     /// The place in the text, in characters.
     pub place: usize,
     /// What waits, the last one at the end.
     pub frames: Vec<Frame>,
-    /// All trees.
-    pub trees: Forest,
+    /// All trees, over the text of the run.
+    pub trees: PlacedForest<'a>,
     /// The nodes entered.
     pub nodes: usize,
     /// Whether something was consumed since the last frame that notes it.
     pub taken: bool,
 }
 
-impl Running {
+impl<'a> Running<'a> {
     /// Goes on there.
     pub(crate) fn jump(&mut self, target: usize) -> Step
         ensures { Does (tape_goes (record (shown self.old) { pc = target })) result (shown self.new) }
@@ -78,8 +78,8 @@ impl Running {
                 self.pc = target;
                 Step::GoesOn
             }
-            Some(Frame::Encloses(_, _) | Frame::Holds(_) | Frame::Marks(_, _)) | None =>
-                Step::GivesUp,
+            Some(Frame::Encloses(_, _) | Frame::Holds(_) | Frame::Operates(_) | Frame::Marks(_, _))
+            | None => Step::GivesUp,
         }
     }
 
@@ -104,7 +104,7 @@ impl Running {
         Ok(step)
     }
 
-    /// Begins a chain.
+    /// Begins a chain or an expression.
     pub(crate) fn hold(&mut self) -> Result<Step, AllocError>
         ensures { IfOk result (λ step. Does (tape_goes (tape (self.old.pc + 1) self.old.place (Holds (length self.old.trees) ∷ (shown self.old).stack) self.old.trees (self.old.nodes + 1) self.old.taken)) step (shown self.new)) }
     {
@@ -150,8 +150,10 @@ impl Running {
                 self.pc = pc;
                 Step::GoesOn
             }
-            Some(Frame::Encloses(_, _) | Frame::Returns(_) | Frame::Marks(_, _)) | None =>
-                Step::GivesUp,
+            Some(
+                Frame::Encloses(_, _) | Frame::Returns(_) | Frame::Operates(_) | Frame::Marks(_, _),
+            )
+            | None => Step::GivesUp,
         }
     }
 
@@ -165,8 +167,8 @@ impl Running {
                 self.taken = before.taken || self.taken;
                 Step::GoesOn
             }
-            Some(Frame::Encloses(_, _) | Frame::Returns(_) | Frame::Holds(_)) | None =>
-                Step::GivesUp,
+            Some(Frame::Encloses(_, _) | Frame::Returns(_) | Frame::Holds(_) | Frame::Operates(_))
+            | None => Step::GivesUp,
         }
     }
 
@@ -188,7 +190,7 @@ impl Running {
         let mut consumed = consumed;
         while let Some(frame) = self.frames.pop() {
             match frame {
-                Frame::Returns(_) | Frame::Holds(_) => {}
+                Frame::Returns(_) | Frame::Holds(_) | Frame::Operates(_) => {}
                 Frame::Encloses(counts, before) => {
                     consumed = before.taken || (counts && consumed);
                 }

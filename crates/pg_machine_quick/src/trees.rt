@@ -1,6 +1,6 @@
 //! What turns do with trees and characters.
 
-ghost use Rattle.std.specs.Prelude.{◌≡◌, ◌≤◌, ◌+◌, ◌++◌, ◌∷◌, [], ◌||◌, true, false, Some, length, take, drop, IfOk, OnOk};
+ghost use Rattle.std.specs.Prelude.{◌≡◌, ◌≤◌, ◌+◌, ◌++◌, ◌∷◌, [], ◌||◌, true, false, Some, length, take, drop, IfOk};
 ghost use Rattle.pg_language.specs.Derives.{leaf_of, made_by};
 ghost use Rattle.pg_language.specs.Outcomes.{Outcome};
 ghost use Rattle.pg_machine_quick.specs.Readings.{Reads};
@@ -10,16 +10,16 @@ ghost use Rattle.pg_machine_quick.specs.Tape.{tape, tape_goes, tape_back, tape_e
 ghost use Rattle.pg_machine_quick.specs.Turns.{added, is_some_character, leaves_of};
 
 use crate::frame::{Before, Frame};
-use crate::instruction::Keep;
 use crate::reading::Reading;
 use crate::running::Running;
 use crate::step::Step;
 use pg_grammar_form::{Around, BuilderUse};
+use pg_machine_plan::Keep;
 use pg_text::Text;
-use pg_tree::Forest;
+use pg_tree_placed::PlacedForest;
 use std::alloc::AllocError;
 
-impl Running {
+impl<'a> Running<'a> {
     /// A leaf has read so.
     pub(crate) fn react(
         &mut self,
@@ -54,7 +54,9 @@ impl Running {
         let Some(place) = self.place.checked_add(characters.len()) else {
             return Ok(Step::GivesUp);
         };
-        push(&mut self.trees, keep, characters)?;
+        if !push(&mut self.trees, keep, characters, self.place)? {
+            return Ok(Step::GivesUp);
+        }
         self.place = place;
         self.taken = true;
         Ok(self.enter())
@@ -86,7 +88,9 @@ impl Running {
         let Some(pc) = self.pc.checked_add(1) else {
             return Ok(Step::GivesUp);
         };
-        push_each(&mut self.trees, keep, characters)?;
+        if !push_each(&mut self.trees, keep, characters, self.place)? {
+            return Ok(Step::GivesUp);
+        }
         self.taken = self.taken || is_some_character(characters);
         self.place = place;
         self.nodes = nodes;
@@ -105,9 +109,8 @@ impl Running {
     {
         match self.frames.pop() {
             Some(Frame::Encloses(_, before)) => self.enclose(keep, around, text, before),
-            Some(Frame::Returns(_) | Frame::Holds(_) | Frame::Marks(_, _)) | None => Ok(
-                Step::GivesUp,
-            ),
+            Some(Frame::Returns(_) | Frame::Holds(_) | Frame::Operates(_) | Frame::Marks(_, _))
+            | None => Ok(Step::GivesUp),
         }
     }
 
@@ -127,7 +130,9 @@ impl Running {
         if before.trees > self.trees.len() || before.place > self.place || self.place > text.len() {
             return Ok(Step::GivesUp);
         }
-        make(&mut self.trees, keep, around, text, before, self.place)?;
+        if !make(&mut self.trees, keep, around, text, before, self.place)? {
+            return Ok(Step::GivesUp);
+        }
         self.pc = pc;
         self.taken = before.taken || self.taken;
         Ok(Step::GoesOn)
@@ -142,9 +147,10 @@ impl Running {
                 self.frames.push(Frame::Holds(count))?;
                 self.fold_after(keep, used, count)
             }
-            Some(Frame::Returns(_) | Frame::Encloses(_, _) | Frame::Marks(_, _)) | None => Ok(
-                Step::GivesUp,
-            ),
+            Some(
+                Frame::Returns(_) | Frame::Encloses(_, _) | Frame::Operates(_) | Frame::Marks(_, _),
+            )
+            | None => Ok(Step::GivesUp),
         }
     }
 
@@ -163,40 +169,60 @@ impl Running {
         if count > self.trees.len() {
             return Ok(Step::GivesUp);
         }
-        fold(&mut self.trees, keep, used, count)?;
+        if !fold(&mut self.trees, keep, used, count)? {
+            return Ok(Step::GivesUp);
+        }
         self.pc = pc;
         Ok(Step::GoesOn)
     }
 }
 
-/// Puts a leaf of these characters at the end, where trees are kept.
-fn push(trees: &mut Forest, keep: Keep, characters: &[char]) -> Result<(), AllocError>
-    ensures { OnOk result (trees.new ≡ added keep trees.old (leaf_of characters.now ∷ [])) }
+/// Puts a leaf of these characters, which stand in the text from this place on, at the end, where trees are kept. Says whether it did.
+fn push(
+    trees: &mut PlacedForest<'_>,
+    keep: Keep,
+    characters: &[char],
+    from: usize,
+) -> Result<bool, AllocError>
+    ensures { IfOk result (λ done. done ≡ true → trees.new ≡ added keep trees.old (leaf_of characters.now ∷ [])) }
 {
     match keep {
-        Keep::Kept => trees.push_leaf(characters),
-        Keep::Hidden => Ok(()),
+        Keep::Kept => trees.push_leaf(characters, from),
+        Keep::Hidden => Ok(true),
     }
 }
 
-/// Puts a leaf of each of these characters at the end, where trees are kept.
-fn push_each(trees: &mut Forest, keep: Keep, characters: &[char]) -> Result<(), AllocError>
-    ensures { OnOk result (trees.new ≡ added keep trees.old (leaves_of characters.now)) }
+/// Puts a leaf of each of these characters, which stand in the text from this place on, at the end, where trees are kept. Says whether it did.
+fn push_each(
+    trees: &mut PlacedForest<'_>,
+    keep: Keep,
+    characters: &[char],
+    from: usize,
+) -> Result<bool, AllocError>
+    ensures { IfOk result (λ done. done ≡ true → trees.new ≡ added keep trees.old (leaves_of characters.now)) }
 {
     match keep {
-        Keep::Kept => push_leaves(trees, characters),
-        Keep::Hidden => Ok(()),
+        Keep::Kept => push_leaves(trees, characters, from),
+        Keep::Hidden => Ok(true),
     }
 }
 
-/// Puts a leaf of each of these characters at the end.
-fn push_leaves(trees: &mut Forest, characters: &[char]) -> Result<(), AllocError>
-    ensures { OnOk result (trees.new ≡ trees.old ++ leaves_of characters.now) }
+/// Puts a leaf of each of these characters at the end. Says whether it did.
+fn push_leaves(
+    trees: &mut PlacedForest<'_>,
+    characters: &[char],
+    from: usize,
+) -> Result<bool, AllocError>
+    ensures { IfOk result (λ done. done ≡ true → trees.new ≡ trees.old ++ leaves_of characters.now) }
 {
+    let mut place = from;
     for c in characters {
-        trees.push_leaf(&[*c])?;
+        if !trees.push_leaf(&[*c], place)? {
+            return Ok(false);
+        }
+        place = place.saturating_add(1);
     }
-    Ok(())
+    Ok(true)
 }
 
 /// Whether there is a character.
@@ -209,63 +235,68 @@ fn is_some_character(characters: &[char]) -> bool
     }
 }
 
-/// What a form makes of the trees since it began, where trees are kept; elsewhere they are dropped.
+/// What a form makes of the trees since it began, where trees are kept; elsewhere they are dropped. Says whether it did.
 fn make(
-    trees: &mut Forest,
+    trees: &mut PlacedForest<'_>,
     keep: Keep,
     around: &Around,
     text: &Text,
     before: Before,
     place: usize,
-) -> Result<(), AllocError>
+) -> Result<bool, AllocError>
     requires count { before.trees ≤ length trees.old }
     requires onward { before.place ≤ place }
     requires within { place ≤ length text.now }
-    ensures { OnOk result (trees.new ≡ added keep (take before.trees trees.old) (made_by around.now text.now before.place place (drop before.trees trees.old))) }
+    ensures { IfOk result (λ done. done ≡ true → trees.new ≡ added keep (take before.trees trees.old) (made_by around.now text.now before.place place (drop before.trees trees.old))) }
 {
     match keep {
         Keep::Kept => make_kept(trees, around, text, before, place),
         Keep::Hidden => {
             trees.cut(before.trees);
-            Ok(())
+            Ok(true)
         }
     }
 }
 
-/// What a form makes of the trees since it began.
+/// What a form makes of the trees since it began. Says whether it did.
 fn make_kept(
-    trees: &mut Forest,
+    trees: &mut PlacedForest<'_>,
     around: &Around,
     text: &Text,
     before: Before,
     place: usize,
-) -> Result<(), AllocError>
+) -> Result<bool, AllocError>
     requires count { before.trees ≤ length trees.old }
     requires onward { before.place ≤ place }
     requires within { place ≤ length text.now }
-    ensures { OnOk result (trees.new ≡ take before.trees trees.old ++ made_by around.now text.now before.place place (drop before.trees trees.old)) }
+    ensures { IfOk result (λ done. done ≡ true → trees.new ≡ take before.trees trees.old ++ made_by around.now text.now before.place place (drop before.trees trees.old)) }
 {
     match around {
-        Around::Try | Around::Label(_) | Around::Local => Ok(()),
+        Around::Try | Around::Label(_) | Around::Local => Ok(true),
         Around::Skip => {
             trees.cut(before.trees);
-            Ok(())
+            Ok(true)
         }
         Around::Text => {
             trees.cut(before.trees);
-            trees.push_leaf(&text.characters()[before.place..place])
+            trees.push_leaf(&text.characters()[before.place..place], before.place)
         }
         Around::Build(used, symbol) => { trees.build(&used.shape, symbol.as_str(), before.trees) }
     }
 }
 
-/// The trees after so many become one, where trees are kept.
-fn fold(trees: &mut Forest, keep: Keep, used: &BuilderUse, count: usize) -> Result<(), AllocError>
+/// The trees after so many become one, where trees are kept. Says whether they did.
+pub(crate) fn fold(
+    trees: &mut PlacedForest<'_>,
+    keep: Keep,
+    used: &BuilderUse,
+    count: usize,
+) -> Result<bool, AllocError>
     requires { count ≤ length trees.old }
-    ensures { OnOk result (trees.new ≡ tape_folded_by keep used.now count trees.old) }
+    ensures { IfOk result (λ done. done ≡ true → trees.new ≡ tape_folded_by keep used.now count trees.old) }
 {
     match keep {
         Keep::Kept => trees.build(&used.shape, "", count),
-        Keep::Hidden => Ok(()),
+        Keep::Hidden => Ok(true),
     }
 }

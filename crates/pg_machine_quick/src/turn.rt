@@ -2,13 +2,11 @@
 
 ghost use Rattle.std.specs.Prelude.{◌≡◌, Some, slice_get, IfOk};
 ghost use Rattle.pg_language.specs.Answers.{given};
-ghost use Rattle.pg_machine_quick.specs.Running.{shown, Does, program};
+ghost use Rattle.pg_machine_plan.specs.Plans.{program};
+ghost use Rattle.pg_machine_quick.specs.Running.{shown, Does};
 ghost use Rattle.pg_machine_quick.specs.Tape.{tape_act, tape_closed, tape_folded, tape_reads, tape_spans};
 ghost use Rattle.pg_table.specs.Tables.{Table};
 
-use crate::instruction::{Instruction, Keep};
-use crate::next::chosen;
-use crate::plan::Plan;
 use crate::reading::{after, counted, reading_at};
 use crate::running::Running;
 use crate::step::Step;
@@ -16,21 +14,25 @@ use pg_grammar_classes::ClassSite;
 use pg_grammar_form::{Form, Leaf, NodeId};
 use pg_grammar_value::Grammar;
 use pg_language::Reading as Manner;
+use pg_language_operators::InForce;
+use pg_machine_plan::{Instruction, Keep, Plan, chosen};
 use pg_text::Text;
-use std::alloc::AllocError;
+use std::alloc::{AllocError, Global};
 
-impl Running {
-    /// Makes a turn.
+impl<'a> Running<'a> {
+    /// Makes a turn, with the operators of the table in force.
     pub(crate) fn turn(
         &mut self,
+        alloc: Global,
         grammar: &Grammar,
         plan: &Plan,
+        operators: &InForce,
         text: &Text,
     ) -> Result<Step, AllocError>
-        ensures { IfOk result (λ step. (table : Table) → Does (tape_act (program grammar.now plan.now text.now) table (shown self.old) (slice_get plan.now.code self.old.pc)) step (shown self.new)) }
+        ensures { IfOk result (λ step. (table : Table) → table.operators ≡ operators.now → Does (tape_act (program grammar.now plan.now text.now) table (shown self.old) (slice_get plan.now.code self.old.pc)) step (shown self.new)) }
     {
         match plan.code().get(self.pc) {
-            Some(instruction) => self.act(grammar, plan, text, *instruction),
+            Some(instruction) => self.act(alloc, grammar, plan, operators, text, *instruction),
             None => Ok(Step::GivesUp),
         }
     }
@@ -38,12 +40,14 @@ impl Running {
     /// Does what an instruction says.
     fn act(
         &mut self,
+        alloc: Global,
         grammar: &Grammar,
         plan: &Plan,
+        operators: &InForce,
         text: &Text,
         instruction: Instruction,
     ) -> Result<Step, AllocError>
-        ensures { IfOk result (λ step. (table : Table) → Does (tape_act (program grammar.now plan.now text.now) table (shown self.old) (Some instruction)) step (shown self.new)) }
+        ensures { IfOk result (λ step. (table : Table) → table.operators ≡ operators.now → Does (tape_act (program grammar.now plan.now text.now) table (shown self.old) (Some instruction)) step (shown self.new)) }
     {
         match instruction {
             Instruction::Enter => Ok(self.enter()),
@@ -61,7 +65,20 @@ impl Running {
             Instruction::Close(keep, node) => self.close_node(keep, grammar, text, node),
             Instruction::Hold => self.hold(),
             Instruction::Fold(keep, node) => self.fold_node(keep, grammar, node),
+            Instruction::Link => self.link(),
+            Instruction::FoldLinks(keep, node) => self.fold_links(keep, grammar, node),
             Instruction::Release => Ok(self.release()),
+            Instruction::Rows(rows) => self.begin_rows(grammar, operators, rows),
+            Instruction::ReadPrefix(row) => self.read_prefix(grammar, operators, text, row),
+            Instruction::ReadPostfix(keep, node, row) => {
+                self.read_postfix(alloc, keep, grammar, operators, text, node, row)
+            }
+            Instruction::ReadInfix(keep, node, row) => {
+                self.read_infix(alloc, keep, grammar, operators, text, node, row)
+            }
+            Instruction::Settle(keep, node, rank) => {
+                self.settle_node(alloc, keep, grammar, text, node, rank)
+            }
             Instruction::Mark(target) => self.mark(target),
             Instruction::Commit(target) => Ok(self.commit(target)),
             Instruction::Again(target) => Ok(self.again(target)),

@@ -3,25 +3,13 @@
 ghost use Rattle.std.specs.Prelude.{◌≡◌, true, false, OnOk, IsErrOf};
 
 use crate::outline_page::Page;
-use pg_grammar_value::{Grammar, Trail};
-use pg_table::Table;
-use pg_text::Text;
+use pg_trail_places::DerivedText;
 use pg_tree::{Forest, Meter, WriteFault, write_bytes};
 use std::alloc::Global;
 use std::io::Write;
 
 /// How many bytes are written at once, or a few more.
 const PIECE: usize = 65_536;
-
-/// A text that was derived, with the trail of its derivation (ours).
-#[derive(Clone, Copy)]
-pub struct DerivedText<'d> {
-    pub grammar: &'d Grammar,
-    /// The operator table from which it is derived.
-    pub table: &'d Table,
-    pub text: &'d Text,
-    pub trail: &'d Trail,
-}
 
 /// Writes a text's forest for people to read. The trail must be that of its derivation from the table. There is a line for each node and leaf, a node's
 /// before those of its kids, which are indented by two more spaces (ours). A line has the node's label or the leaf's text in quotes, with JSON's escapes, and

@@ -1,11 +1,10 @@
 //! The page of a forest, line by line.
 
 use crate::forest_lines::{Line, lines_of};
-use crate::outline::DerivedText;
-use crate::walk::places_along;
 use itoa::Buffer;
 use pg_text::Pos;
 use pg_text_excerpt::positions;
+use pg_trail_places::{DerivedText, Stretch, stretches_along};
 use pg_tree::{Forest, push_quoted};
 use std::alloc::{AllocError, Global};
 
@@ -19,8 +18,8 @@ const BESIDE: usize = 160;
 #[derive(Drop)]
 pub(crate) struct Page<'a> {
     pub lines: Vec<Line<'a>>,
-    /// The place of each node and leaf, in the order in which they end; empty if they aren't known.
-    places: Vec<u32>,
+    /// The stretch of each node and leaf, in the order in which they end; empty if they aren't known.
+    stretches: Vec<Stretch>,
     positions: Vec<Pos>,
 }
 
@@ -31,15 +30,15 @@ impl<'a> Page<'a> {
         derived: &DerivedText<'_>,
         forest: &'a Forest,
     ) -> Result<Page<'a>, AllocError> {
-        let mut places = places_along(alloc, derived)?;
+        let mut stretches = stretches_along(alloc, derived)?;
         let lines = lines_of(alloc, forest)?;
-        if places.len() != lines.len() {
-            places.clear();
+        if stretches.len() != lines.len() {
+            stretches.clear();
         }
         let positions = positions(alloc, derived.text.characters())?;
         Ok(Page {
             lines,
-            places,
+            stretches,
             positions,
         })
     }
@@ -91,8 +90,10 @@ impl<'a> Page<'a> {
 
     fn place_of(&self, line: &Line) -> Option<usize> {
         let after = line.after as usize;
-        let number = self.places.len().checked_sub(after.saturating_add(1))?;
-        self.places.get(number).map(|place| *place as usize)
+        let number = self.stretches.len().checked_sub(after.saturating_add(1))?;
+        self.stretches
+            .get(number)
+            .map(|stretch| stretch.start as usize)
     }
 
     /// Appends the leaf's text to `piece`.

@@ -2,9 +2,9 @@
 //!
 //! The escapes are those that `serde_json` writes. The code that writes JSON calls this, and so does the code that shows trees.
 
-ghost use Rattle.std.specs.Prelude.{◌≡◌, ◌++◌, ◌<◌, OnOk};
+ghost use Rattle.std.specs.Prelude.{◌≡◌, ◌++◌, ◌∷◌, ◌<◌, [], true, false, OnOk};
 ghost use Rattle.std.specs.Char.{digit_char};
-ghost use Rattle.json.specs.Print.{escape_letter, escape_byte};
+ghost use Rattle.json.specs.Print.{escape, escape_letter, escape_byte};
 ghost use Rattle.pg_tree.specs.Json.{quoted};
 
 use std::alloc::AllocError;
@@ -14,10 +14,49 @@ pub fn push_quoted(content: &[u8], text: &mut Vec<u8>) -> Result<(), AllocError>
     ensures { OnOk result (text.new.items ≡ text.old.items ++ quoted content.now) }
 {
     text.push(b'"')?;
+    push_content(content, text)?;
+    text.push(b'"')?;
+    Ok(())
+}
+
+/// Appends what stands between the quotes. Most texts have nothing to escape, and are copied at once.
+fn push_content(content: &[u8], text: &mut Vec<u8>) -> Result<(), AllocError>
+    ensures { OnOk result (text.new.items ≡ text.old.items ++ escape content.now) }
+{
+    if is_plain(content) {
+        text.extend_from_slice(content)
+    } else {
+        push_each(content, text)
+    }
+}
+
+/// Whether no byte has to be escaped.
+fn is_plain(content: &[u8]) -> bool
+    ensures { result ≡ true → escape content.now ≡ content.now }
+{
+    for byte in content {
+        if has_escape(*byte) {
+            return false;
+        }
+    }
+    true
+}
+
+/// Whether a byte has to be escaped.
+#[tactic(auto, unfolding(json::specs::Print::escape_byte))]
+fn has_escape(byte: u8) -> bool
+    ensures { result ≡ false → escape_byte byte ≡ byte ∷ [] }
+{
+    byte < 0x20 || byte == b'"' || byte == b'\\'
+}
+
+/// Appends bytes one by one, each escaped if need be.
+fn push_each(content: &[u8], text: &mut Vec<u8>) -> Result<(), AllocError>
+    ensures { OnOk result (text.new.items ≡ text.old.items ++ escape content.now) }
+{
     for byte in content {
         push_escaped(*byte, text)?;
     }
-    text.push(b'"')?;
     Ok(())
 }
 

@@ -5,6 +5,7 @@
 //! `tree.rt` and the code that writes JSON call this.
 
 ghost use Rattle.std.specs.Prelude.{◌≡◌, ◌≤◌, ◌<◌, ◌+◌, ◌-◌, [], ◌∷◌, ◌++◌, take, drop, set, get_or, length, encode_utf8_all, false, IfOk, OnErr, OnOk};
+ghost use Rattle.std.specs.Char.{encode_utf8};
 ghost use Rattle.std.specs.Str.{bytes_eq};
 ghost use Rattle.pg_tree.specs.Kept.{kept_leaf, kept_node, kepts_of, has_label, away_if, marked};
 ghost use Rattle.pg_tree.specs.Stored.{kept_in, texts_of, Keeps, IsEndOf};
@@ -359,6 +360,19 @@ fn push_characters(bytes: &mut Vec<u8>, characters: &[char]) -> Result<(), Alloc
     ensures grows { take (length bytes.old.items) bytes.new.items ≡ bytes.old.items }
 {
     for character in characters {
+        push_character(bytes, *character)?;
+    }
+    Ok(())
+}
+
+/// Appends the UTF-8 text of a character. One of ASCII is its own byte.
+fn push_character(bytes: &mut Vec<u8>, character: char) -> Result<(), AllocError>
+    ensures ok { OnOk result (bytes.new.items ≡ bytes.old.items ++ encode_utf8 character) }
+    ensures err { OnErr result (bytes.new.items ≡ bytes.old.items) }
+{
+    if character < '\u{80}' {
+        bytes.push(character as u8)?;
+    } else {
         bytes.extend_from_slice(character.encode_utf8(&mut [0; 4]).as_bytes())?;
     }
     Ok(())

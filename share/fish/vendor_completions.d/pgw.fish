@@ -43,6 +43,7 @@ complete -c pgw -n '__fish_seen_subcommand_from check' -l notes -d 'Prints with 
 complete -c pgw -n '__fish_seen_subcommand_from check' -l places -d 'Puts the place of each finding in front'
 complete -c pgw -n '__fish_seen_subcommand_from parse' -l trail -d 'Prints what the derivation chose too'
 complete -c pgw -n '__fish_seen_subcommand_from parse' -l tree -d 'Prints the trees to read'
+complete -c pgw -n '__fish_seen_subcommand_from parse' -l places -d 'Prints the trees with their places'
 complete -c pgw -n '__fish_seen_subcommand_from parse' -l lines -d 'Prints a line of JSON for each text'
 complete -c pgw -n '__fish_seen_subcommand_from parse' -l steps -d 'Prints the steps of each parse too'
 complete -c pgw -n '__fish_seen_subcommand_from probe' -l steps -x -d 'The most steps'

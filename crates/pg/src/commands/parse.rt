@@ -10,7 +10,8 @@ ghost use Rattle.pg.specs.Status.{IsParseStatus, IsTextStatus};
 
 use crate::NO_MEMORY;
 use crate::commands::lines::line_of_file;
-use pg_bench::{BenchFault, Done, ParsedText, parse_checked, parsed_text};
+use crate::commands::places::places_text;
+use pg_bench::{BenchFault, Done, ParsedText, parse_checked, parse_cost, parsed_text};
 use pg_bench_explain::outline_success;
 use pg_bench_grammar::AcceptedGrammar;
 use pg_command_line::{Parsed, Parsing, Steps};
@@ -34,7 +35,7 @@ pub(crate) fn parse_files<R: AllocGlobal + Files + Input + Print + Eprint>(
     parsing: Parsing,
 ) -> Result<u8, AllocError> {
     match (texts, parsing.parsed) {
-        ([text], Parsed::Forest | Parsed::ForestAndTrail | Parsed::Outline) => {
+        ([text], Parsed::Forest | Parsed::ForestAndTrail | Parsed::Outline | Parsed::Places) => {
             parse_file(rt, grammar, text, registry, parsing)
         }
         _ => match grammar_alone(rt, grammar)? {
@@ -79,7 +80,7 @@ fn parse_open<F: Read + Drop, R: AllocGlobal + Print + Eprint>(
             Some(text) => outline_alone(rt, bytes, text.as_slice(), names, registry, parsing),
             None => Ok(UNUSABLE),
         },
-        Parsed::ForestAndTrail | Parsed::Forest | Parsed::Line => {
+        Parsed::ForestAndTrail | Parsed::Forest | Parsed::Line | Parsed::Places => {
             parse_text(rt, bytes, file, names, registry, parsing)
         }
     }
@@ -162,9 +163,11 @@ fn parse_all<R: AllocGlobal + Files + Input + Print + Eprint>(
             Parsed::Line if !rt.is_quiet => {
                 line_of_file(rt, accepted, names, registry, parsing.steps)?
             }
-            Parsed::Line | Parsed::Outline | Parsed::ForestAndTrail | Parsed::Forest => {
-                parse_named(rt, accepted, names, registry, parsing)?
-            }
+            Parsed::Line
+            | Parsed::Outline
+            | Parsed::ForestAndTrail
+            | Parsed::Forest
+            | Parsed::Places => { parse_named(rt, accepted, names, registry, parsing)? }
         };
         greatest = cmp::max(greatest, status);
         if rt.has_failed() || status == NO_MEMORY {
@@ -189,8 +192,8 @@ fn parse_named<R: AllocGlobal + Files + Input + Print + Eprint>(
         return Ok(UNUSABLE);
     };
     match parsing.parsed {
-        Parsed::Outline => outline_kept(rt, accepted, file, names, registry, parsing.steps),
-        Parsed::ForestAndTrail | Parsed::Forest | Parsed::Line => {
+        Parsed::Outline => outline_kept(rt, accepted, file, names, registry, parsing),
+        Parsed::ForestAndTrail | Parsed::Forest | Parsed::Line | Parsed::Places => {
             parse_loaded(rt, accepted, file, names, registry, parsing)
         }
     }
@@ -203,20 +206,20 @@ fn outline_kept<F: Read + Drop, R: AllocGlobal + Print + Eprint>(
     file: F,
     names: Names,
     registry: &Registry,
-    steps: Steps,
+    parsing: Parsing,
 ) -> Result<u8, AllocError>
     requires fits { Fits (offer_of registry.now) accepted.now.checked.grammar }
     requires table { initial accepted.now.checked.grammar ≡ whole accepted.now.table }
 {
     let mut text = Kept::new(rt.alloc(), file);
-    let status = outline_text(rt, accepted, &mut text, names, registry, steps)?;
+    let status = parse_loaded(rt, accepted, &mut text, names, registry, parsing)?;
     if status == UNUSABLE {
         tell_byte(rt, text.text(), names.text);
     }
     Ok(status)
 }
 
-/// Parses the text that a file gives by a loaded grammar, and prints what is wanted of it. A quiet handle prints no line, so it handles a line like a forest.
+/// Parses the text that a file gives by a loaded grammar, and prints what is wanted of it.
 fn parse_loaded<F: Read + Drop, R: AllocGlobal + Print + Eprint>(
     rt: &Handle<R>,
     accepted: &AcceptedGrammar,
@@ -229,11 +232,34 @@ fn parse_loaded<F: Read + Drop, R: AllocGlobal + Print + Eprint>(
     requires table { initial accepted.now.checked.grammar ≡ whole accepted.now.table }
     ensures { IfOk result (IsTextStatus accepted.now.checked.grammar (F.remaining file)) }
 {
+    if rt.is_quiet {
+        return parse_quietly(rt, accepted, file, names, registry);
+    }
     match parsing.parsed {
         Parsed::Outline => outline_text(rt, accepted, file, names, registry, parsing.steps),
+        Parsed::Places => places_text(rt, accepted, file, names, registry, parsing.steps),
         Parsed::ForestAndTrail | Parsed::Forest | Parsed::Line => {
             print_forest(rt, accepted, file, names, registry, parsing)
         }
+    }
+}
+
+/// Parses a text of which nothing is printed, so nothing is made of its forest.
+fn parse_quietly<F: Read + Drop, R: AllocGlobal + Print + Eprint>(
+    rt: &Handle<R>,
+    accepted: &AcceptedGrammar,
+    file: F,
+    names: Names,
+    registry: &Registry,
+) -> Result<u8, AllocError>
+    requires fits { Fits (offer_of registry.now) accepted.now.checked.grammar }
+    requires table { initial accepted.now.checked.grammar ≡ whole accepted.now.table }
+    ensures { IfOk result (IsTextStatus accepted.now.checked.grammar (F.remaining file)) }
+{
+    let mut reader = Meter::new(file);
+    match parse_cost(rt.alloc(), accepted, registry, &mut reader) {
+        Ok(_cost) => Ok(0),
+        Err(fault) => print_report(rt, fault, names),
     }
 }
 
@@ -305,7 +331,7 @@ fn print_outline<R: AllocGlobal + Print + Eprint>(
 {
     let ParsedText { text, parse } = parsed;
     let mut writer = Meter::new(io::writer(rt));
-    let grammar = accepted.checked.grammar();
+    let grammar = accepted.checked.as_checked().grammar();
     let table = &accepted.table;
     match outline_success(
         rt.alloc(),
@@ -326,11 +352,16 @@ pub(crate) fn tell_steps<R: Eprint>(rt: &R, done: Done, name: &str, steps: Steps
     let Done {
         steps: taken,
         most,
+        planned,
         ..
     } = done;
+    let way = if planned { ", along a plan" } else { "" };
     match steps {
         Steps::Hidden => {}
-        Steps::Shown => say(rt, format_args!("{taken} steps, at most {most}")),
-        Steps::Named => say(rt, format_args!("{name}: {taken} steps, at most {most}")),
+        Steps::Shown => say(rt, format_args!("{taken} steps, at most {most}{way}")),
+        Steps::Named => say(
+            rt,
+            format_args!("{name}: {taken} steps, at most {most}{way}"),
+        ),
     }
 }

@@ -1,11 +1,10 @@
-use Rattle.std.proofs.Common.{Err, ap}
 use Rattle.std.proofs.lemmas.Result.{on_ok_weaker}
 use Rattle.pg_bench_grammar.proofs.Results.{on_this_err}
 use Rattle.pg_text_pieces.proofs.Puts.{appends_both, prefix_longer, prefix_after}
 use Rattle.pg_bench.proofs.parse.write_lines.Goals as goal
 
-pub returns-in-Err-Writer-clause-prefix : goal.returns-in-Err-Writer-clause-prefix
-returns-in-Err-Writer-clause-prefix g c = λ _. prefix_longer _ _ _ _ (c.in-Err-Writer.ensures.prefix (ap Err c.in-Err-Writer.field-0-is))
+pub returns-in-Err-clause-prefix : goal.returns-in-Err-clause-prefix
+returns-in-Err-clause-prefix g c = λ _. prefix_longer _ _ _ _ c.in-Err.ensures.prefix
 
 pub returns-in-Ok-clause-ok : goal.returns-in-Ok-clause-ok
 returns-in-Ok-clause-ok g c = on_ok_weaker c.write_page.result (λ written. appends_both _ _ _ _ _ c.in-Ok.ensures.ok written) c.write_page.ensures.ok

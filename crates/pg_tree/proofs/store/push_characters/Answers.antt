@@ -1,4 +1,4 @@
-use Rattle.std.proofs.Common.{◌<◌, length, arith, ap, ◌∙◌}
+use Rattle.std.proofs.Common.{◌<◌, length, arith, ap}
 use Rattle.std.specs.Char.{encode_utf8}
 use Rattle.std.proofs.lemmas.List.{get_or_read}
 use Rattle.pg_tree.proofs.Characters.{encoded-more}
@@ -10,5 +10,4 @@ loop-character-preserved c =
     let cs = c.args.characters.now in
     let within : i < length cs = omega arith in
     let item = get_or_read cs i _ within c.character-item.is 0 in
-    encoded-more _ _ _ c.as_bytes.result.now cs i within c.loop-character.invariant c.in_ok-extend_from_slice.ensures.items
-    (c.as_bytes.ensures.value ∙ c.encode_utf8.ensures.value ∙ ap encode_utf8 item)
+    encoded-more _ _ _ _ cs i within c.loop-character.invariant c.in_ok-push_character.ensures.ok (ap encode_utf8 item)

@@ -1,5 +1,0 @@
-use Rattle.pg_machine_quick.proofs.Verdicts.{verdicts_follow}
-use Rattle.pg_machine_quick.proofs.laws.verdicts_are_true.Goals as goal
-
-pub returns : goal.returns
-returns c = verdicts_follow

@@ -1,8 +1,0 @@
-use Rattle.std.proofs.Common.{◌≡◌, drop}
-use Rattle.pg_machine_quick.specs.Columns.{verdict_at}
-use Rattle.pg_machine_quick.specs.Verdicts.{alternatives_verdict}
-use Rattle.pg_machine_quick.proofs.verdict_node.alternatives_verdict.Given as goal
-
--- the verdict is that on the alternatives from here on
-abbrev pub invariant-loop-index : goal.invariant-loop-index
-invariant-loop-index l = l.verdict ≡ alternatives_verdict (verdict_at l.column) (drop l.index l.parts)

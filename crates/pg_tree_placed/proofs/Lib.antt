@@ -1,0 +1,5 @@
+pub mod Making
+pub mod Plain
+pub mod BackText
+pub mod Back
+pub mod Noting

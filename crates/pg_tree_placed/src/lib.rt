@@ -1,0 +1,13 @@
+//! Forests over a text: leaves are places of the text, and trees are kept as the steps that make them.
+#![tactic(auto)]
+
+mod characters;
+mod entry;
+mod forest;
+mod json_text;
+mod labels;
+mod notes;
+mod store;
+
+pub use forest::PlacedForest;
+pub use json_text::placed_json;

@@ -1,0 +1,2 @@
+start a;
+a = satisfy("0".."9");
