@@ -21,7 +21,7 @@ pub mod TapeRows
 pub mod TapeLinks
 pub mod Tapes
 pub mod OneByOne
-pub mod NoOperators
 pub mod Readings
 pub mod ReadSo
 pub mod Ran
+pub mod RowPasses

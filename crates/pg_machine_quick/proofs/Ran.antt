@@ -4,21 +4,16 @@ use Rattle.pg_grammar_form.specs.Operators.{Operator}
 use Rattle.pg_table.specs.Tables.{Table}
 use Rattle.pg_machine_quick.specs.Laws.{TapeHasAnswered, TapesAnswer}
 use Rattle.pg_machine_plan.specs.Layout.{IsForTexts}
+use Rattle.pg_machine_quick.specs.Looks.{Leads, program_of}
+use Rattle.pg_machine_quick.specs.Ran.{LeadsTo, StopsAt, Makes}
 use Rattle.pg_machine_quick.specs.Running.{shown, Does}
-use Rattle.pg_machine_quick.specs.Tape.{Tape, tape_act, on_tape_turn, tape_run, first_tape}
+use Rattle.pg_machine_quick.specs.Tape.{Tape, tape_act, tape_goes, on_tape_turn, tape_run, first_tape}
 use Rattle.pg_machine_plan.specs.Plans.{Program}
+use Rattle.pg_machine_plan.specs.declared.instruction.Instruction.{Instruction}
+use Rattle.pg_machine_quick.specs.declared.context.Context.{Context}
 use Rattle.pg_machine_quick.specs.declared.running.Running.{Running}
 use Rattle.pg_machine_quick.specs.declared.step.Step.{Step}
-use Rattle.pg_machine_quick.specs.declared.step.Step.TheVariants.{GoesOn, Stops}
-
--- after so many turns the run from s is at z
-pub record LeadsTo (P : Program) (table : Table) (s z : Tape) : Type 0 where
-  pub turns : ℕ
-  pub so : (m : ℕ) (t : Tape) → tape_run P table m z ≡ Some t → tape_run P table (turns + m) s ≡ Some t
-
--- the run from s stops at z
-abbrev pub StopsAt : Program → Table → Tape → Tape → Type 0
-StopsAt P table s z = (n : ℕ) × (tape_run P table n s ≡ Some z)
+use Rattle.pg_machine_quick.specs.declared.step.Step.TheVariants.{GoesOn, GivesUp, Stops}
 
 pub leads_here : (P : Program) (table : Table) (s z : Tape) → z ≡ s → LeadsTo P table s z
 leads_here P table s z e = record {
@@ -26,24 +21,52 @@ leads_here P table s z e = record {
   so = λ m t h. let none : m ≡ 0 + m = omega arith in subst (λ n. tape_run P table n s ≡ Some t) none (subst (λ (y : Tape). tape_run P table m y ≡ Some t) e h);
 }
 
-pub leads_on : (P : Program) (table : Table) (s y z : Tape) (step : Step) → LeadsTo P table s y → step ≡ GoesOn →
-    Does (tape_act P table y (slice_get P.plan.code y.pc)) step z → LeadsTo P table s z
-leads_on P table s y z step h is d =
-    let turn : Does (tape_act P table y (slice_get P.plan.code y.pc)) GoesOn z =
-    subst (λ (x : Step). Does (tape_act P table y (slice_get P.plan.code y.pc)) x z) is d in
-    record {
-      turns = h.turns + 1;
-      so = λ m t r.
-          let more : h.turns + suc m ≡ h.turns + 1 + m = omega arith in
-          subst (λ n. tape_run P table n s ≡ Some t) more (h.so (suc m) t (ap (λ u. on_tape_turn u (λ x. tape_run P table m x)) turn ∙ r));
-    }
+pub leads_trans : (P : Program) (table : Table) (s y z : Tape) → LeadsTo P table s y → LeadsTo P table y z → LeadsTo P table s z
+leads_trans P table s y z h d = record {
+  turns = h.turns + d.turns;
+  so = λ m t r.
+      let more : h.turns + (d.turns + m) ≡ h.turns + d.turns + m = omega arith in
+      subst (λ n. tape_run P table n s ≡ Some t) more (h.so (d.turns + m) t (d.so m t r));
+}
 
-pub leads_out : (P : Program) (table : Table) (s y z : Tape) (step : Step) → LeadsTo P table s y → step ≡ Stops →
-    Does (tape_act P table y (slice_get P.plan.code y.pc)) step z → StopsAt P table s z
+-- a turn that goes on
+pub leads_by : (P : Program) (table : Table) (s z : Tape) → tape_act P table s (slice_get P.plan.code s.pc) ≡ tape_goes z → LeadsTo P table s z
+leads_by P table s z turn = record {
+  turns = 1;
+  so = λ m t r.
+      let more : suc m ≡ 1 + m = omega arith in
+      subst (λ n. tape_run P table n s ≡ Some t) more (ap (λ u. on_tape_turn u (λ x. tape_run P table m x)) turn ∙ r);
+}
+
+-- one turn is some turns
+pub one_turn : (P : Program) (table : Table) (s z : Tape) (i : Option Instruction) (step : Step) → slice_get P.plan.code s.pc ≡ i → Does (tape_act P table s i) step z → Makes P table s step z
+one_turn P table s z i GoesOn e d = leads_by P table s z (ap (λ x. tape_act P table s x) e ∙ d)
+one_turn P table s z i Stops e d = (1, ap (λ x. on_tape_turn (tape_act P table s x) (λ y. tape_run P table 0 y)) e ∙ ap (λ u. on_tape_turn u (λ y. tape_run P table 0 y)) d)
+one_turn P table s z i GivesUp e d = tt
+
+-- some turns more
+pub leads_on : (P : Program) (table : Table) (s y z : Tape) (step : Step) → LeadsTo P table s y → step ≡ GoesOn → Makes P table y step z → LeadsTo P table s z
+leads_on P table s y z step h is d =
+    let on : Makes P table y GoesOn z = subst (λ (x : Step). Makes P table y x z) is d in
+    leads_trans P table s y z h on
+
+pub leads_out : (P : Program) (table : Table) (s y z : Tape) (step : Step) → LeadsTo P table s y → step ≡ Stops → Makes P table y step z → StopsAt P table s z
 leads_out P table s y z step h is d =
-    let turn : Does (tape_act P table y (slice_get P.plan.code y.pc)) Stops z =
-    subst (λ (x : Step). Does (tape_act P table y (slice_get P.plan.code y.pc)) x z) is d in
-    (h.turns + 1, h.so 1 z (ap (λ u. on_tape_turn u (λ x. tape_run P table 0 x)) turn))
+    let out : Makes P table y Stops z = subst (λ (x : Step). Makes P table y x z) is d in
+    (h.turns + out.0, h.so out.0 z out.1)
+
+-- the code of rows passes up to an instruction, which goes on
+pub leads_past : (P : Program) (table : Table) (s y z : Tape) (pc : ℕ) (i : Instruction) (step : Step) → LeadsTo P table s y → LeadsTo P table y (record y { pc = pc }) →
+    slice_get P.plan.code pc ≡ Some i → Does (tape_act P table (record y { pc = pc }) (Some i)) step z → step ≡ GoesOn → LeadsTo P table s z
+leads_past P table s y z pc i step h p e d is =
+    let x : Tape = record y { pc = pc } in
+    leads_on P table s x z step (leads_trans P table s y x h p) is (one_turn P table x z (Some i) step e d)
+
+-- a turn by an instruction is some turns
+pub turn_made : {E : Type 0} (c : Context) (s z : Tape) (i : Instruction) (r : Result Step E) → slice_get c.plan.now.code s.pc ≡ Some i →
+    IfOk r (λ step. (table : Table) → table.operators ≡ c.operators.now → Does (tape_act (program_of c) table s (Some i)) step z) → IfOk r (λ step. Leads c s step z)
+turn_made c s z i (Ok step) at d = λ table same. one_turn (program_of c) table s z (Some i) step at (d table same)
+turn_made c s z i (Err e) at d = d
 
 -- what stops has answered
 pub answers_so : {E : Type 0} (law : TapesAnswer) (P : Program) (table : Table) (os : List Operator) → os ≡ table.operators → IsForTexts P → (r : Result (Option Running) E) →

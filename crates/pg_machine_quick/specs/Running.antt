@@ -1,7 +1,5 @@
 -- The arrays of a run as a tape, and what a step says of a turn.
-use Rattle.std.specs.Prelude.{◌≡◌, Bool, ◌||◌, ℕ, List, [], ◌∷◌, Option, Some, None, reverse}
-use Rattle.pg_expand.specs.declared.rows.Row.{Row}
-use Rattle.pg_language_operators.specs.RowRoles.{is_any}
+use Rattle.std.specs.Prelude.{◌≡◌, ℕ, List, [], ◌∷◌, Option, Some, None, reverse}
 use Rattle.pg_machine_quick.specs.Tape.{Tape, tape, TapeTurn, tape_stops, tape_goes}
 use Rattle.pg_grammar_form.specs.Forms.{Node}
 use Rattle.pg_grammar_form.specs.declared.form.Form.TheVariants as form
@@ -29,7 +27,3 @@ first_frame (f ∷ k) = Some f
 -- a node is an expression with these builders
 abbrev pub IsOfExpression : Option Node → OperatorBuilders → Type 0
 IsOfExpression node builders = (p : ℕ) × (node ≡ Some (form.Expression builders p))
-
--- whether a row has infix operators
-abbrev pub has_infix : Row → Bool
-has_infix row = is_any row.right || (is_any row.left || is_any row.non)

@@ -1,11 +1,15 @@
 //! Parsing by laid-out code, which goes by the next character and may give up.
 #![tactic(auto)]
 
+mod applying;
+mod context;
 mod expressions;
 mod frame;
+mod infix;
 mod laws;
 mod linking;
 mod operators;
+mod passing;
 mod reading;
 mod rows;
 mod run;

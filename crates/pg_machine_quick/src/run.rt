@@ -4,11 +4,13 @@ ghost use Rattle.std.specs.Prelude.{◌≡◌, ℕ, ◌∷◌, [], false, Some, 
 ghost use Rattle.pg_machine_plan.specs.Judged.{IsRightFor};
 ghost use Rattle.pg_machine_quick.specs.Laws.{TapeHasAnswered};
 ghost use Rattle.pg_machine_plan.specs.Plans.{program};
+ghost use Rattle.pg_machine_quick.specs.Looks.{program_of};
 ghost use Rattle.pg_machine_quick.specs.Running.{shown};
 ghost use Rattle.pg_machine_quick.specs.Tape.{first_tape, tape, tape_run};
 ghost use Rattle.pg_machine_quick.specs.declared.frame.Frame.TheVariants.{Returns};
 ghost use Rattle.pg_table.specs.Tables.{Table as Value};
 
+use crate::context::Context;
 use crate::frame::Frame;
 use crate::laws::tapes_answer;
 use crate::running::Running;
@@ -37,23 +39,27 @@ pub fn attempt<'a>(
 {
     tapes_answer();
     let operators = InForce::of(alloc, table)?;
-    stopped(alloc, grammar, plan, &operators, text, turns)
+    let context = Context {
+        alloc,
+        grammar,
+        plan,
+        operators: &operators,
+        text,
+    };
+    stopped(context, text, turns)
 }
 
 /// The state in which a run stops, if it does after so many turns at most.
 fn stopped<'a>(
-    alloc: Global,
-    grammar: &Grammar,
-    plan: &Plan,
-    operators: &InForce,
+    context: Context<'_>,
     text: &'a Text,
     turns: usize,
 ) -> Result<Option<Running<'a>>, AllocError>
-    ensures { IfOk result (λ ran. IfSome ran (λ s. (table : Value) → table.operators ≡ operators.now → (n : ℕ) × (tape_run (program grammar.now plan.now text.now) table n (first_tape (program grammar.now plan.now text.now)) ≡ Some (shown s)))) }
+    ensures { IfOk result (λ ran. IfSome ran (λ s. (table : Value) → table.operators ≡ context.entry.operators.now → (n : ℕ) × (tape_run (program_of context.entry) table n (first_tape (program_of context.entry)) ≡ Some (shown s)))) }
 {
-    let mut running = first(alloc, plan, text)?;
+    let mut running = first(context.alloc, context.plan, text)?;
     for _ in 0..turns {
-        match running.turn(alloc, grammar, plan, operators, text)? {
+        match running.turn(context)? {
             Step::GoesOn => {}
             Step::Stops => return Ok(Some(running)),
             Step::GivesUp => return Ok(None),

@@ -2,60 +2,54 @@
 
 ghost use Rattle.std.specs.Prelude.{◌≡◌, Some, slice_get, IfOk};
 ghost use Rattle.pg_language.specs.Answers.{given};
-ghost use Rattle.pg_machine_plan.specs.Plans.{program};
+ghost use Rattle.pg_machine_quick.specs.Looks.{Leads, program_of};
 ghost use Rattle.pg_machine_quick.specs.Running.{shown, Does};
 ghost use Rattle.pg_machine_quick.specs.Tape.{tape_act, tape_closed, tape_folded, tape_reads, tape_spans};
 ghost use Rattle.pg_table.specs.Tables.{Table};
 
+use crate::context::Context;
 use crate::reading::{after, counted, reading_at};
+use crate::rows::{instruction_at, is_of_rows};
 use crate::running::Running;
 use crate::step::Step;
 use pg_grammar_classes::ClassSite;
 use pg_grammar_form::{Form, Leaf, NodeId};
 use pg_grammar_value::Grammar;
 use pg_language::Reading as Manner;
-use pg_language_operators::InForce;
-use pg_machine_plan::{Instruction, Keep, Plan, chosen};
+use pg_machine_plan::{Instruction, Keep, chosen};
 use pg_text::Text;
-use std::alloc::{AllocError, Global};
+use std::alloc::AllocError;
 
 impl<'a> Running<'a> {
-    /// Makes a turn, with the operators of the table in force.
-    pub(crate) fn turn(
-        &mut self,
-        alloc: Global,
-        grammar: &Grammar,
-        plan: &Plan,
-        operators: &InForce,
-        text: &Text,
-    ) -> Result<Step, AllocError>
-        ensures { IfOk result (λ step. (table : Table) → table.operators ≡ operators.now → Does (tape_act (program grammar.now plan.now text.now) table (shown self.old) (slice_get plan.now.code self.old.pc)) step (shown self.new)) }
+    /// Makes a turn, or several where the code of rows is.
+    pub(crate) fn turn(&mut self, context: Context<'_>) -> Result<Step, AllocError>
+        ensures { IfOk result (λ step. Leads context.entry (shown self.old) step (shown self.new)) }
     {
-        match plan.code().get(self.pc) {
-            Some(instruction) => self.act(alloc, grammar, plan, operators, text, *instruction),
+        match instruction_at(context.plan, self.pc) {
+            Some(instruction) => {
+                if is_of_rows(*instruction) {
+                    self.take_rows(context)
+                } else {
+                    self.act(context, *instruction)
+                }
+            }
             None => Ok(Step::GivesUp),
         }
     }
 
-    /// Does what an instruction says.
-    fn act(
-        &mut self,
-        alloc: Global,
-        grammar: &Grammar,
-        plan: &Plan,
-        operators: &InForce,
-        text: &Text,
-        instruction: Instruction,
-    ) -> Result<Step, AllocError>
-        ensures { IfOk result (λ step. (table : Table) → table.operators ≡ operators.now → Does (tape_act (program grammar.now plan.now text.now) table (shown self.old) (Some instruction)) step (shown self.new)) }
+    /// Does what an instruction says, if it isn't one of rows.
+    fn act(&mut self, context: Context<'_>, instruction: Instruction) -> Result<Step, AllocError>
+        ensures { IfOk result (λ step. (table : Table) → table.operators ≡ context.entry.operators.now → Does (tape_act (program_of context.entry) table (shown self.old) (Some instruction)) step (shown self.new)) }
     {
+        let grammar = context.grammar;
+        let text = context.text;
         match instruction {
             Instruction::Enter => Ok(self.enter()),
             Instruction::Read(keep, node) => self.read(keep, grammar, text, node),
             Instruction::Span(keep, node) => self.span_node(keep, grammar, text, node),
             Instruction::Jump(target) => Ok(self.jump(target)),
             Instruction::Pick(table) => Ok(self.pick(chosen(
-                plan,
+                context.plan,
                 table,
                 text.char_at(self.place),
             ))),
@@ -68,17 +62,11 @@ impl<'a> Running<'a> {
             Instruction::Link => self.link(),
             Instruction::FoldLinks(keep, node) => self.fold_links(keep, grammar, node),
             Instruction::Release => Ok(self.release()),
-            Instruction::Rows(rows) => self.begin_rows(grammar, operators, rows),
-            Instruction::ReadPrefix(row) => self.read_prefix(grammar, operators, text, row),
-            Instruction::ReadPostfix(keep, node, row) => {
-                self.read_postfix(alloc, keep, grammar, operators, text, node, row)
-            }
-            Instruction::ReadInfix(keep, node, row) => {
-                self.read_infix(alloc, keep, grammar, operators, text, node, row)
-            }
-            Instruction::Settle(keep, node, rank) => {
-                self.settle_node(alloc, keep, grammar, text, node, rank)
-            }
+            Instruction::Rows(rows) => self.begin_rows(grammar, context.operators, rows),
+            Instruction::ReadPrefix(_)
+            | Instruction::ReadPostfix(_, _, _)
+            | Instruction::ReadInfix(_, _, _)
+            | Instruction::Settle(_, _, _) => Ok(Step::GivesUp),
             Instruction::Mark(target) => self.mark(target),
             Instruction::Commit(target) => Ok(self.commit(target)),
             Instruction::Again(target) => Ok(self.again(target)),

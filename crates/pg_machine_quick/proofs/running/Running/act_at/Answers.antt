@@ -1,4 +1,4 @@
-use Rattle.pg_machine_quick.proofs.running.Running.act.Goals as goal
+use Rattle.pg_machine_quick.proofs.running.Running.act_at.Goals as goal
 
 pub returns-in-ReadPostfix : goal.returns-in-ReadPostfix
 returns-in-ReadPostfix c = rw c.in-ReadPostfix.is c.read_postfix.ensures
